@@ -7,3 +7,4 @@ pub mod GroupTexts
 pub mod Histories
 pub mod Laws
 pub mod Opened
+mod Replays

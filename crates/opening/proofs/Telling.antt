@@ -1,5 +1,5 @@
 -- What readings of records, and of a journal, come to.
-use Rattle.std.proofs.Common.{drop-cons, ◌≡◌, ◌≢◌, ℕ, suc, ◌-◌, ◌+◌, ◌<◌, inl, inr, Bool, true, false, cond, eqb, ltb, ◌≤◌, List, [], ◌∷◌, ◌++◌}
+use Rattle.std.proofs.Common.{drop-cons, ◌≡◌, ◌≢◌, ℕ, suc, ◌-◌, ◌+◌, ◌<◌, inl, inr, Bool, true, false, cond, eqb, ltb, ◌≤◌, List, [], ◌∷◌}
 use Rattle.std.proofs.Common.{length, drop, Option, Some, None, Result, Ok, Err, refl, sym, ap, ◌∙◌, subst, arith}
 use Rattle.std.specs.Prelude.{get_or, not, slice_index, IfOk, IfErr}
 use Rattle.std.specs.Option.{option_map_or}
@@ -194,17 +194,9 @@ fails_there node records count one tables error is fails reached =
 abbrev pub by_version : (Version → Bool) → Option Version → ℕ → Option JournalError
 by_version own version place = option_map_or (λ v. mismatch (own v)) version (Some (Damaged place))
 
-pub fault_shape : (node : Node) (first : Record) (events : List Record) → first_version first events ≡ None → first_fault node first events ≡ Some (Damaged first.gate)
-fault_shape node first events none = ap (λ (version : Option Version). by_version (is_own node first.bytes) version first.gate) none
-
 fault_own : (node : Node) (first : Record) (events : List Record) (version : Version) → first_version first events ≡ Some version
     → first_fault node first events ≡ mismatch (is_own node first.bytes version)
 fault_own node first events version is = ap (λ (version : Option Version). by_version (is_own node first.bytes) version first.gate) is
-
-pub fault_other : (node : Node) (first : Record) (events : List Record) (version : Version) (own : Bool) → first_version first events ≡ Some version
-    → own ≡ is_own node first.bytes version → own ≡ false
-    → first_fault node first events ≡ Some ConfigMismatch
-fault_other node first events version own is own_is off = fault_own node first events version is ∙ ap mismatch (sym own_is ∙ off)
 
 pub fault_none : (node : Node) (first : Record) (events : List Record) (version : Version) (own : Bool) → first_version first events ≡ Some version → own ≡ is_own node first.bytes version → own ≡ true
     → first_fault node first events ≡ None
@@ -248,14 +240,17 @@ pub told_damaged : (node : Node) (bytes : List ℕ) (place : ℕ) → stands byt
 unfolding told
 told_damaged node bytes place is = ap (told_by node) is
 
+-- a reading that gave this error
+pub tells_is : (error : JournalError) (read : Result State JournalError) → read ≡ Err error → Tells error read
+tells_is Memory read is = tt
+tells_is (Damaged place) read is = is
+tells_is Device read is = is
+tells_is ConfigMismatch read is = is
+tells_is Full read is = is
+
 -- a reading that is another one
 pub tells_same : (error : JournalError) (one other : Result State JournalError) → one ≡ other → Tells error one → Tells error other
 tells_same error one other same tells = subst (Tells error) same tells
-
--- a first record with a fault
-pub behind_fault : (node : Node) (first : Record) (events : List Record) (error : JournalError) → first_fault node first events ≡ Some error → read_journal node (first ∷ events) ≡ Err error
-unfolding read_journal
-behind_fault node first events error is = ap (λ (f : Option JournalError). unless f (read_events node (fresh node) events)) is
 
 -- where the first record has no fault tables stand at what the others have
 stands_unless : (node : Node) (fault : Option JournalError) (read : Result State ℕ) (told_is : Result State JournalError) (tables : Tables)

@@ -1,2 +1,4 @@
-pub mod Told
 pub mod Laws
+pub mod Replayed
+pub mod Replays
+pub mod Told

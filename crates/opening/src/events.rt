@@ -1,14 +1,13 @@
 //! The events of a journal's records.
 
-ghost use Rattle.std.specs.Prelude.{◌≡◌, ◌≢◌, [], true, None, All, IfOk, IfErr, IfSome, OnOk};
+ghost use Rattle.std.specs.Prelude.{◌≡◌, ◌≢◌, true, None, IfOk, IfErr, IfSome, OnOk};
 ghost use Rattle.header.specs.Checks.{fault_of, accepts_all};
 ghost use Rattle.journal.specs.Format.{FailsAs};
-ghost use Rattle.spec_machine.specs.Machine.{fresh};
 ghost use Rattle.spec_model.specs.States.{State};
 ghost use Rattle.admission.specs.Answers.{is_new_step};
 ghost use Rattle.validator.specs.Setting.{node_of};
 ghost use Rattle.validator.specs.Standing.{AreAtSound};
-ghost use Rattle.opening.specs.Told.{IsText, event_in, if_passed, read_event, read_events, StandsAt, IsOld};
+ghost use Rattle.opening.specs.Told.{IsText, event_in, if_passed, read_event, StandsAt, IsOld};
 
 use crate::configuration::are_bytes;
 use committee::Committee;
@@ -68,7 +67,7 @@ fn unread(error: WireError) -> Result<Option<Checked>, AllocError>
 }
 
 // Takes the event of a record, which has to be new.
-fn take_event<S: Sign>(
+pub(crate) fn take_event<S: Sign>(
     alloc: Global,
     validator: &mut Validator<'_, S>,
     one: &Record,
@@ -105,23 +104,4 @@ pub fn is_text(kept: &Record)
     ensures { IsText kept.now }
 {
     are_bytes(kept.bytes.as_slice());
-}
-
-/// The validator after the events of these records, of which each has to be new.
-pub fn replay<'a, S: Sign>(
-    alloc: Global,
-    config: &'a Config<S>,
-    records: &[Record],
-) -> Result<Validator<'a, S>, JournalError>
-    ensures setting { IfOk result (λ validator. validator.setting ≡ config.now) }
-    ensures ok { let node = node_of S.scheme config.now in IfOk result (λ validator. StandsAt node (read_events node (fresh node) records.now) validator.tables) }
-    ensures err { let node = node_of S.scheme config.now in IfErr result (λ error. FailsAs error (read_events node (fresh node) records.now)) }
-    ensures texts { OnOk result (All IsText records.now) }
-{
-    let mut validator = Validator::new(alloc, config)?;
-    for one in records {
-        is_text(one);
-        take_event(alloc, &mut validator, one)?;
-    }
-    Ok(validator)
 }

@@ -4,7 +4,9 @@
 mod configuration;
 mod events;
 mod first_group;
+mod reader;
 mod reopening;
+mod replay;
 mod standing;
 
 pub use configuration::can_tell;

@@ -1,21 +1,24 @@
 //! Opening a node on a disk.
 
-ghost use Rattle.std.specs.Prelude.{◌≡◌, ◌≢◌, ◌⊎◌, ◌<◌, [], ◌∷◌, drop, true, Ok, ◌&&◌, All, IfOk, IfErr, OnOk};
+ghost use Rattle.std.specs.Prelude.{◌≡◌, ◌≢◌, ◌⊎◌, ◌<◌, [], ◌∷◌, ℕ, List, true, None, Ok, Err, ◌&&◌, IfOk, IfErr, OnOk};
 ghost use Rattle.std.specs.Str.{bytes_eq};
 ghost use Rattle.diskmodel.specs.Disk.{AtEachMoment, TellsFault};
 ghost use Rattle.journal.specs.Format.{stands};
-ghost use Rattle.journal.specs.Journal.{disk_of, IsAlive, IsClosedUp};
+ghost use Rattle.journal.specs.Journal.{disk_of, spare_of, disk_after, TellsFaultBack, IsAlive, IsClosedUp, StandsAsOneOf};
+ghost use Rattle.journal.specs.Reader.{TakesAll};
+ghost use Rattle.journal.specs.declared.record.Record.{Record};
 ghost use Rattle.spec_records.specs.Records.{configuration_of, CanTell};
 ghost use Rattle.validator.specs.Setting.{node_of};
 ghost use Rattle.opening.specs.Laws.{StandsForAt, HoldsAt, KeepsHistories, AreLeftTold, IsOpening};
-ghost use Rattle.opening.specs.Told.{IsText, HasTexts, first_version as told_version, is_alone as told_alone, is_own as told_own, read_journal, told, Tells, StandsAt, KeepsOrBegins};
+ghost use Rattle.opening.specs.Replays.{HasTaken};
+ghost use Rattle.opening.specs.Told.{HasTexts, first_version as told_version, is_alone as told_alone, is_own as told_own, told, Tells, StandsAt, KeepsOrBegins};
 
 use crate::configuration::can_tell;
-use crate::events::replay;
 use crate::first_group::{configuration, configuration_group};
+use crate::replay::Replay;
 use crate::standing::worlds_are_told;
 use diskmodel::Disk;
-use journal::{Failed, Journal, JournalError, Record, Version, shaped_version};
+use journal::{Failed, Journal, JournalError, Reader, Record, Store, Version, shaped_version};
 use sigface::Sign;
 use std::alloc::{AllocError, Global};
 use validator::{Config, Validator};
@@ -39,6 +42,7 @@ pub fn reopen<'a, S: Sign, D: Disk>(
     ensures same { let node = node_of S.scheme config.now in IfOk result (λ opened. told node (D.device.content (disk_of opened.1)) ≡ told node (D.device.content disk)) }
     ensures alive { IfOk result (λ opened. IsAlive D.device opened.1) }
     ensures configured { IfOk result (λ opened. stands (D.device.content (disk_of opened.1)) ≢ Ok []) }
+    ensures alone { IfOk result (λ opened. spare_of opened.1 ≡ None) }
 
     // It stands at what is kept of a history for which the bytes stand.
     ensures stands_for { IfOk result (λ opened. StandsForAt (node_of S.scheme config.now) (D.device.content disk) opened.0.tables) }
@@ -55,8 +59,12 @@ pub fn reopen<'a, S: Sign, D: Disk>(
     spec_machine::starts_fresh();
     config.limits_hold();
     outcomes_are_told(config);
-    let (mut journal, records) = Journal::open(alloc, disk)?;
-    match validator_on(alloc, config, &mut journal, &records) {
+    let Ok(mut replay) = Replay::new(alloc, config) else {
+        let error = JournalError::Memory;
+        return Err(Failed { error, disk });
+    };
+    let mut journal = open_one(alloc, disk, &mut replay)?;
+    match validator_on(alloc, config, &mut journal, replay) {
         Ok(validator) => Ok((validator, journal)),
         Err(error) => Err(Failed {
             error,
@@ -74,89 +82,69 @@ fn outcomes_are_told<S: Sign>(config: &Config<S>)
     config.keys_hold();
 }
 
+// Opens the journal on a disk, and hands its records to a reader.
+fn open_one<D: Disk, R: Reader>(
+    alloc: Global,
+    disk: D,
+    reader: &mut R,
+) -> Result<Journal<D>, Failed<JournalError, D>>
+    ensures alive { IfOk result (λ journal. IsAlive D.device journal) }
+    ensures alone { IfOk result (λ journal. spare_of journal ≡ None) }
+    ensures records { OnOk result (TakesAll (λ records. R.takes reader.old records reader.new) (stands (D.device.content disk))) }
+    ensures same { IfOk result (λ journal. stands (D.device.content (disk_of journal)) ≡ stands (D.device.content disk)) }
+    ensures content { IfOk result (λ journal. IsClosedUp (D.device.content disk) (D.device.content (disk_of journal))) }
+    ensures unchanged { IfErr result (λ failed. failed.error ≢ JournalError.Device → D.device.content failed.disk ≡ D.device.content disk) }
+    ensures any_moment { AtEachMoment D.device disk (disk_after disk_of result) (StandsAsOneOf (D.device.outcome disk)) }
+    ensures damaged { IfErr result (λ failed. (gate : ℕ) → failed.error ≡ JournalError.Damaged gate → stands (D.device.content disk) ≡ Err gate) }
+    ensures never_full { IfErr result (λ failed. failed.error ≢ JournalError.Full) }
+    ensures never_config { IfErr result (λ failed. failed.error ≢ JournalError.ConfigMismatch) }
+    ensures cause { TellsFaultBack D.device disk_of JournalError.Device disk result }
+{
+    match Journal::open_store(alloc, Store::One(disk), reader) {
+        Ok(journal) => Ok(journal),
+        Err(failed) => {
+            let Failed { error, disk } = failed;
+            match disk {
+                Store::One(disk) => Err(Failed { error, disk }),
+                Store::Two(..) => unreachable!(),
+            }
+        }
+    }
+}
+
 // The validator after the events of a journal's records. Where there are none, the journal gets the configuration.
 fn validator_on<'a, S: Sign, D: Disk>(
     alloc: Global,
     config: &'a Config<S>,
     journal: &mut Journal<D>,
-    records: &[Record],
+    replay: Replay<'a, S>,
 ) -> Result<Validator<'a, S>, JournalError>
     requires alive { IsAlive D.device journal.old }
-    requires records { stands (D.device.content (disk_of journal.old)) ≡ Ok records.now }
+    requires alone { spare_of journal.old ≡ None }
+    requires config { replay.config.now ≡ config.now }
+    requires records { (records : List Record) × (stands (D.device.content (disk_of journal.old)) ≡ Ok records) × HasTaken S.scheme replay records }
 
     ensures setting { IfOk result (λ validator. validator.setting ≡ config.now) }
     ensures stands { let node = node_of S.scheme config.now in IfOk result (λ validator. StandsAt node (told node (D.device.content (disk_of journal.old))) validator.tables) }
     ensures same { let node = node_of S.scheme config.now in OnOk result (told node (D.device.content (disk_of journal.new)) ≡ told node (D.device.content (disk_of journal.old))) }
     ensures alive { OnOk result (IsAlive D.device journal.new) }
     ensures configured { OnOk result (stands (D.device.content (disk_of journal.new)) ≢ Ok []) }
+    ensures spare { spare_of journal.new ≡ spare_of journal.old }
     ensures err { IfErr result (λ error. error ≢ JournalError.Device → Tells error (told (node_of S.scheme config.now) (D.device.content (disk_of journal.old)))) }
     ensures cause { TellsFault JournalError.Device (D.device.faults (disk_of journal.old)) (D.device.faults (disk_of journal.new)) result }
     ensures never_full { IfErr result (λ error. error ≢ JournalError.Full) }
     ensures unchanged { IfErr result (λ error. error ≢ JournalError.Device → D.device.content (disk_of journal.new) ≡ D.device.content (disk_of journal.old)) }
     ensures any_moment { let node = node_of S.scheme config.now in AtEachMoment D.device (disk_of journal.old) (disk_of journal.new) (λ left. told node left ≡ told node (D.device.content (disk_of journal.old))) }
     ensures keeps { AtEachMoment D.device (disk_of journal.old) (disk_of journal.new) (KeepsOrBegins Version.Second (node_of S.scheme config.now) (D.device.content (disk_of journal.old))) }
-    ensures texts { OnOk result (All IsText (drop 1 records.now)) }
+    ensures texts { OnOk result (HasTexts (D.device.content (disk_of journal.old))) }
     ensures texts_left { OnOk result (HasTexts (D.device.content (disk_of journal.new))) }
 {
-    let validator = validator_after(alloc, config, records)?;
-    if records.is_empty() {
+    let is_empty = replay.is_empty();
+    let validator = replay.finish()?;
+    if is_empty {
         write_configuration(alloc, Version::Second, config, journal)?;
     }
     Ok(validator)
-}
-
-// The validator after the events of a journal's records, of which the first has to be its configuration.
-fn validator_after<'a, S: Sign>(
-    alloc: Global,
-    config: &'a Config<S>,
-    records: &[Record],
-) -> Result<Validator<'a, S>, JournalError>
-    ensures setting { IfOk result (λ validator. validator.setting ≡ config.now) }
-    ensures stands { let node = node_of S.scheme config.now in IfOk result (λ validator. StandsAt node (read_journal node records.now) validator.tables) }
-    ensures err { IfErr result (λ error. Tells error (read_journal (node_of S.scheme config.now) records.now)) }
-    ensures never { IfErr result (λ error. (error ≢ JournalError.Device) × (error ≢ JournalError.Full)) }
-    ensures texts { OnOk result (All IsText (drop 1 records.now)) }
-{
-    match records.split_first() {
-        Some((first, events)) => validator_behind(alloc, config, first, events),
-        None => fresh_validator(alloc, config),
-    }
-}
-
-// The validator of a journal without records.
-fn fresh_validator<'a, S: Sign>(
-    alloc: Global,
-    config: &'a Config<S>,
-) -> Result<Validator<'a, S>, JournalError>
-    ensures setting { IfOk result (λ validator. validator.setting ≡ config.now) }
-    ensures stands { let node = node_of S.scheme config.now in IfOk result (λ validator. StandsAt node (read_journal node []) validator.tables) }
-    ensures err { IfErr result (λ error. Tells error (read_journal (node_of S.scheme config.now) [])) }
-    ensures never { IfErr result (λ error. (error ≢ JournalError.Device) × (error ≢ JournalError.Full)) }
-{
-    replay(alloc, config, &[])
-}
-
-// The validator after the events of the records after the first.
-fn validator_behind<'a, S: Sign>(
-    alloc: Global,
-    config: &'a Config<S>,
-    first: &Record,
-    events: &[Record],
-) -> Result<Validator<'a, S>, JournalError>
-    ensures setting { IfOk result (λ validator. validator.setting ≡ config.now) }
-    ensures stands { let node = node_of S.scheme config.now in IfOk result (λ validator. StandsAt node (read_journal node (first.now ∷ events.now)) validator.tables) }
-    ensures err { IfErr result (λ error. Tells error (read_journal (node_of S.scheme config.now) (first.now ∷ events.now))) }
-    ensures never { IfErr result (λ error. (error ≢ JournalError.Device) × (error ≢ JournalError.Full)) }
-    ensures texts { OnOk result (All IsText events.now) }
-{
-    let version = match first_version(first, events) {
-        Some(version) => version,
-        None => return Err(JournalError::Damaged(first.gate)),
-    };
-    if !is_own(alloc, config, version, first.bytes.as_slice())? {
-        return Err(JournalError::ConfigMismatch);
-    }
-    replay(alloc, config, events)
 }
 
 /// The version of the first record, if it has the shape of a configuration, and is alone in its group.
@@ -203,6 +191,7 @@ pub fn write_configuration<S: Sign, D: Disk>(
 
     ensures alive { OnOk result (IsAlive D.device journal.new) }
     ensures configured { OnOk result (stands (D.device.content (disk_of journal.new)) ≢ Ok []) }
+    ensures spare { spare_of journal.new ≡ spare_of journal.old }
     ensures texts { OnOk result (HasTexts (D.device.content (disk_of journal.new))) }
     ensures same { let node = node_of S.scheme config.now in OnOk result (told node (D.device.content (disk_of journal.new)) ≡ told node (D.device.content (disk_of journal.old))) }
     ensures errors { IfErr result (λ error. (error ≡ JournalError.Device) ⊎ (error ≡ JournalError.Memory)) }

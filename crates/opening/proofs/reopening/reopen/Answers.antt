@@ -1,43 +1,51 @@
-use Rattle.std.proofs.Common.{rules, ◌≢◌, ◌<◌, ℕ, sym, ◌∙◌, subst, drop}
+use Rattle.std.proofs.Common.{rules, [], ◌≢◌, ◌<◌, ℕ, sym, ◌∙◌, subst}
 use borrow.Author.Rules.{in_lives}
-use Rattle.std.specs.Prelude.{All}
 use Rattle.std.proofs.lemmas.Result.{err_from_is_err_and}
 use Rattle.journal.specs.Journal.{disk_of}
 use Rattle.journal.specs.declared.error.JournalError.TheVariants.{Device}
 use Rattle.journal.specs.declared.version.Version.TheVariants.{Second}
 use Rattle.validator.specs.Setting.{node_of}
-use Rattle.opening.specs.Told.{IsText, told}
+use Rattle.opening.specs.Told.{told}
 use Rattle.opening.proofs.Telling.{told_same, tells_same, stands_same, keeps_same, opening_fails}
 use Rattle.opening.proofs.Opened.{stands_for_at, holds_at, keeps_histories, no_refusal, first_told, first_kept, told_on, kept_on}
 use Rattle.opening.proofs.reopening.reopen.Goals as goal
 
-pub returns-in-Ok-clause-stands : goal.returns-in-Ok-clause-stands
-returns-in-Ok-clause-stands g c =
+pub returns-in-Ok-validator_on-clause-stands : goal.returns-in-Ok-validator_on-clause-stands
+returns-in-Ok-validator_on-clause-stands g c =
     let node = node_of g.S.Sign.scheme c.args.config.now in
     let file = g.D.Disk.device.content c.args.disk in
     let mid = g.D.Disk.device.content (disk_of c.in_ok-journal.journal) in
-    stands_same node (told node mid) (told node file) c.in-Ok.validator.tables (told_same node mid file c.in_ok-journal.ensures.same) c.in-Ok.ensures.stands
+    stands_same node (told node mid) (told node file) c.in-Ok-validator_on.validator.tables (told_same node mid file c.in_ok-journal.ensures.same) c.in-Ok-validator_on.ensures.stands
 
-pub returns-in-Ok-clause-stands_for : goal.returns-in-Ok-clause-stands_for
-returns-in-Ok-clause-stands_for g c =
+pub returns-in-Ok-validator_on-clause-stands_for : goal.returns-in-Ok-validator_on-clause-stands_for
+returns-in-Ok-validator_on-clause-stands_for g c =
     let node = node_of g.S.Sign.scheme c.args.config.now in
     let file = g.D.Disk.device.content c.args.disk in
     let mid = g.D.Disk.device.content (disk_of c.in_ok-journal.journal) in
-    let tables = c.in-Ok.validator.tables in
-    stands_for_at c.starts_fresh.ensures node file c.in_ok-journal.records.items tables c.limits_hold.ensures c.in_ok-journal.ensures.records
-    (subst (λ records. All IsText (drop 1 records)) c.deref.ensures.value c.in-Ok.ensures.texts)
-    (stands_same node (told node mid) (told node file) tables (told_same node mid file c.in_ok-journal.ensures.same) c.in-Ok.ensures.stands)
+    let tables = c.in-Ok-validator_on.validator.tables in
+    let taken = c.in_ok-journal.ensures.records in
+    stands_for_at c.starts_fresh.ensures node file taken.0 tables c.limits_hold.ensures taken.1
+    (c.in-Ok-validator_on.ensures.texts taken.0 (c.in_ok-journal.ensures.same ∙ taken.1))
+    (stands_same node (told node mid) (told node file) tables (told_same node mid file c.in_ok-journal.ensures.same) c.in-Ok-validator_on.ensures.stands)
 
-pub returns-in-Ok-clause-holds : goal.returns-in-Ok-clause-holds
-returns-in-Ok-clause-holds g c =
+pub validator_on-requires-clause-config : goal.validator_on-requires-clause-config
+validator_on-requires-clause-config g c = c.in_ok-journal.ensures.records.2.config ∙ c.in-Ok.ensures.config
+
+pub validator_on-requires-clause-records : goal.validator_on-requires-clause-records
+validator_on-requires-clause-records g c =
+    let taken = c.in_ok-journal.ensures.records in
+    (taken.0, c.in_ok-journal.ensures.same ∙ taken.1, taken.2.taken [] c.in-Ok.ensures.none)
+
+pub returns-in-Ok-validator_on-clause-holds : goal.returns-in-Ok-validator_on-clause-holds
+returns-in-Ok-validator_on-clause-holds g c =
     let node = node_of g.S.Sign.scheme c.args.config.now in
     let mid = g.D.Disk.device.content (disk_of c.in_ok-journal.journal) in
     let later = g.D.Disk.device.content (disk_of c.validator_on.new.journal) in
-    let tables = c.in-Ok.validator.tables in
-    holds_at c.starts_fresh.ensures node later tables c.limits_hold.ensures (stands_same node (told node mid) (told node later) tables (sym c.in-Ok.ensures.same) c.in-Ok.ensures.stands) c.in-Ok.ensures.texts_left c.in-Ok.ensures.configured
+    let tables = c.in-Ok-validator_on.validator.tables in
+    holds_at c.starts_fresh.ensures node later tables c.limits_hold.ensures (stands_same node (told node mid) (told node later) tables (sym c.in-Ok-validator_on.ensures.same) c.in-Ok-validator_on.ensures.stands) c.in-Ok-validator_on.ensures.texts_left c.in-Ok-validator_on.ensures.configured
 
-pub returns-in-Ok-clause-kept : goal.returns-in-Ok-clause-kept
-returns-in-Ok-clause-kept g c =
+pub returns-in-Ok-validator_on-clause-kept : goal.returns-in-Ok-validator_on-clause-kept
+returns-in-Ok-validator_on-clause-kept g c =
     let node = node_of g.S.Sign.scheme c.args.config.now in
     let device = g.D.Disk.device in
     let middle = disk_of c.in_ok-journal.journal in
@@ -46,14 +54,14 @@ returns-in-Ok-clause-kept g c =
     let now = g.met.D.Disk.counts_now later (device.clock middle) (device.content later) keeps.later (g.met.D.Disk.content_is_outcome later) in
     keeps_histories node (device.content c.args.disk) (device.content later)
     (keeps_same Second node (device.content c.args.disk) (device.content middle) (device.content later) c.in_ok-journal.ensures.same (keeps.each (device.content later) now))
-    c.in-Ok.ensures.configured
+    c.in-Ok-validator_on.ensures.configured
 
-pub returns-in-Ok-clause-same : goal.returns-in-Ok-clause-same
-returns-in-Ok-clause-same g c =
+pub returns-in-Ok-validator_on-clause-same : goal.returns-in-Ok-validator_on-clause-same
+returns-in-Ok-validator_on-clause-same g c =
     let node = node_of g.S.Sign.scheme c.args.config.now in
     let file = g.D.Disk.device.content c.args.disk in
     let mid = g.D.Disk.device.content (disk_of c.in_ok-journal.journal) in
-    c.in-Ok.ensures.same ∙ told_same node mid file c.in_ok-journal.ensures.same
+    c.in-Ok-validator_on.ensures.same ∙ told_same node mid file c.in_ok-journal.ensures.same
 
 pub from_residual-requires : goal.from_residual-requires
 from_residual-requires g c κs = λ h. simp in_lives (search rules)
@@ -77,8 +85,8 @@ returns-in_err-journal-clause-opening g c =
       never_refused = λ left. let found = c.outcomes_are_told.ensures file left in no_refusal failed.error found.0 (told node file) found.1 fails;
     })
 
-pub returns-in-Ok-clause-opening : goal.returns-in-Ok-clause-opening
-returns-in-Ok-clause-opening g c =
+pub returns-in-Ok-validator_on-clause-opening : goal.returns-in-Ok-validator_on-clause-opening
+returns-in-Ok-validator_on-clause-opening g c =
     let node = node_of g.S.Sign.scheme c.args.config.now in
     let device = g.D.Disk.device in
     let middle = disk_of c.in_ok-journal.journal in
@@ -88,14 +96,14 @@ returns-in-Ok-clause-opening g c =
     record {
       tells = tt;
       never_full = tt;
-      cause = (c.in-Ok.ensures.cause.0 ∙ opened.cause.0, tt);
+      cause = (c.in-Ok-validator_on.ensures.cause.0 ∙ opened.cause.0, tt);
       any_moment = told_on node device c.args.disk middle opened.any_moment later opened.same now c.validator_on.ensures.any_moment;
       keeps = kept_on node device c.args.disk middle opened.any_moment later opened.same now c.validator_on.ensures.keeps;
       never_refused = tt;
     }
 
-pub returns-clause-opening : goal.returns-clause-opening
-returns-clause-opening g c =
+pub returns-in-Err-clause-opening : goal.returns-in-Err-clause-opening
+returns-in-Err-clause-opening g c =
     let node = node_of g.S.Sign.scheme c.args.config.now in
     let device = g.D.Disk.device in
     let file = device.content c.args.disk in

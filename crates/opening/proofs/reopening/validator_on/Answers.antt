@@ -1,44 +1,51 @@
-use Rattle.std.proofs.Common.{rules, ◌≡◌, ℕ, List, [], Result, Ok, Err, ap, sym, ◌∙◌, length, inl}
+use Rattle.std.proofs.Common.{rules, ◌≡◌, subst, Ok, Err, ap, sym, ◌∙◌, inl}
 use borrow.Author.Rules.{in_lives}
-use Rattle.std.proofs.lemmas.Bool.{eqb-true, eqb-false}
-use Rattle.std.proofs.lemmas.List.{nil_from_length}
 use Rattle.std.proofs.lemmas.Result.{err_from_is_err_and}
 use Rattle.journal.specs.Format.{stands}
 use Rattle.journal.specs.Journal.{disk_of}
 use Rattle.journal.specs.declared.version.Version.TheVariants.{Second}
 use Rattle.validator.specs.Setting.{node_of}
-use Rattle.opening.specs.Told.{told, read_journal, KeepsOrBegins}
+use Rattle.validator.specs.Setting.{ConfigView}
+use Rattle.opening.specs.Told.{told, read_journal, StandsAt, KeepsOrBegins}
 use Rattle.opening.proofs.Opened.{same_texts}
 use Rattle.diskmodel.proofs.Clock.{started}
-use Rattle.opening.proofs.Telling.{told_same, told_records, tells_same, stands_same}
+use Rattle.opening.proofs.Telling.{told_same, told_records, tells_is, stands_same}
+use Rattle.opening.proofs.Replays.{none_taken, some_taken, same_records}
 use Rattle.opening.proofs.reopening.validator_on.Goals as goal
 use Rattle.opening.proofs.reopening.validator_on.Goals.{then-is_empty+in_ok-write_configuration, else-is_empty}
-
--- how many records were read
-abbrev length_read : {X E : Type 0} → Result (List X) E → ℕ
-length_read (Ok xs) = length xs
-length_read (Err _) = 0
 
 pub returns-in_err-validator-clause-err : goal.returns-in_err-validator-clause-err
 returns-in_err-validator-clause-err g c =
     let node = node_of g.S.Sign.scheme c.args.config.now in
     let file = g.D.Disk.device.content (disk_of c.args.journal.now) in
+    let has = c.requires.records in
+    let error = c.in_err-validator.field-0.0 in
     let p = err_from_is_err_and c.from_residual.result c.from_residual.ensures.1 in
-    rw (p.1, p.2)
-    (λ other. tells_same c.in_err-validator.field-0.0 (read_journal node c.args.records.now) (told node file)
-    (sym (told_records node file c.args.records.now c.requires.records)) c.in_err-validator.ensures.err)
+    let read : read_journal node has.0 ≡ Err error =
+    subst (λ (s : ConfigView g.row.S.Denot). read_journal (node_of g.S.Sign.scheme s) has.0 ≡ Err error) c.requires.config (c.in_err-validator.ensures.err has.0 has.2) in
+    rw (p.1, p.2) (λ other. tells_is error (told node file) (told_records node file has.0 has.1 ∙ read))
+
+pub returns-clause-setting : goal.returns-clause-setting
+returns-clause-setting g c = let has = c.requires.records in c.in_ok-validator.ensures.setting has.0 has.2 ∙ c.requires.config
 
 pub returns-clause-stands : goal.returns-clause-stands
 returns-clause-stands g c =
     let node = node_of g.S.Sign.scheme c.args.config.now in
     let file = g.D.Disk.device.content (disk_of c.args.journal.now) in
-    stands_same node (read_journal node c.args.records.now) (told node file) c.in_ok-validator.validator.tables
-    (sym (told_records node file c.args.records.now c.requires.records)) c.in_ok-validator.ensures.stands
+    let has = c.requires.records in
+    let tables = c.in_ok-validator.validator.tables in
+    stands_same node (read_journal node has.0) (told node file) tables (sym (told_records node file has.0 has.1))
+    (subst (λ (s : ConfigView g.row.S.Denot). StandsAt (node_of g.S.Sign.scheme s) (read_journal (node_of g.S.Sign.scheme s) has.0) tables) c.requires.config (c.in_ok-validator.ensures.stands has.0 has.2))
+
+pub returns-clause-texts : goal.returns-clause-texts
+returns-clause-texts g c =
+    let has = c.requires.records in
+    same_texts (g.D.Disk.device.content (disk_of c.args.journal.now)) has.0 has.1 (c.in_ok-validator.ensures.texts has.0 has.2)
 
 pub write_configuration-requires-clause-empty : goal.write_configuration-requires-clause-empty
 write_configuration-requires-clause-empty g c =
-    let none : c.args.records.now ≡ [] = nil_from_length c.args.records.now (eqb-true (length c.args.records.now) 0 (sym c.is_empty.ensures ∙ c.if-is_empty.true)) in
-    c.requires.records ∙ ap Ok none
+    let has = c.requires.records in
+    has.1 ∙ ap Ok (none_taken c.args.replay.first has.0 has.2.begins (sym c.is_empty-is_empty.ensures ∙ c.if-is_empty.true))
 
 pub returns-clause-same : goal.returns-clause-same
 returns-clause-same g c =
@@ -66,7 +73,7 @@ returns-in_err-validator-clause-keeps g c =
     let old = disk_of c.args.journal.now in
     let node = node_of g.S.Sign.scheme c.args.config.now in
     started g.D.Disk.device old (KeepsOrBegins Second node (g.D.Disk.device.content old))
-    (λ left now. inl (c.args.records.now, c.requires.records, ap stands (c.requires.alive.firm left (g.met.D.Disk.only_now old left now)) ∙ c.requires.records))
+    (λ left now. inl (c.requires.records.0, c.requires.records.1, ap stands (c.requires.alive.firm left (g.met.D.Disk.only_now old left now)) ∙ c.requires.records.1))
 
 pub returns-clause-keeps : goal.returns-clause-keeps
 returns-clause-keeps g c =
@@ -77,7 +84,7 @@ returns-clause-keeps g c =
       | else-is_empty w ↦
           rw w.journal-is
           (started g.D.Disk.device old (KeepsOrBegins Second node (g.D.Disk.device.content old))
-          (λ left now. inl (c.args.records.now, c.requires.records, ap stands (c.requires.alive.firm left (g.met.D.Disk.only_now old left now)) ∙ c.requires.records)))
+          (λ left now. inl (c.requires.records.0, c.requires.records.1, ap stands (c.requires.alive.firm left (g.met.D.Disk.only_now old left now)) ∙ c.requires.records.1)))
     ]
 
 pub returns-clause-texts_left : goal.returns-clause-texts_left
@@ -85,7 +92,7 @@ returns-clause-texts_left g c =
     let file = g.D.Disk.device.content (disk_of c.args.journal.now) in
     elim c.if-is_empty.branch [
       | then-is_empty+in_ok-write_configuration w ↦ rw w.journal-is w.in_ok-write_configuration.ensures.texts
-      | else-is_empty w ↦ rw w.journal-is (same_texts file c.args.records.now c.requires.records c.in_ok-validator.ensures.texts)
+      | else-is_empty w ↦ rw w.journal-is (same_texts file c.requires.records.0 c.requires.records.1 (c.in_ok-validator.ensures.texts c.requires.records.0 c.requires.records.2))
     ]
 
 pub returns-clause-alive : goal.returns-clause-alive
@@ -110,7 +117,7 @@ returns-clause-configured g c =
       | then-is_empty+in_ok-write_configuration w ↦ rw w.journal-is w.in_ok-write_configuration.ensures.configured
       | else-is_empty w ↦
           rw w.journal-is
-          (λ none. eqb-false (length c.args.records.now) 0 (sym c.is_empty.ensures ∙ w.if-is_empty.false) (ap length_read (sym c.requires.records ∙ none)))
+          (λ none. some_taken c.args.replay.first c.requires.records.0 c.requires.records.2.begins (sym c.is_empty-is_empty.ensures ∙ w.if-is_empty.false) (same_records (sym c.requires.records.1 ∙ none)))
     ]
 
 pub branch-validator-requires : goal.branch-validator-requires

@@ -7,12 +7,19 @@ use Rattle.journal.specs.Journal.{disk_of, IsBeforeOrAfter, stands_with}
 use Rattle.spec_records.specs.Records.{configuration_of}
 use Rattle.validator.specs.Setting.{node_of}
 use Rattle.opening.specs.Told.{told, KeepsOrBegins}
+use Rattle.std.specs.Option.{option_map}
+use Rattle.journal.specs.declared.version.Version.{Version}
+use Rattle.journal.specs.Areas.{generation_of}
 use Rattle.journal.specs.Configuration.{shaped_version}
 use Rattle.diskmodel.proofs.Clock.{started, weaker}
 use Rattle.opening.proofs.Empty.{never_full, begins_with}
 use Rattle.opening.proofs.Opened.{one_text}
 use Rattle.opening.proofs.Telling.{told_same, told_before_or_after}
 use Rattle.opening.proofs.reopening.write_configuration.Goals as goal
+
+pub append-requires-clause-first : goal.append-requires-clause-first
+unfolding generation_of
+append-requires-clause-first g c pair new = ap generation_of c.in_ok-group.ensures.group ∙ ap (option_map (λ (version : Version). 0)) c.in_ok-group.ensures.shape
 
 pub returns-in_err-group-clause-any_moment : goal.returns-in_err-group-clause-any_moment
 returns-in_err-group-clause-any_moment g c =

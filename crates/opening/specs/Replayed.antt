@@ -1,0 +1,39 @@
+-- What a validator has come to that takes the records of a journal as they are read.
+use Rattle.std.specs.Prelude.{◌≡◌, ◌≢◌, All, ℕ, Bool, List, [], ◌∷◌, drop, Option, Some, None, Result, Ok, Err, IfOk, IfErr, OnOk}
+use Rattle.std.specs.Option.{option_map_or}
+use Rattle.journal.specs.Configuration.{shaped_version}
+use Rattle.journal.specs.declared.error.JournalError.{JournalError}
+use Rattle.journal.specs.declared.error.JournalError.TheVariants.{Memory, Device, Damaged, Full}
+use Rattle.journal.specs.declared.record.Record.{Record}
+use Rattle.sigface.specs.Scheme.{Scheme}
+use Rattle.spec_machine.specs.Machine.{fresh}
+use Rattle.spec_model.specs.Nodes.{Node}
+use Rattle.spec_model.specs.States.{State}
+use Rattle.validator.specs.Setting.{ConfigView, node_of}
+use Rattle.validator.specs.Standing.{ValidatorView}
+use Rattle.opening.specs.Told.{IsText, StandsAt, read_events, mismatch, is_own, is_alone, unless}
+
+-- why a first record isn't the node's own configuration, whatever comes after it
+abbrev pub own_fault : Node → Record → Option JournalError
+own_fault node first = option_map_or (λ version. mismatch (is_own node first.bytes version)) (shaped_version first.bytes) (Some (Damaged first.gate))
+
+-- the state after the events of a journal's records, or why they are none, in whichever groups they stand
+abbrev pub read_apart : Node → List Record → Result State JournalError
+read_apart node [] = Ok (fresh node)
+read_apart node (first ∷ events) = unless (own_fault node first) (read_events node (fresh node) events)
+
+-- the place of the first record's group
+abbrev pub first_gate : List Record → Option ℕ
+first_gate [] = None
+first_gate (first ∷ events) = Some first.gate
+
+-- what was read of these records: where the first one stands, whether it is alone in its group, and a validator that stands after the
+-- events, or the first fault
+pub record HasReplayed {S : Type 0} (scheme : Scheme S) (setting : ConfigView S) (first : Option ℕ) (alone : Bool) (reached : Result (ValidatorView S) JournalError) (records : List Record) : Type 0 where
+  pub begins : first ≡ first_gate records
+  pub is_alone_in : alone ≡ is_alone (drop 1 records)
+  pub set : IfOk reached (λ validator. validator.setting ≡ setting)
+  pub stands : IfOk reached (λ validator. StandsAt (node_of scheme setting) (read_apart (node_of scheme setting) records) validator.tables)
+  pub fault : IfErr reached (λ error. read_apart (node_of scheme setting) records ≡ Err error)
+  pub never : IfErr reached (λ error. (error ≢ Memory) × (error ≢ Device) × (error ≢ Full))
+  pub texts : OnOk reached (All IsText (drop 1 records))

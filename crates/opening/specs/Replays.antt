@@ -1,0 +1,15 @@
+-- A validator that takes the records of a journal as they are read.
+use Rattle.std.specs.Prelude.{◌≡◌, List, ◌++◌}
+use Rattle.journal.specs.declared.record.Record.{Record}
+use Rattle.sigface.specs.Scheme.{Scheme}
+use Rattle.opening.specs.Replayed.{HasReplayed}
+use Rattle.opening.specs.declared.replay.Replay.{Replay}
+
+-- it has taken these records
+abbrev pub HasTaken : {S : Type 0} → Scheme S → Replay S → List Record → Type 0
+HasTaken scheme replay records = HasReplayed scheme replay.config.now replay.first replay.alone replay.reached records
+
+-- it has taken these records more
+pub record TakesMore {S : Type 0} (scheme : Scheme S) (old : Replay S) (records : List Record) (new : Replay S) : Type 0 where
+  pub config : new.config.now ≡ old.config.now
+  pub taken : (before : List Record) → HasTaken scheme old before → HasTaken scheme new (before ++ records)

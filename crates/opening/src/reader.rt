@@ -1,0 +1,26 @@
+//! A validator as what takes a journal's records.
+
+ghost use Rattle.std.specs.Prelude.{◌++◌};
+ghost use Rattle.std.proofs.Common.{refl, sym, ◌∙◌, subst, append_assoc};
+ghost use Rattle.std.proofs.lemmas.List.{append-nil};
+ghost use Rattle.opening.specs.Replays.{HasTaken, TakesMore};
+
+use crate::replay::Replay;
+use journal::{Reader, Record};
+use sigface::Sign;
+use std::alloc::{AllocError, Global};
+
+impl<'a, S: Sign> Reader for Replay<'a, S> {
+    ghost takes = { TakesMore S.scheme };
+
+    ghost takes_none = { λ one. record { config = refl; taken = λ before has. subst (HasTaken S.scheme one) (sym (append-nil before)) has } };
+
+    ghost takes_more = { λ one other third records more first then. record {
+      config = then.config ∙ first.config;
+      taken = λ before has. subst (HasTaken S.scheme third) (append_assoc before records more) (then.taken (before ++ records) (first.taken before has));
+    } };
+
+    fn take(&mut self, alloc: Global, group: Vec<Record>) -> Result<(), AllocError> {
+        self.take_all(alloc, &group)
+    }
+}
