@@ -42,10 +42,11 @@ impl<'a, S: Sign> Model for OwnBook<'a, S> {
 }
 
 impl<'a, S: Sign> OwnBook<'a, S> {
-    ghost use Rattle.std.specs.Prelude.{◌≡◌, ◌≢◌, ◌⊎◌, ◌↔◌, ◌+◌, ◌<◌, ◌≤◌, ◌==◌, drop, map, false, is_some, if◌then◌else◌, IsNone, ◌++◌, ◌∷◌, [], List, ℕ, length, true, None, Ok, IfOk, IfErr, IfSome, OnOk, OnErr, IsErrOf, IsTrue};
+    ghost use Rattle.std.specs.Prelude.{◌≡◌, ◌≢◌, ◌⊎◌, ◌↔◌, ◌+◌, ◌<◌, ◌≤◌, ◌==◌, drop, map, false, is_some, if◌then◌else◌, IsNone, ◌++◌, ◌∷◌, [], List, ℕ, length, true, None, Ok, IfOk, IfErr, IfSome, IsSome, OnOk, OnErr, IsErrOf, IsTrue};
     ghost use Rattle.diskmodel.specs.Disk.{AtEachMoment, TellsFault};
     ghost use Rattle.header.specs.Checks.{fault_of, accepts_all};
-    ghost use Rattle.journal.specs.Journal.{disk_of, IsAlive};
+    ghost use Rattle.journal.specs.Journal.{disk_of, spare_of, IsAlive};
+    ghost use Rattle.journal.specs.declared.layout.TheConstants.{CLOSED};
     ghost use Rattle.spec_records.specs.Records.{record_of};
     ghost use Rattle.validator.specs.Setting.{node_of};
     ghost use Rattle.validator.specs.Standing.{AreAtSound};
@@ -158,7 +159,9 @@ impl<'a, S: Sign> OwnBook<'a, S> {
     /// # Errors
     /// Each of them, as told there.
     pub fn flush<D: Disk>(&mut self, journal: &mut Journal<D>) -> Result<u64, FlushError>
-        requires { IsAlive D.device journal.old }
+        requires alive { IsAlive D.device journal.old }
+        // A journal on two disks has its configuration.
+        requires begun { IsSome (spare_of journal.old) → D.device.content (disk_of journal.old) ≢ CLOSED ∷ [] }
         // It takes the longest beginning of the pending records, which is then on the disk and settled.
         ensures idle { OnOk result (self.old.pending ≡ [] → (result ≡ Ok 0) × (self.new ≡ self.old) × (journal.new ≡ journal.old)) }
         ensures flushed { IfOk result (λ count. self.old.pending ≢ [] → Flushes (node_of S.scheme self.old.validator.setting) self.old self.new (D.device.content (disk_of journal.old)) (D.device.content (disk_of journal.new)) count) }
@@ -175,6 +178,7 @@ impl<'a, S: Sign> OwnBook<'a, S> {
         // The journal is alive exactly where it doesn't answer Device.
         ensures alive { (IsErrOf result FlushError.Device) ⊎ IsAlive D.device journal.new }
         ensures dead { IsErrOf result FlushError.Device → ¬ IsAlive D.device journal.new }
+        ensures spare { spare_of journal.new ≡ spare_of journal.old }
         // It answers Device exactly where the disk has failed.
         ensures cause { TellsFault FlushError.Device (D.device.faults (disk_of journal.old)) (D.device.faults (disk_of journal.new)) result }
         ensures setting { self.new.validator.setting ≡ self.old.validator.setting }

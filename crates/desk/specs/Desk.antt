@@ -1,9 +1,9 @@
 -- A node with one owner: what contracts see of it, and of which run it is.
-use Rattle.std.specs.Prelude.{◌≡◌, ◌≢◌, ◌⊎◌, ℕ, false, List, [], Ok}
+use Rattle.std.specs.Prelude.{◌≡◌, ◌≢◌, ◌⊎◌, ℕ, false, List, [], None, Ok}
 use Rattle.diskmodel.specs.Disk.{Device}
 use Rattle.book.specs.Book as book
 use Rattle.journal.specs.Format.{stands}
-use Rattle.journal.specs.Journal.{disk_of, IsAlive}
+use Rattle.journal.specs.Journal.{disk_of, spare_of, IsAlive}
 use Rattle.journal.specs.declared.error.JournalError.{JournalError}
 use Rattle.journal.specs.declared.error.JournalError.TheVariants as errors
 use Rattle.journal.specs.declared.error.JournalError.TheVariants.{Full}
@@ -18,10 +18,11 @@ pub record DeskView (S D : Type 0) : Type 0 where
   pub book : book.BookView S
   pub journal : Journal D
 
--- while it is up, its journal can be added to, and no group is on the way
+-- its journal is on one disk; while it is up, that can be added to, and no group is on the way
 pub record IsSound {S D : Type 0} (device : Device D) (desk : DeskView S D) : Type 0 where
   pub alive : desk.book.down ≡ false → IsAlive device desk.journal
   pub settled : desk.book.down ≡ false → desk.book.taken ≡ desk.book.settled
+  pub alone : spare_of desk.journal ≡ None
 
 -- the state after all that a run took
 abbrev pub taken_in : Node → book.Run → State

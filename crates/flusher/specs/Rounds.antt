@@ -1,8 +1,8 @@
 -- A flusher, and what its rounds do.
-use Rattle.std.specs.Prelude.{◌≡◌, ◌⊎◌, ◌↔◌, ℕ, ◌+◌, ◌<◌, false, Bool, List, length, map, drop, ◌++◌, Result, IsErrOf, IsTrue, IfOk, OnOk, OnErr}
+use Rattle.std.specs.Prelude.{◌≡◌, ◌⊎◌, ◌↔◌, ℕ, ◌+◌, ◌<◌, false, Bool, List, length, map, drop, ◌++◌, None, Result, IsErrOf, IsTrue, IfOk, OnOk, OnErr}
 use Rattle.diskmodel.specs.Disk.{Device}
 use Rattle.journal.specs.Format.{group_bytes}
-use Rattle.journal.specs.Journal.{disk_of, IsAlive}
+use Rattle.journal.specs.Journal.{disk_of, spare_of, IsAlive}
 use Rattle.journal.specs.declared.journal.Journal.{Journal}
 use Rattle.journal.specs.declared.layout.TheConstants.{MAX_JOURNAL_BYTES}
 use Rattle.spec_model.specs.Admitting.{IsLegal}
@@ -64,6 +64,7 @@ pub record LeavesAfter {S : Type 0} (scheme : Scheme S) (node : NodeView S) (set
 -- added to and has exactly that.
 pub record IsFlusherOf {S D : Type 0} (scheme : Scheme S) (device : Device D) (node : NodeView S) (flusher : Flusher D) : Type 0 where
   pub seat : IsFlushOf node (seat_of flusher)
+  pub alone : spare_of (journal_of flusher) ≡ None
   pub rests : is_down flusher ≡ false → (seat_of flusher).taken ≡ (seat_of flusher).settled
   pub alive : is_down flusher ≡ false → IsAlive device (journal_of flusher)
   pub holds : is_down flusher ≡ false → HoldsAfter scheme node (settled_in flusher) (device.content (disk_of (journal_of flusher)))

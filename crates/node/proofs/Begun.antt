@@ -1,6 +1,6 @@
 -- Where a node begins after an opening.
 use Rattle.std.proofs.Common.{◌≡◌, ℕ, List, [], length, inr, sym, subst, ap, ◌∙◌, append-nil}
-use Rattle.std.specs.Prelude.{Result, Ok, Err, IfOk, IfErr}
+use Rattle.std.specs.Prelude.{None, Result, Ok, Err, IfOk, IfErr}
 use Rattle.diskmodel.specs.Disk.{AtEachMoment, Device}
 use Rattle.journal.specs.declared.error.Failed.{Failed}
 use Rattle.journal.specs.declared.error.JournalError.{JournalError}
@@ -11,7 +11,7 @@ use Rattle.validator.specs.Setting.{ConfigView, node_of}
 use Rattle.node_shared.specs.Home.{NodeView}
 use Rattle.flusher.specs.Rounds.{journal_of, seat_of, HoldsAfter, IsFlusherOf}
 use Rattle.flusher.specs.declared.flusher.Flusher.{Flusher}
-use Rattle.journal.specs.Journal.{disk_of, IsAlive}
+use Rattle.journal.specs.Journal.{disk_of, spare_of, IsAlive}
 use Rattle.journal.specs.declared.journal.Journal.{Journal}
 use Rattle.node_seats.specs.declared.view.Marked.{Marked}
 use Rattle.node_shared.specs.Calls.{HasNothing}
@@ -35,14 +35,15 @@ holds_first scheme node bytes held = record {
 -- a flusher over that journal, whose seat has seen nothing
 pub flusher_first : {S D : Type 0} (scheme : Scheme S) (device : Device D) (node : NodeView S) (flusher : Flusher D) (journal : Journal D) (seat : FlushSeat) (setting : ConfigView S) (tables : Tables)
     → node.setting ≡ setting → node.begun ≡ tables → journal_of flusher ≡ journal → seat_of flusher ≡ seat → IsFlushOf node seat → HasNothing seat.seat → seat.taken ≡ 0
-    → IsAlive device journal → HoldsAt (node_of scheme setting) (device.content (disk_of journal)) tables → IsFlusherOf scheme device node flusher
-flusher_first {S} {D} scheme device node flusher journal seat setting tables setting_is begun_is journal_is seat_is of nothing taken alive held =
+    → spare_of journal ≡ None → IsAlive device journal → HoldsAt (node_of scheme setting) (device.content (disk_of journal)) tables → IsFlusherOf scheme device node flusher
+flusher_first {S} {D} scheme device node flusher journal seat setting tables setting_is begun_is journal_is seat_is of nothing taken alone alive held =
     let bytes = device.content (disk_of journal) in
     let here : HoldsAt (node_of scheme node.setting) bytes node.begun = subst (λ (t : Tables). HoldsAt (node_of scheme node.setting) bytes t) (sym begun_is)
     (subst (λ (s : ConfigView S). HoldsAt (node_of scheme s) bytes tables) (sym setting_is) held) in
     let first : HoldsAfter scheme node seat.seat.view.firm bytes = subst (λ (l : List Marked). HoldsAfter scheme node l bytes) (sym nothing.firm) (holds_first scheme node bytes here) in
     record {
       seat = subst (IsFlushOf node) (sym seat_is) of;
+      alone = ap spare_of journal_is ∙ alone;
       rests = λ _. subst (λ (s : FlushSeat). s.taken ≡ s.settled) (sym seat_is) (taken ∙ sym (of.settled ∙ ap length nothing.firm));
       alive = λ _. subst (IsAlive device) (sym journal_is) alive;
       holds = λ _. subst (λ (j : Journal D). HoldsAfter scheme node (seat_of flusher).seat.view.firm (device.content (disk_of j))) (sym journal_is)

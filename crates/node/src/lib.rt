@@ -4,9 +4,9 @@
 mod caller;
 mod rounds;
 
-ghost use Rattle.std.specs.Prelude.{◌≡◌, ◌≢◌, ◌⊎◌, ◌<◌, [], false, IfOk, IfErr};
+ghost use Rattle.std.specs.Prelude.{◌≡◌, ◌≢◌, ◌⊎◌, ◌<◌, [], false, None, IfOk, IfErr};
 ghost use Rattle.diskmodel.specs.Disk.{AtEachMoment};
-ghost use Rattle.journal.specs.Journal.{disk_of, IsAlive, IsClosedUp};
+ghost use Rattle.journal.specs.Journal.{disk_of, spare_of, IsAlive, IsClosedUp};
 ghost use Rattle.validator.specs.Setting.{node_of};
 ghost use Rattle.opening.specs.Laws.{HoldsAt, KeepsHistories, IsOpening};
 ghost use Rattle.opening.specs.Told.{told, StandsAt};
@@ -62,6 +62,7 @@ fn begin<'a, S: Sign, D: Disk>(
     journal: Journal<D>,
 ) -> Result<(Node<'a, S>, Seat, Flusher<D>), Failed<JournalError, D>>
     requires alive { IsAlive D.device journal }
+    requires alone { spare_of journal ≡ None }
     requires holds { HoldsAt (node_of S.scheme validator.setting) (D.device.content (disk_of journal)) validator.tables }
     ensures setting { IfOk result (λ started. started.0.setting ≡ validator.entry.setting) }
     ensures begins { IfOk result (λ started. started.0.begun ≡ validator.entry.tables) }

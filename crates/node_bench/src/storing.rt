@@ -1,7 +1,7 @@
 //! Work on journals, in a book and at an opening.
 
-ghost use Rattle.std.specs.Prelude.{IfOk, OnOk};
-ghost use Rattle.journal.specs.Journal.{IsAlive};
+ghost use Rattle.std.specs.Prelude.{◌≡◌, None, IfOk, OnOk};
+ghost use Rattle.journal.specs.Journal.{spare_of, IsAlive};
 
 use crate::ending::Ending;
 use crate::events::Events;
@@ -49,8 +49,10 @@ fn append(
     journal: &mut Journal<MemDisk>,
     records: Vec<Vec<u8>>,
 ) -> Result<u64, Ending>
-    requires { IsAlive ⟦<MemDisk as Disk>⟧.device journal.old }
-    ensures { OnOk result (IsAlive ⟦<MemDisk as Disk>⟧.device journal.new) }
+    requires alive { IsAlive ⟦<MemDisk as Disk>⟧.device journal.old }
+    requires alone { spare_of journal.old ≡ None }
+    ensures alive { OnOk result (IsAlive ⟦<MemDisk as Disk>⟧.device journal.new) }
+    ensures alone { spare_of journal.new ≡ None }
 {
     match Group::new(alloc, records)? {
         Some(group) => Ok(journal.append(group)?.records()),
@@ -60,7 +62,8 @@ fn append(
 
 // A journal on a disk of its own.
 fn empty_journal(alloc: Global) -> Result<Journal<MemDisk>, Ending>
-    ensures { IfOk result (λ journal. IsAlive ⟦<MemDisk as Disk>⟧.device journal) }
+    ensures alive { IfOk result (λ journal. IsAlive ⟦<MemDisk as Disk>⟧.device journal) }
+    ensures alone { IfOk result (λ journal. spare_of journal ≡ None) }
 {
     let (journal, _) = Journal::open(alloc, empty_disk(alloc)?)?;
     Ok(journal)
@@ -102,7 +105,9 @@ fn keep_all(
 fn new_book<'a, S: Sign>(
     alloc: Global,
     config: &'a Config<S>,
-) -> Result<(OwnBook<'a, S>, Journal<MemDisk>), Ending> {
+) -> Result<(OwnBook<'a, S>, Journal<MemDisk>), Ending>
+    ensures { IfOk result (λ made. spare_of made.1 ≡ None) }
+{
     match reopen(alloc, config, empty_disk(alloc)?) {
         Ok((validator, journal)) => Ok((OwnBook::new(alloc, validator), journal)),
         Err(failed) => Err(Ending::from(failed)),
@@ -167,7 +172,9 @@ fn release_all(book: &mut OwnBook<'_, HashSign>, fold: &mut Fold) {
 }
 
 // Puts a journal's groups in the place of the closed gate that ends these bytes. Where there are no bytes, it keeps none.
-fn keep(kept: &mut Vec<u8>, journal: Journal<MemDisk>) -> Result<(), AllocError> {
+fn keep(kept: &mut Vec<u8>, journal: Journal<MemDisk>) -> Result<(), AllocError>
+    requires { spare_of journal ≡ None }
+{
     if kept.pop().is_some() {
         kept.extend_from_slice(journal.into_disk().bytes())?;
     }

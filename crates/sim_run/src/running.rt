@@ -154,10 +154,9 @@ impl<'a> Running<'a> {
         let (config, switch) = (self.config, self.switch);
         let mut disk = self.stopping_disk(rt, alloc, stopping)?;
         disk.stop();
-        let (journal, records) = Journal::open(alloc, disk).map_err(|failed| failed.error)?;
-        let running = Running::open(alloc, config, switch, journal.into_disk())?;
-        // The first record is the configuration.
-        Ok((running, (records.len() as u64).saturating_sub(1)))
+        let (events, disk) = count_events(alloc, disk)?;
+        let running = Running::open(alloc, config, switch, disk)?;
+        Ok((running, events))
     }
 
     // The disk, of which the next stop leaves what this kind of stop does.
@@ -196,5 +195,16 @@ impl<'a> Running<'a> {
             Err(FlushError::Memory) => Err(Ending::Memory),
             Ok(_) | Err(FlushError::Down) => Err(Ending::Unstopped),
         }
+    }
+}
+
+// How many events a disk's journal has, after the record of the configuration.
+fn count_events(alloc: Global, disk: MemDisk) -> Result<(u64, MemDisk), Ending> {
+    match Journal::open(alloc, disk) {
+        Ok((journal, records)) => {
+            let events = (records.len() as u64).saturating_sub(1);
+            Ok((events, journal.into_disk()))
+        }
+        Err(failed) => Err(Ending::from(failed.error)),
     }
 }

@@ -1,12 +1,24 @@
-use Rattle.std.proofs.Common.{◌+◌, ℕ, List, length, drop, map, refl, subst, ap}
+use Rattle.std.proofs.Common.{◌≡◌, ◌+◌, ◌≤◌, ℕ, arith, List, length, drop, map, refl, sym, subst, ap}
 use Rattle.wire.specs.Lists.{Begins}
 use Rattle.spec_model.specs.Nodes.{Node}
 use Rattle.spec_records.specs.Records.{record_of}
 use Rattle.validator.specs.Setting.{node_of}
 use Rattle.book.specs.Showing.{shown_of}
-use Rattle.book.specs.Book.{BookView, Run, Stands, with_settled}
+use Rattle.book.specs.Book.{BookView, Run, Stands, SettlesNext, with_settled}
+use Rattle.book.proofs.Due.{begins_length}
 use Rattle.book.proofs.Flushing.{settles_within, stands_settled}
 use Rattle.book.proofs.book.Book.settle.Goals as goal
+
+pub overflow_add-self : goal.overflow_add-self
+overflow_add-self g c =
+    let b = c.self.inside in
+    let node : Node = node_of g.S.Sign.scheme b.validator.setting in
+    let before : BookView g.row.S.Denot = shown_of b in
+    let next : SettlesNext node before c.args.synced = subst (λ (s : BookView g.row.S.Denot). SettlesNext (node_of g.S.Sign.scheme s.validator.setting) s c.args.synced) (sym c.self.view_is) c.requires in
+    let at = next.1 in
+    let within = settles_within node next.0 before before at c.args.synced next.2 in
+    let high : length next.0.taken ≤ length next.0.accepted = begins_length next.0.taken next.0.accepted at.taken_begins in
+    omega (arith, within, high, at.accepted, at.settled, c.self.invariant.0, c.records.ensures)
 
 pub returns-clause-stands : goal.returns-clause-stands
 returns-clause-stands g c =

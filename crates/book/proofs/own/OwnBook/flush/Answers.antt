@@ -142,6 +142,7 @@ returns-in-Err g c =
       dead = search rules;
       cause = search rules;
       setting = search rules;
+      spare = search rules;
     }
 
 pub returns-then-is_down : goal.returns-then-is_down

@@ -16,6 +16,7 @@ invariant_of-result g c =
     record {
       alive = λ up. c.in-Ok.ensures.alive;
       settled = λ up. nothing_taken node state c.new.result (c.new.ensures.stands state at);
+      alone = c.in-Ok.ensures.alone;
     }
 
 pub returns-in-Ok-clause-ok : goal.returns-in-Ok-clause-ok

@@ -22,6 +22,7 @@ returns-in-Ok-clause-flusher g c =
     let later = g.D.Disk.device.content (disk_of c.append.new.self) in
     record {
       seat = c.settle.ensures.settles.flush_of;
+      alone = c.append.ensures.spare ∙ c.requires.alone;
       rests = λ up. c.settle.ensures.settles.taken ∙ sym c.settle.ensures.settles.settled;
       alive = λ up. c.in-Ok.ensures.alive;
       holds = λ up. subst (λ (l : List Marked). HoldsAfter g.S.Sign.scheme c.args.node.now l later) (sym c.settle.ensures.settles.firm)
@@ -57,6 +58,7 @@ returns-in-Ok-clause-earlier g c =
 pub returns-in_default-clause-flusher : goal.returns-in_default-clause-flusher
 returns-in_default-clause-flusher g c = record {
   seat = c.requires.flush_seat;
+  alone = c.append.ensures.spare ∙ c.requires.alone;
   rests = λ up. let bad : true ≡ false = up in absurd cc;
   alive = λ up. let bad : true ≡ false = up in absurd cc;
   holds = λ up. let bad : true ≡ false = up in absurd cc;

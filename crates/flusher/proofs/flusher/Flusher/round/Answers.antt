@@ -85,6 +85,7 @@ returns-clause-flusher g c =
       | in-None w ↦
           subst (λ f. IsFlusherOf g.S.Sign.scheme g.D.Disk.device c.args.node.now f) (sym w.self-is) (record {
             seat = c.in-Ok.ensures.flush;
+            alone = had.alone;
             rests = λ up. (c.in-Ok.ensures.takes.none (is_none _ w.in-None.is)).0 ∙ had.rests up ∙ sym c.in-Ok.ensures.flush_settled;
             alive = had.alive;
             holds = λ up. subst (λ f. HoldsAfter g.S.Sign.scheme c.args.node.now f (g.D.Disk.device.content c.args.self.now.journal.disk))
