@@ -3,3 +3,8 @@ pub mod LastKinds
 pub mod RecordsRead
 pub mod Counts
 pub mod RowsMore
+pub mod KeptVotes
+pub mod SameBodies
+pub mod SlotsHeld
+pub mod TestsMore
+pub mod MembersMore

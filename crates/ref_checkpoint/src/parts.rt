@@ -132,11 +132,11 @@ fn header_may_follow(before: &[KeptHeader], round: u64) -> bool
     }
 }
 
-/// A vote is by this member.
-fn has_vote_of(votes: &[VoteEntry], own: u16) -> bool
-    ensures { result ≡ list_any (λ entry. entry.voter.0 == own) votes.now }
+/// One of these votes is by this member.
+pub fn has_vote_of(votes: &[VoteEntry], voter: u16) -> bool
+    ensures { result ≡ list_any (λ entry. entry.voter.0 == voter) votes.now }
 {
-    votes.iter().any(|entry| entry.voter.0 == own)
+    votes.iter().any(|entry| entry.voter.0 == voter)
 }
 
 /// None of the votes is the node's own.

@@ -1,6 +1,6 @@
 //! What records are read as, one after the other.
 
-ghost use Rattle.std.specs.Prelude.{◌≡◌, ◌++◌, [], ◌∷◌, List, ℕ, not, IfOk, option_map};
+ghost use Rattle.std.specs.Prelude.{◌≡◌, ◌<◌, ◌++◌, [], ◌∷◌, List, ℕ, length, not, IfOk, IfErr, option_map};
 ghost use Rattle.spec_checkpoint.specs.Data.{blank};
 ghost use Rattle.spec_checkpoint.specs.Reading.{digests_at, coins_at, kept_batch_at, kept_vote_at, kept_header_at, kept_certificate_at};
 ghost use Rattle.spec_checkpoint.specs.Reading as reading;
@@ -260,7 +260,8 @@ pub fn checkpoint_read<S: Sign>(
     node: &Node<S>,
     records: &[Vec<u8>],
 ) -> Result<Result<Checkpoint, u64>, AllocError>
-    ensures { IfOk result (λ read. read ≡ reading.checkpoint_read (node_view S.scheme node.now) (contents records.now)) }
+    ensures read { IfOk result (λ read. read ≡ reading.checkpoint_read (node_view S.scheme node.now) (contents records.now)) }
+    ensures within { IfOk result (λ read. IfErr read (λ place. place < length records.now)) }
 {
     let mut so_far = blank(alloc);
     let mut place: u64 = 0;

@@ -13,3 +13,4 @@ mod Following
 mod ReadAgain
 mod Loadable
 mod ReadingTests
+mod FirstFault

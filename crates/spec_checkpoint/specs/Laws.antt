@@ -1,5 +1,5 @@
 -- What holds of checkpoints.
-use Rattle.std.specs.Prelude.{◌≡◌, ◌↔◌, ℕ, List, All, Ok, None, true}
+use Rattle.std.specs.Prelude.{◌≡◌, ◌⊎◌, ◌↔◌, ℕ, ◌+◌, ◌<◌, List, [], length, take, get_or, All, Result, Ok, Err, None, true, false}
 use Rattle.spec_machine.specs.Machine.{fresh}
 use Rattle.spec_machine.specs.Sound.{IsSound}
 use Rattle.spec_model.specs.Admitting.{IsLegal}
@@ -11,7 +11,7 @@ use Rattle.spec_checkpoint.specs.Data.{Checkpoint, blank, IsCanonical, IsWritten
 use Rattle.spec_checkpoint.specs.Faults.{has_no_fault}
 use Rattle.spec_checkpoint.specs.Loading.{load_fault, AreLoadable}
 use Rattle.spec_checkpoint.specs.Meaning.{state_in}
-use Rattle.spec_checkpoint.specs.Reading.{checkpoint_read}
+use Rattle.spec_checkpoint.specs.Reading.{is_cut_short, kind_of, checkpoint_read}
 use Rattle.spec_checkpoint.specs.Records.{state_records}
 
 -- the checkpoint of a node that has taken nothing is the fresh state
@@ -45,3 +45,35 @@ OneCheckpoint = (node : Node) (one other : Checkpoint) → IsCanonical node one 
 abbrev pub LoadsTheSound : Type 0
 LoadsTheSound = (node : Node) (records : List (List ℕ)) → IsNode node → All AreBytes records
     → (load_fault node records ≡ None) ↔ ((checkpoint : Checkpoint) × AreLoadable node records checkpoint)
+
+-- ---- the first record that doesn't follow the format
+
+-- how records are read, wherever they stand and after whatever others
+abbrev pub Reader : Type 0
+Reader = List (List ℕ) → Result Checkpoint ℕ
+
+-- no list that begins with the first so many of these records is read
+pub record IsNoneRead (read : Reader) (records : List (List ℕ)) (count : ℕ) : Type 0 where
+  pub none : (others : List (List ℕ)) (checkpoint : Checkpoint) → take count others ≡ take count records → read others ≡ Ok checkpoint → ⊥
+
+-- a record is read, as a piece that isn't full, and the next one is one more piece
+pub record IsCutShortBy (read : Reader) (records : List (List ℕ)) (place : ℕ) : Type 0 where
+  pub checkpoint : Checkpoint
+  pub within : place + 1 < length records
+  pub reads : read (take (place + 1) records) ≡ Ok checkpoint
+  pub cut : is_cut_short checkpoint (kind_of (get_or records (place + 1) [])) ≡ true
+  pub none : IsNoneRead read records (place + 2)
+
+-- The record at a place is the first that doesn't follow the format. It is no piece that is at fault by the one before.
+pub record IsFirstUnread (read : Reader) (records : List (List ℕ)) (place : ℕ) : Type 0 where
+  pub within : place < length records
+  pub so_far : Checkpoint
+  pub before : read (take place records) ≡ Ok so_far
+  pub uncut : is_cut_short so_far (kind_of (get_or records place [])) ≡ false
+  pub here : IsNoneRead read records (place + 1) ⊎ IsCutShortBy read records place
+
+-- Where records aren't read, and there alone, one of them is the first that doesn't follow the format, and its place is told. Those before it
+-- can be read, and no list that begins with them and it; a piece that isn't full is at fault by the next piece alone: no list that begins
+-- with both can be read.
+abbrev pub FailsAtFirst : Type 0
+FailsAtFirst = (node : Node) (records : List (List ℕ)) (place : ℕ) → (checkpoint_read node records ≡ Err place) ↔ IsFirstUnread (checkpoint_read node) records place

@@ -2,7 +2,7 @@
 //! records are read as. Each law is what a function without a body ensures.
 #![tactic(auto)]
 
-ghost use Rattle.spec_checkpoint.specs.Laws.{BlankIsFresh, NoFaultIsSound, SoundHasNoFault, KeptHasNoFault, ReadAsWritten, OneCheckpoint, LoadsTheSound};
+ghost use Rattle.spec_checkpoint.specs.Laws.{BlankIsFresh, NoFaultIsSound, SoundHasNoFault, KeptHasNoFault, ReadAsWritten, OneCheckpoint, FailsAtFirst, LoadsTheSound};
 
 /// The checkpoint of a node that has taken nothing is the fresh state.
 pub fn blank_is_fresh()
@@ -34,6 +34,11 @@ pub fn read_as_written()
 /// Canonical checkpoints with the same records are one: records are one checkpoint's only.
 pub fn one_checkpoint()
     ensures { OneCheckpoint }
+{}
+
+/// The place at which records aren't read is that of the first one that doesn't follow the format, and that is one place alone.
+pub fn fails_at_first()
+    ensures { FailsAtFirst }
 {}
 
 /// A node's records have no fault exactly where they are those that a node writes of a sound state, after its configuration.

@@ -5,8 +5,8 @@ use Rattle.ref_checkpoint.specs.Lists.{contents}
 use Rattle.ref_checkpoint.proofs.RecordsRead.{rows_more, rows_end, read_end, read_cut, read_none, read_next}
 use Rattle.ref_checkpoint.proofs.reading.checkpoint_read.Goals as goal
 
-pub returns-then-is_cut_short : goal.returns-then-is_cut_short
-returns-then-is_cut_short g c =
+pub returns-then-is_cut_short-clause-read : goal.returns-then-is_cut_short-clause-read
+returns-then-is_cut_short-clause-read g c =
     let node = node_view g.S.Sign.scheme c.args.node.now in
     let row = c.record-item.result.items in
     let rest = contents (drop (c.loop-record.record-index + 1) c.args.records.now) in
@@ -15,8 +15,8 @@ returns-then-is_cut_short g c =
     let less : c.saturating_sub.result ≡ c.loop-record.place - 1 = omega arith in
     ap Err less ∙ sym (read_cut node c.loop-record.place c.loop-record.so_far row rest short) ∙ sym (ap (read_from node c.loop-record.place c.loop-record.so_far) rows) ∙ c.loop-record.invariant.read
 
-pub returns-in-None : goal.returns-in-None
-returns-in-None g c =
+pub returns-in-None-clause-read : goal.returns-in-None-clause-read
+returns-in-None-clause-read g c =
     let node = node_view g.S.Sign.scheme c.args.node.now in
     let row = c.record-item.result.items in
     let rest = contents (drop (c.loop-record.record-index + 1) c.args.records.now) in
@@ -39,8 +39,8 @@ loop-record-preserved g c =
           ∙ c.loop-record.invariant.read;
     }
 
-pub returns : goal.returns
-returns g c =
+pub returns-clause-read : goal.returns-clause-read
+returns-clause-read g c =
     let node = node_view g.S.Sign.scheme c.args.node.now in
     sym (read_end node c.loop-record.place c.loop-record.so_far)
     ∙ sym (ap (read_from node c.loop-record.place c.loop-record.so_far) (rows_end c.args.records.now c.loop-record.record-index c.loop-record-test.false)) ∙ c.loop-record.invariant.read

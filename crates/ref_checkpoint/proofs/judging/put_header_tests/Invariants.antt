@@ -1,0 +1,8 @@
+use Rattle.std.proofs.Common.{◌≡◌, ◌++◌, map, take}
+use Rattle.spec_checkpoint.specs.Faults.{is_header_sound}
+use Rattle.spec_model.specs.Nodes.{node_view}
+use Rattle.ref_checkpoint.proofs.judging.put_header_tests.Given as goal
+
+-- the tests of those so far have been put
+abbrev pub invariant-loop-kept : goal.invariant-loop-kept
+invariant-loop-kept g l = l.tests.items ≡ l.initial.tests.items ++ map (is_header_sound (node_view g.S.Sign.scheme l.node) l.checkpoint) (take l.kept-index l.headers)
