@@ -3,3 +3,10 @@ mod Headers
 mod Members
 mod OfOne
 mod Slots
+mod Copied
+mod Counted
+mod Rows
+mod Above
+mod Sequenced
+mod Headed
+mod Keeping

@@ -1,1 +1,2 @@
 pub mod Accords
+pub mod Apart

@@ -11,7 +11,8 @@ mod showing;
 mod validating;
 mod weighing;
 
-pub use played::Played;
+pub use looking::number;
+pub use played::{Played, coin};
 pub use validating::Gathered;
 pub use weighing::{committee_of, label_genesis};
 

@@ -5,10 +5,13 @@
 mod accords;
 mod definitions;
 mod parts;
+mod restored;
 
 use accords::Accords;
-use definitions::{Gathered, Played, laws_hold};
+use definitions::{Gathered, Played, laws_hold, number};
 use parts::Parts;
+use restored::{Counts, play_cases};
+use sim_script::FormError;
 use std::alloc::{AllocError, Global};
 use std::fs;
 use std::io::{self, BufRead, Write};
@@ -72,6 +75,10 @@ impl Cases {
     }
 }
 
+/// Begins the argument after which those files are named along whose events tables are restored; it ends with the number of
+/// events after which they are, each time.
+const RESTORED_AFTER: &str = "restored-after=";
+
 fn main(rt: HostRuntime) -> ExitCode {
     laws_hold();
     match tested(&rt) {
@@ -84,10 +91,48 @@ fn main(rt: HostRuntime) -> ExitCode {
 fn tested(rt: &HostRuntime) -> Result<bool, Ending> {
     let names = names_of(rt, rt.alloc())?;
     let mut right = !names.is_empty();
+    let mut events = 0;
+    let mut counts = Counts::new();
     for name in &names {
-        right = is_right(rt, name.as_str())? && right;
+        if let Some(number_of_events) = name.strip_prefix(RESTORED_AFTER) {
+            events = number(number_of_events);
+        } else if events > 0 {
+            right = are_alike(rt, name.as_str(), events, &mut counts)? && right;
+        } else {
+            right = is_right(rt, name.as_str())? && right;
+        }
     }
-    Ok(right)
+    Ok(has_enough(rt, events > 0, &counts)? && right)
+}
+
+/// Restores tables along the events of the file of this name, each time after so many, and says whether all were alike.
+fn are_alike(
+    rt: &HostRuntime,
+    name: &str,
+    events: u64,
+    counts: &mut Counts,
+) -> Result<bool, Ending> {
+    let text = fs::read_to_string(rt, name)?;
+    let mut answer = String::new(rt.alloc());
+    let alike = match play_cases(rt.alloc(), text.as_str(), events, counts, &mut answer) {
+        Ok(alike) => alike,
+        Err(FormError::Memory) => return Err(Ending::Memory),
+        Err(_) => false,
+    };
+    let told = if alike { "alike" } else { "not alike" };
+    write!(io::writer(rt), "{name}: restored, {told}\n{answer}")?;
+    Ok(alike)
+}
+
+/// Tells at how many states tables were restored, where any had to be, and says whether at enough.
+fn has_enough(rt: &HostRuntime, restores: bool, counts: &Counts) -> Result<bool, Ending> {
+    if !restores {
+        return Ok(true);
+    }
+    let mut told = String::new(rt.alloc());
+    counts.tell(&mut told)?;
+    write!(io::writer(rt), "{told}")?;
+    Ok(counts.are_enough())
 }
 
 /// Plays the file of this name.

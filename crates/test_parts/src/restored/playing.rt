@@ -1,0 +1,366 @@
+//! The events of a case through a member's tables, and through tables that are restored from these.
+
+ghost use Rattle.std.specs.Prelude.{◌≡◌, None};
+ghost use Rattle.header.specs.Checks.{fault_of, accepts_all};
+
+use crate::definitions::{coin, committee_of, label_genesis, number};
+use crate::parts::parted;
+use crate::restored::alike::{
+    difference, difference_of_tables, marks_differ_from_order, same_answer,
+};
+use crate::restored::counts::Counts;
+use crate::restored::member::Member;
+use committee::Committee;
+use header::{Checked, check, recheck};
+use sigface::{HashSign, HashVerify};
+use sim_script::{
+    BATCHES, Command, DEPTH, FormError, Labels, OWN, define_batch, define_header, message_of,
+    parse, signer,
+};
+use std::alloc::{AllocError, Global};
+use validator::{Config, Refusal};
+use wire::{Author, Message, Round};
+
+/// What stands before the title of a case.
+const TITLE: &str = "== ";
+
+/// What a case sets up.
+#[derive(Drop)]
+struct Setup {
+    depth: u64,
+    batches: u64,
+    stakes: String,
+}
+
+impl Setup {
+    fn new(alloc: Global) -> Result<Setup, AllocError> {
+        Ok(Setup {
+            depth: DEPTH,
+            batches: BATCHES,
+            stakes: String::from_str(alloc, "1,1,1,1")?,
+        })
+    }
+
+    /// Reads a line, which sets up something or doesn't.
+    fn read(&mut self, line: &str) -> Result<(), AllocError> {
+        let line = line.strip_prefix("set ").unwrap_or(line);
+        let (name, rest) = parted(line, ' ');
+        match name {
+            "depth" => Ok(self.depth = number(rest)),
+            "batches" => Ok(self.batches = number(rest)),
+            "stakes" => self.set_stakes(rest),
+            _ => Ok(()),
+        }
+    }
+
+    fn set_stakes(&mut self, stakes: &str) -> Result<(), AllocError> {
+        self.stakes.clear();
+        self.stakes.push_str(stakes)
+    }
+}
+
+/// The setting of member 0 of a committee that was set up so.
+fn config_of(alloc: Global, setup: &Setup) -> Result<Config<HashSign>, FormError> {
+    let committee = committee_of(alloc, setup.stakes.as_str(), setup.depth, setup.batches)?;
+    match Config::new(committee, OWN, signer(OWN)) {
+        None => Err(FormError::BadCommand),
+        Some(config) => Ok(config),
+    }
+}
+
+/// Plays each case of a text, counts the states at which tables were restored, each time after so many events, and says
+/// whether all were alike. It tells of each case where something differs the first such line.
+pub fn play_cases(
+    alloc: Global,
+    text: &str,
+    events: u64,
+    counts: &mut Counts,
+    answer: &mut String,
+) -> Result<bool, FormError> {
+    let mut alike = true;
+    let mut rest = text;
+    for _ in 0..u64::MAX {
+        let Some((_, cases)) = rest.split_once(TITLE) else {
+            break;
+        };
+        alike = play_case(alloc, first_of(cases), events, counts, answer)? && alike;
+        rest = cases;
+    }
+    Ok(alike)
+}
+
+/// The text up to the next title.
+fn first_of(cases: &str) -> &str {
+    match cases.split_once(TITLE) {
+        None => cases,
+        Some((case, _)) => case,
+    }
+}
+
+/// What the lines of a case set up.
+fn setup_of(alloc: Global, case: &str) -> Result<Setup, AllocError> {
+    let mut setup = Setup::new(alloc)?;
+    for line in case.lines() {
+        setup.read(line)?;
+    }
+    Ok(setup)
+}
+
+/// Plays the lines of a case, of which the first is its title.
+fn play_case(
+    alloc: Global,
+    case: &str,
+    events: u64,
+    counts: &mut Counts,
+    answer: &mut String,
+) -> Result<bool, FormError> {
+    let setup = setup_of(alloc, case)?;
+    let config = config_of(alloc, &setup)?;
+    let mut trial = Trial::new(alloc, &config, events)?;
+    match trial.play(case, counts)? {
+        None => Ok(true),
+        Some((line, differs)) => {
+            tell(case, line, differs, answer)?;
+            Ok(false)
+        }
+    }
+}
+
+/// Tells at which line of a case what differs.
+fn tell(case: &str, line: &str, differs: &str, answer: &mut String) -> Result<(), AllocError> {
+    let (title, _) = parted(case, '\n');
+    writeln!(answer, "{title}: {line}: otherwise {differs}")
+}
+
+/// A member that takes the events of a case, and beside it one with tables that were restored from its own.
+#[derive(Drop)]
+struct Trial<'c> {
+    alloc: Global,
+    labels: Labels,
+    member: Member<'c, HashSign>,
+    restored: Member<'c, HashSign>,
+    /// After so many events tables are restored.
+    each: u64,
+    /// How many events come before the next time.
+    left: u64,
+}
+
+impl<'c> Trial<'c> {
+    fn new(alloc: Global, config: &'c Config<HashSign>, each: u64) -> Result<Trial<'c>, FormError> {
+        let mut labels = Labels::new(alloc);
+        label_genesis(alloc, &mut labels, config.committee().size())?;
+        Ok(Trial {
+            alloc,
+            labels,
+            member: Member::new(alloc, config)?,
+            restored: Member::new(alloc, config)?,
+            each,
+            left: 0,
+        })
+    }
+
+    /// Plays the lines of a case, and tells the first at which something differs.
+    fn play<'t>(
+        &mut self,
+        case: &'t str,
+        counts: &mut Counts,
+    ) -> Result<Option<(&'t str, &'static str)>, FormError> {
+        for line in case.lines() {
+            if let Some(differs) = self.run(line, counts)? {
+                return Ok(Some((line, differs)));
+            }
+        }
+        match self.tables_differ() {
+            None => Ok(None),
+            Some(differs) => Ok(Some(("at its end", differs))),
+        }
+    }
+
+    /// In what the tables of both differ.
+    fn tables_differ(&self) -> Option<&'static str> {
+        difference_of_tables(self.member.tables(), self.restored.tables())
+    }
+
+    /// A line that defines something, or an event; any other one is passed over.
+    fn run(&mut self, line: &str, counts: &mut Counts) -> Result<Option<&'static str>, FormError> {
+        match parse(line.as_bytes()) {
+            Some(Command::Pack(pack)) => {
+                define_batch(self.alloc, &mut self.labels, &pack)?;
+                Ok(None)
+            }
+            Some(Command::Form(form)) => {
+                define_header(self.alloc, &mut self.labels, &form)?;
+                Ok(None)
+            }
+            Some(command) if is_event(&command) => {
+                let (sender, message) = message_of(self.alloc, &self.labels, command)?;
+                self.take(sender, &message, counts)
+            }
+            _ => self.run_own(line, counts),
+        }
+    }
+
+    /// The coin that another member sends, as these cases write it.
+    fn run_own(
+        &mut self,
+        line: &str,
+        counts: &mut Counts,
+    ) -> Result<Option<&'static str>, FormError> {
+        let (name, rest) = parted(line, ' ');
+        if name != "coin-from" {
+            return Ok(None);
+        }
+        let (from, rest) = parted(rest, ' ');
+        let (wave, value) = parted(rest, ' ');
+        let (sender, message) = coin(from, wave, value)?;
+        self.take(sender, &message, counts)
+    }
+
+    /// Gives an event to both, and says in what they differ then. Before every so many events the tables are restored.
+    fn take(
+        &mut self,
+        sender: Author,
+        message: &Message,
+        counts: &mut Counts,
+    ) -> Result<Option<&'static str>, FormError> {
+        if self.left == 0 {
+            if let Some(differs) = self.restore(counts)? {
+                return Ok(Some(differs));
+            }
+            self.left = self.each;
+        }
+        self.left = self.left.saturating_sub(1);
+        match check(
+            self.member.validator().committee(),
+            &HashVerify,
+            sender,
+            again(message)?,
+        ) {
+            Ok(one) => self.take_both(one, sender, message),
+            Err(_) => Ok(Some("unchecked")),
+        }
+    }
+
+    /// Gives an event that passed the checks to both.
+    fn take_both(
+        &mut self,
+        one: Checked,
+        sender: Author,
+        message: &Message,
+    ) -> Result<Option<&'static str>, FormError>
+        requires { fault_of self.old.member.setting.charter accepts_all one ≡ None }
+    {
+        match recheck(
+            self.restored.validator().committee(),
+            sender,
+            again(message)?,
+        ) {
+            Ok(other) => self.step(one, other),
+            Err(_) => Ok(Some("unchecked")),
+        }
+    }
+
+    /// Compares the tables that were restored before with the member's, and takes these apart and restores them anew. It
+    /// says in what they differ, before or after.
+    fn restore(&mut self, counts: &mut Counts) -> Result<Option<&'static str>, FormError> {
+        if let Some(differs) = self.tables_differ() {
+            return Ok(Some(differs));
+        }
+        let parts = self.member.parts()?;
+        counts.count(parts.floor.number(), parts.last.is_some());
+        if parts.floor != floor_below(self.member.validator().committee(), parts.last) {
+            return Ok(Some("the floor by the last leader"));
+        }
+        match self.member.again(parts) {
+            Ok(restored) => self.restored = restored,
+            Err(AllocError) => {
+                if let Some(differs) = self.restore_again(counts)? {
+                    return Ok(Some(differs));
+                }
+            }
+        }
+        self.restored_differs()
+    }
+
+    /// Restores the tables once more, after an allocation failed for it: they are as they were before.
+    fn restore_again(&mut self, counts: &mut Counts) -> Result<Option<&'static str>, FormError> {
+        counts.refuse();
+        if let Some(differs) = self.tables_differ() {
+            return Ok(Some(differs));
+        }
+        let parts = self.member.parts()?;
+        self.restored = self.member.again(parts)?;
+        Ok(None)
+    }
+
+    /// In what the tables that have just been restored differ from the member's.
+    fn restored_differs(&self) -> Result<Option<&'static str>, FormError> {
+        if marks_differ_from_order(self.restored.tables()) {
+            return Ok(Some("the marks, by the order"));
+        }
+        match self.validators_differ()? {
+            None => Ok(self.tables_differ()),
+            differs => Ok(differs),
+        }
+    }
+
+    /// In what the validators of both differ after an event.
+    fn validators_differ(&self) -> Result<Option<&'static str>, FormError> {
+        Ok(difference(
+            self.alloc,
+            self.member.validator(),
+            self.restored.validator(),
+        )?)
+    }
+
+    fn step(&mut self, one: Checked, other: Checked) -> Result<Option<&'static str>, FormError>
+        requires one { fault_of self.old.member.setting.charter accepts_all one ≡ None }
+        requires other { fault_of self.old.restored.setting.charter accepts_all other ≡ None }
+    {
+        if self.member.validator().ready(&one) != self.restored.validator().ready(&other) {
+            return Ok(Some("whether it is ready"));
+        }
+        let (left, right) = (self.member.step(one), self.restored.step(other));
+        if let (Err(Refusal::Memory), _) | (_, Err(Refusal::Memory)) = (&left, &right) {
+            return Err(FormError::Memory);
+        }
+        if !same_answer(self.alloc, &left, &right)? {
+            return Ok(Some("the answer"));
+        }
+        self.validators_differ()
+    }
+}
+
+/// The floor with this last leader.
+fn floor_below(committee: &Committee, last: Option<(Round, Author)>) -> Round {
+    let round = match last {
+        None => 0,
+        Some((round, _)) => round.number(),
+    };
+    Round::new(round.saturating_sub(committee.depth())).unwrap_or(Round::genesis())
+}
+
+/// Whether a command submits a message.
+fn is_event(command: &Command<'_>) -> bool {
+    matches!(
+        command,
+        Command::Batch(_)
+            | Command::Header(_)
+            | Command::Ack { .. }
+            | Command::Vote { .. }
+            | Command::Cert { .. }
+            | Command::Coin { .. }
+    )
+}
+
+/// A message once more.
+fn again(message: &Message) -> Result<Message, AllocError> {
+    Ok(match message {
+        Message::Batch(batch) => Message::Batch(batch.share()?),
+        Message::BatchAck(ack) => Message::BatchAck(*ack),
+        Message::Header(header) => Message::Header(header.try_clone()?),
+        Message::Vote(vote) => Message::Vote(*vote),
+        Message::Certificate(certificate) => Message::Certificate(certificate.try_clone()?),
+        Message::Coin(coin) => Message::Coin(*coin),
+    })
+}
