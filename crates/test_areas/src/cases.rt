@@ -1,0 +1,281 @@
+//! The commands of a case, to the journal on two areas.
+
+use crate::disks::{Areas, Disks};
+use crate::failures::Opening;
+use crate::openings::{put_gates, reopened, reopened_store};
+use crate::rewritings::{Checkpoint, Fault, Made, appended, begun, rewritten};
+use crate::stops::Trial;
+use crate::words::{
+    Told, Word, listed, parted, put, put_bytes, put_calls, put_count, told_bad, words_of,
+};
+use diskmodel::MemDisk;
+use journal::Store;
+use std::alloc::{AllocError, Global};
+
+/// The longest record that a case adds by its length, in bytes.
+const MOST_BYTES: u64 = 8_388_608;
+
+/// An area of so many bytes is told by its length alone.
+const MANY_BYTES: usize = 2_000;
+
+/// What the commands are put to, new in each case.
+#[derive(Drop)]
+pub struct Cases {
+    alloc: Global,
+    /// Both areas.
+    areas: Areas,
+    /// The records of a checkpoint.
+    records: Vec<Vec<u8>>,
+}
+
+impl Cases {
+    /// As before the first case.
+    pub fn new(alloc: Global) -> Cases {
+        Cases {
+            alloc,
+            areas: Areas::none(alloc),
+            records: Vec::new(alloc),
+        }
+    }
+
+    /// Begins a case.
+    pub fn begin(&mut self) {
+        self.areas = Areas::none(self.alloc);
+        self.records = Vec::new(self.alloc);
+    }
+
+    /// Carries out a command, and adds the lines that it answers.
+    pub fn obey(&mut self, command: &str, answer: &mut String) -> Told {
+        let (name, rest) = parted(command);
+        let words = words_of(self.alloc, rest)?;
+        self.obey_words(name, words.as_slice(), answer)
+    }
+
+    fn obey_words(&mut self, name: &str, words: &[Word], answer: &mut String) -> Told {
+        match (name, words) {
+            ("areas", [Word::Bytes(first), Word::Bytes(second)]) => self.set(first, second),
+            ("add", [Word::Number(count), Word::Number(len)]) => self.add(*count, *len),
+            ("stops", [Word::Number(area)]) => self.tell_stops(*area, answer),
+            ("seconds", [Word::Number(area)]) => self.tell_seconds(*area, answer),
+            ("begin", [Word::Bytes(configuration)]) => self.start(configuration, answer),
+            ("records", _) => self.take_records(words, answer),
+            ("append", _) => self.append(words, answer),
+            (_, []) => self.obey_alone(name, answer),
+            _ => told_bad(answer),
+        }
+    }
+
+    /// Commands with no word.
+    fn obey_alone(&mut self, name: &str, answer: &mut String) -> Told {
+        match name {
+            "open" => self.open(answer),
+            "loose" => self.open_loose(answer),
+            "store" => self.open_both(answer),
+            "one" => self.open_one(answer),
+            "gates" => self.tell_gates(answer),
+            "tell" => self.tell(answer),
+            "rewrite" => self.rewrite(Made::Whole, answer),
+            "draft" => self.rewrite(Made::Draft, answer),
+            "alike" => self.compare(answer),
+            "failures" => self.tell_failures(answer),
+            "openings" => Opening::new(self.alloc, &self.areas)?.tell(answer),
+            _ => told_bad(answer),
+        }
+    }
+
+    /// `areas FIRST SECOND` says what both areas have.
+    fn set(&mut self, first: &[u8], second: &[u8]) -> Told {
+        self.areas = Areas {
+            first: first.to_vec(self.alloc)?,
+            second: second.to_vec(self.alloc)?,
+        };
+        Ok(())
+    }
+
+    /// `records RECORD ..` says what the records of a checkpoint are.
+    fn take_records(&mut self, words: &[Word], answer: &mut String) -> Told {
+        match listed(self.alloc, words)? {
+            Some(records) => {
+                self.records = records;
+                Ok(())
+            }
+            None => told_bad(answer),
+        }
+    }
+
+    /// `add COUNT LENGTH` adds so many records of zeros, each of this length.
+    fn add(&mut self, count: u64, len: u64) -> Told {
+        for _ in 0..count {
+            let record = vec![in self.alloc; 0; len.min(MOST_BYTES) as usize]?;
+            self.records.push(record)?;
+        }
+        Ok(())
+    }
+
+    /// `open` opens the journal on both areas, which stay as the opening leaves them.
+    fn open(&mut self, answer: &mut String) -> Told {
+        let disks = reopened(self.alloc, Disks::of(self.alloc, &self.areas)?, answer);
+        self.keep(&disks, answer)
+    }
+
+    /// `loose` does the same where nothing of both was synced before.
+    fn open_loose(&mut self, answer: &mut String) -> Told {
+        let disks = reopened(self.alloc, Disks::loose(self.alloc, &self.areas)?, answer);
+        self.keep(&disks, answer)
+    }
+
+    // Keeps what the disks have, and says where a stop might leave something else.
+    fn keep(&mut self, disks: &Disks, answer: &mut String) -> Told {
+        self.areas = Areas::on(self.alloc, disks)?;
+        put(
+            answer,
+            if disks.are_firm() {
+                "\n"
+            } else {
+                ", not firm\n"
+            },
+        );
+        Ok(())
+    }
+
+    /// `store` opens the journal on both areas by its other name.
+    fn open_both(&mut self, answer: &mut String) -> Told {
+        let disks = Disks::of(self.alloc, &self.areas)?;
+        let store = Store::Two(disks.first, disks.second);
+        self.keep_store(reopened_store(self.alloc, store, answer), answer)
+    }
+
+    /// `one` opens the journal on the first area alone.
+    fn open_one(&mut self, answer: &mut String) -> Told {
+        let disks = Disks::of(self.alloc, &self.areas)?;
+        let store = Store::One(disks.first);
+        self.keep_store(reopened_store(self.alloc, store, answer), answer)
+    }
+
+    fn keep_store(&mut self, store: Store<MemDisk>, answer: &mut String) -> Told {
+        put(answer, "\n");
+        match store {
+            Store::One(disk) => self.areas.first = disk.bytes().to_vec(self.alloc)?,
+            Store::Two(first, second) => self.set(first.bytes(), second.bytes())?,
+        }
+        Ok(())
+    }
+
+    /// `gates` opens the journal, and tells how many records it has after each gate.
+    fn tell_gates(&self, answer: &mut String) -> Told {
+        let _ = put_gates(self.alloc, Disks::of(self.alloc, &self.areas)?, answer);
+        put(answer, "\n");
+        Ok(())
+    }
+
+    /// `tell` tells what both areas have.
+    fn tell(&self, answer: &mut String) -> Told {
+        put_area(answer, &self.areas.first);
+        put_area(answer, &self.areas.second);
+        Ok(())
+    }
+
+    /// `begin CONFIGURATION` adds the first group of all.
+    fn start(&mut self, configuration: &[u8], answer: &mut String) -> Told {
+        let disks = Disks::of(self.alloc, &self.areas)?;
+        let disks = begun(self.alloc, disks, configuration.to_vec(self.alloc)?, answer)?;
+        self.keep(&disks, answer)
+    }
+
+    /// `append RECORD ..` adds a group.
+    fn append(&mut self, words: &[Word], answer: &mut String) -> Told {
+        let Some(records) = listed(self.alloc, words)? else {
+            return told_bad(answer);
+        };
+        let disks = Disks::of(self.alloc, &self.areas)?;
+        let disks = appended(self.alloc, disks, records, answer)?;
+        self.keep(&disks, answer)
+    }
+
+    /// `rewrite` and `draft` rewrite the journal to a checkpoint. The calls of both disks are told.
+    fn rewrite(&mut self, made: Made, answer: &mut String) -> Told {
+        let mut text = String::new(self.alloc);
+        let opened = reopened(self.alloc, Disks::of(self.alloc, &self.areas)?, &mut text);
+        let disks = Disks::of(self.alloc, &self.areas)?;
+        let disks = rewritten(
+            self.alloc,
+            disks,
+            self.checkpoint(made),
+            Fault::none(),
+            answer,
+        )?;
+        self.keep(&disks, answer)?;
+        put_calls_after(answer, &opened, &disks, false);
+        put_calls_after(answer, &opened, &disks, true);
+        Ok(())
+    }
+
+    /// `alike` tells whether a rewriting leaves the same bytes in both ways of making its checkpoint. The areas stay as
+    /// they are.
+    fn compare(&self, answer: &mut String) -> Told {
+        let whole = self.rewritten_by(Made::Whole)?;
+        let draft = self.rewritten_by(Made::Draft)?;
+        put(
+            answer,
+            if whole.are(&draft) {
+                "alike\n"
+            } else {
+                "other bytes\n"
+            },
+        );
+        Ok(())
+    }
+
+    fn rewritten_by(&self, made: Made) -> Result<Areas, AllocError> {
+        let mut text = String::new(self.alloc);
+        let disks = Disks::of(self.alloc, &self.areas)?;
+        let checkpoint = self.checkpoint(made);
+        let disks = rewritten(self.alloc, disks, checkpoint, Fault::none(), &mut text)?;
+        Areas::on(self.alloc, &disks)
+    }
+
+    fn checkpoint(&self, made: Made) -> Checkpoint {
+        Checkpoint {
+            records: self.records.as_slice(),
+            made,
+        }
+    }
+
+    /// `stops AREA` stops a rewriting of this area at each moment.
+    fn tell_stops(&self, area: u64, answer: &mut String) -> Told {
+        let checkpoint = self.checkpoint(Made::Whole);
+        Trial::new(self.alloc, &self.areas, checkpoint, area == 1)?.tell_stops(answer)
+    }
+
+    /// `seconds AREA` does so too, and then stops the opening after it.
+    fn tell_seconds(&self, area: u64, answer: &mut String) -> Told {
+        let checkpoint = self.checkpoint(Made::Whole);
+        Trial::new(self.alloc, &self.areas, checkpoint, area == 1)?.tell_seconds(answer)
+    }
+
+    /// `failures` lets each call of a rewriting fail in turn.
+    fn tell_failures(&self, answer: &mut String) -> Told {
+        let checkpoint = self.checkpoint(Made::Draft);
+        Trial::new(self.alloc, &self.areas, checkpoint, false)?.tell_failures(answer)
+    }
+}
+
+// The length of an area, and its bytes where they aren't too many for a case file.
+fn put_area(answer: &mut String, bytes: &[u8]) {
+    put_count(answer, "bytes ", bytes.len() as u64, "");
+    if bytes.len() < MANY_BYTES {
+        put_bytes(answer, bytes);
+    }
+    put(answer, "\n");
+}
+
+// The calls of a disk after those of an opening.
+fn put_calls_after(answer: &mut String, opened: &Disks, disks: &Disks, is_second: bool) {
+    put(answer, if is_second { "area 1:" } else { "area 0:" });
+    let before = opened.of_area(is_second).calls().len();
+    match disks.of_area(is_second).calls().get(before..) {
+        Some(calls) => put_calls(answer, calls),
+        None => put(answer, " fewer than before"),
+    }
+    put(answer, "\n");
+}

@@ -1,0 +1,178 @@
+//! Both disks of a journal in memory, and what a stop leaves of them.
+
+use diskmodel::{CallKind, Disk, MemDisk, StopDisk, Switch};
+use std::alloc::{AllocError, Global};
+
+/// The bytes of both areas.
+#[derive(Drop)]
+pub struct Areas {
+    pub first: Vec<u8>,
+    pub second: Vec<u8>,
+}
+
+impl Areas {
+    /// Both without a byte.
+    pub fn none(alloc: Global) -> Areas {
+        Areas {
+            first: Vec::new(alloc),
+            second: Vec::new(alloc),
+        }
+    }
+
+    /// Those that both disks give.
+    pub fn on(alloc: Global, disks: &Disks) -> Result<Areas, AllocError> {
+        Ok(Areas {
+            first: disks.first.bytes().to_vec(alloc)?,
+            second: disks.second.bytes().to_vec(alloc)?,
+        })
+    }
+
+    /// Whether these are the same bytes as others.
+    pub fn are(&self, others: &Areas) -> bool {
+        self.first.as_slice() == others.first.as_slice()
+            && self.second.as_slice() == others.second.as_slice()
+    }
+}
+
+/// Both disks, and a switch that counts and fails the calls of both.
+#[derive(Drop)]
+pub struct Disks {
+    pub first: MemDisk,
+    pub second: MemDisk,
+    pub switch: Switch,
+}
+
+impl Disks {
+    /// Disks that have these bytes, all of them synced.
+    pub fn of(alloc: Global, areas: &Areas) -> Result<Disks, AllocError> {
+        let switch = Switch::new(alloc)?;
+        let first = MemDisk::with_switch(alloc, areas.first.to_vec(alloc)?, &switch)?;
+        let second = MemDisk::with_switch(alloc, areas.second.to_vec(alloc)?, &switch)?;
+        Ok(Disks {
+            first,
+            second,
+            switch,
+        })
+    }
+
+    /// Disks on which these bytes were written, and nothing was synced.
+    pub fn loose(alloc: Global, areas: &Areas) -> Result<Disks, AllocError> {
+        let mut disks = Disks::of(alloc, &Areas::none(alloc))?;
+        let _ = disks.first.write_at(0, &areas.first);
+        let _ = disks.second.write_at(0, &areas.second);
+        Ok(disks)
+    }
+
+    /// Tells the count-th call of this kind from now on to fail, of both disks, none at 0.
+    pub fn fail(&self, kind: CallKind, count: u64) {
+        let _ = self.switch.fail(kind, count);
+    }
+
+    /// Whether a stop leaves of both disks what they give, and nothing else.
+    pub fn are_firm(&self) -> bool {
+        is_firm(&self.first) && is_firm(&self.second)
+    }
+
+    /// The disk of this area.
+    pub fn of_area(&self, is_second: bool) -> &MemDisk {
+        if is_second { &self.second } else { &self.first }
+    }
+
+    /// Stops the machine, which leaves these bytes of this area, and of the other one what it gives. Says whether it
+    /// does.
+    pub fn stop(&mut self, is_second: bool, bytes: Vec<u8>) -> bool {
+        if is_second {
+            self.first.stop();
+            stops_with(&mut self.second, bytes)
+        } else {
+            self.second.stop();
+            stops_with(&mut self.first, bytes)
+        }
+    }
+}
+
+// Whether no byte was written since the last sync, and the length is that of the last one.
+fn is_firm(disk: &MemDisk) -> bool {
+    let len = disk.bytes().len() as u64;
+    disk.bytes() == disk.firm() && (0..len).all(|place| !disk.is_written(place))
+}
+
+fn stops_with(disk: &mut MemDisk, bytes: Vec<u8>) -> bool {
+    let can = disk.can_leave(&bytes);
+    disk.choose(bytes);
+    disk.stop();
+    can
+}
+
+/// What a stop leaves where bytes were written or cut since the last sync.
+#[derive(Clone, Copy)]
+pub enum Fill {
+    /// What a read gives.
+    Keep,
+    /// What the last sync left.
+    Lose,
+    /// This byte.
+    Torn(u8),
+}
+
+/// Each fill that is tried, with its name.
+pub const FILLS: [(Fill, &str); 6] = [
+    (Fill::Keep, "keep"),
+    (Fill::Lose, "lose"),
+    (Fill::Torn(0), "00"),
+    (Fill::Torn(1), "01"),
+    (Fill::Torn(0x37), "37"),
+    (Fill::Torn(0xff), "ff"),
+];
+
+/// The bytes of this length that a stop leaves of a disk, if it may.
+pub fn outcome(
+    alloc: Global,
+    disk: &MemDisk,
+    fill: Fill,
+    length: usize,
+) -> Result<Option<Vec<u8>>, AllocError> {
+    let bytes = match fill {
+        Fill::Keep if length == disk.bytes().len() => disk.bytes().to_vec(alloc)?,
+        Fill::Lose if length == disk.firm().len() => disk.firm().to_vec(alloc)?,
+        Fill::Torn(byte) => torn(alloc, disk, byte, length)?,
+        _ => return Ok(None),
+    };
+    Ok(disk.can_leave(&bytes).then_some(bytes))
+}
+
+// Bytes of this length, in which this one stands wherever the disk may have lost what was synced.
+fn torn(alloc: Global, disk: &MemDisk, byte: u8, length: usize) -> Result<Vec<u8>, AllocError> {
+    let mut bytes = Vec::new(alloc);
+    for place in 0..length {
+        bytes.push(left_at(disk, byte, place))?;
+    }
+    Ok(bytes)
+}
+
+// A byte that has to stay, or this one.
+fn left_at(disk: &MemDisk, byte: u8, place: usize) -> u8 {
+    if place >= disk.bytes().len() || disk.is_written(place as u64) {
+        return byte;
+    }
+    disk.firm().get(place).copied().unwrap_or(byte)
+}
+
+/// The greatest length that a stop may leave of a disk.
+pub fn longest(disk: &MemDisk) -> usize {
+    disk.bytes().len().max(disk.firm().len())
+}
+
+/// The longest bytes that a stop leaves of a disk with this fill, if it may.
+pub fn longest_outcome(
+    alloc: Global,
+    disk: &MemDisk,
+    fill: Fill,
+) -> Result<Option<Vec<u8>>, AllocError> {
+    let length = match fill {
+        Fill::Keep => disk.bytes().len(),
+        Fill::Lose => disk.firm().len(),
+        Fill::Torn(_) => longest(disk),
+    };
+    outcome(alloc, disk, fill, length)
+}

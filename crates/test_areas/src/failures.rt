@@ -1,0 +1,167 @@
+//! An opening of both areas of which a device call fails, or that is stopped there, and the openings after it.
+
+use crate::disks::{Areas, Disks, FILLS, Fill, longest, outcome};
+use crate::openings::{reopened, told};
+use crate::words::{Told, put, put_count};
+use diskmodel::CallKind;
+use std::alloc::{AllocError, Global};
+
+/// Each kind of call, with its name.
+const KINDS: [(CallKind, &str); 4] = [
+    (CallKind::Read, "read"),
+    (CallKind::Write, "write"),
+    (CallKind::Cut, "cut"),
+    (CallKind::Sync, "sync"),
+];
+
+/// More calls than an opening makes of a kind.
+const MOST_CALLS: u64 = 32;
+
+/// An opening of these areas, and what it answers where no call fails.
+#[derive(Drop)]
+pub struct Opening<'a> {
+    alloc: Global,
+    areas: &'a Areas,
+    answer: String,
+}
+
+/// How many calls failed, and how many openings after it answered the same as without, and another thing.
+#[derive(Clone, Copy)]
+struct Count {
+    calls: u64,
+    same: u64,
+    other: u64,
+}
+
+/// A call that fails, by its kind and how many of that kind there are up to it.
+type Call = (CallKind, u64);
+
+impl<'a> Opening<'a> {
+    /// The opening of these areas.
+    pub fn new(alloc: Global, areas: &'a Areas) -> Result<Opening<'a>, AllocError> {
+        let answer = told(alloc, areas)?;
+        Ok(Opening {
+            alloc,
+            areas,
+            answer,
+        })
+    }
+
+    /// For each kind of call how many of them failed in turn, and what openings after that answered. How often the
+    /// files are read is no part of the format, so that reads aren't counted.
+    pub fn tell(&self, answer: &mut String) -> Told {
+        for (kind, name) in KINDS {
+            let count = self.counted(kind)?;
+            put(answer, name);
+            if matches!(kind, CallKind::Read) {
+                put_reads(answer, count);
+            } else {
+                put_calls(answer, count);
+            }
+        }
+        Ok(())
+    }
+
+    fn counted(&self, kind: CallKind) -> Result<Count, AllocError> {
+        let mut count = Count {
+            calls: 0,
+            same: 0,
+            other: 0,
+        };
+        for number in 1..MOST_CALLS {
+            if !self.fails((kind, number), &mut count)? {
+                break;
+            }
+        }
+        Ok(count)
+    }
+
+    // Opens the areas with this call failing. Says whether it came.
+    fn fails(&self, call: Call, count: &mut Count) -> Result<bool, AllocError> {
+        let mut text = String::new(self.alloc);
+        let disks = self.played(call, &mut text)?;
+        if text.as_str() != "2 Device" {
+            self.note(text.as_str() == self.answer.as_str(), count);
+            return Ok(false);
+        }
+        count.calls = count.calls.saturating_add(1);
+        for is_second in [false, true] {
+            self.stop_each(&disks, call, is_second, count)?;
+        }
+        self.note(self.is_same(disks)?, count);
+        Ok(true)
+    }
+
+    // The disks after the opening with this call failing.
+    fn played(&self, call: Call, text: &mut String) -> Result<Disks, AllocError> {
+        let disks = Disks::of(self.alloc, self.areas)?;
+        disks.fail(call.0, call.1);
+        Ok(reopened(self.alloc, disks, text))
+    }
+
+    // Whether an opening of these disks answers what it does where no call fails.
+    fn is_same(&self, disks: Disks) -> Result<bool, AllocError> {
+        let mut text = String::new(self.alloc);
+        let _ = reopened(self.alloc, disks, &mut text);
+        Ok(text.as_str() == self.answer.as_str())
+    }
+
+    fn note(&self, is_same: bool, count: &mut Count) {
+        if is_same {
+            count.same = count.same.saturating_add(1);
+        } else {
+            count.other = count.other.saturating_add(1);
+        }
+    }
+
+    // Stops the machine at this call, with each outcome of this area.
+    fn stop_each(&self, disks: &Disks, call: Call, is_second: bool, count: &mut Count) -> Told {
+        for (fill, _) in FILLS {
+            self.stop_fill(disks, call, is_second, fill, count)?;
+        }
+        Ok(())
+    }
+
+    fn stop_fill(
+        &self,
+        disks: &Disks,
+        call: Call,
+        is_second: bool,
+        fill: Fill,
+        count: &mut Count,
+    ) -> Told {
+        for length in 0..=longest(disks.of_area(is_second)) {
+            if let Some(bytes) = outcome(self.alloc, disks.of_area(is_second), fill, length)? {
+                self.stop(call, is_second, bytes, count)?;
+            }
+        }
+        Ok(())
+    }
+
+    fn stop(&self, call: Call, is_second: bool, bytes: Vec<u8>, count: &mut Count) -> Told {
+        let mut text = String::new(self.alloc);
+        let mut disks = self.played(call, &mut text)?;
+        let is_left = disks.stop(is_second, bytes);
+        let is_same = self.is_same(disks)?;
+        self.note(is_left && is_same, count);
+        Ok(())
+    }
+}
+
+fn put_reads(answer: &mut String, count: Count) {
+    if count.calls == 0 || count.other > 0 {
+        put_count(answer, " fails ", count.calls, "");
+        put_count(answer, ", then others ", count.other, "\n");
+    } else {
+        put(answer, " fails, then the same\n");
+    }
+}
+
+fn put_calls(answer: &mut String, count: Count) {
+    put_count(answer, " fails ", count.calls, "");
+    put_count(answer, ", then the same ", count.same, "");
+    if count.other > 0 {
+        put_count(answer, ", others ", count.other, "");
+    }
+    put(answer, "\n");
+}

@@ -1,0 +1,121 @@
+//! The words of a command, and the parts of its answer.
+
+use diskmodel::{Call, MemDisk};
+use journal::{Journal, JournalError, Record};
+use std::alloc::{AllocError, Global};
+pub use test_cases::{Told, bad, put};
+use test_cases::{bytes_of, write_hex};
+
+/// A word after a command's name.
+#[derive(Drop)]
+pub enum Word {
+    Number(u64),
+    /// `x`, and then digits.
+    Bytes(Vec<u8>),
+    Bad,
+}
+
+/// The texts before and after the first blank; where there is none, the whole one and nothing.
+pub fn parted(text: &str) -> (&str, &str) {
+    text.split_once(' ').unwrap_or((text, ""))
+}
+
+/// The words of a text.
+pub fn words_of(alloc: Global, text: &str) -> Result<Vec<Word>, AllocError> {
+    let mut words = Vec::new(alloc);
+    for word in text.split_whitespace() {
+        words.push(word_of(alloc, word)?)?;
+    }
+    Ok(words)
+}
+
+fn word_of(alloc: Global, word: &str) -> Result<Word, AllocError> {
+    match word.strip_prefix('x') {
+        Some(digits) => Ok(match bytes_of(alloc, digits)? {
+            Some(bytes) => Word::Bytes(bytes),
+            None => Word::Bad,
+        }),
+        None => Ok(match word.parse() {
+            Ok(number) => Word::Number(number),
+            Err(_) => Word::Bad,
+        }),
+    }
+}
+
+/// The records of these words, or `None` without any, or with a word that is no bytes.
+pub fn listed(alloc: Global, words: &[Word]) -> Result<Option<Vec<Vec<u8>>>, AllocError> {
+    let mut records = Vec::new(alloc);
+    for word in words {
+        if let Word::Bytes(bytes) = word {
+            records.push(bytes.to_vec(alloc)?)?;
+        }
+    }
+    let is_whole = !words.is_empty() && records.len() == words.len();
+    Ok(is_whole.then_some(records))
+}
+
+/// Answers a command that is none.
+pub fn told_bad(answer: &mut String) -> Told {
+    bad(answer);
+    Ok(())
+}
+
+/// Adds a number between two parts.
+pub fn put_count(answer: &mut String, before: &str, count: u64, after: &str) {
+    let _ = write!(answer, "{before}{count}{after}");
+}
+
+/// Adds bytes as digits, after a space and an `x`.
+pub fn put_bytes(text: &mut String, bytes: &[u8]) {
+    put(text, " x");
+    let _ = write_hex(text, bytes);
+}
+
+/// Puts an error, and where damage is.
+pub fn put_error(text: &mut String, error: JournalError) {
+    let _ = write!(text, "{error}");
+    if let JournalError::Damaged(place) = error {
+        put_count(text, " at ", place, "");
+    }
+}
+
+/// Puts that a journal was opened, its generation, how many records it gave, and each after the place of its gate.
+pub fn put_opened(text: &mut String, journal: &Journal<MemDisk>, records: &[Record]) {
+    put_count(text, "opened ", journal.generation(), "");
+    put_count(text, ", records ", records.len() as u64, "");
+    for record in records {
+        put_count(text, ", ", record.gate, "");
+        put_bytes(text, record.bytes.as_slice());
+    }
+}
+
+/// Puts these calls of a disk, the bytes of a write where it is of one, and else how many they are.
+pub fn put_calls(text: &mut String, calls: &[Call]) {
+    if calls.is_empty() {
+        put(text, " none");
+    }
+    for (number, call) in calls.iter().enumerate() {
+        put(text, if number == 0 { " " } else { ", " });
+        put_call(text, call);
+    }
+}
+
+fn put_call(text: &mut String, call: &Call) {
+    match call {
+        Call::Wrote { place, bytes } => {
+            put_count(text, "wrote ", *place, "");
+            put_written(text, bytes.as_slice());
+        }
+        Call::Cut(len) => put_count(text, "cut ", *len, ""),
+        Call::Synced => put(text, "synced"),
+        Call::Stopped(_) => put(text, "stopped"),
+    }
+}
+
+fn put_written(text: &mut String, bytes: &[u8]) {
+    if bytes.len() == 1 {
+        put_bytes(text, bytes);
+    } else {
+        put_count(text, " bytes ", bytes.len() as u64, "");
+    }
+}
