@@ -3,7 +3,7 @@
 
     oracles/checkpoints.py > CASES
 
-The records are those of docs/FORMATS.md. No test reads these cases yet. A list is judged in two ways that share nothing: its format by reading each record, its
+The records are those of docs/FORMATS.md. `test_checkpoints` plays these cases. A list is judged in two ways that share nothing: its format by reading each record, its
 soundness by what the node of oracles/histories.py holds of what was read.
 """
 import sys
@@ -364,6 +364,9 @@ def formats():
     loads(committee, vote, front=b'', expected=at(0))
     loads(committee, vote, front=committee.configuration() + b'\0', expected=at(0))
     loads(committee, vote, front=committee.configuration(3), expected=at(0))
+    unlike = Committee(stakes=(1, 1, 1, 2))
+    case('version 1 does not tell stakes that are not all 1', unlike)
+    loads(unlike, front=unlike.configuration(1), expected=at(0))
 
     case('kinds')
     loads(committee, head(1), vote, expected=at(1), comment='a head')

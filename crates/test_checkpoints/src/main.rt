@@ -1,0 +1,78 @@
+//! The tests of what loading a checkpoint's records is answered: case files over the plain program of these records.
+#![tactic(auto)]
+
+mod lists;
+mod nodes;
+mod records;
+
+use lists::Lists;
+use std::fs;
+use std::io::{self, BufRead, Write};
+use std::process::ExitCode;
+use test_cases::{Ending, Player, names_of};
+
+fn main(rt: HostRuntime) -> ExitCode {
+    match tested(&rt) {
+        Ok(true) => ExitCode::SUCCESS,
+        _ => ExitCode::FAILURE,
+    }
+}
+
+/// Plays the files that the arguments name. Says whether there is one, and each has commands, with the answers expected.
+fn tested(rt: &HostRuntime) -> Result<bool, Ending> {
+    let names = names_of(rt, rt.alloc())?;
+    let mut right = !names.is_empty();
+    for name in &names {
+        right = is_right(rt, name.as_str())? && right;
+    }
+    Ok(right)
+}
+
+/// Plays the file of this name, and tells of how many lists the records were written again.
+fn is_right(rt: &HostRuntime, name: &str) -> Result<bool, Ending> {
+    let text = fs::read(rt, name)?;
+    let mut lists = Lists::new(rt.alloc());
+    let mut player = Player::new(rt.alloc(), name, text.as_slice(), io::writer(rt));
+    play_each(rt, &mut player, &mut lists)?;
+    let right = player.end()?;
+    let same = lists.written_alike();
+    writeln!(
+        io::writer(rt),
+        "{name}: {same} lists were read, and written again as they were"
+    )?;
+    Ok(right)
+}
+
+/// Plays each title and command. The loop owns nothing, since what a loop owns costs the proof at each way out of it.
+fn play_each<I, W>(
+    rt: &HostRuntime,
+    player: &mut Player<I, W>,
+    lists: &mut Lists,
+) -> Result<(), Ending>
+where
+    I: BufRead + Drop,
+    W: Write + Drop,
+{
+    for _ in 0..u64::MAX {
+        if !player.advance()? {
+            break;
+        }
+        play(rt, player, lists)?;
+    }
+    Ok(())
+}
+
+/// Plays a title or a command.
+fn play<I, W>(rt: &HostRuntime, player: &mut Player<I, W>, lists: &mut Lists) -> Result<(), Ending>
+where
+    I: BufRead + Drop,
+    W: Write + Drop,
+{
+    if player.is_title() {
+        lists.begin();
+        return Ok(());
+    }
+    let mut answer = String::new(rt.alloc());
+    lists.obey(player.command(), &mut answer)?;
+    player.answered(answer.as_str())
+}

@@ -1,0 +1,89 @@
+//! Records as case files spell them, and the two that are written here by the format alone: the plain program hands
+//! out neither a configuration nor a head.
+
+use committee::Committee;
+use header::Node;
+use sigface::HashSign;
+use std::alloc::{AllocError, Global};
+use test_cases::{Told, bytes_of};
+use wire::Author;
+
+/// The kind of a configuration, and the version of those that have stakes.
+const CONFIGURATION: [u8; 2] = [0, 2];
+
+/// The kind of a head.
+const HEAD: u8 = 2;
+
+/// The bytes of these words, one after the other, if each word has some.
+pub fn bytes_in(alloc: Global, words: &str) -> Result<Option<Vec<u8>>, AllocError> {
+    let mut bytes = Vec::new(alloc);
+    for word in words.split_whitespace() {
+        if !add_word(alloc, word, &mut bytes)? {
+            return Ok(None);
+        }
+    }
+    Ok(Some(bytes))
+}
+
+/// Adds the bytes of a word, in which a star is before how often its digits stand. Says whether it has such digits.
+fn add_word(alloc: Global, word: &str, bytes: &mut Vec<u8>) -> Result<bool, AllocError> {
+    let (digits, times) = word.split_once('*').unwrap_or((word, "1"));
+    let Ok(times) = times.parse::<u32>() else {
+        return Ok(false);
+    };
+    let Some(part) = bytes_of(alloc, digits)? else {
+        return Ok(false);
+    };
+    add_times(&part, times, bytes)?;
+    Ok(true)
+}
+
+fn add_times(part: &[u8], times: u32, bytes: &mut Vec<u8>) -> Told {
+    for _ in 0..times {
+        bytes.extend_from_slice(part)?;
+    }
+    Ok(())
+}
+
+/// The record of a node's configuration in version 2: the kind and the version, the own number, the depth, how many
+/// workers a member has, how many batches it holds at most, how many members there are, their keys, and their stakes.
+pub fn configuration_record(alloc: Global, node: &Node<HashSign>) -> Result<Vec<u8>, AllocError> {
+    let committee = &node.committee;
+    let mut record = Vec::new(alloc);
+    record.extend_from_slice(&CONFIGURATION)?;
+    record.extend_from_slice(&node.own.0.to_be_bytes())?;
+    record.extend_from_slice(&(committee.depth() as u16).to_be_bytes())?;
+    record.extend_from_slice(&committee.workers().to_be_bytes())?;
+    record.extend_from_slice(&committee.batches().to_be_bytes())?;
+    record.extend_from_slice(&committee.size().to_be_bytes())?;
+    add_keys(committee, &mut record)?;
+    add_stakes(committee, &mut record)?;
+    Ok(record)
+}
+
+fn add_keys(committee: &Committee, record: &mut Vec<u8>) -> Told {
+    for member in 0..committee.size() {
+        if let Some(key) = committee.key(Author(member)) {
+            record.extend_from_slice(&key.0)?;
+        }
+    }
+    Ok(())
+}
+
+fn add_stakes(committee: &Committee, record: &mut Vec<u8>) -> Told {
+    for member in 0..committee.size() {
+        if let Some(stake) = committee.stake(Author(member)) {
+            record.extend_from_slice(&(stake as u32).to_be_bytes())?;
+        }
+    }
+    Ok(())
+}
+
+/// The record of the head that has the generation of this word, 0 where it is no number.
+pub fn head_record(alloc: Global, generation: &str) -> Result<Vec<u8>, AllocError> {
+    let generation = generation.parse::<u64>().unwrap_or(0);
+    let mut record = Vec::new(alloc);
+    record.push(HEAD)?;
+    record.extend_from_slice(&generation.to_be_bytes())?;
+    Ok(record)
+}
