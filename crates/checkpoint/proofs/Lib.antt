@@ -1,0 +1,17 @@
+mod Rising
+mod Members
+mod KeptBatches
+mod KeptVotes
+mod Copied
+mod Counted
+mod Rows
+mod Above
+mod Sequenced
+mod Headed
+mod KeptHeaders
+mod Keeping
+mod KeptCertificates
+mod KeptState
+mod Pieces
+mod Counts
+mod RowsMore

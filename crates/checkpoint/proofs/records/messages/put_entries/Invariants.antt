@@ -1,0 +1,8 @@
+use Rattle.std.proofs.Common.{◌≡◌, ◌++◌, take}
+use Rattle.std.specs.List.{flat_map}
+use Rattle.wire.specs.Spelling.{vote_entry_bytes}
+use Rattle.checkpoint.proofs.records.messages.put_entries.Given as goal
+
+-- those so far have been put
+abbrev pub invariant-loop-entry : goal.invariant-loop-entry
+invariant-loop-entry l = l.bytes.items ≡ l.initial.bytes.items ++ flat_map vote_entry_bytes (take l.entry-index l.votes)

@@ -1,0 +1,10 @@
+use Rattle.std.proofs.Common.{ℕ, ◌*◌, take, drop}
+use Rattle.spec_checkpoint.specs.Records.{COINS_PIECE, coins_record}
+use Rattle.journal.specs.Format.{contents}
+use Rattle.checkpoint.proofs.RowsMore.{piece_more}
+use Rattle.checkpoint.proofs.records.put_coins.Goals as goal
+
+pub loop-piece-preserved : goal.loop-piece-preserved
+loop-piece-preserved c =
+    piece_more coins_record (λ (piece : ℕ). take COINS_PIECE (drop (COINS_PIECE * piece) c.args.coins.now)) c.loop-piece.piece c.loop-piece.rows.items c.push.new.self.items c.in_ok-coins_record.field-0
+    (contents c.args.rows.now.items) c.in_ok-push.ensures.items c.in_ok-coins_record.ensures c.loop-piece.invariant

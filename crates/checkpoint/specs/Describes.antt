@@ -1,0 +1,20 @@
+-- When records describe tables.
+use Rattle.std.specs.Prelude.{◌≡◌, ℕ, List, ◌∷◌}
+use Rattle.journal.specs.declared.version.Version.TheVariants.{Second}
+use Rattle.spec_machine.specs.Sound.{IsSound}
+use Rattle.spec_model.specs.Nodes.{Node}
+use Rattle.spec_records.specs.Records.{configuration_of}
+use Rattle.spec_checkpoint.specs.Data.{Checkpoint, IsWritten}
+use Rattle.spec_checkpoint.specs.Meaning.{state_in}
+use Rattle.spec_checkpoint.specs.Records.{state_records}
+use Rattle.admission.specs.Standing.{AreAt}
+use Rattle.admission.specs.declared.tables.Tables.{Tables}
+
+-- These are the records of a checkpoint that a node writes, after its configuration in the second version, and the tables are at its state,
+-- which is sound.
+pub record Describes (node : Node) (tables : Tables) (records : List (List ℕ)) : Type 0 where
+  pub checkpoint : Checkpoint
+  pub written : IsWritten node checkpoint
+  pub sound : IsSound node (state_in node checkpoint)
+  pub at : AreAt node (state_in node checkpoint) tables
+  pub are : records ≡ configuration_of Second node.charter node.own ∷ state_records checkpoint

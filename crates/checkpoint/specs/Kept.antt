@@ -1,0 +1,66 @@
+-- The checkpoint of what a validator's tables keep.
+use Rattle.std.specs.Prelude.{◌≡◌, ◌≢◌, ℕ, IsTrue, List, All, filter, map}
+use Rattle.committee.specs.Charter.{numbers}
+use Rattle.committee.specs.Sets.{has}
+use Rattle.committee.specs.declared.members.TheConstants.{MAX_MEMBERS}
+use Rattle.committee.specs.declared.sets.MemberSet.{MemberSet}
+use Rattle.wire.specs.References.{votes_rise}
+use Rattle.batchstore.specs.declared.held.Held.{Held}
+use Rattle.votebook.specs.declared.slot.Slot.{Slot}
+use Rattle.spec_model.specs.Nodes.{Node}
+use Rattle.spec_model.specs.States.{State}
+use Rattle.spec_model.specs.Words.{Certificate, Digest}
+use Rattle.spec_checkpoint.specs.Data.{KeptBatch, KeptVote, KeptHeader, Checkpoint, IsWritten}
+use Rattle.spec_checkpoint.specs.Meaning.{state_in}
+use Rattle.admission.specs.Kept.{IsKeptOf}
+use Rattle.admission.specs.declared.kept.Kept.{Kept}
+use Rattle.admission.specs.declared.kept.VotedHeader.{VotedHeader}
+
+-- the members of a set below a number, by rising number
+unfoldable pub members_below : MemberSet → ℕ → List ℕ
+members_below set count = filter (has set) (numbers count)
+
+-- all of them
+abbrev pub members_in : MemberSet → List ℕ
+members_in set = members_below set MAX_MEMBERS
+
+-- what is held of a batch, as a checkpoint has it; its digest isn't written, since it follows
+abbrev pub keep_of : Held → KeptBatch
+keep_of held = record { named = held.named; members = members_in held.acknowledged; batch = held.batch }
+
+abbrev pub batch_of : Digest × Held → KeptBatch
+batch_of entry = keep_of entry.1
+
+-- a vote for another member's header
+abbrev pub vote_of : Slot × Digest → KeptVote
+vote_of entry = record { author = entry.0.author; round = entry.0.round; header = entry.1 }
+
+-- an own header with the votes of others. The own vote isn't written: the node gives it again
+abbrev pub header_of : VotedHeader → KeptHeader
+header_of voted = record { header = voted.header; votes = voted.votes.items }
+
+-- a certificate without its digest, which follows
+abbrev pub certificate_of : Certificate × Digest → Certificate
+certificate_of entry = entry.0
+
+abbrev pub checkpoint_of : Kept → Checkpoint
+checkpoint_of kept = record {
+  order = kept.order.items;
+  batches = map batch_of kept.batches.items;
+  votes = map vote_of kept.votes.items;
+  headers = map header_of kept.headers.items;
+  certificates = map certificate_of kept.certificates.items;
+  coins = kept.coins;
+}
+
+-- the votes on an own header are those of others, and rise by voter
+pub record AreOfOthers (own : ℕ) (voted : VotedHeader) : Type 0 where
+  pub rise : IsTrue (votes_rise voted.votes.items)
+  pub others : All (λ entry. entry.voter.0 ≢ own) voted.votes.items
+
+-- ---- laws
+
+-- What is kept of a sound state has a checkpoint that a node writes, and it is that state.
+abbrev pub CheckpointIsState : Type 0
+CheckpointIsState = (node : Node) (state : State) (kept : Kept) → IsKeptOf node state kept → All (AreOfOthers node.own.0) kept.headers.items
+    → IsWritten node (checkpoint_of kept) × (state_in node (checkpoint_of kept) ≡ state)

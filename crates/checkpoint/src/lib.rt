@@ -1,0 +1,19 @@
+//! What a checkpoint is written of: a validator's tables are taken apart to what they keep, and that is written as records.
+#![tactic(auto)]
+
+mod configuration;
+mod describing;
+mod parts;
+mod records;
+
+ghost use Rattle.checkpoint.specs.Kept.{CheckpointIsState};
+
+pub use configuration::configuration_record;
+pub use describing::kept_records;
+pub use parts::parts_of;
+pub use records::records_of;
+
+/// What is kept of a sound state has a checkpoint that a node writes, and it is that state.
+pub fn checkpoint_is_state()
+    ensures { CheckpointIsState }
+{}

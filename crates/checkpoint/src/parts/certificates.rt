@@ -1,0 +1,33 @@
+//! The certificates above the genesis, read one by one.
+
+ghost use Rattle.std.specs.Prelude.{◌≡◌, IfOk};
+ghost use Rattle.checkpoint.specs.Parts.{above_genesis, digested};
+
+use dag::Dag;
+use std::alloc::{AllocError, Global};
+use wire::{Certificate, Digest, certificate_digest, header_digest};
+
+/// The certificates above the genesis with their digests.
+pub fn certificates_of(alloc: Global, dag: &Dag) -> Result<Vec<(Certificate, Digest)>, AllocError>
+    ensures { IfOk result (λ found. found.items ≡ above_genesis dag.now) }
+{
+    let mut found = Vec::new(alloc);
+    for place in 0..usize::MAX {
+        let Some(certificate) = dag.nth(place) else {
+            return Ok(found);
+        };
+        if certificate.header.round.number() > 0 {
+            found.push(digested(certificate)?)?;
+        }
+    }
+    Err(AllocError)
+}
+
+/// A certificate once more, with its digest.
+fn digested(certificate: &Certificate) -> Result<(Certificate, Digest), AllocError>
+    ensures { IfOk result (λ found. found ≡ digested certificate.now) }
+{
+    let header = &certificate.header;
+    let digest = certificate_digest(&header_digest(header), header.round, header.author);
+    Ok((certificate.try_clone()?, digest))
+}

@@ -1,0 +1,22 @@
+//! The votes for the headers of others, read vote by vote.
+
+ghost use Rattle.std.specs.Prelude.{◌≡◌, IfOk};
+ghost use Rattle.std.specs.FinMap as map;
+
+use std::alloc::{AllocError, Global};
+use votebook::{Slot, VoteBook};
+use wire::Digest;
+
+/// The votes for the headers of others.
+pub fn votes_of(alloc: Global, votes: &VoteBook) -> Result<Vec<(Slot, Digest)>, AllocError>
+    ensures { IfOk result (λ found. found.items ≡ map.entries votes.now) }
+{
+    let mut found = Vec::new(alloc);
+    for place in 0..usize::MAX {
+        let Some(vote) = votes.nth(place) else {
+            return Ok(found);
+        };
+        found.push(vote)?;
+    }
+    Err(AllocError)
+}

@@ -1,0 +1,63 @@
+//! The record of a batch.
+
+ghost use Rattle.std.specs.Prelude.{◌≡◌, ◌≤◌, ◌++◌, length, flat_map, IfOk, OnOk, if◌then◌else◌};
+ghost use Rattle.std.specs.Int.{w16, to_be_bytes};
+ghost use Rattle.committee.specs.declared.members.TheConstants.{MAX_MEMBERS};
+ghost use Rattle.spec_checkpoint.specs.Records as records;
+ghost use Rattle.checkpoint.specs.Kept.{keep_of, members_in};
+
+use batchstore::Held;
+use committee::{MAX_MEMBERS, MemberSet};
+use std::alloc::{AllocError, Global};
+use wire::Author;
+use wire::numbers::two_bytes;
+
+/// The kind of a batch's record.
+const BATCH: u8 = 4;
+
+/// A batch: its kind, whether an own header names it, the other members who acknowledged it after their count, and its body.
+pub fn batch_record(alloc: Global, held: &Held) -> Result<Vec<u8>, AllocError>
+    ensures { IfOk result (λ bytes. bytes.items ≡ records.batch_record (keep_of held.now)) }
+{
+    let members = held.acknowledged();
+    let mut bytes = Vec::new(alloc);
+    bytes.push(BATCH)?;
+    bytes.push(mark_byte(held.is_named()))?;
+    bytes.extend_from_slice(&two_bytes(count_of(&members)))?;
+    put_members(&mut bytes, &members)?;
+    bytes.extend_from_slice(held.batch().body())?;
+    Ok(bytes)
+}
+
+/// The byte of a mark.
+fn mark_byte(named: bool) -> u8
+    ensures { result ≡ (if named then 1 else 0) }
+{
+    if named { 1 } else { 0 }
+}
+
+/// How many members a set has.
+fn count_of(members: &MemberSet) -> u16
+    ensures value { result ≡ length (members_in members.now) }
+    ensures few { result ≤ MAX_MEMBERS }
+{
+    let mut count = 0;
+    for member in 0..MAX_MEMBERS {
+        if members.contains(Author(member)) {
+            count += 1;
+        }
+    }
+    count
+}
+
+/// Puts the numbers of members after bytes.
+fn put_members(bytes: &mut Vec<u8>, members: &MemberSet) -> Result<(), AllocError>
+    ensures { OnOk result (bytes.new.items ≡ bytes.old.items ++ flat_map (to_be_bytes w16) (members_in members.now)) }
+{
+    for member in 0..MAX_MEMBERS {
+        if members.contains(Author(member)) {
+            bytes.extend_from_slice(&two_bytes(member))?;
+        }
+    }
+    Ok(())
+}

@@ -1,0 +1,94 @@
+//! The records of votes, own headers and certificates.
+
+ghost use Rattle.std.specs.Prelude.{◌≡◌, ◌++◌, ◌∷◌, length, drop, flat_map, IfOk, OnOk};
+ghost use Rattle.std.specs.Int.{w16, to_be_bytes};
+ghost use Rattle.wire.specs.Spelling.{spelling, vote_entry_bytes};
+ghost use Rattle.spec_checkpoint.specs.Records as records;
+ghost use Rattle.checkpoint.specs.Kept.{vote_of, header_of};
+
+use admission::VotedHeader;
+use std::alloc::{AllocError, Global};
+use votebook::Slot;
+use wire::numbers::two_bytes;
+use wire::{Certificate, Digest, Message, VoteEntry, encode};
+
+/// The kind of a vote's record.
+const VOTE: u8 = 5;
+
+/// The kind of an own header's record.
+const HEADER: u8 = 6;
+
+/// The kind of a certificate's record.
+const CERTIFICATE: u8 = 7;
+
+/// A vote for another member's header: its kind, author, round, header digest.
+pub fn vote_record(alloc: Global, vote: &(Slot, Digest)) -> Result<Vec<u8>, AllocError>
+    ensures { IfOk result (λ bytes. bytes.items ≡ records.vote_record (vote_of vote.now)) }
+{
+    let (slot, header) = vote;
+    let mut bytes = Vec::new(alloc);
+    bytes.push(VOTE)?;
+    bytes.extend_from_slice(&two_bytes(slot.author))?;
+    bytes.extend_from_slice(&slot.round.to_be_bytes())?;
+    bytes.extend_from_slice(&header.0)?;
+    Ok(bytes)
+}
+
+/// An own header: its kind, the header's body, its signature, and the votes of others after their count.
+pub fn header_record(alloc: Global, voted: &VotedHeader) -> Result<Vec<u8>, AllocError>
+    ensures { IfOk result (λ bytes. bytes.items ≡ records.header_record (header_of voted.now)) }
+{
+    let mut bytes = of_kind(alloc, HEADER, &Message::Header(voted.header.try_clone()?))?;
+    bytes.extend_from_slice(&count_bytes(voted.votes.len()))?;
+    put_entries(&mut bytes, &voted.votes)?;
+    Ok(bytes)
+}
+
+/// A certificate: its kind, the header's body, and the votes after their count.
+pub fn certificate_record(alloc: Global, certificate: &Certificate) -> Result<Vec<u8>, AllocError>
+    ensures { IfOk result (λ bytes. bytes.items ≡ records.certificate_record certificate.now) }
+{
+    of_kind(
+        alloc,
+        CERTIFICATE,
+        &Message::Certificate(certificate.try_clone()?),
+    )
+}
+
+/// A message with a kind in the place of its tag.
+fn of_kind(alloc: Global, kind: u8, message: &Message) -> Result<Vec<u8>, AllocError>
+    ensures { IfOk result (λ bytes. bytes.items ≡ kind ∷ drop 1 (spelling message.now)) }
+{
+    let mut bytes = encode(alloc, message)?;
+    if let Some(tag) = bytes.first_mut() {
+        *tag = kind;
+    }
+    Ok(bytes)
+}
+
+/// The two lower bytes of a count.
+#[tactic(auto, using(crate::proofs::Counts::lower_bytes))]
+fn count_bytes(count: usize) -> [u8; 2]
+    ensures { result ≡ to_be_bytes w16 count }
+{
+    two_bytes((count % 65_536) as u16)
+}
+
+/// Puts a vote on a header after bytes.
+fn put_vote_entry(bytes: &mut Vec<u8>, entry: &VoteEntry) -> Result<(), AllocError>
+    ensures { OnOk result (bytes.new.items ≡ bytes.old.items ++ vote_entry_bytes entry.now) }
+{
+    bytes.extend_from_slice(&two_bytes(entry.voter.0))?;
+    bytes.extend_from_slice(&entry.signature.0)?;
+    Ok(())
+}
+
+/// Puts votes on a header after bytes.
+fn put_entries(bytes: &mut Vec<u8>, votes: &[VoteEntry]) -> Result<(), AllocError>
+    ensures { OnOk result (bytes.new.items ≡ bytes.old.items ++ flat_map vote_entry_bytes votes.now) }
+{
+    for entry in votes {
+        put_vote_entry(bytes, entry)?;
+    }
+    Ok(())
+}
