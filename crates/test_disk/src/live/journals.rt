@@ -1,6 +1,7 @@
 //! Journals: the one over the disk that is open, and those that runs leave on a disk in memory.
 
-ghost use Rattle.journal.specs.Journal.{IsAlive};
+ghost use Rattle.std.specs.Prelude.{◌≡◌, None};
+ghost use Rattle.journal.specs.Journal.{spare_of, IsAlive};
 
 use crate::live::words::{put, put_hex, put_number, put_shown};
 use disk_file::FileDisk;
@@ -47,7 +48,9 @@ fn append(
     records: Vec<Vec<u8>>,
     answer: &mut String,
 )
-    requires { IsAlive ⟦<FileDisk as Disk>⟧.device journal.old }
+    requires alive { IsAlive ⟦<FileDisk as Disk>⟧.device journal.old }
+    requires alone { spare_of journal.old ≡ None }
+    ensures alone { spare_of journal.new ≡ None }
 {
     let Ok(Some(group)) = Group::new(alloc, records) else {
         return;

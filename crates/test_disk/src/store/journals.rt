@@ -1,6 +1,7 @@
 //! Commands to a journal on the disk, which is opened for each of them.
 
-ghost use Rattle.journal.specs.Journal.{IsAlive};
+ghost use Rattle.std.specs.Prelude.{◌≡◌, None};
+ghost use Rattle.journal.specs.Journal.{spare_of, IsAlive};
 
 use crate::memory::taken;
 use crate::store::spelling::group_in;
@@ -118,7 +119,9 @@ fn append(
     records: Vec<Vec<u8>>,
     text: &mut String,
 ) -> Told
-    requires { IsAlive ⟦<MemDisk as Disk>⟧.device journal.old }
+    requires alive { IsAlive ⟦<MemDisk as Disk>⟧.device journal.old }
+    requires alone { spare_of journal.old ≡ None }
+    ensures alone { spare_of journal.new ≡ None }
 {
     let group = Group::new(alloc, records)?;
     append_group(journal, group, text);
@@ -126,7 +129,9 @@ fn append(
 }
 
 fn append_group(journal: &mut Journal<MemDisk>, group: Option<Group>, text: &mut String)
-    requires { IsAlive ⟦<MemDisk as Disk>⟧.device journal.old }
+    requires alive { IsAlive ⟦<MemDisk as Disk>⟧.device journal.old }
+    requires alone { spare_of journal.old ≡ None }
+    ensures alone { spare_of journal.new ≡ None }
 {
     let Some(group) = group else {
         return put(text, ", no group");

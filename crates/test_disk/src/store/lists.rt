@@ -1,7 +1,7 @@
 //! Lists of random steps, made by the running code and by the plain world side by side.
 
-ghost use Rattle.std.specs.Prelude.{◌≡◌, ◌<◌, IfOk, IsNone};
-ghost use Rattle.journal.specs.Journal.{IsAlive};
+ghost use Rattle.std.specs.Prelude.{◌≡◌, ◌<◌, None, IfOk, IsNone};
+ghost use Rattle.journal.specs.Journal.{spare_of, IsAlive};
 ghost use Rattle.test_disk.specs.Way.{KeepsOnTheWay};
 
 use crate::committees::OWN;
@@ -157,7 +157,8 @@ impl<'a> Lists<'a> {
         failing: Option<Moment>,
         gate: usize,
     ) -> Told
-        requires { IsAlive ⟦<MemDisk as Disk>⟧.device journal }
+        requires alive { IsAlive ⟦<MemDisk as Disk>⟧.device journal }
+        requires alone { spare_of journal ≡ None }
     {
         let mut written = self.write(&mut journal, failing);
         if matches!(written, Ok(None)) && self.book.has_pending() {
@@ -176,8 +177,10 @@ impl<'a> Lists<'a> {
         journal: &mut Journal<MemDisk>,
         failing: Option<Moment>,
     ) -> Result<Option<Moment>, AllocError>
-        requires { IsAlive ⟦<MemDisk as Disk>⟧.device journal.old }
-        ensures { IfOk result (λ moment. IsNone moment → IsAlive ⟦<MemDisk as Disk>⟧.device journal.new) }
+        requires alive { IsAlive ⟦<MemDisk as Disk>⟧.device journal.old }
+        requires alone { spare_of journal.old ≡ None }
+        ensures alive { IfOk result (λ moment. IsNone moment → IsAlive ⟦<MemDisk as Disk>⟧.device journal.new) }
+        ensures alone { spare_of journal.new ≡ None }
     {
         if !self.book.is_settled() {
             self.differs();

@@ -1,7 +1,7 @@
 //! How groups of the book come to the disk.
 
-ghost use Rattle.std.specs.Prelude.{◌≡◌, ◌∷◌, []};
-ghost use Rattle.journal.specs.Journal.{IsAlive};
+ghost use Rattle.std.specs.Prelude.{◌≡◌, ◌∷◌, [], None};
+ghost use Rattle.journal.specs.Journal.{spare_of, IsAlive};
 ghost use Rattle.validator.specs.Setting.{node_of};
 ghost use Rattle.book.specs.OnTheWay.{AreOnTheWay};
 
@@ -50,7 +50,9 @@ pub fn put_groups(
 
 /// Takes a group and writes it. It stays on the way.
 fn write(own: &mut OwnBook<'_, HashSign>, journal: &mut Journal<MemDisk>, answer: &mut String)
-    requires { IsAlive ⟦<MemDisk as Disk>⟧.device journal.old }
+    requires alive { IsAlive ⟦<MemDisk as Disk>⟧.device journal.old }
+    requires alone { spare_of journal.old ≡ None }
+    ensures alone { spare_of journal.new ≡ None }
 {
     match own.take() {
         Ok(Some(group)) => {
@@ -68,7 +70,9 @@ fn write(own: &mut OwnBook<'_, HashSign>, journal: &mut Journal<MemDisk>, answer
 
 /// One round of the book.
 fn flush(own: &mut OwnBook<'_, HashSign>, journal: &mut Journal<MemDisk>, answer: &mut String)
-    requires { IsAlive ⟦<MemDisk as Disk>⟧.device journal.old }
+    requires alive { IsAlive ⟦<MemDisk as Disk>⟧.device journal.old }
+    requires alone { spare_of journal.old ≡ None }
+    ensures alone { spare_of journal.new ≡ None }
 {
     match own.flush(journal) {
         Ok(0) => put(answer, "no group"),
@@ -82,7 +86,9 @@ fn flush(own: &mut OwnBook<'_, HashSign>, journal: &mut Journal<MemDisk>, answer
 
 /// Takes two groups and writes each, and settles them in turn.
 fn write_two(own: &mut OwnBook<'_, HashSign>, journal: &mut Journal<MemDisk>, answer: &mut String)
-    requires { IsAlive ⟦<MemDisk as Disk>⟧.device journal.old }
+    requires alive { IsAlive ⟦<MemDisk as Disk>⟧.device journal.old }
+    requires alone { spare_of journal.old ≡ None }
+    ensures alone { spare_of journal.new ≡ None }
 {
     if !own.is_settled() {
         return put(answer, "a group is on the way");
@@ -106,7 +112,9 @@ fn write_second(
     answer: &mut String,
 )
     requires alive { IsAlive ⟦<MemDisk as Disk>⟧.device journal.old }
+    requires alone { spare_of journal.old ≡ None }
     requires way { AreOnTheWay (node_of ⟦<HashSign as Sign>⟧.scheme own.old.validator.setting) own.old (first ∷ []) }
+    ensures alone { spare_of journal.new ≡ None }
 {
     let Ok(Some(group)) = own.take() else {
         put(answer, ", no second");

@@ -1,6 +1,7 @@
 //! The code that runs: a book, and a journal on a disk in memory.
 
-ghost use Rattle.std.specs.Prelude.{◌≡◌};
+ghost use Rattle.std.specs.Prelude.{◌≡◌, None, IfOk};
+ghost use Rattle.journal.specs.Journal.{spare_of};
 ghost use Rattle.test_disk.specs.Way.{KeepsOnTheWay};
 
 use crate::store::events::{message_of, sender_of};
@@ -19,7 +20,9 @@ pub fn open_book<'a>(
     alloc: Global,
     config: &'a Config<HashSign>,
     disk: MemDisk,
-) -> Result<(OwnBook<'a, HashSign>, Journal<MemDisk>), Failed<JournalError, MemDisk>> {
+) -> Result<(OwnBook<'a, HashSign>, Journal<MemDisk>), Failed<JournalError, MemDisk>>
+    ensures { IfOk result (λ opened. spare_of opened.1 ≡ None) }
+{
     let (validator, journal) = reopen(alloc, config, disk)?;
     Ok((OwnBook::new(alloc, validator), journal))
 }
