@@ -596,7 +596,7 @@ def groups(cases):
 
 def main():
     cases = Cases()
-    cases.lines = ["# Made by oracles/areas.py."]
+    cases.lines = ["# crates: journal", "# Made by oracles/areas.py."]
     openings(cases)
     first_groups(cases)
     rewritings(cases)

@@ -59,7 +59,7 @@ fn remembers(rt: &HostRuntime) -> Result<bool, Ending> {
         "not as expected"
     };
     writeln!(io::writer(rt), "memory: {told}")?;
-    Ok(true)
+    Ok(is_right)
 }
 
 fn play_all<I, W>(rt: &HostRuntime, player: &mut Player<I, W>) -> Result<(), Ending>
