@@ -1,12 +1,6 @@
 mod Beginning
 mod Headers
+mod Kept
 mod Members
 mod OfOne
 mod Slots
-mod Copied
-mod Counted
-mod Rows
-mod Above
-mod Sequenced
-mod Headed
-mod Keeping

@@ -1,2 +1,1 @@
 pub mod Accords
-pub mod Apart

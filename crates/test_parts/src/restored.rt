@@ -2,7 +2,6 @@
 //! events these are taken apart and restored; both then take the events up to the next such place, and have to be alike.
 
 mod alike;
-mod apart;
 mod counts;
 mod member;
 mod playing;

@@ -6,8 +6,8 @@ ghost use Rattle.spec_model.specs.States.{State};
 ghost use Rattle.admission.specs.Kept.{IsKeptOf};
 ghost use Rattle.validator.specs.Setting.{node_of};
 
-use crate::restored::apart::parts_of;
 use admission::{Kept, Tables};
+use checkpoint::parts_of;
 use header::Checked;
 use sigface::Sign;
 use std::alloc::{AllocError, Global};

@@ -1,7 +1,0 @@
-use Rattle.std.proofs.Common.{◌≡◌, take}
-use Rattle.std.specs.FinMap as map
-use Rattle.test_parts.proofs.restored.apart.votes.votes_of.Given as goal
-
--- the votes before the place are found
-abbrev pub invariant-loop-place : goal.invariant-loop-place
-invariant-loop-place l = l.found.items ≡ take l.place (map.entries l.votes)
