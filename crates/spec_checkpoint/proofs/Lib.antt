@@ -11,6 +11,6 @@ mod Cuts
 mod RecordTexts
 mod Following
 mod ReadAgain
-mod Loadable
+pub mod Loadable
 mod ReadingTests
 mod FirstFault

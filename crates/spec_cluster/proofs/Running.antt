@@ -5,8 +5,8 @@ use Rattle.std.proofs.lemmas.Bool.{cases_Bool, eqb-true, eq-eqb, true≢false}
 use Rattle.wire.specs.Lists.{Begins}
 use Rattle.spec_laws.proofs.Lists.{Contains-nothing, Contains-cases}
 use Rattle.spec_model.specs.Words.{Event}
-use Rattle.spec_world.specs.World.{World, run_on}
-use Rattle.spec_world.specs.Steps.{Move, accept, IsStep, IsRun, IsRestarted}
+use Rattle.spec_world.specs.World.{World}
+use Rattle.spec_world.specs.Steps.{Move, accept, IsStep, IsRun, IsFirst, take_all, spare_call, settle_all}
 use Rattle.spec_world.specs.Steps as one
 use Rattle.spec_world.proofs.Beginning.{runs_begin}
 use Rattle.spec_world.proofs.Lasting.{given_stays}
@@ -91,4 +91,4 @@ module _ (cluster : Cluster) (Assumed : Worlds → Turn → Type 0) where
 pub clusters_begin : ClustersBegin
 clusters_begin cluster members keys = λ member honest.
     let run = runs_begin (cluster.node member) (members member honest).is (keys member honest) in
-    subst (IsRestarted (cluster.node member) (run_on [] [] []) []) run.leads run.begins
+    subst (IsFirst (cluster.node member)) run.leads run.begins

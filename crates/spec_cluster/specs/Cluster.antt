@@ -3,9 +3,9 @@ use Rattle.std.specs.Prelude.{◌≡◌, ◌≢◌, ◌<◌, ℕ, Bool, true, Li
 use Rattle.committee.specs.Charter.{Charter}
 use Rattle.header.specs.Checks.{Accepts, fault_of}
 use Rattle.spec_model.specs.Nodes.{Node, IsNode}
-use Rattle.spec_world.specs.World.{World, run_on}
+use Rattle.spec_world.specs.World.{World, alone_on, run_on}
 use Rattle.spec_world.specs.Runs.{AreKeys, first_bytes}
-use Rattle.spec_world.specs.Steps.{Move, accept, IsStep, IsRestarted}
+use Rattle.spec_world.specs.Steps.{Move, accept, IsStep, IsFirst}
 
 -- the committee, the verifier that all use, who is honest, and what an honest member is as a node; of the others nothing is said
 pub record Cluster : Type 0 where
@@ -48,9 +48,9 @@ pub record IsTurn (cluster : Cluster) (worlds : Worlds) (turn : Turn) (next : Wo
   pub step : IsStep (cluster.node turn.member) (worlds turn.member) turn.move (next turn.member)
   pub others : (other : ℕ) → other ≢ turn.member → next other ≡ worlds other
 
--- each honest member begins as after a stop that leaves an empty disk, with nothing given out
+-- each honest member begins as after a stop that leaves empty disks, one or two, with nothing given out
 abbrev pub Begin : Cluster → Worlds → Type 0
-Begin cluster worlds = (member : ℕ) → cluster.honest member ≡ true → IsRestarted (cluster.node member) (run_on [] [] []) [] (worlds member)
+Begin cluster worlds = (member : ℕ) → cluster.honest member ≡ true → IsFirst (cluster.node member) (worlds member)
 
 -- these turns lead from some worlds to others, and of each of them it holds, in the worlds before it, what is assumed of a turn
 abbrev pub Leads : Cluster → (Worlds → Turn → Type 0) → Worlds → List Turn → Worlds → Type 0
@@ -65,4 +65,4 @@ pub record IsReached (cluster : Cluster) (Assumed : Worlds → Turn → Type 0) 
 -- the members can begin, where each key has 32 bytes: on what an opening leaves of an empty disk
 abbrev pub ClustersBegin : Type 0
 ClustersBegin = (cluster : Cluster) → AreMembers cluster → ((member : ℕ) → cluster.honest member ≡ true → AreKeys (cluster.node member))
-    → Begin cluster (λ member. run_on (first_bytes (cluster.node member)) [] [])
+    → Begin cluster (λ member. run_on (alone_on (first_bytes (cluster.node member))) [] [])

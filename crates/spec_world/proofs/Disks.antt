@@ -1,8 +1,8 @@
--- What a stop may leave in each phase of an append.
+-- What a stop may leave at each stage of an append.
 use Rattle.std.proofs.Common.{◌≡◌, ◌⊎◌, ℕ, ◌+◌, ◌-◌, ◌<◌, ◌≤◌, max, false, List, [], ◌∷◌, ◌++◌, length, take, drop, get_or, Some, inl, inr, ⊎_elim}
 use Rattle.std.proofs.Common.{refl, sym, ap, ◌∙◌, subst, arith, length-append, length-take, length-drop, map}
 use Rattle.std.proofs.lemmas.Bool.{or_from}
-use Rattle.std.proofs.lemmas.List.{ext_get_or, get_or-take, get_or-drop}
+use Rattle.std.proofs.lemmas.List.{ext_get_or, get_or-take, get_or-drop, take-take, take_at, take-append-le}
 use Rattle.std.proofs.lemmas.Option.{same_Some, none-some}
 use Rattle.std.specs.Prelude.{All}
 use Rattle.std.proofs.lemmas.List.Elements.{All-nil, All-head}
@@ -21,8 +21,8 @@ use Rattle.journal.proofs.Stops.{torn_behind, torn_gate, staged_before, written_
 use Rattle.spec_model.specs.Histories.{History}
 use Rattle.spec_records.specs.Records.{record_of}
 use Rattle.spec_world.proofs.Bytes.{one_more, joined, longer_bytes}
-use Rattle.spec_world.specs.World.{Phase, not_begun, group_written, group_synced, gate_opened, gate_synced, first_of, call_in, call_for}
-use Rattle.spec_world.specs.Steps.{next_phase}
+use Rattle.spec_world.specs.World.{Phase, not_begun, group_written, group_synced, gate_opened, first_of, call_in, call_for}
+use Rattle.spec_world.specs.Steps.{next_phase, next_written}
 
 -- ---- one write on firm bytes
 
@@ -54,20 +54,45 @@ torn_on_firm file at bytes found within left =
       no_longer = no_longer;
     }
 
--- ---- the phases
+-- ---- how far a group is written
 
--- what the calls come to in a phase, where this was the file when the group was taken
-abbrev pub IsAt : Phase → State → List ℕ → List (List ℕ) → Type 0
-IsAt not_begun s file group = s ≡ firmed file
-IsAt group_written s file group = s ≡ after (firmed file) (Wrote (length file) (group_bytes group))
-IsAt group_synced s file group = s ≡ firmed (file ++ group_bytes group)
-IsAt gate_opened s file group = s ≡ after (firmed (file ++ group_bytes group)) (Wrote (length file - 1) (OPEN ∷ []))
-IsAt gate_synced s file group = s ≡ firmed (file_with file group)
+-- how far a group is written: as in a phase, or to its end
+pub data Stage : Type 0 where
+  none : Stage
+  written_behind_gate : Stage
+  synced_behind_gate : Stage
+  opened : Stage
+  whole : Stage
+
+abbrev pub stage_of : Phase → Stage
+stage_of not_begun = none
+stage_of group_written = written_behind_gate
+stage_of group_synced = synced_behind_gate
+stage_of gate_opened = opened
+
+-- and after the next call
+abbrev pub stage_after : Phase → Stage
+stage_after not_begun = written_behind_gate
+stage_after group_written = synced_behind_gate
+stage_after group_synced = opened
+stage_after gate_opened = whole
+
+-- what the calls come to at a stage, where this was the file when the append began
+abbrev pub IsAt : Stage → State → List ℕ → List (List ℕ) → Type 0
+IsAt none s file group = s ≡ firmed file
+IsAt written_behind_gate s file group = s ≡ after (firmed file) (Wrote (length file) (group_bytes group))
+IsAt synced_behind_gate s file group = s ≡ firmed (file ++ group_bytes group)
+IsAt opened s file group = s ≡ after (firmed (file ++ group_bytes group)) (Wrote (length file - 1) (OPEN ∷ []))
+IsAt whole s file group = s ≡ firmed (file_with file group)
 
 -- a group whose append has begun fits
-abbrev pub Fits : Phase → List (List ℕ) → Type 0
-Fits not_begun group = Unit {0}
+abbrev pub Fits : Stage → List (List ℕ) → Type 0
+Fits none group = Unit {0}
 Fits _ group = FitsGroup group
+
+-- all but the last byte of a file stays, and it doesn't get shorter
+abbrev pub KeepsFront : List ℕ → List ℕ → Type 0
+KeepsFront file found = (take (length file - 1) found ≡ take (length file - 1) file) × (length file ≤ length found)
 
 module _ (file : List ℕ) (ends : EndsClosed file) (group : List (List ℕ)) where
   -- with the gate open the file has one group more
@@ -85,38 +110,62 @@ module _ (file : List ℕ) (ends : EndsClosed file) (group : List (List ℕ)) wh
     longer_ends = subst EndsClosed opened_is opened_gate.ends_closed
 
   -- what is left stands for the records of the file, or for these with the whole group
-  pub leaves : (phase : Phase) (s : State) (found : List ℕ) → Fits phase group → IsAt phase s file group → CanLeave s found → IsBeforeOrAfter file group found
-  leaves not_begun s found fits is left = inl (ap stands (firm_only file found (subst (λ (t : State). CanLeave t found) is left)))
-  leaves group_written s found fits is left =
+  pub leaves : (stage : Stage) (s : State) (found : List ℕ) → Fits stage group → IsAt stage s file group → CanLeave s found → IsBeforeOrAfter file group found
+  leaves none s found fits is left = inl (ap stands (firm_only file found (subst (λ (t : State). CanLeave t found) is left)))
+  leaves written_behind_gate s found fits is left =
       inl (torn_behind file ends (length (group_bytes group)) found
       (torn_on_firm file (length file) (group_bytes group) found (omega arith) (subst (λ (t : State). CanLeave t found) is left)))
-  leaves group_synced s found fits is left =
+  leaves synced_behind_gate s found fits is left =
       subst (IsBeforeOrAfter file group) (sym (firm_only (file ++ group_bytes group) found (subst (λ (t : State). CanLeave t found) is left))) (staged_before file ends group fits)
-  leaves gate_opened s found fits is left =
+  leaves opened s found fits is left =
       let within : length file - 1 ≤ length (file ++ group_bytes group) = omega (arith, length-append file (group_bytes group)) in
       torn_gate file ends group fits found
       (torn_on_firm (file ++ group_bytes group) (length file - 1) (1 ∷ []) found within (subst (λ (t : State). CanLeave t found) is left))
-  leaves gate_synced s found fits is left =
+  leaves whole s found fits is left =
       inr (ap stands (firm_only (file_with file group) found (subst (λ (t : State). CanLeave t found) is left)) ∙ longer_stands fits)
 
+  longer_keeps : (more : List ℕ) → KeepsFront file (file ++ more)
+  longer_keeps more = (take-append-le (length file - 1) file more (omega arith), omega (arith, length-append file more))
+
+  pub whole_keeps : KeepsFront file (file_with file group)
+  whole_keeps =
+      let front = take (length file - 1) file in
+      let size : length front ≡ length file - 1 = omega (arith, length-take (length file - 1) file) in
+      (take_at front (1 ∷ group_bytes group) (length file - 1) size, omega (arith, size, length-append front (1 ∷ group_bytes group)))
+
+  pub keeps_front : (stage : Stage) (s : State) (found : List ℕ) → IsAt stage s file group → CanLeave s found → KeepsFront file found
+  keeps_front none s found is left = subst (KeepsFront file) (sym (firm_only file found (subst (λ (t : State). CanLeave t found) is left))) (refl, omega arith)
+  keeps_front written_behind_gate s found is left =
+      let torn = torn_on_firm file (length file) (group_bytes group) found (omega arith) (subst (λ (t : State). CanLeave t found) is left) in
+      let shorter : (l : List ℕ) → take (length file - 1) (take (length file) l) ≡ take (length file - 1) l = λ l. take-take (length file - 1) (length file) l (omega arith) in
+      (sym (shorter found) ∙ ap (take (length file - 1)) torn.before ∙ shorter file, torn.no_shorter)
+  keeps_front synced_behind_gate s found is left =
+      subst (KeepsFront file) (sym (firm_only (file ++ group_bytes group) found (subst (λ (t : State). CanLeave t found) is left))) (longer_keeps (group_bytes group))
+  keeps_front opened s found is left =
+      let within : length file - 1 ≤ length (file ++ group_bytes group) = omega (arith, length-append file (group_bytes group)) in
+      let torn = torn_on_firm (file ++ group_bytes group) (length file - 1) (1 ∷ []) found within (subst (λ (t : State). CanLeave t found) is left) in
+      let staged = longer_keeps (group_bytes group) in
+      (torn.before ∙ staged.0, omega (arith, torn.no_shorter, staged.1))
+  keeps_front whole s found is left = subst (KeepsFront file) (sym (firm_only (file_with file group) found (subst (λ (t : State). CanLeave t found) is left))) whole_keeps
+
   -- what a read gives is what a stop may leave
-  pub read_possible : (phase : Phase) (s : State) → AreBytes file → AreBytes (group_bytes group) → IsAt phase s file group → CanLeave s s.content
-  read_possible not_begun s are also is = subst (λ (t : State). CanLeave t t.content) (sym is) (possible_firm file are)
-  read_possible group_written s are also is =
+  pub read_possible : (stage : Stage) (s : State) → AreBytes file → AreBytes (group_bytes group) → IsAt stage s file group → CanLeave s s.content
+  read_possible none s are also is = subst (λ (t : State). CanLeave t t.content) (sym is) (possible_firm file are)
+  read_possible written_behind_gate s are also is =
       subst (λ (t : State). CanLeave t t.content) (sym is) (possible_write (firmed file) (length file) (group_bytes group) (possible_firm file are) also (omega arith))
-  read_possible group_synced s are also is =
+  read_possible synced_behind_gate s are also is =
       subst (λ (t : State). CanLeave t t.content) (sym is) (possible_firm (file ++ group_bytes group) (joined file (group_bytes group) are also))
-  read_possible gate_opened s are also is =
+  read_possible opened s are also is =
       let staged = file ++ group_bytes group in
       let within : length file - 1 ≤ length staged = omega (arith, length-append file (group_bytes group)) in
       subst (λ (t : State). CanLeave t t.content) (sym is)
       (possible_write (firmed staged) (length file - 1) (1 ∷ []) (possible_firm staged (joined file (group_bytes group) are also)) (one_more 1 [] (omega arith) (All-nil (λ b. b < 256))) within)
-  read_possible gate_synced s are also is =
+  read_possible whole s are also is =
       subst (λ (t : State). CanLeave t t.content) (sym is) (possible_firm (file_with file group) (longer_bytes file group are also))
 
-  -- the next call leads to the next phase
-  pub called : (phase : Phase) (s : State) (call : Call) → FitsGroup group → IsAt phase s file group → call_in phase s.content group ≡ Some call
-      → IsAt (next_phase phase) (after s call) file group
+  -- the next call leads to the next stage
+  pub called : (phase : Phase) (s : State) (call : Call) → FitsGroup group → IsAt (stage_of phase) s file group → call_in phase s.content group ≡ Some call
+      → IsAt (stage_after phase) (after s call) file group
   called not_begun s call fits is due =
       ap (after s) (sym (same_Some _ call due)) ∙ ap (λ (t : State). after t (Wrote (length t.content) (group_bytes group))) is
   called group_written s call fits is due =
@@ -128,24 +177,34 @@ module _ (file : List ℕ) (ends : EndsClosed file) (group : List (List ℕ)) wh
       ∙ ap (λ (n : ℕ). after (firmed (file ++ group_bytes group)) (Wrote n (OPEN ∷ []))) place
   called gate_opened s call fits is due =
       ap (after s) (sym (same_Some _ call due)) ∙ ap (λ (t : State). after t Synced) is ∙ ap firmed (opened_is fits)
-  called gate_synced s call fits is due = absurd (none-some call due)
 
--- a group that fits does so in each phase
-pub fits_in : (phase : Phase) (group : List (List ℕ)) → FitsGroup group → Fits phase group
-fits_in not_begun group fits = tt
-fits_in group_written group fits = fits
-fits_in group_synced group fits = fits
-fits_in gate_opened group fits = fits
-fits_in gate_synced group fits = fits
+-- a group that fits does so at each stage
+pub fits_in : (stage : Stage) (group : List (List ℕ)) → FitsGroup group → Fits stage group
+fits_in none group fits = tt
+fits_in written_behind_gate group fits = fits
+fits_in synced_behind_gate group fits = fits
+fits_in opened group fits = fits
+fits_in whole group fits = fits
 
--- ---- the groups on their way
+-- before the last call of an append the stage after it is that of the next phase, and no group more is written to its end
+pub data IsNextStage : Phase → Type 0 where
+  last_stage : (phase : Phase) → phase ≡ gate_opened → IsNextStage phase
+  earlier_stage : (phase : Phase) → stage_after phase ≡ stage_of (next_phase phase) → ((written : ℕ) → next_written phase written ≡ written) → IsNextStage phase
+
+pub next_stage : (phase : Phase) → IsNextStage phase
+next_stage not_begun = earlier_stage not_begun refl (λ written. refl)
+next_stage group_written = earlier_stage group_written refl (λ written. refl)
+next_stage group_synced = earlier_stage group_synced refl (λ written. refl)
+next_stage gate_opened = last_stage gate_opened refl
+
+-- ---- the groups in flight
 
 abbrev pub FitsAsGroup : History → Type 0
 FitsAsGroup events = FitsGroup (map record_of events)
 
-pub first_fits : (groups : List History) (phase : Phase) → All FitsAsGroup groups → (groups ≡ [] → phase ≡ not_begun) → Fits phase (map record_of (first_of groups))
-first_fits [] phase all idle = subst (λ (p : Phase). Fits p []) (sym (idle refl)) tt
-first_fits (group ∷ groups) phase all idle = fits_in phase (map record_of group) (All-head FitsAsGroup group groups all)
+pub first_fits : (groups : List History) (phase : Phase) → All FitsAsGroup groups → (groups ≡ [] → phase ≡ not_begun) → Fits (stage_of phase) (map record_of (first_of groups))
+first_fits [] phase all idle = subst (λ (p : Phase). Fits (stage_of p) []) (sym (idle refl)) tt
+first_fits (group ∷ groups) phase all idle = fits_in (stage_of phase) (map record_of group) (All-head FitsAsGroup group groups all)
 
 -- where a call is due it is that of the first group, which fits
 pub due_first : (groups : List History) (phase : Phase) (content : List ℕ) (call : Call) → All FitsAsGroup groups → call_for groups phase content ≡ Some call

@@ -1,146 +1,182 @@
 -- That runs go on: what a stop leaves can be opened, and what is accepted can be settled.
-use Rattle.std.proofs.Common.{◌≡◌, ℕ, zero, suc, ◌+◌, ◌-◌, ◌<◌, ◌≤◌, List, [], ◌∷◌, ◌++◌, length, map, take, Some, Result, Ok, Err, refl, ap, sym, ◌∙◌, subst, arith, append_assoc}
+use Rattle.std.proofs.Common.{◌≡◌, ℕ, zero, suc, ◌+◌, ◌-◌, ◌*◌, ◌≤◌, List, [], ◌∷◌, ◌++◌, length, map, take, drop, inr, Option, Some, None, refl, ap, sym, ◌∙◌, subst, arith, append_assoc, length-drop}
 use Rattle.std.proofs.lemmas.List.{append-nil, length-map}
-use Rattle.std.proofs.lemmas.List.Elements.{All-take}
 use Rattle.std.proofs.lemmas.Option.{same_Some, none-some}
 use Rattle.diskmodel.specs.Disk.{written}
-use Rattle.diskmodel.specs.Outcomes.{AreBytes, State, after, firmed, state}
+use Rattle.diskmodel.specs.Outcomes.{AreBytes, CanLeave, State, after, firmed, state}
 use Rattle.diskmodel.specs.declared.call.Call.{Call}
-use Rattle.diskmodel.specs.declared.call.Call.TheVariants.{Wrote, Synced}
+use Rattle.diskmodel.specs.declared.call.Call.TheVariants.{Wrote, Cut, Synced}
 use Rattle.diskmodel.proofs.Calls.{after_all-push}
 use Rattle.diskmodel.proofs.Torn.{length-written}
-use Rattle.journal.specs.Format.{FitsGroup, file_with, group_bytes, scan, only_records, stands}
+use Rattle.journal.specs.Format.{FitsGroup, file_with, group_bytes}
+use Rattle.journal.specs.Areas.{Areas, alone, pair_of, other_side, rewrite_calls}
+use Rattle.std.specs.Option.{option_map_or}
+use Rattle.std.specs.Prelude.{slice_get}
+use Rattle.spec_model.specs.Giving.{kept}
+use Rattle.diskmodel.proofs.Calls.{possible_firm}
 use Rattle.journal.specs.Journal.{EndsClosed, append_calls}
 use Rattle.journal.specs.declared.layout.TheConstants.{OPEN}
-use Rattle.journal.specs.declared.record.Record.{Record}
-use Rattle.journal.proofs.Stops.{repaired_cut}
 use Rattle.spec_model.specs.Histories.{History}
 use Rattle.spec_model.specs.Nodes.{Node}
 use Rattle.spec_records.specs.Records.{record_of}
-use Rattle.spec_world.specs.World.{Phase, not_begun, group_written, group_synced, gate_opened, gate_synced, World, Holds, events_of, first_of}
-use Rattle.spec_world.specs.World.{group_in, content_in, call_in, call_for, as_journal, MayStop, between, inside, run_on, IsOpened}
-use Rattle.spec_world.specs.Steps.{take_to, device_call, settle, group_to, IsCalled, next_phase, Leads}
-use Rattle.spec_world.specs.Runs.{StopsArePossible, RunsGoOn, RunsBeginWithWhatStands, GroupsSettle, AppendsMakeCalls}
+use Rattle.spec_world.specs.World.{Phase, not_begun, group_written, group_synced, gate_opened, World, Holds, events_of, written_in, unwritten_in, first_of}
+use Rattle.spec_world.specs.World.{group_in, content_in, call_in, call_for, as_journal, MayStop, of_one, of_pair, between, run_on, IsOpened, Spare, Rewriting}
+use Rattle.spec_world.specs.Steps.{Move, take_to, device_call, settle, take_all, spare_call, settle_all, IsTakenAll, IsSpareCalled, IsSettledAll, group_to, IsTakenTo, IsCalled, next_phase, next_written, Leads}
+use Rattle.spec_world.specs.Runs.{StopsArePossible, RunsGoOn, RunsBeginWithWhatStands, GroupsSettle, TwoGroupsSettle, two_in_flight, device_calls, spare_calls, areas_in, CheckpointsSettle, RewritingsMakeCalls, AppendsMakeCalls}
 use Rattle.spec_world.proofs.Bytes.{group_in_bytes}
-use Rattle.spec_world.proofs.Disks.{IsAt, called, read_possible}
-use Rattle.spec_world.proofs.Groups.{taken_more}
-use Rattle.spec_world.proofs.Law.{run_stands}
-use Rattle.spec_world.proofs.Moving.{all_stand}
-use Rattle.spec_world.proofs.Recovering.{ok_is, journal_long, holds_same, stands_once}
-use Rattle.spec_world.proofs.Standing.{left, group_events}
+use Rattle.spec_world.proofs.Disks.{stage_of, called, read_possible}
+use Rattle.spec_world.proofs.Groups.{take_none, taken_more}
+use Rattle.spec_world.proofs.Law.{stands_there, run_stands}
+use Rattle.spec_world.proofs.Moving.{due_alone, none_written, none_begun, spare_at, beside_at, rewriting_at, pending_parts, step_stands, all_stand}
+use Rattle.spec_world.proofs.Recovering.{stands_once}
+use Rattle.spec_world.proofs.Rewriting.{get_inside, last_state, spare_possible}
+use Rattle.spec_world.proofs.Standing.{Stands, areas_with, IsSpareAt, none_rewritten, fresh_disk, left, group_events, begun_many}
 
--- ---- what an opening leaves
+-- ---- a run begins on what a stop left
 
--- reading ends at a closed gate
-read_of : (read : Result (List Record × ℕ) ℕ) (records : List Record) → only_records read ≡ Ok records → (gate : ℕ) × (read ≡ Ok (records, gate))
-read_of (Ok found) records is = (found.1, λ i. Ok (ok_is found.0 records is i, found.1))
-read_of (Err gate) records is = absurd cc
-
-scanned : (file : List ℕ) (records : List Record) → stands file ≡ Ok records → (gate : ℕ) × (scan file ≡ Ok (records, gate))
-unfolding stands
-scanned file records is = read_of (scan file) records is
-
--- an opening cuts what lies after the closed gate
-openable : (node : Node) (file : List ℕ) (history : History) → Holds node file history → AreBytes file → (bytes : List ℕ) × IsOpened node bytes history
-openable node file history held are_bytes =
-    let found = scanned file held.records held.stands_for in
-    let bytes = take (found.0 + 1) file in
-    let repaired = repaired_cut file found.0 (held.records, found.1) (journal_long node file history held) bytes refl in (
-      bytes,
-      record {
-        holds = holds_same node file bytes history held repaired.records;
-        ends_closed = repaired.ends_closed;
-        are_bytes = All-take (λ number. number < 256) (found.0 + 1) file are_bytes;
-      },
-    )
-
--- what a stop leaves are bytes
-left_bytes : (world : World) (found : List ℕ) → MayStop world found → AreBytes found
-left_bytes world found (between outcome) = outcome.are_bytes
-left_bytes world found (inside call due outcome) = outcome.are_bytes
-
--- what a stop leaves can be opened
 pub runs_go_on : RunsGoOn
 runs_go_on node moves world found sound run may =
-    let is_left = left node world found (run_stands node moves world sound run) may in
-    let is_opened = openable node found is_left.history is_left.holds (left_bytes world found may) in
-    (run_on is_opened.0 is_left.history world.given, record { left = may; stands_for = as_journal is_left.holds; opened = is_opened.1; is = refl })
-
-pub runs_begin_with_what_stands : RunsBeginWithWhatStands
-runs_begin_with_what_stands node moves world found history sound run may stands_for =
     let at = run_stands node moves world sound run in
     let is_left = left node world found at may in
-    let is_opened = openable node found is_left.history is_left.holds (left_bytes world found may) in
-    let same : is_left.history ≡ history = sym (stands_once node found is_left.history history sound is_left.holds stands_for) in
-    (run_on is_opened.0 is_left.history world.given, record { left = may; stands_for = as_journal is_left.holds; opened = is_opened.1; is = refl }, same, refl)
+    let recovered = stands_there node world at found may in
+    (run_on is_left.on is_left.history world.given, record { left = may; recovered = recovered; stands_for = as_journal is_left.holds; on = is_left.on; opened = is_left.opened; is = refl }, begun_many is_left.on.rest ∙ is_left.as_many)
+
+pub runs_begin_with_what_stands : RunsBeginWithWhatStands
+runs_begin_with_what_stands node moves world found history sound run may recovered stands_for =
+    let at = run_stands node moves world sound run in
+    let is_left = left node world found at may in
+    let same : kept node is_left.history ≡ kept node history = sym (stands_once node found (kept node is_left.history) (kept node history) is_left.holds stands_for) in (
+      run_on is_left.on history world.given,
+      record { left = may; recovered = recovered; stands_for = stands_for; on = is_left.on; opened = subst (IsOpened node is_left.on) same is_left.opened; is = refl },
+      refl,
+      refl,
+      begun_many is_left.on.rest ∙ is_left.as_many,
+    )
 
 -- ---- a stop is always possible
 
+spare_read : (node : Node) (history : History) (groups : List History) (written : ℕ) (phase : Phase) (spare : Spare) (rewriting : Option Rewriting) (rest : List ℕ)
+    → IsSpareAt node history groups written phase (Some spare) rewriting rest → AreBytes rest → CanLeave (state spare.bytes_at_start spare.calls) (state spare.bytes_at_start spare.calls).content
+spare_read node history groups written phase spare None rest is are = subst (λ (s : State). CanLeave s s.content) (sym is) (possible_firm rest are)
+spare_read node history groups written phase spare (Some rewriting) rest is are =
+    subst (λ (s : State). CanLeave s s.content) (sym is.disk) (spare_possible rest rewriting.bytes rewriting.made is.few are is.checkpoint.are_bytes)
+
+may_read : (node : Node) (world : World) (at : Stands node world) (spare : Option Spare) → world.spare ≡ spare
+    → MayStop world (option_map_or (λ s. pair_of s.side (content_in world) (state s.bytes_at_start s.calls).content) spare (alone (content_in world)))
+may_read node world at None is =
+    let events = first_of (unwritten_in world) in
+    let live = read_possible at.file at.ends_closed (group_in world) (stage_of world.phase) (state world.bytes_at_start world.calls) at.are_bytes (group_in_bytes node events (group_events node world at)) at.disk in
+    of_one (content_in world) is (between live) refl
+may_read node world at (Some spare) is =
+    let events = first_of (unwritten_in world) in
+    let live = read_possible at.file at.ends_closed (group_in world) (stage_of world.phase) (state world.bytes_at_start world.calls) at.are_bytes (group_in_bytes node events (group_events node world at)) at.disk in
+    let other = spare_read node _ world.groups world.written world.phase spare world.rewriting at.rest (spare_at node world at spare is) (beside_at node world at spare is).are_bytes in
+    of_pair spare (content_in world) (state spare.bytes_at_start spare.calls).content is (between live) (between other) refl
+
 pub stops_are_possible : StopsArePossible
-stops_are_possible node moves world sound run =
-    let at = run_stands node moves world sound run in
-    let events = first_of world.groups in
-    between (read_possible at.file at.ends_closed (group_in world) world.phase (state world.bytes_at_start world.calls) at.are_bytes (group_in_bytes node events (group_events node world at)) at.disk)
+stops_are_possible node moves world sound run = may_read node world (run_stands node moves world sound run) world.spare refl
+
+-- ---- what is settled is on the disks where no group is in flight
+
+areas_read : (node : Node) (history : History) (groups : List History) (written : ℕ) (phase : Phase) (content file rest : List ℕ) (spare : Option Spare) (rewriting : Option Rewriting) → content ≡ file
+    → rewriting ≡ None → IsSpareAt node history groups written phase spare rewriting rest
+    → areas_with spare file rest ≡ option_map_or (λ s. pair_of s.side content (state s.bytes_at_start s.calls).content) spare (alone content)
+areas_read node history groups written phase content file rest None rewriting same none is = ap alone (sym same)
+areas_read node history groups written phase content file rest (Some spare) None same none is =
+    (λ i. pair_of spare.side (sym same i) (ap (λ (s : State). s.content) (sym is) i))
+areas_read node history groups written phase content file rest (Some spare) (Some rewriting) same none is = absurd (none-some rewriting (sym none))
+
+pub idle_holds : (node : Node) (world : World) → Stands node world → world.groups ≡ [] → Holds node (areas_in world) (kept node (world.began ++ world.settled))
+idle_holds node world at idle =
+    let begun = none_begun node world at idle in
+    let fresh = ap (λ (s : State). s.content) (fresh_disk node world at begun) in
+    let none = none_rewritten node world.spare world.rewriting at.rest _ world.groups world.written world.phase at.spare (inr idle) in
+    let areas = areas_read node _ world.groups world.written world.phase (content_in world) at.file at.rest world.spare world.rewriting fresh none at.spare in
+    let settled : written_in world ≡ world.settled =
+    ap (λ (l : List History). world.settled ++ events_of l) (ap (take world.written) idle ∙ take_none world.written) ∙ append-nil world.settled in
+    subst (λ (a : Areas). Holds node a (kept node (world.began ++ world.settled))) areas
+    (subst (λ l. Holds node (areas_with world.spare at.file at.rest) (kept node (world.began ++ l))) settled at.holds)
 
 -- ---- what is accepted can be settled
 
 -- after a device call
 abbrev called_on : World → Call → World
-called_on world call = record world { calls = world.calls ++ call ∷ []; phase = next_phase world.phase }
+called_on world call = record world { calls = world.calls ++ call ∷ []; phase = next_phase world.phase; written = next_written world.phase world.written }
 
--- what the disk comes to after the four calls
-append_ends : (file : List ℕ) (ends : EndsClosed file) (group : List (List ℕ)) → FitsGroup group → (one : World) → group_in one ≡ group → state one.bytes_at_start one.calls ≡ firmed file
-    → let two = called_on one (Wrote (length (content_in one)) (group_bytes group)) in
-    let three = called_on two Synced in
-    let four = called_on three (Wrote (length (content_in three) - length (group_bytes group) - 1) (OPEN ∷ [])) in
-    let five = called_on four Synced in
-    state five.bytes_at_start five.calls ≡ firmed (file_with file group)
-append_ends file ends group fits one is fresh =
-    let bytes = one.bytes_at_start in
+-- a world in which an append begins, and after each of its four calls
+abbrev begun_in : World → World
+begun_in base = record base { phase = not_begun }
+
+abbrev wrote_in : World → List (List ℕ) → World
+wrote_in base records = called_on (begun_in base) (Wrote (length (content_in base)) (group_bytes records))
+
+abbrev synced_in : World → List (List ℕ) → World
+synced_in base records = called_on (wrote_in base records) Synced
+
+abbrev opened_in : World → List (List ℕ) → World
+opened_in base records = called_on (synced_in base records) (Wrote (length (content_in (synced_in base records)) - length (group_bytes records) - 1) (OPEN ∷ []))
+
+abbrev pub appended_in : World → List (List ℕ) → World
+appended_in base records = called_on (opened_in base records) Synced
+
+-- where a group can be written its append makes four device calls; then the file has it
+module _ (base : World) (group : History) (rest : List History) (none : base.rewriting ≡ None) (first : unwritten_in base ≡ group ∷ rest) where
+  due_call : (phase : Phase) (content : List ℕ) → option_map_or (λ one. None) base.rewriting (call_for (unwritten_in base) phase content) ≡ call_in phase content (map record_of group)
+  due_call phase content =
+      ap (λ (r : Option Rewriting). option_map_or (λ one. None) r (call_for (unwritten_in base) phase content)) none ∙ ap (λ (l : List History). call_for l phase content) first
+
+  pub append_leads : (node : Node) (last : World) (moves : List Move) → Leads node (appended_in base (map record_of group)) moves last
+      → Leads node (begun_in base) (device_call ∷ device_call ∷ device_call ∷ device_call ∷ moves) last
+  append_leads node last moves more =
+      let records = map record_of group in (
+        wrote_in base records,
+        record { call = Wrote (length (content_in base)) (group_bytes records); due = due_call not_begun (content_in base); is = refl },
+        (
+          synced_in base records,
+          record { call = Synced; due = due_call group_written (content_in (wrote_in base records)); is = refl },
+          (
+            opened_in base records,
+            record {
+              call = Wrote (length (content_in (synced_in base records)) - length (group_bytes records) - 1) (OPEN ∷ []);
+              due = due_call group_synced (content_in (synced_in base records));
+              is = refl;
+            },
+            (appended_in base records, record { call = Synced; due = due_call gate_opened (content_in (opened_in base records)); is = refl }, more),
+          ),
+        ),
+      )
+
+-- what the disk comes to
+pub append_ends : (base : World) (records : List (List ℕ)) (file : List ℕ) → EndsClosed file → FitsGroup records → state base.bytes_at_start base.calls ≡ firmed file
+    → state base.bytes_at_start (appended_in base records).calls ≡ firmed (file_with file records)
+append_ends base records file ends fits fresh =
+    let bytes = base.bytes_at_start in
     let push : (calls : List Call) (call : Call) → state bytes (calls ++ call ∷ []) ≡ after (state bytes calls) call = λ calls call. after_all-push (firmed bytes) calls call in
-    let two = called_on one (Wrote (length (content_in one)) (group_bytes group)) in
-    let three = called_on two Synced in
-    let four = called_on three (Wrote (length (content_in three) - length (group_bytes group) - 1) (OPEN ∷ [])) in
-    let is_two = push one.calls _ ∙ called file ends group not_begun (state bytes one.calls) _ fits fresh refl in
-    let is_three = push two.calls _ ∙ called file ends group group_written (state bytes two.calls) _ fits is_two refl in
-    let is_four = push three.calls _ ∙ called file ends group group_synced (state bytes three.calls) _ fits is_three refl in
-    push four.calls _ ∙ called file ends group gate_opened (state bytes four.calls) _ fits is_four refl
+    let two = wrote_in base records in
+    let three = synced_in base records in
+    let four = opened_in base records in
+    let is_two = push base.calls _ ∙ called file ends records not_begun (state bytes base.calls) _ fits fresh refl in
+    let is_three = push two.calls _ ∙ called file ends records group_written (state bytes two.calls) _ fits is_two refl in
+    let is_four = push three.calls _ ∙ called file ends records group_synced (state bytes three.calls) _ fits is_three refl in
+    push four.calls _ ∙ called file ends records gate_opened (state bytes four.calls) _ fits is_four refl
 
 pub groups_settle : GroupsSettle
 groups_settle node moves world count sound run none fits =
     let at = run_stands node moves world sound run in
-    let idle = at.idle none in
+    let idle = none_begun node world at none in
+    let zero_written = none_written node world at none in
+    let alone_now = none_rewritten node world.spare world.rewriting at.rest _ world.groups world.written world.phase at.spare (inr none) in
     let group = group_to world count in
-    let one : World = record world { groups = group ∷ []; phase = not_begun } in
-    let two = called_on one (Wrote (length (content_in one)) (group_bytes (group_in one))) in
-    let three = called_on two Synced in
-    let four = called_on three (Wrote (length (content_in three) - length (group_bytes (group_in three)) - 1) (OPEN ∷ [])) in
-    let five = called_on four Synced in
-    let six : World = record five { settled = world.settled ++ group; groups = []; phase = not_begun } in
+    let one : World = record world { groups = group ∷ []; written = 0; phase = not_begun } in
+    let file = at.file in
+    let fresh = fresh_disk node world at idle in
+    let six : World = record (appended_in one (map record_of group)) { settled = world.settled ++ group; groups = []; written = 0 } in
     let leads : Leads node world (take_to count ∷ device_call ∷ device_call ∷ device_call ∷ device_call ∷ settle ∷ []) six = (
       one,
-      record { fits = fits; is = λ i. record world { groups = sym none i ++ group ∷ []; phase = sym idle i } },
-      (
-        two,
-        record { call = Wrote (length (content_in one)) (group_bytes (group_in one)); due = refl; is = refl },
-        (
-          three,
-          record { call = Synced; due = refl; is = refl },
-          (
-            four,
-            record { call = Wrote (length (content_in three) - length (group_bytes (group_in three)) - 1) (OPEN ∷ []); due = refl; is = refl },
-            (
-              five,
-              record { call = Synced; due = refl; is = refl },
-              (six, record { done = refl; is = refl }, refl),
-            ),
-          ),
-        ),
-      ),
+      record { fits = fits; is = λ i. record world { groups = sym none i ++ group ∷ []; written = sym zero_written i; phase = sym idle i } },
+      append_leads one group [] alone_now refl node six (settle ∷ []) (six, record { done = omega arith; is = refl }, refl),
     ) in
-    let file = at.file in
-    let fresh : state world.bytes_at_start world.calls ≡ firmed file = subst (λ (p : Phase). IsAt p (state world.bytes_at_start world.calls) file (group_in world)) idle at.disk in
-    let appended = append_ends file at.ends_closed (group_in one) fits one refl fresh in
+    let appended = append_ends one (map record_of group) file at.ends_closed fits fresh in
     let then = all_stand node (take_to count ∷ device_call ∷ device_call ∷ device_call ∷ device_call ∷ settle ∷ []) world six at leads in
     let some : 1 ≤ length group = omega (arith, fits.some, length-map group record_of) in (
       six,
@@ -153,10 +189,182 @@ groups_settle node moves world count sound run none fits =
         phase = refl;
         waiting = refl;
         given = refl;
+        spare = refl;
+        rewriting = refl;
         content = ap (λ (s : State). s.content) appended ∙ ap (λ (f : List ℕ). file_with f (map record_of group)) (sym (ap (λ (s : State). s.content) fresh));
-        holds = subst (λ bytes. Holds node bytes (six.began ++ six.settled)) (sym (ap (λ (s : State). s.content) then.disk)) then.holds;
+        holds = idle_holds node six then refl;
       },
     )
+
+-- two groups in flight
+pub two_groups_settle : TwoGroupsSettle
+two_groups_settle node moves world count more sound run none fits also =
+    let at = run_stands node moves world sound run in
+    let idle = none_begun node world at none in
+    let zero_written = none_written node world at none in
+    let alone_now = none_rewritten node world.spare world.rewriting at.rest _ world.groups world.written world.phase at.spare (inr none) in
+    let group = group_to world count in
+    let one : World = record world { groups = group ∷ []; written = 0; phase = not_begun } in
+    let take_one : IsTakenTo world count one = record { fits = fits; is = λ i. record world { groups = sym none i ++ group ∷ []; written = sym zero_written i; phase = sym idle i } } in
+    let at_one : Stands node one = step_stands node world (take_to count) one at take_one in
+    let fresh = fresh_disk node world at idle in
+    let two = appended_in one (map record_of group) in
+    let appended = append_ends one (map record_of group) at.file at.ends_closed fits fresh in
+    let next_group = group_to one more in
+    let three : World = record two { groups = group ∷ next_group ∷ [] } in
+    let four = appended_in three (map record_of next_group) in
+    let last : World = record four { settled = (world.settled ++ group) ++ next_group; groups = []; written = 0 } in
+    let five : World = record four { settled = world.settled ++ group; groups = next_group ∷ []; written = 1 } in
+    let leads : Leads node world (two_in_flight count more) last = (
+      one,
+      take_one,
+      append_leads one group [] alone_now refl node last (take_to more ∷ (device_calls 4 ++ settle ∷ settle ∷ [])) (
+        three,
+        record { fits = also; is = refl {a = three} },
+        append_leads three next_group [] alone_now refl node last (settle ∷ settle ∷ []) (five, record { done = omega arith; is = refl {a = five} }, (last, record { done = omega arith; is = refl {a = last} }, refl {a = last})),
+      ),
+    ) in
+    let then = all_stand node (two_in_flight count more) world last at leads in
+    let some : 1 ≤ length next_group = omega (arith, also.some, length-map next_group record_of) in
+    let all : last.settled ≡ take more world.accepted =
+    append_assoc world.settled group next_group ∙ ap (λ (l : History). world.settled ++ (group ++ l)) (sym (append-nil next_group)) ∙ taken_more one more at_one.taken some in (
+      last,
+      leads,
+      record {
+        began = refl;
+        accepted = refl;
+        settled = all;
+        groups = refl;
+        holds = idle_holds node last then refl;
+      },
+    )
+
+-- ---- a checkpoint
+
+-- a world of a rewriting, when so many of its calls are made
+abbrev rewriting_in : World → Spare → List ℕ → List Call → ℕ → World
+rewriting_in one spare bytes calls made = record one { spare = Some (record spare { calls = calls }); rewriting = Some (record { bytes = bytes; made = made }) }
+
+pub checkpoints_settle : CheckpointsSettle
+checkpoints_settle node moves world spare bytes sound run none pair checkpoint =
+    let at = run_stands node moves world sound run in
+    let pending = drop (length world.settled) world.accepted in
+    let one : World = record world { groups = pending ∷ []; rewriting = Some (record { bytes = bytes; made = 0 }) } in
+    let c1 = spare.calls ++ Wrote 0 (0 ∷ []) ∷ [] in
+    let c2 = c1 ++ Synced ∷ [] in
+    let c3 = c2 ++ Cut 1 ∷ [] in
+    let c4 = c3 ++ Synced ∷ [] in
+    let c5 = c4 ++ Wrote 1 bytes ∷ [] in
+    let c6 = c5 ++ Synced ∷ [] in
+    let c7 = c6 ++ Wrote 0 (1 ∷ []) ∷ [] in
+    let c8 = c7 ++ Synced ∷ [] in
+    let nine = rewriting_in one spare bytes c8 8 in
+    let last : World = record nine {
+      settled = world.settled ++ pending;
+      groups = [];
+      bytes_at_start = spare.bytes_at_start;
+      calls = c8;
+      spare = Some (record { bytes_at_start = world.bytes_at_start; calls = world.calls; side = other_side spare.side; generation = spare.generation + 1 });
+      rewriting = None;
+    } in
+    let made : (calls : List Call) (count : ℕ) (call : Call) → slice_get (rewrite_calls bytes) count ≡ Some call
+    → IsSpareCalled (rewriting_in one spare bytes calls count) (rewriting_in one spare bytes (calls ++ call ∷ []) (count + 1)) =
+    λ calls count call due. record { spare = record spare { calls = calls }; pair = refl; rewriting = record { bytes = bytes; made = count }; in_flight = refl; call = call; due = due; is = refl } in
+    let first : IsSpareCalled one (rewriting_in one spare bytes c1 1) =
+    record { spare = spare; pair = pair; rewriting = record { bytes = bytes; made = 0 }; in_flight = refl; call = Wrote 0 (0 ∷ []); due = refl; is = refl } in
+    let taken : IsTakenAll node world bytes one = record { spare = spare; pair = pair; idle = none; checkpoint = checkpoint; is = refl } in
+    let calls : (end : World) (rest : List Move) → Leads node nine rest end → Leads node world (take_all bytes ∷ spare_call ∷ spare_call ∷ spare_call ∷ spare_call ∷ spare_call ∷ spare_call ∷ spare_call ∷ spare_call ∷ rest) end =
+    λ end rest more. (
+      one,
+      taken,
+      (
+        rewriting_in one spare bytes c1 1,
+        first,
+        (
+          rewriting_in one spare bytes c2 2,
+          made c1 1 Synced refl,
+          (
+            rewriting_in one spare bytes c3 3,
+            made c2 2 (Cut 1) refl,
+            (
+              rewriting_in one spare bytes c4 4,
+              made c3 3 Synced refl,
+              (
+                rewriting_in one spare bytes c5 5,
+                made c4 4 (Wrote 1 bytes) refl,
+                (
+                  rewriting_in one spare bytes c6 6,
+                  made c5 5 Synced refl,
+                  (
+                    rewriting_in one spare bytes c7 7,
+                    made c6 6 (Wrote 0 (1 ∷ [])) refl,
+                    (nine, made c7 7 Synced refl, more),
+                  ),
+                ),
+              ),
+            ),
+          ),
+        ),
+      ),
+    ) in
+    let settled : IsSettledAll nine last =
+    record { spare = record spare { calls = c8 }; pair = refl; rewriting = record { bytes = bytes; made = 8 }; in_flight = refl; done = refl; is = refl } in
+    let leads = calls last (settle_all ∷ []) (last, settled, refl) in
+    let at_nine = all_stand node (take_all bytes ∷ spare_call ∷ spare_call ∷ spare_call ∷ spare_call ∷ spare_call ∷ spare_call ∷ spare_call ∷ spare_call ∷ []) world nine at (calls nine [] refl) in
+    let is = rewriting_at node nine at_nine (record spare { calls = c8 }) refl (record { bytes = bytes; made = 8 }) refl in
+    let whole : state spare.bytes_at_start c8 ≡ firmed (1 ∷ bytes) = is.disk ∙ last_state at_nine.rest bytes in
+    let then = all_stand node (take_all bytes ∷ (spare_calls 8 ++ settle_all ∷ [])) world last at leads in (
+      last,
+      leads,
+      record {
+        began = refl;
+        accepted = refl;
+        settled = pending_parts node world at;
+        groups = refl;
+        rewriting = refl;
+        waiting = refl;
+        given = refl;
+        spare = refl;
+        content = ap (λ (s : State). s.content) whole;
+        holds = idle_holds node last then refl;
+      },
+    )
+
+-- ---- the calls of a rewriting
+
+drop_here : {X : Type 0} (xs : List X) (n : ℕ) (x : X) → slice_get xs n ≡ Some x → drop n xs ≡ x ∷ drop (suc n) xs
+drop_here [] n x is = absurd (none-some x is)
+drop_here (y ∷ xs) zero x is = ap (λ (z : _). z ∷ xs) (same_Some y x is)
+drop_here (y ∷ xs) (suc n) x is = drop_here xs n x is
+
+-- after so many of them others are made
+rewriting_calls : (node : Node) (count made : ℕ) (world next : World) (spare : Spare) (bytes : List ℕ) → made ≤ 8 → world.spare ≡ Some spare → world.rewriting ≡ Some (record { bytes = bytes; made = made })
+    → Leads node world (spare_calls count) next
+    → (made + count ≤ 8) × (next.spare ≡ Some (record spare { calls = spare.calls ++ take count (drop made (rewrite_calls bytes)) })) × (next.calls ≡ world.calls)
+rewriting_calls node zero made world next spare bytes few pair in_flight leads =
+    (omega (arith, few), ap (λ (w : World). w.spare) (sym leads) ∙ pair ∙ ap (λ (l : List Call). Some (record spare { calls = l })) (sym (append-nil spare.calls)), ap (λ (w : World). w.calls) (sym leads))
+rewriting_calls node (suc count) made world next spare bytes few pair in_flight leads =
+    let step = leads.1 in
+    let one = leads.0 in
+    let same_spare : step.spare ≡ spare = same_Some step.spare spare (sym step.pair ∙ pair) in
+    let same_rewriting : step.rewriting ≡ record { bytes = bytes; made = made } = same_Some step.rewriting (record { bytes = bytes; made = made }) (sym step.in_flight ∙ in_flight) in
+    let due : slice_get (rewrite_calls bytes) made ≡ Some step.call = ap (λ (r : Rewriting). slice_get (rewrite_calls r.bytes) r.made) (sym same_rewriting) ∙ step.due in
+    let inside = get_inside (rewrite_calls bytes) made step.call due in
+    let now : Spare = record spare { calls = spare.calls ++ step.call ∷ [] } in
+    let next_made : made + 1 ≡ suc made = omega arith in
+    let pair_now : one.spare ≡ Some now = ap (λ (w : World). w.spare) step.is ∙ ap (λ (s : Spare). Some (record s { calls = s.calls ++ step.call ∷ [] })) same_spare in
+    let in_flight_now : one.rewriting ≡ Some (record { bytes = bytes; made = suc made }) =
+    ap (λ (w : World). w.rewriting) step.is ∙ ap (λ (r : Rewriting). Some (record r { made = r.made + 1 })) same_rewriting ∙ ap (λ (n : ℕ). Some (record { bytes = bytes; made = n })) next_made in
+    let more = rewriting_calls node count (suc made) one next now bytes (omega (arith, inside)) pair_now in_flight_now leads.2 in
+    let all : (spare.calls ++ step.call ∷ []) ++ take count (drop (suc made) (rewrite_calls bytes)) ≡ spare.calls ++ take (suc count) (drop made (rewrite_calls bytes)) =
+    append_assoc spare.calls (step.call ∷ []) (take count (drop (suc made) (rewrite_calls bytes)))
+    ∙ ap (λ (l : List Call). spare.calls ++ take (suc count) l) (sym (drop_here (rewrite_calls bytes) made step.call due)) in
+    (omega (arith, more.0), more.1 ∙ ap (λ (l : List Call). Some (record spare { calls = l })) all, more.2 ∙ ap (λ (w : World). w.calls) step.is)
+
+pub rewritings_make_calls : RewritingsMakeCalls
+rewritings_make_calls node world next spare bytes count pair in_flight leads =
+    let is = rewriting_calls node count 0 world next spare bytes (omega arith) pair in_flight leads in
+    (omega (arith, is.0), is.1, is.2)
 
 -- ---- the calls of an append
 
@@ -167,7 +375,7 @@ due_group (group ∷ groups) phase content call due = due
 -- the call that is made, by its phase
 one_call : (world next : World) (phase : Phase) (step : IsCalled world next) → world.phase ≡ phase → call_in phase (content_in world) (group_in world) ≡ Some step.call
 one_call world next phase step is =
-    ap (λ (p : Phase). call_in p (content_in world) (group_in world)) (sym is) ∙ due_group world.groups world.phase (content_in world) step.call step.due
+    ap (λ (p : Phase). call_in p (content_in world) (group_in world)) (sym is) ∙ due_group (unwritten_in world) world.phase (content_in world) step.call (due_alone world.rewriting (call_for (unwritten_in world) world.phase (content_in world)) step.call step.due).1
 
 -- what a read gives after it
 content_next : (world next : World) (step : IsCalled world next) → content_in next ≡ (after (state world.bytes_at_start world.calls) step.call).content
@@ -176,8 +384,10 @@ content_next world next step = ap content_in step.is ∙ ap (λ (s : State). s.c
 phase_next : (world next : World) (phase : Phase) (step : IsCalled world next) → world.phase ≡ phase → next.phase ≡ next_phase phase
 phase_next world next phase step is = ap (λ (w : World). w.phase) step.is ∙ ap next_phase is
 
-group_next : (world next : World) (step : IsCalled world next) → group_in next ≡ group_in world
-group_next world next step = ap group_in step.is
+-- the group stays where it isn't written to its end
+group_next : (world next : World) (phase : Phase) (step : IsCalled world next) → world.phase ≡ phase → next_written phase world.written ≡ world.written → group_in next ≡ group_in world
+group_next world next phase step is same =
+    ap group_in step.is ∙ ap (λ (n : ℕ). map record_of (first_of (drop n world.groups))) (ap (λ (p : Phase). next_written p world.written) is ∙ same)
 
 calls_next : (world next : World) (step : IsCalled world next) → next.calls ≡ world.calls ++ step.call ∷ []
 calls_next world next step = ap (λ (w : World). w.calls) step.is
@@ -214,7 +424,7 @@ module _ (world one : World) (begun : world.phase ≡ not_begun) (first : IsCall
     place : length (content_in two) - length (group_bytes (group_in two)) - 1 ≡ length (content_in world) - 1
     place =
         let kept : content_in two ≡ content_in one = content_next one two second ∙ ap (λ (c : Call). (after (state one.bytes_at_start one.calls) c).content) (sym sync) in
-        let group : group_in two ≡ group_in world = group_next one two second ∙ group_next world one first in
+        let group : group_in two ≡ group_in world = group_next one two group_written second in_one refl ∙ group_next world one not_begun first begun refl in
         let long : length (content_in two) ≡ length (content_in world) + length (group_bytes (group_in world)) =
         omega (arith, ap length kept, ap length grown, length-written (content_in world) (length (content_in world)) (group_bytes (group_in world)) (omega arith)) in
         omega (arith, long, ap (λ (g : List (List ℕ)). length (group_bytes g)) group)
@@ -232,9 +442,6 @@ module _ (world one : World) (begun : world.phase ≡ not_begun) (first : IsCall
           ∙ append_assoc world.calls (Wrote (length (content_in world)) (group_bytes (group_in world)) ∷ Synced ∷ []) (Wrote (length (content_in world) - 1) (OPEN ∷ []) ∷ [])
 
       module _ (four : World) (fourth : IsCalled three four) where
-        in_four : four.phase ≡ gate_synced
-        in_four = phase_next three four gate_opened fourth in_three
-
         last : fourth.call ≡ Synced
         last = sym (same_Some _ fourth.call (one_call three four gate_opened fourth in_three))
 
@@ -243,20 +450,70 @@ module _ (world one : World) (begun : world.phase ≡ not_begun) (first : IsCall
             calls_next three four fourth ∙ (λ i. made_three i ++ last i ∷ [])
             ∙ append_assoc world.calls (Wrote (length (content_in world)) (group_bytes (group_in world)) ∷ Synced ∷ Wrote (length (content_in world) - 1) (OPEN ∷ []) ∷ []) (Synced ∷ [])
 
-        no_fifth : (five : World) → IsCalled four five → ⊥
-        no_fifth five fifth = none-some fifth.call (one_call four five gate_synced fifth in_four)
+-- where a call is due there is a group
+some_due : (groups : List History) (phase : Phase) (content : List ℕ) (call : Call) → call_for groups phase content ≡ Some call → 1 ≤ length groups
+some_due [] phase content call due = absurd (none-some call due)
+some_due (group ∷ groups) phase content call due = omega arith
+
+-- how many calls of an append are made in a phase
+calls_made : Phase → ℕ
+calls_made not_begun = 0
+calls_made group_written = 1
+calls_made group_synced = 2
+calls_made gate_opened = 3
+
+made_few : (phase : Phase) → calls_made phase ≤ 3
+unfolding calls_made
+made_few not_begun = omega arith
+made_few group_written = omega arith
+made_few group_synced = omega arith
+made_few gate_opened = omega arith
+
+-- one call more is made, or four calls where one group fewer isn't written to its end
+call_counts : (world next : World) (phase : Phase) (step : IsCalled world next) → world.phase ≡ phase
+    → (1 ≤ length (unwritten_in world)) × (calls_made next.phase + 4 * length (unwritten_in world) ≡ calls_made phase + 1 + 4 * length (unwritten_in next))
+unfolding calls_made
+call_counts world next phase step is =
+    let some : 1 ≤ length (unwritten_in world) = some_due (unwritten_in world) world.phase (content_in world) step.call (due_alone world.rewriting (call_for (unwritten_in world) world.phase (content_in world)) step.call step.due).1 in
+    let made : calls_made next.phase ≡ calls_made (next_phase phase) = ap calls_made (phase_next world next phase step is) in
+    let left : length (unwritten_in next) ≡ length world.groups - next_written phase world.written =
+    ap (λ (w : World). length (unwritten_in w)) step.is ∙ length-drop (next_written world.phase world.written) world.groups
+    ∙ ap (λ (p : Phase). length world.groups - next_written p world.written) is in
+    (some, counted phase made left some)
+  where
+    counted : (phase : Phase) → calls_made next.phase ≡ calls_made (next_phase phase) → length (unwritten_in next) ≡ length world.groups - next_written phase world.written
+        → 1 ≤ length (unwritten_in world)
+        → calls_made next.phase + 4 * length (unwritten_in world) ≡ calls_made phase + 1 + 4 * length (unwritten_in next)
+    counted not_begun made left some = omega (arith, made, left, length-drop world.written world.groups)
+    counted group_written made left some = omega (arith, made, left, length-drop world.written world.groups)
+    counted group_synced made left some = omega (arith, made, left, length-drop world.written world.groups)
+    counted gate_opened made left some = omega (arith, made, left, some, length-drop world.written world.groups)
+
+few_calls : (node : Node) (count : ℕ) (world next : World) → calls_made world.phase ≤ 4 * length (unwritten_in world) → Leads node world (device_calls count) next
+    → count + calls_made world.phase ≤ 4 * length (unwritten_in world)
+few_calls node zero world next within leads = omega (arith, within)
+few_calls node (suc count) world next within leads =
+    let counts = call_counts world leads.0 world.phase leads.1 refl in
+    let more = few_calls node count leads.0 next (omega (arith, counts.0, counts.1, made_few world.phase)) leads.2 in
+    omega (arith, counts.1, more)
 
 -- the calls of the world that is reached
 at_last : (one next : World) (calls : List Call) → one ≡ next → one.calls ≡ calls → next.calls ≡ calls
 at_last one next calls same is = ap (λ (w : World). w.calls) (sym same) ∙ is
 
+first_calls : (node : Node) (world next : World) (count : ℕ) → world.phase ≡ not_begun → Leads node world (device_calls count) next → count ≤ 4
+    → next.calls ≡ world.calls ++ take count (append_calls (length (content_in world)) (group_in world))
+first_calls node world next zero begun leads few = at_last world next _ leads (sym (append-nil world.calls))
+first_calls node world next (suc zero) begun leads few = at_last leads.0 next _ leads.2 (made_one world leads.0 begun leads.1)
+first_calls node world next (suc (suc zero)) begun leads few = at_last leads.2.0 next _ leads.2.2 (made_two world leads.0 begun leads.1 leads.2.0 leads.2.1)
+first_calls node world next (suc (suc (suc zero))) begun leads few =
+    at_last leads.2.2.0 next _ leads.2.2.2 (made_three world leads.0 begun leads.1 leads.2.0 leads.2.1 leads.2.2.0 leads.2.2.1)
+first_calls node world next (suc (suc (suc (suc zero)))) begun leads few =
+    at_last leads.2.2.2.0 next _ leads.2.2.2.2 (made_four world leads.0 begun leads.1 leads.2.0 leads.2.1 leads.2.2.0 leads.2.2.1 leads.2.2.2.0 leads.2.2.2.1)
+first_calls node world next (suc (suc (suc (suc (suc count))))) begun leads few = absurd (omega (arith, few))
+
 pub appends_make_calls : AppendsMakeCalls
-appends_make_calls node world next zero begun leads = (omega arith, at_last world next _ leads (sym (append-nil world.calls)))
-appends_make_calls node world next (suc zero) begun leads = (omega arith, at_last leads.0 next _ leads.2 (made_one world leads.0 begun leads.1))
-appends_make_calls node world next (suc (suc zero)) begun leads = (omega arith, at_last leads.2.0 next _ leads.2.2 (made_two world leads.0 begun leads.1 leads.2.0 leads.2.1))
-appends_make_calls node world next (suc (suc (suc zero))) begun leads =
-    (omega arith, at_last leads.2.2.0 next _ leads.2.2.2 (made_three world leads.0 begun leads.1 leads.2.0 leads.2.1 leads.2.2.0 leads.2.2.1))
-appends_make_calls node world next (suc (suc (suc (suc zero)))) begun leads =
-    (omega arith, at_last leads.2.2.2.0 next _ leads.2.2.2.2 (made_four world leads.0 begun leads.1 leads.2.0 leads.2.1 leads.2.2.0 leads.2.2.1 leads.2.2.2.0 leads.2.2.2.1))
-appends_make_calls node world next (suc (suc (suc (suc (suc count))))) begun leads =
-    absurd (no_fifth world leads.0 begun leads.1 leads.2.0 leads.2.1 leads.2.2.0 leads.2.2.1 leads.2.2.2.0 leads.2.2.2.1 leads.2.2.2.2.0 leads.2.2.2.2.1)
+unfolding calls_made
+appends_make_calls node world next count begun leads =
+    let none : calls_made world.phase ≡ 0 = ap calls_made begun in
+    (omega (arith, none, few_calls node count world next (omega (arith, none)) leads), first_calls node world next count begun leads)

@@ -1,9 +1,9 @@
--- The groups on their way, and what they have of the events that were accepted.
-use Rattle.std.proofs.Common.{◌≡◌, ℕ, ◌≤◌, List, [], ◌∷◌, ◌++◌, length, take, drop, refl, sym, ap, ◌∙◌, arith, append_assoc, length-drop, take-append-drop}
+-- The groups in flight, and what they have of the events that were accepted.
+use Rattle.std.proofs.Common.{◌≡◌, ℕ, zero, suc, ◌+◌, ◌-◌, ◌≤◌, List, [], ◌∷◌, ◌++◌, length, take, drop, refl, sym, ap, ◌∙◌, arith, append_assoc, length-drop, take-append-drop}
 use Rattle.std.proofs.lemmas.List.{append-nil, drop_at}
 use Rattle.spec_model.specs.Histories.{History}
 use Rattle.wire.specs.Lists.{Begins}
-use Rattle.spec_world.specs.World.{World, events_of, taken_in, first_of}
+use Rattle.spec_world.specs.World.{World, events_of, taken_in, written_in, unwritten_in, first_of}
 use Rattle.spec_world.specs.Steps.{group_to}
 use Rattle.spec_world.proofs.Orders.{shorter_begins}
 
@@ -17,14 +17,73 @@ pub events_push : (groups : List History) (more : History) → events_of (groups
 events_push [] more = append-nil more
 events_push (group ∷ groups) more = ap (λ l. group ++ l) (events_push groups more) ∙ sym (append_assoc group (events_of groups) more)
 
--- what is settled, and the first group on its way
-abbrev pub with_first : World → History
-with_first world = world.settled ++ first_of world.groups
+-- the first so many of them, and the others
+pub events_cut : (count : ℕ) (groups : List History) → events_of groups ≡ events_of (take count groups) ++ events_of (drop count groups)
+events_cut zero groups = refl
+events_cut (suc count) [] = refl
+events_cut (suc count) (group ∷ groups) = ap (λ l. group ++ l) (events_cut count groups) ∙ sym (append_assoc group (events_of (take count groups)) (events_of (drop count groups)))
 
--- with the first group all that is taken begins with it
-pub first_and_others : (world : World) → taken_in world ≡ with_first world ++ events_of (drop 1 world.groups)
+-- what is durable, and the first group that isn't written to its end
+abbrev pub with_first : World → History
+with_first world = written_in world ++ first_of (unwritten_in world)
+
+-- with that all that is taken begins
+pub first_and_others : (world : World) → taken_in world ≡ with_first world ++ events_of (drop 1 (unwritten_in world))
 first_and_others world =
-    ap (λ l. world.settled ++ l) (events_split world.groups) ∙ sym (append_assoc world.settled (first_of world.groups) (events_of (drop 1 world.groups)))
+    ap (λ l. world.settled ++ l) (events_cut world.written world.groups)
+    ∙ sym (append_assoc world.settled (events_of (take world.written world.groups)) (events_of (unwritten_in world)))
+    ∙ ap (λ l. written_in world ++ l) (events_split (unwritten_in world))
+    ∙ sym (append_assoc (written_in world) (first_of (unwritten_in world)) (events_of (drop 1 (unwritten_in world))))
+
+-- ---- one group more is written to its end, or settled
+
+-- of no groups there are none
+pub take_none : (count : ℕ) → take {A = History} count [] ≡ []
+take_none zero = refl
+take_none (suc count) = refl
+
+pub drop_none : (count : ℕ) → drop {A = History} count [] ≡ []
+drop_none zero = refl
+drop_none (suc count) = refl
+
+-- the groups up to the next one
+take_more : (count : ℕ) (groups : List History) → events_of (take (suc count) groups) ≡ events_of (take count groups) ++ first_of (drop count groups)
+take_more zero [] = refl
+take_more zero (group ∷ groups) = append-nil group
+take_more (suc count) [] = refl
+take_more (suc count) (group ∷ groups) = ap (λ l. group ++ l) (take_more count groups) ∙ sym (append_assoc group (events_of (take count groups)) (first_of (drop count groups)))
+
+pub take_next : (count : ℕ) (groups : List History) → events_of (take (count + 1) groups) ≡ events_of (take count groups) ++ first_of (drop count groups)
+take_next count groups =
+    let next : count + 1 ≡ suc count = omega arith in
+    ap (λ n. events_of (take n groups)) next ∙ take_more count groups
+
+-- where there is a group after so many, there is one more
+pub some_after : (count : ℕ) (groups : List History) → (drop count groups ≡ [] → ⊥) → count + 1 ≤ length groups
+some_after zero [] some = absurd (some refl)
+some_after zero (group ∷ groups) some = omega arith
+some_after (suc count) [] some = absurd (some refl)
+some_after (suc count) (group ∷ groups) some = omega (arith, some_after count groups some)
+
+-- the first of the groups that are written, and the others
+take_first : (before : ℕ) (groups : List History) → events_of (take (suc before) groups) ≡ first_of groups ++ events_of (take before (drop 1 groups))
+take_first before [] = sym (ap (λ (l : List History). events_of l) (take_none before))
+take_first before (group ∷ groups) = refl
+
+pub first_written : (count : ℕ) (groups : List History) → 1 ≤ count → events_of (take count groups) ≡ first_of groups ++ events_of (take (count - 1) (drop 1 groups))
+first_written count groups some =
+    let next : count ≡ suc (count - 1) = omega (arith, some) in
+    ap (λ n. events_of (take n groups)) next ∙ take_first (count - 1) groups
+
+-- where the first is settled, the same aren't written
+drop_first : (before : ℕ) (groups : List History) → drop before (drop 1 groups) ≡ drop (suc before) groups
+drop_first before [] = drop_none before
+drop_first before (group ∷ groups) = refl
+
+pub same_unwritten : (count : ℕ) (groups : List History) → 1 ≤ count → drop (count - 1) (drop 1 groups) ≡ drop count groups
+same_unwritten count groups some =
+    let next : suc (count - 1) ≡ count = omega (arith, some) in
+    drop_first (count - 1) groups ∙ ap (λ n. drop n groups) next
 
 -- a group that is taken stands after what was taken
 pub taken_more : (world : World) (count : ℕ) → Begins (taken_in world) world.accepted → 1 ≤ length (group_to world count) → world.settled

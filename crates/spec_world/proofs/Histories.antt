@@ -1,6 +1,5 @@
 -- Each legal history is where some run begins.
-use Rattle.std.proofs.Common.{◌≡◌, ℕ, ◌+◌, true, List, [], ◌∷◌, ◌++◌, length, map, take, drop, refl, sym, ap, ◌∙◌, subst, arith, length-append}
-use Rattle.std.specs.Prelude.{IsTrue}
+use Rattle.std.proofs.Common.{◌≡◌, true, List, [], ◌∷◌, ◌++◌, length, map, take, drop, refl, sym, ap, ◌∙◌, subst}
 use Rattle.std.proofs.lemmas.List.{append-nil}
 use Rattle.header.specs.declared.admission.Admission.{Admission}
 use Rattle.header.specs.declared.admission.Admission.TheVariants.{New, Known, Refused}
@@ -11,23 +10,14 @@ use Rattle.spec_model.specs.Histories.{History}
 use Rattle.spec_model.specs.Nodes.{Node, IsNode}
 use Rattle.spec_model.specs.Words.{Event}
 use Rattle.spec_records.specs.Records.{record_of}
-use Rattle.spec_world.specs.World.{World, StandsFor, content_in, events_of, taken_in, run_on}
-use Rattle.spec_world.specs.Steps.{Move, accept, take_to, device_call, settle, restart, with_new, group_to, IsAccepted, IsAnswered, Leads, IsRun}
-use Rattle.spec_world.specs.Runs.{AreKeys, first_bytes, HasJustBegun, HistoriesBegin}
+use Rattle.spec_world.specs.World.{World, alone_on, events_of, taken_in, run_on}
+use Rattle.spec_world.specs.Steps.{Move, accept, take_to, device_call, settle, restart, with_new, group_to, IsAnswered, Leads, IsRun}
+use Rattle.spec_world.specs.Runs.{areas_in, AreKeys, first_bytes, HistoriesBegin}
 use Rattle.spec_world.proofs.Beginning.{runs_begin}
 use Rattle.spec_world.proofs.GoingOn.{stops_are_possible, runs_begin_with_what_stands, groups_settle}
 use Rattle.spec_world.proofs.Law.{nothing_taken_back}
-use Rattle.spec_world.proofs.Scripts.{leads_join, run_more}
+use Rattle.spec_world.proofs.Scripts.{run_more}
 use Rattle.spec_world.proofs.Sizes.{event_fits}
-
--- where no group is in flight, what is settled stands on the disk
-pub settled_stands : (node : Node) (moves : List Move) (world : World) → IsNode node → IsRun node moves world → world.groups ≡ [] → StandsFor node (content_in world) (world.began ++ world.settled)
-settled_stands node moves world sound run idle =
-    let law = nothing_taken_back node moves world sound run in
-    let may = stops_are_possible node moves world sound run in
-    let found = law.stands (content_in world) may in
-    let recovered = law.recovered (content_in world) found.0 may found.1 in
-    subst (StandsFor node (content_in world)) (recovered.without_group idle) found.1
 
 -- a run that began with nothing, and has accepted and settled these events
 record HasSettled (node : Node) (history : History) : Type 0 where
@@ -88,7 +78,7 @@ all_settled node history legal keys =
     legal-induction node (HasSettled node)
     (record {
       moves = [];
-      world = run_on (first_bytes node) [] [];
+      world = run_on (alone_on (first_bytes node)) [] [];
       run = runs_begin node legal.sound keys;
       began = refl;
       accepted = refl;
@@ -101,16 +91,20 @@ pub histories_begin : HistoriesBegin
 histories_begin node history legal keys =
     let settled = all_settled node history legal keys in
     let world = settled.world in
-    let found = content_in world in
+    let found = areas_in world in
     let all : world.began ++ world.settled ≡ history = (λ i. settled.began i ++ settled.settled i) in
-    let stands : StandsFor node found history = subst (StandsFor node found) all (settled_stands node settled.moves world legal.sound settled.run settled.idle) in
-    let there = runs_begin_with_what_stands node settled.moves world found history legal.sound settled.run
-    (stops_are_possible node settled.moves world legal.sound settled.run) stands in
+    let sound = legal.sound in
+    let may = stops_are_possible node settled.moves world sound settled.run in
+    let never = nothing_taken_back node settled.moves world sound settled.run in
+    let is = never.stands found may in
+    let same : is.0 ≡ history = is.1.without_group settled.idle ∙ all in
+    let there = runs_begin_with_what_stands node settled.moves world found is.0 sound settled.run may is.1 is.2 in
     let next = there.0 in (
       next,
       record {
         moves = settled.moves ++ restart found ∷ [];
         run = run_more node settled.moves (restart found ∷ []) world next settled.run (next, there.1, refl);
-        is = there.1.is ∙ (λ i. run_on next.bytes_at_start (there.2 i) (sym there.3 i));
+        on = there.1.on;
+        is = there.1.is ∙ (λ i. run_on there.1.on ((there.2 ∙ same) i) (sym there.3 i));
       },
     )

@@ -17,15 +17,14 @@ use Rattle.spec_model.specs.Words.{Event, Header}
 use Rattle.header.specs.declared.admission.Admission.{Admission}
 use Rattle.header.specs.declared.admission.Admission.TheVariants.{New, Known, Refused}
 use Rattle.spec_world.specs.World.{World, Given, first_of}
-use Rattle.spec_world.specs.Steps.{Move, accept, take_to, device_call, settle, release, read_order, restart, IsAnswered, IsStep, Leads}
+use Rattle.spec_world.specs.Steps.{Move, accept, take_to, device_call, settle, release, read_order, take_all, spare_call, settle_all, restart, IsFirst, IsAnswered, IsStep, Leads}
 use Rattle.spec_world.specs.Promise.{Ballot}
 use Rattle.spec_world.specs.Lasting.{settled_in, SettledGrows, GivenStays, EventsCameIn, GivenVotesAreSettled, GivenOrdersAreSettled}
 use Rattle.spec_world.proofs.Ballots.{voted_for}
-use Rattle.spec_world.proofs.Law.{run_stands, empty_stands, vote_there, legal_at, kept}
+use Rattle.spec_world.proofs.Law.{run_stands, first_empty, first_stands, vote_there, legal_at, kept}
 use Rattle.spec_world.proofs.Moving.{step_stands}
 use Rattle.spec_world.proofs.Orders.{begins_same, begins_trans, begins_join, order_of}
-use Rattle.spec_world.proofs.Recovering.{stands_once}
-use Rattle.spec_world.proofs.Standing.{Stands, left, settled_legal}
+use Rattle.spec_world.proofs.Standing.{Stands, settled_legal}
 
 -- ---- what is settled grows
 
@@ -46,12 +45,15 @@ step_settled node world settle next at step =
     subst (λ (w : World). Begins (settled_in world) (settled_in w)) (sym step.is) grown
 step_settled node world (release waiting) next at step = same_settled world next (ap (λ (w : World). w.began) step.is) (ap (λ (w : World). w.settled) step.is)
 step_settled node world read_order next at step = same_settled world next (ap (λ (w : World). w.began) step) (ap (λ (w : World). w.settled) step)
+step_settled node world (take_all bytes) next at step = same_settled world next (ap (λ (w : World). w.began) step.is) (ap (λ (w : World). w.settled) step.is)
+step_settled node world spare_call next at step = same_settled world next (ap (λ (w : World). w.began) step.is) (ap (λ (w : World). w.settled) step.is)
+step_settled node world settle_all next at step =
+    let grown = begins_join world.began world.settled (world.settled ++ first_of world.groups) (record { rest = first_of world.groups; parts = refl }) in
+    subst (λ (w : World). Begins (settled_in world) (settled_in w)) (sym step.is) grown
 step_settled node world (restart found) next at step =
-    let is_left = left node world found at step.left in
-    let same : next.began ≡ is_left.history = stands_once node found is_left.history next.began at.legal.sound is_left.holds step.stands_for in
     let none : next.settled ≡ [] = ap (λ (w : World). w.settled) step.is in
     let all : next.began ≡ settled_in next = sym (append-nil next.began) ∙ ap (λ (l : History). next.began ++ l) (sym none) in
-    subst (Begins (settled_in world)) all (subst (Begins (settled_in world)) (sym same) is_left.is_between.settled)
+    subst (Begins (settled_in world)) all step.recovered.settled
 
 pub settled_grows : SettledGrows
 settled_grows node moves world move next sound run step = step_settled node world move next (run_stands node moves world sound run) step
@@ -76,6 +78,9 @@ given_stays node world device_call next step = same_given world next (ap (λ (w 
 given_stays node world settle next step = same_given world next (ap (λ (w : World). w.given) step.is)
 given_stays node world (release waiting) next step = one_given world next _ (ap (λ (w : World). w.given) step.is)
 given_stays node world read_order next step = one_given world next _ (ap (λ (w : World). w.given) step)
+given_stays node world (take_all bytes) next step = same_given world next (ap (λ (w : World). w.given) step.is)
+given_stays node world spare_call next step = same_given world next (ap (λ (w : World). w.given) step.is)
+given_stays node world settle_all next step = same_given world next (ap (λ (w : World). w.given) step.is)
 given_stays node world (restart found) next step = same_given world next (ap (λ (w : World). w.given) step.is)
 
 -- ---- each event came in by a move
@@ -107,12 +112,13 @@ step_events node world settle next event at step inside = same_events world next
 step_events node world (release waiting) next event at step inside = same_events world next (release waiting) event
     (ap (λ (w : World). w.began) step.is) (ap (λ (w : World). w.accepted) step.is) inside
 step_events node world read_order next event at step inside = same_events world next read_order event (ap (λ (w : World). w.began) step) (ap (λ (w : World). w.accepted) step) inside
+step_events node world (take_all bytes) next event at step inside = same_events world next (take_all bytes) event (ap (λ (w : World). w.began) step.is) (ap (λ (w : World). w.accepted) step.is) inside
+step_events node world spare_call next event at step inside = same_events world next spare_call event (ap (λ (w : World). w.began) step.is) (ap (λ (w : World). w.accepted) step.is) inside
+step_events node world settle_all next event at step inside = same_events world next settle_all event (ap (λ (w : World). w.began) step.is) (ap (λ (w : World). w.accepted) step.is) inside
 step_events node world (restart found) next event at step inside =
-    let is_left = left node world found at step.left in
-    let same : next.began ≡ is_left.history = stands_once node found is_left.history next.began at.legal.sound is_left.holds step.stands_for in
-    let all : next.began ++ next.accepted ≡ is_left.history = (λ i. next.began ++ ap (λ (w : World). w.accepted) step.is i) ∙ append-nil next.began ∙ same in
-    let begins = is_left.is_between.accepted in
-    inl (subst (λ l. Contains l event) (sym begins.parts) (Contains-append_left is_left.history begins.rest event (subst (λ l. Contains l event) all inside)))
+    let all : next.began ++ next.accepted ≡ next.began = (λ i. next.began ++ ap (λ (w : World). w.accepted) step.is i) ∙ append-nil next.began in
+    let begins = step.recovered.accepted in
+    inl (subst (λ l. Contains l event) (sym begins.parts) (Contains-append_left next.began begins.rest event (subst (λ l. Contains l event) all inside)))
 
 moves_events : (node : Node) (moves : List Move) (world last : World) (event : Event) → Stands node world → Leads node world moves last → Contains (last.began ++ last.accepted) event
     → Contains (world.began ++ world.accepted) event ⊎ Contains moves (accept event)
@@ -126,12 +132,15 @@ moves_events node (move ∷ moves) world last event at leads inside =
       | inr later ↦ inr (Contains-later move moves (accept event) later)
     ]
 
+first_accepted : (node : Node) (first : World) → IsFirst node first → first.accepted ≡ []
+first_accepted node first (inl one) = ap (λ (w : World). w.accepted) one.is
+first_accepted node first (inr two) = ap (λ (w : World). w.accepted) two.is
+
 pub events_came_in : EventsCameIn
 events_came_in node moves world event sound run inside =
     let first = run.first in
-    let empty : first.began ≡ [] = empty_stands node first.began run.begins.stands_for in
-    let none : first.began ++ first.accepted ≡ [] = (λ i. empty i ++ ap (λ (w : World). w.accepted) run.begins.is i) in
-    elim (moves_events node moves first world event (run_stands node [] first sound (record { first = first; begins = run.begins; leads = refl })) run.leads inside) [
+    let none : first.began ++ first.accepted ≡ [] = (λ i. first_empty node first run.begins i ++ first_accepted node first run.begins i) in
+    elim (moves_events node moves first world event (first_stands node first run.begins) run.leads inside) [
       | inl there ↦ absurd (Contains-nothing event (subst (λ l. Contains l event) none there))
       | inr came ↦ came
     ]

@@ -1,29 +1,32 @@
 -- Nothing that was given out is taken back.
-use Rattle.std.proofs.Common.{ap, ◌≡◌, ◌⊎◌, ℕ, List, [], ◌++◌, length, Some, inl, inr, refl, sym, ◌∙◌, subst, arith}
-use Rattle.std.specs.Prelude.{Contains}
+use Rattle.std.proofs.Common.{ap, ◌≡◌, ◌⊎◌, ℕ, List, [], ◌∷◌, ◌++◌, length, take, drop, Some, inl, inr, refl, sym, ◌∙◌, subst, arith}
+use Rattle.std.specs.Prelude.{All, Contains}
 use Rattle.std.proofs.lemmas.Bool.{cases_lt}
 use Rattle.std.proofs.lemmas.Option.{none-some}
-use Rattle.std.proofs.lemmas.List.{append-nil}
+use Rattle.std.proofs.lemmas.List.{append-nil, drop_all}
 use Rattle.std.proofs.lemmas.List.Elements.{All-nil, All-contains}
 use Rattle.spec_laws.proofs.Given.{given_grows}
 use Rattle.spec_laws.proofs.Legal.{legal-begins}
 use Rattle.spec_laws.proofs.OrderGrows.{order_grows}
-use Rattle.spec_model.specs.Admitting.{IsTaken, IsLegal}
+use Rattle.spec_model.specs.Admitting.{IsLegal}
 use Rattle.spec_model.specs.Giving.{MayGive}
+use Rattle.spec_model.specs.Giving.{kept as kept_in}
+use Rattle.spec_model.specs.States.{State}
+use Rattle.journal.specs.Areas.{Areas, alone, pair}
 use Rattle.spec_model.specs.Histories.{History}
 use Rattle.wire.specs.Lists.{Begins}
 use Rattle.spec_model.specs.Holdings.{order}
 use Rattle.spec_model.specs.Nodes.{Node, IsNode}
 use Rattle.spec_model.specs.Words.{Digest, Output}
-use Rattle.spec_world.specs.World.{Outgoing, put_out, read, Given, World, first_of, StandsFor, as_journal, as_new, MayStop}
-use Rattle.spec_world.specs.Steps.{Move, IsRun}
-use Rattle.spec_world.specs.Promise.{Ballot, vote_in, vote_given, order_given, IsNoLater, IsRecovered, NeverTakesBack, NothingTakenBack}
+use Rattle.spec_world.specs.World.{Outgoing, put_out, read, Given, World, written_in, events_of, first_of, StandsFor, as_journal, MayStop, run_on}
+use Rattle.spec_world.specs.Steps.{Move, IsRecovered, IsRestarted, nothing_on_one, nothing_on_two, IsFirst, IsRun}
+use Rattle.spec_world.specs.Promise.{Ballot, vote_in, vote_given, order_given, IsNoLater, NeverTakesBack, NothingTakenBack}
 use Rattle.spec_world.proofs.Ballots.{votes_agree}
-use Rattle.spec_world.proofs.Groups.{with_first}
+use Rattle.spec_world.proofs.Groups.{with_first, take_none}
 use Rattle.spec_world.proofs.Moving.{all_stand}
 use Rattle.spec_world.proofs.Orders.{shorter_begins, IsEnded, goes_out, order_of, orders_begin}
-use Rattle.spec_world.proofs.Recovering.{journal_long, stands_once}
-use Rattle.spec_world.proofs.Standing.{IsKept, Stands, left, legal_between, settled_legal, begins_standing}
+use Rattle.spec_world.proofs.Recovering.{stands_once}
+use Rattle.spec_world.proofs.Standing.{IsKept, Stands, IsLeft, left, legal_between, settled_legal, begins_standing}
 
 -- the output that has a vote may be given out
 pub record HasVote (node : Node) (history : History) (ballot : Ballot) : Type 0 where
@@ -75,33 +78,40 @@ module _ (node : Node) (world : World) (at : Stands node world) where
         | inr less ↦ inl (shorter_begins one.history other.history all first second less)
       ]
 
-  settled_alone : (history : History) → (history ≡ world.began ++ world.settled) ⊎ (history ≡ world.began ++ with_first world) → world.groups ≡ [] → history ≡ world.began ++ world.settled
-  settled_alone history (inl settled) idle = settled
-  settled_alone history (inr first) idle = first ∙ ap (λ l. world.began ++ (world.settled ++ first_of l)) idle ∙ ap (λ l. world.began ++ l) (append-nil world.settled)
+  settled_alone : (history : History) → (history ≡ world.began ++ written_in world) ⊎ (history ≡ world.began ++ with_first world) → world.groups ≡ [] → history ≡ world.began ++ world.settled
+  settled_alone history whole idle =
+      let none : (count : ℕ) → (drop count world.groups ≡ []) × (take count world.groups ≡ []) =
+      λ count. (drop_all count world.groups (omega (arith, ap length idle)), ap (take count) idle ∙ take_none count) in
+      let written : written_in world ≡ world.settled = ap (λ l. world.settled ++ events_of l) (none world.written).1 ∙ append-nil world.settled in
+      let first : with_first world ≡ world.settled = (λ i. written i ++ first_of ((none world.written).0 i)) ∙ append-nil world.settled in
+      elim whole [
+        | inl is ↦ is ∙ ap (λ l. world.began ++ l) written
+        | inr is ↦ is ∙ ap (λ l. world.began ++ l) first
+      ]
 
-  recovered_there : (bytes : List ℕ) (history : History) → MayStop world bytes → StandsFor node bytes history → IsRecovered node world history
-  recovered_there bytes history may stands_for =
-      let is_left = left node world bytes at may in
-      let same : is_left.history ≡ history = sym (stands_once node bytes is_left.history history at.legal.sound is_left.holds stands_for) in
-      subst (IsRecovered node world) same (record {
-        legal = legal_between node world is_left.history at is_left.is_between;
-        accepted = is_left.is_between.accepted;
-        settled = is_left.is_between.settled;
-        whole = is_left.is_between.whole;
-        without_group = λ none. settled_alone is_left.history is_left.is_between.whole none;
-      })
+  recovered_there : (found : Areas) (is : IsLeft node world found) → IsRecovered node world is.history
+  recovered_there found is = record {
+    legal = legal_between node world is.history at is.is_between;
+    accepted = is.is_between.accepted;
+    settled = is.is_between.settled;
+    whole = is.is_between.whole;
+    without_group = λ none. settled_alone is.history is.is_between.whole none;
+  }
 
-  only_there : (bytes : List ℕ) (one other : History) → MayStop world bytes → StandsFor node bytes one → StandsFor node bytes other → one ≡ other
-  only_there bytes one other may for_one for_other =
-      let is_left = left node world bytes at may in
-      stands_once node bytes is_left.history one at.legal.sound is_left.holds for_one ∙ sym (stands_once node bytes is_left.history other at.legal.sound is_left.holds for_other)
+  -- what a stop leaves stands for the state of one such history
+  pub stands_there : (found : Areas) (may : MayStop world found) → IsRecovered node world (left node world found at may).history
+  stands_there found may = recovered_there found (left node world found at may)
+
+  pub only_there : (found : Areas) (one other : State) → MayStop world found → StandsFor node found one → StandsFor node found other → one ≡ other
+  only_there found one other may for_one for_other =
+      let is_left = left node world found at may in
+      stands_once node found (kept_in node is_left.history) one is_left.holds for_one ∙ sym (stands_once node found (kept_in node is_left.history) other is_left.holds for_other)
 
   never : NeverTakesBack node world
   never = record {
     in_order = record { taken = at.taken; legal = at.legal };
-    stands = λ bytes may. let is_left = left node world bytes at may in (is_left.history, as_journal is_left.holds);
+    stands = λ found may. let is_left = left node world found at may in (is_left.history, recovered_there found is_left, as_journal is_left.holds);
     only = only_there;
-    recovered = recovered_there;
     held = λ given there. (kept given there).begins;
     right = λ given there. goes_out node given.history given.outgoing (kept given there).ended;
     votes = λ one other vote also there there' is is' author round.
@@ -112,23 +122,28 @@ module _ (node : Node) (world : World) (at : Stands node world) where
     orders = orders_there;
   }
 
--- an empty disk stands for no event
-pub empty_stands : (node : Node) (history : History) → StandsFor node [] history → history ≡ []
-empty_stands node history (as_journal held) = absurd (omega (arith, journal_long node [] history held))
-empty_stands node history (as_new none empty) = empty
+-- ---- a first world
 
--- the empty history is legal
-empty_legal : (node : Node) → IsNode node → IsLegal node []
-empty_legal node sound = record { sound = sound; taken = All-nil (IsTaken node); new = refl }
+-- it begins with no event
+no_more : (history : History) → Begins history [] → history ≡ []
+no_more [] begins = refl
+no_more (event ∷ history) begins = absurd (omega (arith, ap length begins.parts))
+
+pub first_empty : (node : Node) (first : World) → IsFirst node first → first.began ≡ []
+first_empty node first (inl one) = no_more first.began one.recovered.accepted
+first_empty node first (inr two) = no_more first.began two.recovered.accepted
+
+restarted_stands : (node : Node) (found : Areas) (world first : World) → world.given ≡ [] → IsRestarted node world found first → Stands node first
+restarted_stands node found world first none step =
+    subst (Stands node) (sym step.is)
+    (begins_standing node step.on first.began world.given step.recovered.legal step.opened (subst (λ g. All (IsKept node first.began) g) (sym none) (All-nil (IsKept node first.began))))
+
+pub first_stands : (node : Node) (first : World) → IsFirst node first → Stands node first
+first_stands node first (inl one) = restarted_stands node (alone []) (run_on nothing_on_one [] []) first refl one
+first_stands node first (inr two) = restarted_stands node (pair [] []) (run_on nothing_on_two [] []) first refl two
 
 pub run_stands : (node : Node) (moves : List Move) (world : World) → IsNode node → IsRun node moves world → Stands node world
-run_stands node moves world sound run =
-    let first = run.first in
-    let empty : [] ≡ first.began = sym (empty_stands node first.began run.begins.stands_for) in
-    let legal : IsLegal node first.began = subst (IsLegal node) empty (empty_legal node sound) in
-    let at : Stands node first =
-    subst (Stands node) (sym run.begins.is) (begins_standing node first.bytes_at_start first.began [] legal run.begins.opened (All-nil (IsKept node first.began))) in
-    all_stand node moves first world at run.leads
+run_stands node moves world sound run = all_stand node moves run.first world (first_stands node run.first run.begins) run.leads
 
 pub nothing_taken_back : NothingTakenBack
 nothing_taken_back node moves world sound run = never node world (run_stands node moves world sound run)

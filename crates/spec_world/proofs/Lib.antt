@@ -16,3 +16,6 @@ pub mod Filling
 pub mod Scripts
 mod Sizes
 pub mod Histories
+pub mod Rewriting
+mod Checkpoints
+mod Starting

@@ -1,9 +1,9 @@
 -- Each step keeps what holds of the world.
-use Rattle.std.proofs.Common.{◌≡◌, ℕ, ◌+◌, ◌≤◌, List, [], ◌∷◌, ◌++◌, map, length, take, drop, Some, refl, ap, sym, ◌∙◌, subst, arith, append_assoc, length-take, take-append-drop}
+use Rattle.std.proofs.Common.{◌≡◌, ◌⊎◌, inl, inr, ℕ, suc, ◌+◌, ◌-◌, ◌<◌, ◌≤◌, List, [], ◌∷◌, ◌++◌, map, length, take, drop, Option, Some, None, refl, ap, sym, ◌∙◌, subst, arith, append_assoc, length-take, length-drop, take-append-drop}
 use Rattle.std.specs.Prelude.{All}
-use Rattle.std.proofs.lemmas.List.{take_all, take-append-le, length_push, length-map}
+use Rattle.std.proofs.lemmas.List.{take_all as all_taken, take-append-le, drop-append-le, drop_all, drop_at, append-nil, length_push, length-map}
 use Rattle.std.proofs.lemmas.Option.{none-some}
-use Rattle.std.proofs.lemmas.List.Elements.{All-append, All-push, All-map, All-weaker, All-contains, All-drop}
+use Rattle.std.proofs.lemmas.List.Elements.{All-nil, All-cons, All-append, All-push, All-map, All-weaker, All-contains, All-drop}
 use Rattle.diskmodel.specs.declared.call.Call.{Call}
 use Rattle.diskmodel.specs.Outcomes.{State, state, firmed}
 use Rattle.diskmodel.proofs.Calls.{after_all-push}
@@ -18,17 +18,25 @@ use Rattle.spec_model.specs.Words.{Event, Output}
 use Rattle.header.specs.declared.admission.Admission.{Admission}
 use Rattle.header.specs.declared.admission.Admission.TheVariants.{New, Known, Refused}
 use Rattle.spec_records.specs.Records.{record_of}
-use Rattle.spec_world.specs.World.{Phase, not_begun, Waiting, Outgoing, put_out, read, World, Holds, taken_in, first_of, group_in, call_for}
-use Rattle.spec_world.specs.Steps.{Move, accept, take_to, device_call, settle, release, read_order, restart, ticketed, with_new, with_known}
-use Rattle.spec_world.specs.Steps.{with_given, IsAnswered, IsTakenTo, IsCalled, IsSettled, IsReleased, IsRestarted, next_phase, group_to, IsStep}
+use Rattle.spec_world.specs.World.{Phase, not_begun, gate_opened, Waiting, Outgoing, put_out, read, World, Holds, events_of, taken_in, written_in, unwritten_in, first_of, group_in, content_in, call_in, call_for, next_call, Spare, Rewriting, IsCheckpointOf}
+use Rattle.spec_world.specs.Steps.{Move, accept, take_to, device_call, settle, release, read_order, take_all, spare_call, settle_all, restart, IsTakenAll, IsSpareCalled, IsSettledAll, ticketed, with_new, with_known}
+use Rattle.spec_world.specs.Steps.{with_given, IsAnswered, IsTakenTo, IsCalled, IsSettled, IsReleased, IsRestarted, next_phase, next_written, group_to, IsStep}
 use Rattle.spec_world.specs.Steps.{Leads}
 use Rattle.spec_world.proofs.Answered.{new_put, known_put}
 use Rattle.spec_world.proofs.Bytes.{group_in_bytes, longer_bytes}
-use Rattle.spec_world.proofs.Disks.{IsAt, Fits, FitsAsGroup, first_fits, due_first, called, longer_stands, longer_ends}
-use Rattle.spec_world.proofs.Groups.{with_first, first_and_others, taken_more}
+use Rattle.spec_world.proofs.Disks.{Stage, stage_of, stage_after, IsAt, FitsAsGroup, due_first, called, longer_stands, longer_ends, whole_keeps, IsNextStage, last_stage, earlier_stage, next_stage}
+use Rattle.spec_world.proofs.Groups.{with_first, events_split, take_next, take_none, some_after, first_written, same_unwritten, taken_more}
 use Rattle.spec_world.proofs.Orders.{begins_same, begins_trans, begins_join, shorter_begins, IsPut, IsEnded}
-use Rattle.spec_world.proofs.Recovering.{holds_more, stands_once}
-use Rattle.spec_world.proofs.Standing.{IsDue, IsKept, Stands, settled_accepted, left, legal_between, group_events, begins_standing}
+use Rattle.spec_world.proofs.Recovering.{holds_more}
+use Rattle.spec_world.proofs.Standing.{IsDue, IsKept, Stands, IsAtRestBeside, IsBeside, IsRewritingAt, IsSpareAt, to_append, areas_with, side_of, spare_same, none_rewritten, fit_to_write}
+use Rattle.spec_world.proofs.Standing.{settled_accepted, first_between, legal_between, group_events, pair_is, pair_stays, reads_live, beside_older, fresh_disk, checkpoint_holds, begins_standing}
+use Rattle.spec_world.proofs.Rewriting.{keeps_telling, get_inside, get_outside, made_state, last_state, made_more}
+use Rattle.journal.specs.Areas.{Areas, pair_of, other_side, tells, stands_at, stands_in, IsAtRest, rewrite_calls}
+use Rattle.journal.proofs.Telling.{at_rest_older, both_older}
+use Rattle.spec_laws.proofs.Legal.{legal-begins}
+use Rattle.spec_machine.proofs.AfterAll.{kept_is_sound}
+use Rattle.spec_model.specs.Giving.{kept}
+use Rattle.std.specs.Option.{option_map_or}
 
 -- ---- an event is accepted
 
@@ -54,16 +62,20 @@ new_accepted node world event outputs at is_taken is =
     let longer = world.accepted ++ event ∷ [] in
     let legal = legal-push node history event at.legal is_taken (ap is_new is) in
     let joined : history ++ event ∷ [] ≡ world.began ++ longer = append_assoc world.began world.accepted (event ∷ []) in
-    let all : take (length world.accepted + 1) longer ≡ longer = take_all (length world.accepted + 1) longer (omega (arith, length_push world.accepted event)) in
+    let all : take (length world.accepted + 1) longer ≡ longer = all_taken (length world.accepted + 1) longer (omega (arith, length_push world.accepted event)) in
     let put : All (IsPut node (world.began ++ take (length world.accepted + 1) longer)) outputs =
     subst (λ h. All (IsPut node h) outputs) (joined ∙ ap (λ l. world.began ++ l) (sym all)) (new_put node history event outputs legal is) in
     record {
       legal = subst (IsLegal node) joined legal;
       taken = begins_trans (taken_in world) world.accepted longer at.taken (record { rest = event ∷ []; parts = refl });
+      within = at.within;
       file = at.file;
       ends_closed = at.ends_closed;
       are_bytes = at.are_bytes;
       holds = at.holds;
+      rest = at.rest;
+      beside = at.beside;
+      spare = at.spare;
       disk = at.disk;
       fits = at.fits;
       idle = at.idle;
@@ -76,16 +88,20 @@ new_accepted node world event outputs at is_taken is =
 known_accepted : (node : Node) (world : World) (event : Event) (outputs : List Output) → Stands node world → admit node (world.began ++ world.accepted) event ≡ Known outputs
     → Stands node (with_known world outputs)
 known_accepted node world event outputs at is =
-    let all : take (length world.accepted) world.accepted ≡ world.accepted = take_all (length world.accepted) world.accepted (omega arith) in
+    let all : take (length world.accepted) world.accepted ≡ world.accepted = all_taken (length world.accepted) world.accepted (omega arith) in
     let put : All (IsPut node (world.began ++ take (length world.accepted) world.accepted)) outputs =
     subst (λ h. All (IsPut node h) outputs) (ap (λ l. world.began ++ l) (sym all)) (known_put node (world.began ++ world.accepted) event outputs is) in
     record {
       legal = at.legal;
       taken = at.taken;
+      within = at.within;
       file = at.file;
       ends_closed = at.ends_closed;
       are_bytes = at.are_bytes;
       holds = at.holds;
+      rest = at.rest;
+      beside = at.beside;
+      spare = at.spare;
       disk = at.disk;
       fits = at.fits;
       idle = at.idle;
@@ -102,12 +118,45 @@ answered_stands node world next event (Refused refusal) at is_taken is answered 
 
 -- ---- an append
 
--- where a group is on its way, its phase stays, and where none is, none has begun
-taken_at : (groups : List History) (phase : Phase) (s : State) (file : List ℕ) (more : History) → (groups ≡ [] → phase ≡ not_begun) → IsAt phase s file (map record_of (first_of groups))
-    → IsAt phase s file (map record_of (first_of (groups ++ more ∷ [])))
+-- where there is a group to write, its phase stays, and where there is none, none has begun
+taken_at : (groups : List History) (phase : Phase) (s : State) (file : List ℕ) (more : History) → (groups ≡ [] → phase ≡ not_begun) → IsAt (stage_of phase) s file (map record_of (first_of groups))
+    → IsAt (stage_of phase) s file (map record_of (first_of (groups ++ more ∷ [])))
 taken_at [] phase s file more idle is =
-    subst (λ (p : Phase). IsAt p s file (map record_of more)) (sym (idle refl)) (subst (λ (p : Phase). IsAt p s file []) (idle refl) is)
+    subst (λ (p : Phase). IsAt (stage_of p) s file (map record_of more)) (sym (idle refl)) (subst (λ (p : Phase). IsAt (stage_of p) s file []) (idle refl) is)
 taken_at (group ∷ groups) phase s file more idle is = is
+
+-- where a rewriting is in flight it is of the first group
+some_rewritten : (node : Node) (spare : Option Spare) (rewriting : Option Rewriting) (rest : List ℕ) (history : History) (groups : List History) (written : ℕ) (phase : Phase)
+    → IsSpareAt node history groups written phase spare rewriting rest → (rewriting ≡ None) ⊎ (1 ≤ length groups)
+some_rewritten node spare None rest history groups written phase is = inl refl
+some_rewritten node None (Some rewriting) rest history groups written phase is = absurd is
+some_rewritten node (Some spare) (Some rewriting) rest history groups written phase is = inr is.some
+
+first_stays : (groups : List History) (more : History) → 1 ≤ length groups → first_of (groups ++ more ∷ []) ≡ first_of groups
+first_stays [] more some = absurd (omega (arith, some))
+first_stays (group ∷ groups) more some = refl
+
+-- a group more changes nothing of it
+spare_taken : (node : Node) (began settled : History) (groups : List History) (more : History) (written : ℕ) (phase : Phase) (spare : Option Spare) (rewriting : Option Rewriting) (rest : List ℕ)
+    → IsSpareAt node (began ++ (settled ++ first_of groups)) groups written phase spare rewriting rest
+    → IsSpareAt node (began ++ (settled ++ first_of (groups ++ more ∷ []))) (groups ++ more ∷ []) written phase spare rewriting rest
+spare_taken node began settled groups more written phase None None rest is = tt
+spare_taken node began settled groups more written phase None (Some rewriting) rest is = is
+spare_taken node began settled groups more written phase (Some spare) None rest is = is
+spare_taken node began settled groups more written phase (Some spare) (Some rewriting) rest is = record {
+  few = is.few;
+  disk = is.disk;
+  checkpoint = subst (λ l. IsCheckpointOf node (spare.generation + 1) (kept node (began ++ (settled ++ l))) rewriting.bytes) (sym (first_stays groups more is.some)) is.checkpoint;
+  none_written = is.none_written;
+  not_begun = is.not_begun;
+  some = omega (arith, is.some, length_push groups more);
+}
+
+fits_taken : (rewriting : Option Rewriting) (groups : List History) (more : History) → (rewriting ≡ None) ⊎ (1 ≤ length groups) → All FitsAsGroup (to_append rewriting groups) → FitsAsGroup more
+    → All FitsAsGroup (to_append rewriting (groups ++ more ∷ []))
+fits_taken None groups more some fits also = All-push FitsAsGroup groups more fits also
+fits_taken (Some rewriting) [] more some fits also = elim some [ inl none ↦ absurd (none-some rewriting (sym none)) | inr long ↦ absurd (omega (arith, long)) ]
+fits_taken (Some rewriting) (group ∷ groups) more some fits also = All-push FitsAsGroup groups more fits also
 
 some_more : (groups : List History) (more : History) → groups ++ more ∷ [] ≡ [] → ⊥
 some_more [] more none = cc
@@ -117,70 +166,332 @@ take_stands : (node : Node) (world next : World) (count : ℕ) → Stands node w
 take_stands node world next count at step =
     let more = group_to world count in
     let some : 1 ≤ length more = omega (arith, step.fits.some, length-map more record_of) in
+    let unwritten : drop world.written (world.groups ++ more ∷ []) ≡ unwritten_in world ++ more ∷ [] = drop-append-le world.written world.groups (more ∷ []) at.within in
+    let written : take world.written (world.groups ++ more ∷ []) ≡ take world.written world.groups = take-append-le world.written world.groups (more ∷ []) at.within in
     subst (Stands node) (sym step.is) (record {
       legal = at.legal;
       taken = record { rest = drop count world.accepted; parts = sym (take-append-drop count world.accepted) ∙ ap (λ l. l ++ drop count world.accepted) (sym (taken_more world count at.taken some)) };
+      within = omega (arith, at.within, length_push world.groups more);
       file = at.file;
       ends_closed = at.ends_closed;
       are_bytes = at.are_bytes;
-      holds = at.holds;
-      disk = taken_at world.groups world.phase (state world.bytes_at_start world.calls) at.file more at.idle at.disk;
-      fits = All-push FitsAsGroup world.groups more at.fits step.fits;
-      idle = λ none. absurd (some_more world.groups more none);
+      holds = subst (λ (l : List History). Holds node (areas_with world.spare at.file at.rest) (kept node (world.began ++ (world.settled ++ events_of l)))) (sym written) at.holds;
+      disk = subst (λ (l : List History). IsAt (stage_of world.phase) (state world.bytes_at_start world.calls) at.file (map record_of (first_of l))) (sym unwritten)
+          (taken_at (unwritten_in world) world.phase (state world.bytes_at_start world.calls) at.file more at.idle at.disk);
+      fits = fits_taken world.rewriting world.groups more
+          (some_rewritten node world.spare world.rewriting at.rest _ world.groups world.written world.phase at.spare) at.fits step.fits;
+      rest = at.rest;
+      beside = at.beside;
+      spare = spare_taken node world.began world.settled world.groups more world.written world.phase world.spare world.rewriting at.rest at.spare;
+      idle = λ none. absurd (some_more (unwritten_in world) more (sym unwritten ∙ none));
       waiting = at.waiting;
       given = at.given;
     })
 
--- no call is due where no group is on its way
+-- no call is due where there is no group to write
 none_due : (groups : List History) (phase : Phase) (content : List ℕ) (call : Call) → call_for groups phase content ≡ Some call → groups ≡ [] → ⊥
 none_due [] phase content call due none = none-some call due
 none_due (group ∷ groups) phase content call due none = cc
 
+-- and none while a rewriting is in flight
+pub due_alone : (rewriting : Option Rewriting) (appends : Option Call) (call : Call) → option_map_or (λ one. None) rewriting appends ≡ Some call → (rewriting ≡ None) × (appends ≡ Some call)
+due_alone None appends call due = (refl, due)
+due_alone (Some rewriting) appends call due = absurd (none-some call due)
+
+-- the other disk beside a file that tells the same
+beside_longer : (spare : Option Spare) (file longer rest : List ℕ) → ((told : Option ℕ) → tells file ≡ Some told → tells longer ≡ tells file) → IsBeside spare file rest → IsBeside spare longer rest
+beside_longer None file longer rest same is = tt
+beside_longer (Some spare) file longer rest same is = record { told = same (Some spare.generation) is.told ∙ is.told; at_rest = is.at_rest; are_bytes = is.are_bytes }
+
+-- the file with the group that is written
+longer_beside : (node : Node) (world : World) (at : Stands node world) → FitsAsGroup (first_of (unwritten_in world)) → IsBeside world.spare (file_with at.file (group_in world)) at.rest
+longer_beside node world at fits =
+    beside_longer world.spare at.file (file_with at.file (group_in world)) at.rest
+    (λ told is. keeps_telling at.file (file_with at.file (group_in world)) told at.ends_closed is (whole_keeps at.file at.ends_closed (group_in world))) at.beside
+
+longer_holds : (node : Node) (world : World) (at : Stands node world) → FitsAsGroup (first_of (unwritten_in world))
+    → Holds node (areas_with world.spare (file_with at.file (group_in world)) at.rest) (kept node (world.began ++ with_first world))
+longer_holds node world at fits =
+    let more = first_of (unwritten_in world) in
+    let longer = file_with at.file (group_in world) in
+    let spare = world.spare in
+    let joined : (world.began ++ written_in world) ++ more ≡ world.began ++ with_first world = append_assoc world.began (written_in world) more in
+    subst (λ h. Holds node (areas_with spare longer at.rest) (kept node h)) joined
+    (holds_more node (areas_with spare at.file at.rest) (areas_with spare longer at.rest) (side_of spare) at.file longer (world.began ++ written_in world) more at.holds
+    (pair_stays spare at.file at.rest longer at.rest)
+    (reads_live spare at.file at.rest (beside_older spare at.file at.rest at.beside))
+    (reads_live spare longer at.rest (beside_older spare longer at.rest (longer_beside node world at fits)))
+    at.ends_closed (longer_stands at.file at.ends_closed (group_in world) fits)
+    (subst (IsLegal node) (sym joined) (legal_between node world (world.began ++ with_first world) at (first_between node world at))))
+
+-- a device call before the last of an append, or the last one
+module _ (node : Node) (world : World) (at : Stands node world) (step_call : Call) (due : next_call world ≡ Some step_call) where
+  abbrev s : State
+  s = state world.bytes_at_start world.calls
+
+  alone_due : (world.rewriting ≡ None) × (call_for (unwritten_in world) world.phase (content_in world) ≡ Some step_call)
+  alone_due = due_alone world.rewriting (call_for (unwritten_in world) world.phase (content_in world)) step_call due
+
+  first : FitsAsGroup (first_of (unwritten_in world)) × (call_in world.phase s.content (group_in world) ≡ Some step_call)
+  first = due_first (unwritten_in world) world.phase s.content step_call (fit_to_write node world at alone_due.0) alone_due.1
+
+  now : IsAt (stage_after world.phase) (state world.bytes_at_start (world.calls ++ step_call ∷ [])) at.file (group_in world)
+  now =
+      subst (λ t. IsAt (stage_after world.phase) t at.file (group_in world)) (sym (after_all-push (firmed world.bytes_at_start) world.calls step_call))
+      (called at.file at.ends_closed (group_in world) world.phase s step_call first.0 at.disk first.1)
+
+  some : unwritten_in world ≡ [] → ⊥
+  some none = none_due (unwritten_in world) world.phase s.content step_call alone_due.1 none
+
+  within_call : stage_after world.phase ≡ stage_of (next_phase world.phase)
+      → Stands node (record world { calls = world.calls ++ step_call ∷ []; phase = next_phase world.phase })
+  within_call same = record {
+    legal = at.legal;
+    taken = at.taken;
+    within = at.within;
+    file = at.file;
+    ends_closed = at.ends_closed;
+    are_bytes = at.are_bytes;
+    holds = at.holds;
+    rest = at.rest;
+    beside = at.beside;
+    spare = spare_same node world.spare world.rewriting at.rest _ _ world.groups world.groups world.written world.written world.phase (next_phase world.phase) alone_due.0 at.spare;
+    disk = subst (λ (g : Stage). IsAt g (state world.bytes_at_start (world.calls ++ step_call ∷ [])) at.file (group_in world)) same now;
+    fits = at.fits;
+    idle = λ none. absurd (some none);
+    waiting = at.waiting;
+    given = at.given;
+  }
+
+  last_call : world.phase ≡ gate_opened
+      → Stands node (record world { calls = world.calls ++ step_call ∷ []; phase = not_begun; written = world.written + 1 })
+  last_call is_last =
+      let group = group_in world in
+      let whole : state world.bytes_at_start (world.calls ++ step_call ∷ []) ≡ firmed (file_with at.file group) =
+      subst (λ (p : Phase). IsAt (stage_after p) (state world.bytes_at_start (world.calls ++ step_call ∷ [])) at.file group) is_last now in
+      let grown : world.settled ++ events_of (take (world.written + 1) world.groups) ≡ with_first world =
+      ap (λ l. world.settled ++ l) (take_next world.written world.groups) ∙ sym (append_assoc world.settled (events_of (take world.written world.groups)) (first_of (unwritten_in world))) in
+      record {
+        legal = at.legal;
+        taken = at.taken;
+        within = some_after world.written world.groups some;
+        file = file_with at.file group;
+        ends_closed = longer_ends at.file at.ends_closed group first.0;
+        are_bytes = longer_bytes at.file group at.are_bytes (group_in_bytes node (first_of (unwritten_in world)) (group_events node world at));
+        holds = subst (λ (l : History). Holds node (areas_with world.spare (file_with at.file group) at.rest) (kept node (world.began ++ l))) (sym grown) (longer_holds node world at first.0);
+        rest = at.rest;
+        beside = longer_beside node world at first.0;
+        spare = spare_same node world.spare world.rewriting at.rest _ _ world.groups world.groups world.written (world.written + 1) world.phase not_begun alone_due.0 at.spare;
+        disk = whole;
+        fits = at.fits;
+        idle = λ none. refl;
+        waiting = at.waiting;
+        given = at.given;
+      }
+
+  call_made : IsNextStage world.phase
+      → Stands node (record world { calls = world.calls ++ step_call ∷ []; phase = next_phase world.phase; written = next_written world.phase world.written })
+  call_made (last_stage _ is) =
+      subst (λ (p : Phase). Stands node (record world { calls = world.calls ++ step_call ∷ []; phase = next_phase p; written = next_written p world.written })) (sym is) (last_call is)
+  call_made (earlier_stage _ same none) =
+      subst (λ (n : ℕ). Stands node (record world { calls = world.calls ++ step_call ∷ []; phase = next_phase world.phase; written = n })) (sym (none world.written)) (within_call same)
+
 call_stands : (node : Node) (world next : World) → Stands node world → IsCalled world next → Stands node next
-call_stands node world next at step =
-    let s = state world.bytes_at_start world.calls in
-    let first = due_first world.groups world.phase s.content step.call at.fits step.due in
-    let now = called at.file at.ends_closed (group_in world) world.phase s step.call first.0 at.disk first.1 in
-    let calls = after_all-push (firmed world.bytes_at_start) world.calls step.call in
+call_stands node world next at step = subst (Stands node) (sym step.is) (call_made node world at step.call step.due (next_stage world.phase))
+
+others_fit : (rewriting : Option Rewriting) (groups : List History) → rewriting ≡ None → All FitsAsGroup (to_append rewriting groups) → All FitsAsGroup (to_append rewriting (drop 1 groups))
+others_fit None groups none all = All-drop FitsAsGroup 1 groups all
+others_fit (Some rewriting) groups none all = absurd (none-some rewriting (sym none))
+
+settle_stands : (node : Node) (world next : World) → Stands node world → IsSettled world next → Stands node next
+settle_stands node world next at step =
+    let more = first_of world.groups in
+    let settled = world.settled ++ more in
+    let none = none_rewritten node world.spare world.rewriting at.rest _ world.groups world.written world.phase at.spare (inl step.done) in
+    let unwritten : drop (world.written - 1) (drop 1 world.groups) ≡ unwritten_in world = same_unwritten world.written world.groups step.done in
+    let written : settled ++ events_of (take (world.written - 1) (drop 1 world.groups)) ≡ written_in world =
+    append_assoc world.settled more (events_of (take (world.written - 1) (drop 1 world.groups))) ∙ ap (λ l. world.settled ++ l) (sym (first_written world.written world.groups step.done)) in
+    let taken : settled ++ events_of (drop 1 world.groups) ≡ taken_in world =
+    append_assoc world.settled more (events_of (drop 1 world.groups)) ∙ ap (λ l. world.settled ++ l) (sym (events_split world.groups)) in
+    let grown = begins_join world.began world.settled settled (record { rest = more; parts = refl }) in
     subst (Stands node) (sym step.is) (record {
       legal = at.legal;
-      taken = at.taken;
+      taken = subst (λ l. Begins l world.accepted) (sym taken) at.taken;
+      within = omega (arith, at.within, step.done, length-drop 1 world.groups);
       file = at.file;
       ends_closed = at.ends_closed;
       are_bytes = at.are_bytes;
-      holds = at.holds;
-      disk = subst (λ t. IsAt (next_phase world.phase) t at.file (group_in world)) (sym calls) now;
-      fits = at.fits;
-      idle = λ none. absurd (none_due world.groups world.phase s.content step.call step.due none);
+      holds = subst (λ l. Holds node (areas_with world.spare at.file at.rest) (kept node (world.began ++ l))) (sym written) at.holds;
+      rest = at.rest;
+      beside = at.beside;
+      spare = spare_same node world.spare world.rewriting at.rest _ _ world.groups (drop 1 world.groups) world.written (world.written - 1) world.phase world.phase none at.spare;
+      disk = subst (λ (l : List History). IsAt (stage_of world.phase) (state world.bytes_at_start world.calls) at.file (map record_of (first_of l))) (sym unwritten) at.disk;
+      fits = others_fit world.rewriting world.groups none at.fits;
+      idle = λ none. at.idle (sym unwritten ∙ none);
+      waiting = at.waiting;
+      given = All-weaker (IsKept node (world.began ++ world.settled)) (IsKept node (world.began ++ settled))
+          (λ g kept. record { begins = begins_trans g.history (world.began ++ world.settled) (world.began ++ settled) kept.begins grown; ended = kept.ended }) world.given at.given;
+    })
+
+-- ---- a checkpoint
+
+-- where no group is in flight, none is written and none is begun
+pub none_written : (node : Node) (world : World) → Stands node world → world.groups ≡ [] → world.written ≡ 0
+none_written node world at none = omega (arith, at.within, ap length none)
+
+pub none_begun : (node : Node) (world : World) → Stands node world → world.groups ≡ [] → world.phase ≡ not_begun
+none_begun node world at none = at.idle (drop_all world.written world.groups (omega (arith, ap length none)))
+
+-- the disk of a phase in which no append has begun, with any group
+begun_disk : (phase : Phase) (s : State) (file : List ℕ) (group : List (List ℕ)) → phase ≡ not_begun → s ≡ firmed file → IsAt (stage_of phase) s file group
+begun_disk phase s file group idle fresh = subst (λ (p : Phase). IsAt (stage_of p) s file group) (sym idle) fresh
+
+-- of two disks the other one is firm where no rewriting is in flight
+firm_rest : (node : Node) (history : History) (groups : List History) (written : ℕ) (phase : Phase) (spare : Spare) (rewriting : Option Rewriting) (rest : List ℕ)
+    → rewriting ≡ None → IsSpareAt node history groups written phase (Some spare) rewriting rest → state spare.bytes_at_start spare.calls ≡ firmed rest
+firm_rest node history groups written phase spare None rest none is = is
+firm_rest node history groups written phase spare (Some rewriting) rest none is = absurd (none-some rewriting (sym none))
+
+module _ (node : Node) (world : World) (at : Stands node world) (spare : Spare) (is_spare : world.spare ≡ Some spare) where
+  pub spare_at : IsSpareAt node (world.began ++ (world.settled ++ first_of world.groups)) world.groups world.written world.phase (Some spare) world.rewriting at.rest
+  spare_at = subst (λ (s : Option Spare). IsSpareAt node (world.began ++ (world.settled ++ first_of world.groups)) world.groups world.written world.phase s world.rewriting at.rest) is_spare at.spare
+
+  pub beside_at : IsAtRestBeside spare at.file at.rest
+  beside_at = subst (λ (s : Option Spare). IsBeside s at.file at.rest) is_spare at.beside
+
+  -- a rewriting that is in flight
+  pub rewriting_at : (rewriting : Rewriting) → world.rewriting ≡ Some rewriting
+      → IsRewritingAt node (world.began ++ (world.settled ++ first_of world.groups)) world.groups world.written world.phase spare rewriting at.rest
+  rewriting_at rewriting in_flight =
+      subst (λ (r : Option Rewriting). IsSpareAt node (world.began ++ (world.settled ++ first_of world.groups)) world.groups world.written world.phase (Some spare) r at.rest) in_flight spare_at
+
+-- what isn't settled, after what is
+pub pending_parts : (node : Node) (world : World) → Stands node world → world.settled ++ drop (length world.settled) world.accepted ≡ world.accepted
+pending_parts node world at =
+    let begins = settled_accepted node world at in
+    ap (λ l. world.settled ++ l) (ap (drop (length world.settled)) begins.parts ∙ drop_at world.settled begins.rest (length world.settled) refl) ∙ sym begins.parts
+
+take_all_stands : (node : Node) (world : World) (bytes : List ℕ) (next : World) → Stands node world → IsTakenAll node world bytes next → Stands node next
+take_all_stands node world bytes next at step =
+    let pending = drop (length world.settled) world.accepted in
+    let all = pending_parts node world at in
+    let zero_written = none_written node world at step.idle in
+    let begun = none_begun node world at step.idle in
+    let none = none_rewritten node world.spare world.rewriting at.rest _ world.groups world.written world.phase at.spare (inr step.idle) in
+    let groups : List History = pending ∷ [] in
+    let written : world.settled ++ events_of (take world.written groups) ≡ written_in world =
+    ap (λ (n : ℕ). world.settled ++ events_of (take n groups)) zero_written
+    ∙ ap (λ (l : List History). world.settled ++ events_of l) (sym (take_none world.written) ∙ ap (take world.written) (sym step.idle)) in
+    let taken : world.settled ++ events_of groups ≡ world.accepted = ap (λ l. world.settled ++ l) (append-nil pending) ∙ all in
+    let fresh = fresh_disk node world at begun in
+    let firm = firm_rest node _ world.groups world.written world.phase step.spare world.rewriting at.rest none (spare_at node world at step.spare step.pair) in
+    subst (Stands node) (sym step.is) (record {
+      legal = at.legal;
+      taken = subst (λ l. Begins l world.accepted) (sym taken) (begins_same world.accepted);
+      within = omega (arith, zero_written);
+      file = at.file;
+      ends_closed = at.ends_closed;
+      are_bytes = at.are_bytes;
+      holds = subst (λ l. Holds node (areas_with world.spare at.file at.rest) (kept node (world.began ++ l))) (sym written) at.holds;
+      rest = at.rest;
+      beside = at.beside;
+      spare = subst (λ (s : Option Spare). IsSpareAt node (world.began ++ (world.settled ++ pending)) groups world.written world.phase s (Some (record { bytes = bytes; made = 0 })) at.rest)
+          (sym step.pair) (record {
+            few = omega arith;
+            disk = firm;
+            checkpoint = subst (λ l. IsCheckpointOf node (step.spare.generation + 1) (kept node (world.began ++ l)) bytes) (sym all) step.checkpoint;
+            none_written = zero_written;
+            not_begun = begun;
+            some = omega arith;
+          });
+      disk = begun_disk world.phase (state world.bytes_at_start world.calls) at.file (map record_of (first_of (drop world.written groups))) begun fresh;
+      fits = All-nil FitsAsGroup;
+      idle = λ is. begun;
       waiting = at.waiting;
       given = at.given;
     })
 
-others_fit : (groups : List History) → All FitsAsGroup groups → All FitsAsGroup (drop 1 groups)
-others_fit groups all = All-drop FitsAsGroup 1 groups all
-
-settle_stands : (node : Node) (world next : World) → Stands node world → IsSettled world next → Stands node next
-settle_stands node world next at step =
-    let group = group_in world in
-    let more = first_of world.groups in
-    let fits = subst (λ (p : Phase). Fits p group) step.done (first_fits world.groups world.phase at.fits at.idle) in
-    let disk : state world.bytes_at_start world.calls ≡ firmed (file_with at.file group) = subst (λ (p : Phase). IsAt p (state world.bytes_at_start world.calls) at.file group) step.done at.disk in
-    let holds = subst (Holds node (file_with at.file group)) (append_assoc world.began world.settled more)
-    (holds_more node at.file (file_with at.file group) (world.began ++ world.settled) more at.holds (group_events node world at) (longer_stands at.file at.ends_closed group fits)) in
-    let grown = begins_join world.began world.settled (with_first world) (record { rest = more; parts = refl }) in
+spare_call_stands : (node : Node) (world next : World) → Stands node world → IsSpareCalled world next → Stands node next
+spare_call_stands node world next at step =
+    let spare = step.spare in
+    let rewriting = step.rewriting in
+    let is = rewriting_at node world at spare step.pair rewriting step.in_flight in
+    let now : Rewriting = record rewriting { made = rewriting.made + 1 } in
+    let inside = get_inside (rewrite_calls rewriting.bytes) rewriting.made step.call step.due in
+    let one_more : suc rewriting.made ≡ rewriting.made + 1 = omega arith in
+    let made = made_more at.rest rewriting.bytes rewriting.made (state spare.bytes_at_start spare.calls) step.call is.disk step.due in
+    let beside = beside_at node world at spare step.pair in
     subst (Stands node) (sym step.is) (record {
       legal = at.legal;
-      taken = subst (λ l. Begins l world.accepted) (first_and_others world) at.taken;
-      file = file_with at.file group;
-      ends_closed = longer_ends at.file at.ends_closed group fits;
-      are_bytes = longer_bytes at.file group at.are_bytes (group_in_bytes node more (group_events node world at));
-      holds = holds;
-      disk = disk;
-      fits = others_fit world.groups at.fits;
-      idle = λ none. refl;
+      taken = at.taken;
+      within = at.within;
+      file = at.file;
+      ends_closed = at.ends_closed;
+      are_bytes = at.are_bytes;
+      holds = subst (λ (a : Areas). Holds node a (kept node (world.began ++ written_in world))) (ap (λ (s : Option Spare). areas_with s at.file at.rest) step.pair) at.holds;
+      rest = at.rest;
+      beside = record { told = beside.told; at_rest = beside.at_rest; are_bytes = beside.are_bytes };
+      spare = record {
+        few = omega (arith, inside);
+        disk = after_all-push (firmed spare.bytes_at_start) spare.calls step.call ∙ made ∙ ap (λ (n : ℕ). made_state at.rest rewriting.bytes n) one_more;
+        checkpoint = is.checkpoint;
+        none_written = is.none_written;
+        not_begun = is.not_begun;
+        some = is.some;
+      };
+      disk = at.disk;
+      fits = subst (λ (r : Option Rewriting). All FitsAsGroup (to_append r world.groups)) step.in_flight at.fits;
+      idle = at.idle;
       waiting = at.waiting;
-      given = All-weaker (IsKept node (world.began ++ world.settled)) (IsKept node (world.began ++ with_first world))
-          (λ g kept. record { begins = begins_trans g.history (world.began ++ world.settled) (world.began ++ with_first world) kept.begins grown; ended = kept.ended }) world.given at.given;
+      given = at.given;
+    })
+
+settle_all_stands : (node : Node) (world next : World) → Stands node world → IsSettledAll world next → Stands node next
+settle_all_stands node world next at step =
+    let spare = step.spare in
+    let rewriting = step.rewriting in
+    let bytes = rewriting.bytes in
+    let generation = spare.generation in
+    let side = other_side spare.side in
+    let is = rewriting_at node world at spare step.pair rewriting step.in_flight in
+    let beside = beside_at node world at spare step.pair in
+    let more = first_of world.groups in
+    let settled = world.settled ++ more in
+    let outside = get_outside (rewrite_calls bytes) rewriting.made step.done in
+    let last : rewriting.made ≡ 8 = omega (arith, outside, is.few) in
+    let whole : state spare.bytes_at_start spare.calls ≡ firmed (1 ∷ bytes) = is.disk ∙ ap (λ (n : ℕ). made_state at.rest bytes n) last ∙ last_state at.rest bytes in
+    let written : settled ≡ settled ++ events_of (take world.written (drop 1 world.groups)) =
+    sym (append-nil settled) ∙ ap (λ (n : ℕ). settled ++ events_of (take n (drop 1 world.groups))) (sym is.none_written) in
+    let taken : settled ++ events_of (drop 1 world.groups) ≡ taken_in world =
+    append_assoc world.settled more (events_of (drop 1 world.groups)) ∙ ap (λ l. world.settled ++ l) (sym (events_split world.groups)) in
+    let grown = begins_join world.began world.settled settled (record { rest = more; parts = refl }) in
+    let accepted : Begins settled world.accepted =
+    begins_trans settled (taken_in world) world.accepted (record { rest = events_of (drop 1 world.groups); parts = sym taken }) at.taken in
+    let joined = begins_join world.began settled world.accepted accepted in
+    let legal : IsLegal node (world.began ++ settled) = legal-begins node (world.began ++ settled) joined.rest (subst (IsLegal node) joined.parts at.legal) in
+    let rested : IsAtRest (generation + 1) at.file = inr (generation, beside.told, omega arith) in
+    let areas = pair_of side (1 ∷ bytes) at.file in
+    let reads : stands_in areas ≡ stands_at side (1 ∷ bytes) =
+    both_older side (generation + 1) (1 ∷ bytes) at.file is.checkpoint.told (at_rest_older (generation + 1) at.file rested) in
+    let held : Holds node areas (kept node (world.began ++ settled)) =
+    checkpoint_holds node areas side (generation + 1) (kept node (world.began ++ settled)) bytes (pair_is side (1 ∷ bytes) at.file) reads legal.sound (kept_is_sound node (world.began ++ settled) legal) is.checkpoint in
+    subst (Stands node) (sym step.is) (record {
+      legal = at.legal;
+      taken = subst (λ l. Begins l world.accepted) (sym taken) at.taken;
+      within = omega (arith, is.none_written);
+      file = 1 ∷ bytes;
+      ends_closed = is.checkpoint.ends_closed;
+      are_bytes = All-cons (λ n. n < 256) 1 bytes (omega arith) is.checkpoint.are_bytes;
+      holds = subst (λ l. Holds node areas (kept node (world.began ++ l))) written held;
+      rest = at.file;
+      beside = record { told = is.checkpoint.told; at_rest = rested; are_bytes = at.are_bytes };
+      spare = fresh_disk node world at is.not_begun;
+      disk = begun_disk world.phase (state spare.bytes_at_start spare.calls) (1 ∷ bytes) (map record_of (first_of (drop world.written (drop 1 world.groups)))) is.not_begun whole;
+      fits = subst (λ (r : Option Rewriting). All FitsAsGroup (to_append r world.groups)) step.in_flight at.fits;
+      idle = λ none. is.not_begun;
+      waiting = at.waiting;
+      given = All-weaker (IsKept node (world.began ++ world.settled)) (IsKept node (world.began ++ settled))
+          (λ g given_kept. record { begins = begins_trans g.history (world.began ++ world.settled) (world.began ++ settled) given_kept.begins grown; ended = given_kept.ended }) world.given at.given;
     })
 
 -- ---- something goes out
@@ -191,10 +502,14 @@ given_stands node world next outgoing history at begins ended is =
     subst (Stands node) (sym is) (record {
       legal = at.legal;
       taken = at.taken;
+      within = at.within;
       file = at.file;
       ends_closed = at.ends_closed;
       are_bytes = at.are_bytes;
       holds = at.holds;
+      rest = at.rest;
+      beside = at.beside;
+      spare = at.spare;
       disk = at.disk;
       fits = at.fits;
       idle = at.idle;
@@ -213,16 +528,12 @@ release_stands node world next waiting at step =
 
 -- ---- a restart
 
-restart_stands : (node : Node) (world next : World) (found : List ℕ) → Stands node world → IsRestarted node world found next → Stands node next
+restart_stands : (node : Node) (world next : World) (found : Areas) → Stands node world → IsRestarted node world found next → Stands node next
 restart_stands node world next found at step =
-    let is_left = left node world found at step.left in
-    let same : next.began ≡ is_left.history = stands_once node found is_left.history next.began at.legal.sound is_left.holds step.stands_for in
-    let legal : IsLegal node next.began = subst (IsLegal node) (sym same) (legal_between node world is_left.history at is_left.is_between) in
-    let settled : Begins (world.began ++ world.settled) next.began = subst (Begins (world.began ++ world.settled)) (sym same) is_left.is_between.settled in
-    let kept : All (IsKept node next.began) world.given =
+    let given_kept : All (IsKept node next.began) world.given =
     All-weaker (IsKept node (world.began ++ world.settled)) (IsKept node next.began)
-    (λ g is. record { begins = begins_trans g.history (world.began ++ world.settled) next.began is.begins settled; ended = is.ended }) world.given at.given in
-    subst (Stands node) (sym step.is) (begins_standing node next.bytes_at_start next.began world.given legal step.opened kept)
+    (λ g is. record { begins = begins_trans g.history (world.began ++ world.settled) next.began is.begins step.recovered.settled; ended = is.ended }) world.given at.given in
+    subst (Stands node) (sym step.is) (begins_standing node step.on next.began world.given step.recovered.legal step.opened given_kept)
 
 -- ---- all of them
 
@@ -234,6 +545,9 @@ step_stands node world settle next at step = settle_stands node world next at st
 step_stands node world (release waiting) next at step = release_stands node world next waiting at step
 step_stands node world read_order next at step =
     given_stands node world next (read (order node (world.began ++ world.settled))) (world.began ++ world.settled) at (begins_same (world.began ++ world.settled)) refl step
+step_stands node world (take_all bytes) next at step = take_all_stands node world bytes next at step
+step_stands node world spare_call next at step = spare_call_stands node world next at step
+step_stands node world settle_all next at step = settle_all_stands node world next at step
 step_stands node world (restart found) next at step = restart_stands node world next found at step
 
 pub all_stand : (node : Node) (moves : List Move) (world last : World) → Stands node world → Leads node world moves last → Stands node last

@@ -4,7 +4,7 @@ use Rattle.std.specs.Prelude.{All, Contains, not}
 use Rattle.std.proofs.lemmas.Bool.{leb-true}
 use Rattle.std.proofs.lemmas.Grind.{flat_map-append}
 use Rattle.std.proofs.lemmas.List.{map-append, drop_at, take_at}
-use Rattle.std.proofs.lemmas.List.Elements.{All-head, All-tail, Contains-append_left, Contains-append_right, Contains-append_cases}
+use Rattle.std.proofs.lemmas.List.Elements.{All-head, All-tail, All-drop, Contains-append_left, Contains-append_right, Contains-append_cases}
 use Rattle.journal.specs.Format.{FitsGroup}
 use Rattle.spec_laws.proofs.Lists.{Contains-nothing, Contains-first, Contains-later}
 use Rattle.spec_machine.specs.After.{after_all}
@@ -18,13 +18,15 @@ use Rattle.spec_model.specs.Words.{Event}
 use Rattle.header.specs.declared.admission.Admission.{Admission}
 use Rattle.header.specs.declared.admission.Admission.TheVariants.{New, Known, Refused}
 use Rattle.spec_records.specs.Records.{record_of}
-use Rattle.spec_world.specs.World.{Waiting, put_out, Given, World, events_of, content_in}
+use Rattle.spec_world.specs.World.{Waiting, put_out, Given, World, events_of}
+use Rattle.spec_world.specs.Runs.{areas_in}
 use Rattle.spec_world.specs.Steps.{Move, accept, take_to, device_call, settle, release, restart, ticketed, with_new, with_known, with_given, IsAnswered, group_to, Leads, IsRun}
-use Rattle.spec_world.specs.Text.{Command, take_in, flush, stop, Desk, desk_on, state_in, settled_in, with_answer, group_of, flushed, after, is_due}
+use Rattle.spec_world.specs.Text.{Command, take_in, flush, checkpoint, stop, Desk, desk_on, state_in, settled_in, with_answer, group_of, flushed, after, is_due}
 use Rattle.spec_world.specs.Text.{due, without_due, frames, carried_out, text, desk_behind}
 use Rattle.wire.specs.Outputs.{frame_of}
 use Rattle.spec_world.specs.Scripts.{IsAtDesk, WentOut, IsTakenIn, ScriptsAreRuns, ScriptsBegin}
 use Rattle.spec_world.proofs.Ballots.{picked_of}
+use Rattle.spec_world.proofs.Sizes.{event_fits}
 use Rattle.spec_world.proofs.Filling.{group_fits}
 use Rattle.spec_world.proofs.GoingOn.{stops_are_possible, runs_begin_with_what_stands, groups_settle}
 use Rattle.spec_world.proofs.Law.{nothing_taken_back, run_stands}
@@ -180,19 +182,36 @@ module _ (node : Node) (sound : IsNode node) (moves : List Move) (world : World)
         | inr fits ↦ group_flushed (group_of (drop (length desk.settled) desk.accepted)) is.rest is.parts fits
       ]
 
+-- ---- all that is accepted is settled
+
+-- what is pending, one event after the other
+each_goes : (node : Node) (sound : IsNode node) (pending : History) (moves : List Move) (world : World) (run : IsRun node moves world) (desk : Desk) → IsAtDesk node world desk
+    → desk.accepted ≡ desk.settled ++ pending → All (IsTaken node) pending → Goes node world (record desk { settled = desk.accepted }) []
+each_goes node sound [] moves world run desk at parts taken =
+    let all : desk.settled ≡ desk.accepted = sym (append-nil desk.settled) ∙ sym parts in
+    goes_nowhere node world (record desk { settled = desk.accepted })
+    (record { base = at.base; accepted = at.accepted; settled = at.settled ∙ all; groups = at.groups; phase = at.phase; waits = at.waits })
+each_goes node sound (event ∷ pending) moves world run desk at parts taken =
+    let here : drop (length desk.settled) desk.accepted ≡ (event ∷ []) ++ pending = ap (drop (length desk.settled)) parts ∙ drop_at desk.settled (event ∷ pending) (length desk.settled) refl in
+    let first = group_flushed node sound moves world run desk at (event ∷ []) pending here (event_fits event (All-head (IsTaken node) event pending taken).message) in
+    let next : Desk = record desk { settled = desk.settled ++ event ∷ [] } in
+    goes_join node world next (record desk { settled = desk.accepted }) [] [] first
+    (each_goes node sound pending (moves ++ first.more) first.later (run_more node moves first.more world first.later run first.leads) next first.at_desk
+    (parts ∙ sym (append_assoc desk.settled (event ∷ []) pending)) (All-tail (IsTaken node) event pending taken))
+
+module _ (node : Node) (sound : IsNode node) (moves : List Move) (world : World) (run : IsRun node moves world) (desk : Desk) (at : IsAtDesk node world desk) where
   -- ---- the machine stops
 
   stop_goes : Goes node world (desk_on (settled_in node desk)) []
   stop_goes =
-      let found = content_in world in
+      let found = areas_in world in
       let may = stops_are_possible node moves world sound run in
       let never = nothing_taken_back node moves world sound run in
       let is = never.stands found may in
-      let recovered = never.recovered found is.0 may is.1 in
-      let all : is.0 ≡ world.began ++ world.settled = recovered.without_group at.groups in
+      let all : is.0 ≡ world.began ++ world.settled = is.1.without_group at.groups in
       let settled : kept node is.0 ≡ settled_in node desk =
-      ap (kept node) all ∙ sym (after_is_kept node world.began world.settled (subst (IsLegal node) all recovered.legal)) ∙ (λ i. after_all node (at.base i) (at.settled i)) in
-      let begun = runs_begin_with_what_stands node moves world found is.0 sound run may is.1 in
+      ap (kept node) all ∙ sym (after_is_kept node world.began world.settled (subst (IsLegal node) all is.1.legal)) ∙ (λ i. after_all node (at.base i) (at.settled i)) in
+      let begun = runs_begin_with_what_stands node moves world found is.0 sound run may is.1 is.2 in
       let next = begun.0 in
       let step = begun.1 in
       record {
@@ -210,6 +229,17 @@ module _ (node : Node) (sound : IsNode node) (moves : List Move) (world : World)
         went_out = went_none world next begun.3;
       }
 
+  -- all that is accepted is settled
+  checkpoint_goes : Goes node world (record desk { settled = desk.accepted }) []
+  checkpoint_goes =
+      let stands = run_stands node moves world sound run in
+      let begins = settled_accepted node world stands in
+      let accepted : All (IsTaken node) world.accepted =
+      subst (All (IsTaken node)) (drop_at world.began world.accepted (length world.began) refl) (All-drop (IsTaken node) (length world.began) (world.began ++ world.accepted) stands.legal.taken) in
+      let pending : All (IsTaken node) begins.rest =
+      subst (All (IsTaken node)) (ap (drop (length world.settled)) begins.parts ∙ drop_at world.settled begins.rest (length world.settled) refl) (All-drop (IsTaken node) (length world.settled) world.accepted accepted) in
+      each_goes node sound begins.rest moves world run desk at (sym at.accepted ∙ begins.parts ∙ ap (λ (l : History). l ++ begins.rest) at.settled) pending
+
   -- what a command makes of it
   after_goes : (command : Command) → IsTakenIn node command → Goes node world (after node desk command) []
   unfolding after
@@ -217,7 +247,8 @@ module _ (node : Node) (sound : IsNode node) (moves : List Move) (world : World)
       let legal = (run_stands node moves world sound run).legal in
       answer_goes node world desk event (answered node (state_in node desk) event) at taken
       (answered_kept node world.began world.accepted event legal taken ∙ (λ i. answered node (after_all node (at.base i) (at.accepted i)) event))
-  after_goes flush taken = flush_goes
+  after_goes flush taken = flush_goes node sound moves world run desk at
+  after_goes checkpoint taken = checkpoint_goes
   after_goes stop taken = stop_goes
 
 -- ---- what is due goes out
@@ -311,4 +342,4 @@ scripts_are_runs node moves world desk commands sound run at taken =
     }
 
 pub scripts_begin : ScriptsBegin
-scripts_begin node bytes began given = record { base = refl; accepted = refl; settled = refl; groups = refl; phase = refl; waits = λ w inside. absurd (Contains-nothing w inside) }
+scripts_begin node on began given = record { base = refl; accepted = refl; settled = refl; groups = refl; phase = refl; waits = λ w inside. absurd (Contains-nothing w inside) }

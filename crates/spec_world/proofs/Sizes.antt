@@ -1,5 +1,5 @@
 -- The record of an event that a node takes fits a group.
-use Rattle.std.proofs.Common.{◌≡◌, ℕ, ◌+◌, ◌≤◌, List, [], ◌∷◌, ◌++◌, length, map, ap, arith, length-append, append_assoc}
+use Rattle.std.proofs.Common.{◌≡◌, ◌≤◌, [], ◌∷◌, ◌++◌, length, map, ap, arith, length-append, append_assoc}
 use Rattle.std.specs.Int.{w16, w64, to_be_bytes}
 use Rattle.journal.specs.Format.{FitsGroup}
 use Rattle.spec_records.specs.Records.{record_of}

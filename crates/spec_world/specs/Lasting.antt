@@ -9,7 +9,7 @@ use Rattle.spec_world.specs.World.{Given, World}
 use Rattle.spec_world.specs.Steps.{Move, accept, IsStep, IsRun}
 use Rattle.spec_world.specs.Promise.{Ballot, vote_given, order_given}
 
--- what a node's disk holds for good: what this run began with, and what it has settled
+-- what a node knows to be durable: what this run began with, and what it has settled
 abbrev pub settled_in : World → History
 settled_in world = world.began ++ world.settled
 

@@ -1,17 +1,19 @@
 -- What a node never takes back.
 use Rattle.std.specs.Prelude.{◌≡◌, ◌⊎◌, ℕ, ◌≤◌, List, [], ◌∷◌, ◌++◌, length, take, Option, Some, None, Contains}
 use Rattle.spec_model.specs.Admitting.{admit, IsLegal}
-use Rattle.spec_model.specs.Giving.{MayGive}
+use Rattle.spec_model.specs.Giving.{kept, MayGive}
 use Rattle.spec_model.specs.Histories.{History}
 use Rattle.wire.specs.Lists.{Begins}
 use Rattle.spec_model.specs.Holdings.{order}
 use Rattle.spec_model.specs.Nodes.{Node, IsNode}
+use Rattle.spec_model.specs.States.{State}
+use Rattle.journal.specs.Areas.{Areas}
 use Rattle.spec_model.specs.Slots.{header_digest}
 use Rattle.spec_model.specs.Words.{Author, Digest, Event, HeaderBody, Output}
 use Rattle.header.specs.declared.admission.Admission.TheVariants.{New, Known}
 use Rattle.wire.specs.declared.output.Output.TheVariants as output
-use Rattle.spec_world.specs.World.{Outgoing, put_out, read, Given, World, taken_in, first_of, StandsFor, MayStop}
-use Rattle.spec_world.specs.Steps.{Move, IsRun}
+use Rattle.spec_world.specs.World.{Outgoing, put_out, read, Given, World, taken_in, StandsFor, MayStop}
+use Rattle.spec_world.specs.Steps.{Move, IsRecovered, IsRun}
 
 -- ---- votes
 
@@ -63,16 +65,7 @@ GoesOut node history (read digests) = digests ≡ order node history
 
 -- ---- the promise
 
--- what is found again: a legal history that begins what the run began with and accepted, and that what is settled begins. Of the
--- groups on their way it has the first one as a whole or not at all, and no other; where there is none it is what is settled
-pub record IsRecovered (node : Node) (world : World) (history : History) : Type 0 where
-  pub legal : IsLegal node history
-  pub accepted : Begins history (world.began ++ world.accepted)
-  pub settled : Begins (world.began ++ world.settled) history
-  pub whole : (history ≡ world.began ++ world.settled) ⊎ (history ≡ world.began ++ (world.settled ++ first_of world.groups))
-  pub without_group : world.groups ≡ [] → history ≡ world.began ++ world.settled
-
--- what this run took, which is what it settled and the groups on their way, it had accepted, in that order; all of it is a legal
+-- what this run took, which is what it settled and the groups in flight, it had accepted, in that order; all of it is a legal
 -- history, after what the run began with
 pub record IsInOrder (node : Node) (world : World) : Type 0 where
   pub taken : Begins (taken_in world) world.accepted
@@ -81,10 +74,9 @@ pub record IsInOrder (node : Node) (world : World) : Type 0 where
 -- what holds of each world: nothing that was given out is taken back, whatever a stop leaves now
 pub record NeverTakesBack (node : Node) (world : World) : Type 0 where
   pub in_order : IsInOrder node world
-  -- what a stop leaves stands for one history, which is recovered
-  pub stands : (bytes : List ℕ) → MayStop world bytes → (history : History) × StandsFor node bytes history
-  pub only : (bytes : List ℕ) (one other : History) → MayStop world bytes → StandsFor node bytes one → StandsFor node bytes other → one ≡ other
-  pub recovered : (bytes : List ℕ) (history : History) → MayStop world bytes → StandsFor node bytes history → IsRecovered node world history
+  -- what a stop leaves stands for the state of a recovered history, and for no other state
+  pub stands : (found : Areas) → MayStop world found → (history : History) × IsRecovered node world history × StandsFor node found (kept node history)
+  pub only : (found : Areas) (one other : State) → MayStop world found → StandsFor node found one → StandsFor node found other → one ≡ other
   -- what is settled holds the history of each thing given out, and with it the event that put it out
   pub held : (given : Given) → Contains world.given given → Begins given.history (world.began ++ world.settled)
   pub right : (given : Given) → Contains world.given given → GoesOut node given.history given.outgoing

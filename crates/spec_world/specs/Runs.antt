@@ -1,16 +1,25 @@
 -- That there are runs to speak of.
-use Rattle.std.specs.Prelude.{◌≡◌, ◌≤◌, ℕ, zero, suc, List, [], ◌∷◌, ◌++◌, length, take, map, All}
+use Rattle.std.specs.Prelude.{◌≡◌, ◌<◌, ◌≤◌, ◌+◌, ◌*◌, ◌^◌, ℕ, zero, suc, List, [], ◌∷◌, ◌++◌, length, take, map, All, Some, None, is_some}
+use Rattle.std.specs.Option.{option_map_or}
+use Rattle.diskmodel.specs.Outcomes.{AreBytes, state}
+use Rattle.spec_checkpoint.specs.Data.{Checkpoint, IsWritten}
+use Rattle.spec_checkpoint.specs.Meaning as checkpoint
+use Rattle.spec_checkpoint.specs.Records.{state_records}
+use Rattle.journal.specs.Areas.{Areas, alone, pair_of, other_side, rewrite_calls}
+use Rattle.journal.specs.declared.side.Side.TheVariants.{First}
 use Rattle.journal.specs.Format.{FitsGroup, file_with}
+use Rattle.journal.specs.Snapshot.{bytes_for, CanPack}
 use Rattle.journal.specs.Journal.{append_calls}
-use Rattle.journal.specs.declared.layout.TheConstants.{CLOSED}
+use Rattle.journal.specs.declared.layout.TheConstants.{CLOSED, OPEN}
 use Rattle.spec_model.specs.Admitting.{IsLegal}
+use Rattle.spec_model.specs.Giving.{kept}
 use Rattle.spec_model.specs.Histories.{History}
 use Rattle.spec_model.specs.Nodes.{Node, IsNode}
 use Rattle.spec_records.specs.Records.{record_of, configuration_of}
 use Rattle.journal.specs.declared.version.Version.TheVariants.{Second}
 use Rattle.wire.specs.Fields.{HasBytes}
-use Rattle.spec_world.specs.World.{not_begun, World, Holds, group_in, content_in, StandsFor, MayStop, run_on}
-use Rattle.spec_world.specs.Steps.{Move, take_to, device_call, settle, restart, group_to, IsStep, Leads, IsRun}
+use Rattle.spec_world.specs.World.{own, not_begun, Spare, World, Holds, IsCheckpointOf, Opened, alone_on, unwritten_in, group_in, content_in, StandsFor, MayStop, run_on}
+use Rattle.spec_world.specs.Steps.{Move, take_to, device_call, settle, take_all, spare_call, settle_all, restart, group_to, IsRecovered, IsStep, Leads, IsRun}
 
 -- each key has 32 bytes
 abbrev pub AreKeys : Node → Type 0
@@ -20,35 +29,49 @@ AreKeys node = All (λ key. HasBytes 32 key.0) node.charter.keys
 abbrev pub first_bytes : Node → List ℕ
 first_bytes node = file_with (CLOSED ∷ []) (configuration_of Second node.charter node.own ∷ [])
 
--- a run without moves leads to that, whatever the stakes are
+-- and of two that in the first one, and one closed gate in the second
+abbrev pub first_pair : Node → Opened
+first_pair node = record { bytes = first_bytes node; rest = Some (record { bytes = CLOSED ∷ []; side = First; generation = 0 }) }
+
+-- a run without moves leads to the one, whatever the stakes are, and one to the other
 abbrev pub RunsBegin : Type 0
-RunsBegin = (node : Node) → IsNode node → AreKeys node → IsRun node [] (run_on (first_bytes node) [] [])
+RunsBegin = (node : Node) → IsNode node → AreKeys node → IsRun node [] (run_on (alone_on (first_bytes node)) [] [])
+
+abbrev pub RunsBeginOnTwo : Type 0
+RunsBeginOnTwo = (node : Node) → IsNode node → AreKeys node → IsRun node [] (run_on (first_pair node) [] [])
+
+-- what a read of each disk gives
+abbrev pub areas_in : World → Areas
+areas_in world =
+    option_map_or (λ spare. pair_of spare.side (content_in world) (state spare.bytes_at_start spare.calls).content) world.spare (alone (content_in world))
 
 -- a stop is always possible: it may leave what a read gives
 abbrev pub StopsArePossible : Type 0
-StopsArePossible = (node : Node) (moves : List Move) (world : World) → IsNode node → IsRun node moves world → MayStop world (content_in world)
+StopsArePossible = (node : Node) (moves : List Move) (world : World) → IsNode node → IsRun node moves world → MayStop world (areas_in world)
 
--- whatever a stop leaves, a new run can begin on it
+-- whatever a stop leaves, a new run can begin on it, on as many disks
 abbrev pub RunsGoOn : Type 0
-RunsGoOn = (node : Node) (moves : List Move) (world : World) (found : List ℕ) → IsNode node → IsRun node moves world → MayStop world found
-    → (next : World) × IsStep node world (restart found) next
+RunsGoOn = (node : Node) (moves : List Move) (world : World) (found : Areas) → IsNode node → IsRun node moves world → MayStop world found
+    → (next : World) × IsStep node world (restart found) next × (is_some next.spare ≡ is_some world.spare)
 
--- and it begins with the history for which that stands
+-- and it begins with each recovered history for whose state that stands
 abbrev pub RunsBeginWithWhatStands : Type 0
-RunsBeginWithWhatStands = (node : Node) (moves : List Move) (world : World) (found : List ℕ) (history : History) → IsNode node → IsRun node moves world → MayStop world found
-    → StandsFor node found history → (next : World) × IsStep node world (restart found) next × (next.began ≡ history) × (next.given ≡ world.given)
+RunsBeginWithWhatStands = (node : Node) (moves : List Move) (world : World) (found : Areas) (history : History) → IsNode node → IsRun node moves world → MayStop world found
+    → IsRecovered node world history → StandsFor node found (kept node history)
+    → (next : World) × IsStep node world (restart found) next × (next.began ≡ history) × (next.given ≡ world.given) × (is_some next.spare ≡ is_some world.spare)
 
 -- a world in which a run of the node has just begun with this history
 pub record HasJustBegun (node : Node) (world : World) (history : History) : Type 0 where
   pub moves : List Move
   pub run : IsRun node moves world
-  pub is : world ≡ run_on world.bytes_at_start history world.given
+  pub on : Opened
+  pub is : world ≡ run_on on history world.given
 
 -- each legal history is one with which some run begins
 abbrev pub HistoriesBegin : Type 0
 HistoriesBegin = (node : Node) (history : History) → IsLegal node history → AreKeys node → (world : World) × HasJustBegun node world history
 
--- the accepted events up to so many are settled, no group is on its way, and the disk has what is settled, which is its file with one
+-- the accepted events up to so many are settled, no group is in flight, and the disk has what is settled, which is its file with one
 -- group more; nothing else changed
 pub record IsSettledTo (node : Node) (world : World) (count : ℕ) (next : World) : Type 0 where
   pub began : next.began ≡ world.began
@@ -58,10 +81,12 @@ pub record IsSettledTo (node : Node) (world : World) (count : ℕ) (next : World
   pub phase : next.phase ≡ not_begun
   pub waiting : next.waiting ≡ world.waiting
   pub given : next.given ≡ world.given
-  pub holds : Holds node (content_in next) (next.began ++ next.settled)
+  pub spare : next.spare ≡ world.spare
+  pub rewriting : next.rewriting ≡ world.rewriting
+  pub holds : Holds node (areas_in next) (kept node (next.began ++ next.settled))
   pub content : content_in next ≡ file_with (content_in world) (map record_of (group_to world count))
 
--- accepted events that fit a group can be settled where no group is on its way, by these moves
+-- accepted events that fit a group can be settled where no group is in flight, by these moves
 abbrev pub GroupsSettle : Type 0
 GroupsSettle = (node : Node) (moves : List Move) (world : World) (count : ℕ) → IsNode node → IsRun node moves world → world.groups ≡ [] → FitsGroup (map record_of (group_to world count))
     → (next : World) × Leads node world (take_to count ∷ device_call ∷ device_call ∷ device_call ∷ device_call ∷ settle ∷ []) next × IsSettledTo node world count next
@@ -71,7 +96,71 @@ abbrev pub device_calls : ℕ → List Move
 device_calls zero = []
 device_calls (suc count) = device_call ∷ device_calls count
 
--- the first device calls of an append are the first of the four that a journal makes of the disk to add the group, and there is no fifth
+-- with the accepted events up to so many as the only group in flight
+abbrev pub with_group : World → ℕ → World
+with_group world count = record world { groups = group_to world count ∷ [] }
+
+-- two groups are in flight, both written to their end, before the first of them is settled
+abbrev pub two_in_flight : ℕ → ℕ → List Move
+two_in_flight count more = take_to count ∷ (device_calls 4 ++ take_to more ∷ (device_calls 4 ++ settle ∷ settle ∷ []))
+
+-- the accepted events up to so many are settled, no group is in flight, and the disk has what is settled
+pub record AreSettledTo (node : Node) (world : World) (count : ℕ) (next : World) : Type 0 where
+  pub began : next.began ≡ world.began
+  pub accepted : next.accepted ≡ world.accepted
+  pub settled : next.settled ≡ take count world.accepted
+  pub groups : next.groups ≡ []
+  pub holds : Holds node (areas_in next) (kept node (next.began ++ next.settled))
+
+-- so accepted events that fit two groups can be settled, where no group is in flight
+abbrev pub TwoGroupsSettle : Type 0
+TwoGroupsSettle = (node : Node) (moves : List Move) (world : World) (count more : ℕ) → IsNode node → IsRun node moves world → world.groups ≡ []
+    → FitsGroup (map record_of (group_to world count)) → FitsGroup (map record_of (group_to (with_group world count) more))
+    → (next : World) × Leads node world (two_in_flight count more) next × AreSettledTo node world more next
+
+-- Device calls that follow one another are those of appends, four for each group that isn't written to its end. The first ones of an
+-- append are the first of the four that a journal makes of the disk to add the group.
 abbrev pub AppendsMakeCalls : Type 0
 AppendsMakeCalls = (node : Node) (world next : World) (count : ℕ) → world.phase ≡ not_begun → Leads node world (device_calls count) next
-    → (count ≤ 4) × (next.calls ≡ world.calls ++ take count (append_calls (length (content_in world)) (group_in world)))
+    → (count ≤ 4 * length (unwritten_in world)) × (count ≤ 4 → next.calls ≡ world.calls ++ take count (append_calls (length (content_in world)) (group_in world)))
+
+-- ---- checkpoints
+
+-- so many device calls of a rewriting
+abbrev pub spare_calls : ℕ → List Move
+spare_calls zero = []
+spare_calls (suc count) = spare_call ∷ spare_calls count
+
+-- all that was accepted is settled, no group and no rewriting is in flight, and the disks have changed places
+pub record IsAllSettled (node : Node) (world : World) (before : Spare) (bytes : List ℕ) (next : World) : Type 0 where
+  pub began : next.began ≡ world.began
+  pub accepted : next.accepted ≡ world.accepted
+  pub settled : next.settled ≡ world.accepted
+  pub groups : next.groups ≡ []
+  pub rewriting : next.rewriting ≡ None
+  pub waiting : next.waiting ≡ world.waiting
+  pub given : next.given ≡ world.given
+  -- the other disk is the one that was read
+  pub spare : next.spare ≡ Some (record { bytes_at_start = world.bytes_at_start; calls = world.calls; side = other_side before.side; generation = before.generation + 1 })
+  pub content : content_in next ≡ OPEN ∷ bytes
+  pub holds : Holds node (areas_in next) (kept node (next.began ++ next.settled))
+
+-- a checkpoint of all that was accepted can be settled on two disks where no group is in flight, by these moves
+abbrev pub CheckpointsSettle : Type 0
+CheckpointsSettle = (node : Node) (moves : List Move) (world : World) (spare : Spare) (bytes : List ℕ) → IsNode node → IsRun node moves world → world.groups ≡ []
+    → world.spare ≡ Some spare → IsCheckpointOf node (spare.generation + 1) (kept node (world.began ++ world.accepted)) bytes
+    → (next : World) × Leads node world (take_all bytes ∷ (spare_calls 8 ++ settle_all ∷ [])) next × IsAllSettled node world spare bytes next
+
+-- The first device calls of a rewriting are the first of the eight that a journal makes of the disk to rewrite it, and there is no ninth;
+-- the disk that is read stays as it is.
+abbrev pub RewritingsMakeCalls : Type 0
+RewritingsMakeCalls = (node : Node) (world next : World) (spare : Spare) (bytes : List ℕ) (count : ℕ) → world.spare ≡ Some spare
+    → world.rewriting ≡ Some (record { bytes = bytes; made = 0 }) → Leads node world (spare_calls count) next
+    → (count ≤ 8) × (next.spare ≡ Some (record spare { calls = spare.calls ++ take count (rewrite_calls bytes) })) × (next.calls ≡ world.calls)
+
+-- What a journal's rewriting writes behind the first gate is a checkpoint: of a snapshot whose records are the configuration and those of a
+-- state, each of which fits a group.
+abbrev pub SnapshotsAreCheckpoints : Type 0
+SnapshotsAreCheckpoints = (node : Node) (generation : ℕ) (kept_data : Checkpoint) → IsNode node → AreKeys node → 1 ≤ generation → generation < 2 ^ 64 → IsWritten node kept_data
+    → CanPack (own Second node ∷ state_records kept_data) → AreBytes (bytes_for generation (own Second node ∷ state_records kept_data))
+    → IsCheckpointOf node generation (checkpoint.state_in node kept_data) (bytes_for generation (own Second node ∷ state_records kept_data))

@@ -1,10 +1,10 @@
 -- That every text of a script is what some run gives out.
-use Rattle.std.specs.Prelude.{◌≡◌, ⊤, ℕ, List, [], ◌++◌, map, All, Contains}
+use Rattle.std.specs.Prelude.{◌≡◌, ⊤, List, [], ◌++◌, map, All, Contains}
 use Rattle.spec_model.specs.Admitting.{IsTaken}
 use Rattle.spec_model.specs.Giving.{kept}
 use Rattle.spec_model.specs.Histories.{History}
 use Rattle.spec_model.specs.Nodes.{Node, IsNode}
-use Rattle.spec_world.specs.World.{not_begun, Waiting, put_out, Given, World, run_on}
+use Rattle.spec_world.specs.World.{Opened, not_begun, Waiting, put_out, Given, World, run_on}
 use Rattle.spec_world.specs.Steps.{Move, Leads, IsRun}
 use Rattle.spec_world.specs.Text.{Command, take_in, Desk, desk_on, frames, text, desk_behind}
 
@@ -14,7 +14,7 @@ pub record IsAtDesk (node : Node) (world : World) (desk : Desk) : Type 0 where
   pub base : kept node world.began ≡ desk.base
   pub accepted : world.accepted ≡ desk.accepted
   pub settled : world.settled ≡ desk.settled
-  -- no group is on its way
+  -- no group is in flight
   pub groups : world.groups ≡ []
   pub phase : world.phase ≡ not_begun
   -- what waits at the desk waits in the world, where outputs stay when they have gone out
@@ -51,4 +51,4 @@ ScriptsAreRuns = (node : Node) (moves : List Move) (world : World) (desk : Desk)
 -- a run that has just begun stands at the desk on what is kept of its history: on an empty disk that is the one of no event, and after
 -- a stop that of what it left
 abbrev pub ScriptsBegin : Type 0
-ScriptsBegin = (node : Node) (bytes : List ℕ) (began : History) (given : List Given) → IsAtDesk node (run_on bytes began given) (desk_on (kept node began))
+ScriptsBegin = (node : Node) (on : Opened) (began : History) (given : List Given) → IsAtDesk node (run_on on began given) (desk_on (kept node began))

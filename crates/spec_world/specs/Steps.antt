@@ -1,8 +1,12 @@
 -- What may happen next in a world, and all that may have happened.
-use Rattle.std.specs.Prelude.{◌≡◌, ℕ, ◌+◌, ◌≤◌, List, [], ◌∷◌, ◌++◌, map, length, take, drop, Some, Contains}
+use Rattle.std.specs.Prelude.{◌≡◌, ◌⊎◌, ℕ, ◌+◌, ◌-◌, ◌≤◌, List, [], ◌∷◌, ◌++◌, map, length, take, drop, slice_get, None, Some, Contains}
 use Rattle.diskmodel.specs.declared.call.Call.{Call}
+use Rattle.journal.specs.Areas.{Areas, alone, pair, other_side, rewrite_calls}
 use Rattle.journal.specs.Format.{FitsGroup}
-use Rattle.spec_model.specs.Admitting.{admit, IsTaken}
+use Rattle.journal.specs.declared.side.Side.TheVariants.{First}
+use Rattle.wire.specs.Lists.{Begins}
+use Rattle.spec_model.specs.Admitting.{admit, IsTaken, IsLegal}
+use Rattle.spec_model.specs.Giving.{kept}
 use Rattle.spec_model.specs.Histories.{History}
 use Rattle.spec_model.specs.Holdings.{order}
 use Rattle.spec_model.specs.Nodes.{Node}
@@ -10,13 +14,15 @@ use Rattle.spec_model.specs.Words.{Event, Output}
 use Rattle.header.specs.declared.admission.Admission.{Admission}
 use Rattle.header.specs.declared.admission.Admission.TheVariants.{New, Known, Refused}
 use Rattle.spec_records.specs.Records.{record_of}
-use Rattle.spec_world.specs.World.{Phase, not_begun, group_written, group_synced, gate_opened, gate_synced, Waiting, Outgoing, put_out, read, World}
-use Rattle.spec_world.specs.World.{taken_in, first_of, StandsFor, IsOpened, next_call, MayStop, run_on}
+use Rattle.spec_world.specs.World.{Phase, not_begun, group_written, group_synced, gate_opened, Waiting, Outgoing, put_out, read, Spare, Rewriting, World}
+use Rattle.spec_world.specs.World.{taken_in, written_in, unwritten_in, first_of, StandsFor, IsCheckpointOf, IsOpened, Opened, alone_on, next_call, MayStop, run_on}
 
 -- ---- the moves
 
 -- what may happen: an event comes in; so many of the accepted events are taken, the last of them as a group; the append makes its next
--- device call; the first group is settled; an output goes out; the settled order is read; the machine stops, leaves these bytes, and they are opened
+-- device call; the first group in flight is settled; an output goes out; the settled order is read; all that is
+-- accepted is taken, for a checkpoint of these bytes; its rewriting makes its next device call; it is settled; the machine stops, leaves
+-- these areas, and they are opened
 pub data Move : Type 0 where
   accept : Event → Move
   take_to : ℕ → Move
@@ -24,7 +30,10 @@ pub data Move : Type 0 where
   settle : Move
   release : Waiting → Move
   read_order : Move
-  restart : List ℕ → Move
+  take_all : List ℕ → Move
+  spare_call : Move
+  settle_all : Move
+  restart : Areas → Move
 
 -- outputs, each with this ticket
 abbrev pub ticketed : ℕ → List Output → List Waiting
@@ -52,8 +61,12 @@ abbrev pub next_phase : Phase → Phase
 next_phase not_begun = group_written
 next_phase group_written = group_synced
 next_phase group_synced = gate_opened
-next_phase gate_opened = gate_synced
-next_phase other = other
+next_phase gate_opened = not_begun
+
+-- and how many groups are then written to their end, where it were so many: the last call is the sync after the gate's write
+abbrev pub next_written : Phase → ℕ → ℕ
+next_written gate_opened written = written + 1
+next_written _ written = written
 
 -- with one thing more given out
 abbrev pub with_given : World → Outgoing → History → World
@@ -68,7 +81,7 @@ pub record IsAccepted (node : Node) (world : World) (event : Event) (next : Worl
 abbrev pub group_to : World → ℕ → History
 group_to world count = drop (length (taken_in world)) (take count world.accepted)
 
--- so many of the accepted events are taken, and those that weren't are a group after the ones on their way: any that fits, not the
+-- so many of the accepted events are taken, and those that weren't are a group after the ones in flight: any that fits, not the
 -- longest one alone
 pub record IsTakenTo (world : World) (count : ℕ) (next : World) : Type 0 where
   pub fits : FitsGroup (map record_of (group_to world count))
@@ -78,12 +91,12 @@ pub record IsTakenTo (world : World) (count : ℕ) (next : World) : Type 0 where
 pub record IsCalled (world : World) (next : World) : Type 0 where
   pub call : Call
   pub due : next_call world ≡ Some call
-  pub is : next ≡ record world { calls = world.calls ++ call ∷ []; phase = next_phase world.phase }
+  pub is : next ≡ record world { calls = world.calls ++ call ∷ []; phase = next_phase world.phase; written = next_written world.phase world.written }
 
--- after the last device call the first group is settled, and the append of the next one can begin
+-- where a group is written to its end, the first one in flight is settled; the append of a later one may have begun
 pub record IsSettled (world : World) (next : World) : Type 0 where
-  pub done : world.phase ≡ gate_synced
-  pub is : next ≡ record world { settled = world.settled ++ first_of world.groups; groups = drop 1 world.groups; phase = not_begun }
+  pub done : 1 ≤ world.written
+  pub is : next ≡ record world { settled = world.settled ++ first_of world.groups; groups = drop 1 world.groups; written = world.written - 1 }
 
 -- an output goes out whose ticket is settled. It stays, so it may go out again: a node gives it once, which is one case of this
 pub record IsReleased (world : World) (waiting : Waiting) (next : World) : Type 0 where
@@ -91,13 +104,62 @@ pub record IsReleased (world : World) (waiting : Waiting) (next : World) : Type 
   pub ready : waiting.ticket ≤ length world.settled
   pub is : next ≡ with_given world (put_out waiting.output) (world.began ++ take waiting.ticket world.accepted)
 
--- a new run begins on what the stop left, with events for which that stands. Openings that fail, or are stopped themselves, belong to
--- the same step, as does an opening after a device call that failed; the bytes are any that are opened
-pub record IsRestarted (node : Node) (world : World) (found : List ℕ) (next : World) : Type 0 where
+-- all that is accepted is taken, where no group is in flight, and the rewriting of the other disk to the checkpoint of it begins
+pub record IsTakenAll (node : Node) (world : World) (bytes : List ℕ) (next : World) : Type 0 where
+  pub spare : Spare
+  pub pair : world.spare ≡ Some spare
+  pub idle : world.groups ≡ []
+  pub checkpoint : IsCheckpointOf node (spare.generation + 1) (kept node (world.began ++ world.accepted)) bytes
+  pub is : next ≡ record world { groups = drop (length world.settled) world.accepted ∷ []; rewriting = Some (record { bytes = bytes; made = 0 }) }
+
+-- the next device call of the rewriting is made, and does not fail
+pub record IsSpareCalled (world : World) (next : World) : Type 0 where
+  pub spare : Spare
+  pub pair : world.spare ≡ Some spare
+  pub rewriting : Rewriting
+  pub in_flight : world.rewriting ≡ Some rewriting
+  pub call : Call
+  pub due : slice_get (rewrite_calls rewriting.bytes) rewriting.made ≡ Some call
+  pub is : next ≡ record world {
+    spare = Some (record spare { calls = spare.calls ++ call ∷ [] });
+    rewriting = Some (record rewriting { made = rewriting.made + 1 });
+  }
+
+-- after its last device call all that it took is settled, and the disks change places: the one that was written is read from now on
+pub record IsSettledAll (world : World) (next : World) : Type 0 where
+  pub spare : Spare
+  pub pair : world.spare ≡ Some spare
+  pub rewriting : Rewriting
+  pub in_flight : world.rewriting ≡ Some rewriting
+  pub done : slice_get (rewrite_calls rewriting.bytes) rewriting.made ≡ None
+  pub is : next ≡ record world {
+    settled = world.settled ++ first_of world.groups;
+    groups = drop 1 world.groups;
+    bytes_at_start = spare.bytes_at_start;
+    calls = spare.calls;
+    spare = Some (record { bytes_at_start = world.bytes_at_start; calls = world.calls; side = other_side spare.side; generation = spare.generation + 1 });
+    rewriting = None;
+  }
+
+-- what is found again: a legal history that begins what the run began with and accepted, and that what is settled begins. Of the
+-- groups in flight it has those that are written to their end, the next one as a whole or not at all, and no other; where there is
+-- none it is what is settled
+pub record IsRecovered (node : Node) (world : World) (history : History) : Type 0 where
+  pub legal : IsLegal node history
+  pub accepted : Begins history (world.began ++ world.accepted)
+  pub settled : Begins (world.began ++ world.settled) history
+  pub whole : (history ≡ world.began ++ written_in world) ⊎ (history ≡ world.began ++ (written_in world ++ first_of (unwritten_in world)))
+  pub without_group : world.groups ≡ [] → history ≡ world.began ++ world.settled
+
+-- a new run begins on what the stop left, with a recovered history for whose state that stands. Openings that fail, or are stopped
+-- themselves, belong to the same step, as does an opening after a device call that failed; the bytes are any that are opened
+pub record IsRestarted (node : Node) (world : World) (found : Areas) (next : World) : Type 0 where
   pub left : MayStop world found
-  pub stands_for : StandsFor node found next.began
-  pub opened : IsOpened node next.bytes_at_start next.began
-  pub is : next ≡ run_on next.bytes_at_start next.began world.given
+  pub recovered : IsRecovered node world next.began
+  pub stands_for : StandsFor node found (kept node next.began)
+  pub on : Opened
+  pub opened : IsOpened node on (kept node next.began)
+  pub is : next ≡ run_on on next.began world.given
 
 abbrev pub IsStep : Node → World → Move → World → Type 0
 IsStep node world (accept event) next = IsAccepted node world event next
@@ -107,6 +169,9 @@ IsStep node world settle next = IsSettled world next
 IsStep node world (release waiting) next = IsReleased world waiting next
 IsStep node world read_order next =
     next ≡ with_given world (read (order node (world.began ++ world.settled))) (world.began ++ world.settled)
+IsStep node world (take_all bytes) next = IsTakenAll node world bytes next
+IsStep node world spare_call next = IsSpareCalled world next
+IsStep node world settle_all next = IsSettledAll world next
 IsStep node world (restart found) next = IsRestarted node world found next
 
 -- ---- runs
@@ -116,8 +181,19 @@ abbrev pub Leads : Node → World → List Move → World → Type 0
 Leads node world [] last = world ≡ last
 Leads node world (move ∷ moves) last = (next : World) × IsStep node world move next × Leads node next moves last
 
--- these moves lead to the world from a first one, which begins as after a stop that leaves an empty disk, with nothing given out
+-- one empty disk, or two
+abbrev pub nothing_on_one : Opened
+nothing_on_one = alone_on []
+
+abbrev pub nothing_on_two : Opened
+nothing_on_two = record { bytes = []; rest = Some (record { bytes = []; side = First; generation = 0 }) }
+
+-- a first world begins as after a stop that leaves empty disks, with nothing given out
+abbrev pub IsFirst : Node → World → Type 0
+IsFirst node first = IsRestarted node (run_on nothing_on_one [] []) (alone []) first ⊎ IsRestarted node (run_on nothing_on_two [] []) (pair [] []) first
+
+-- these moves lead to the world from a first one
 pub record IsRun (node : Node) (moves : List Move) (world : World) : Type 0 where
   pub first : World
-  pub begins : IsRestarted node (run_on [] [] []) [] first
+  pub begins : IsFirst node first
   pub leads : Leads node first moves world

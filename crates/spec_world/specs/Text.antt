@@ -16,11 +16,12 @@ use Rattle.wire.specs.Outputs.{frame_of}
 use Rattle.spec_world.specs.World.{Waiting}
 use Rattle.spec_world.specs.Steps.{ticketed}
 
--- what a node is told: an event comes in; what is pending is settled, as far as it fits a group; the machine stops, and the node is
--- opened again
+-- what a node is told: an event comes in; what is pending is settled, as far as it fits a group; all that is accepted is settled, by a
+-- checkpoint; the machine stops, and the node is opened again
 pub data Command : Type 0 where
   take_in : Event → Command
   flush : Command
+  checkpoint : Command
   stop : Command
 
 -- What there is between two commands: the base of this run, which is the state that it began with, the events that it accepted, those
@@ -75,6 +76,7 @@ flushed desk = record desk { settled = desk.settled ++ group_of (drop (length de
 unfoldable pub after : Node → Desk → Command → Desk
 after node desk (take_in event) = with_answer desk event (answered node (state_in node desk) event)
 after node desk flush = flushed desk
+after node desk checkpoint = record desk { settled = desk.accepted }
 after node desk stop = desk_on (settled_in node desk)
 
 -- ---- what is written

@@ -1,19 +1,28 @@
--- The world of one node over all its runs: what it accepted, what of that is on its disk, and what it gave out.
-use Rattle.std.specs.Prelude.{◌≡◌, ◌<◌, ℕ, ◌-◌, List, [], ◌∷◌, ◌++◌, map, length, drop, Option, Some, None, Ok, All}
+-- The world of one node over all its runs: what it accepted, what of that is on its disks, and what it gave out.
+use Rattle.std.specs.Prelude.{◌≡◌, ⊤, ℕ, ◌-◌, ◌<◌, List, [], ◌∷◌, ◌++◌, map, length, take, drop, slice_get, Option, Some, None, Result, Ok, All, IfSome}
 use Rattle.std.specs.List.{flat_map}
+use Rattle.std.specs.Option.{option_map, option_map_or, option_and_then}
 use Rattle.diskmodel.specs.Outcomes.{AreBytes, IsOutcome, state}
 use Rattle.diskmodel.specs.declared.call.Call.{Call}
 use Rattle.diskmodel.specs.declared.call.Call.TheVariants.{Wrote, Synced}
+use Rattle.journal.specs.Areas.{Areas, alone, pair, pair_of, tells, stands_in, head_record, IsAtRest, rewrite_calls}
 use Rattle.journal.specs.Format.{group_bytes, stands}
 use Rattle.journal.specs.Journal.{EndsClosed}
 use Rattle.journal.specs.declared.layout.TheConstants.{OPEN}
 use Rattle.journal.specs.declared.record.Record.{Record}
-use Rattle.spec_model.specs.Admitting.{IsTaken}
+use Rattle.journal.specs.declared.side.Side.{Side}
+use Rattle.spec_checkpoint.specs.Data.{Checkpoint, IsWritten}
+use Rattle.spec_checkpoint.specs.Meaning as checkpoint
+use Rattle.spec_checkpoint.specs.Records.{state_records}
+use Rattle.spec_machine.specs.After.{after_all, IsLegalAfter}
+use Rattle.spec_machine.specs.Machine.{fresh}
 use Rattle.spec_model.specs.Histories.{History}
 use Rattle.spec_model.specs.Nodes.{Node}
+use Rattle.spec_model.specs.States.{State}
 use Rattle.spec_model.specs.Words.{Digest, Output}
 use Rattle.spec_records.specs.Records.{record_of, configuration_of, CanTell}
 use Rattle.journal.specs.declared.version.Version.{Version}
+use Rattle.journal.specs.declared.version.Version.TheVariants.{Second}
 
 -- ---- what there is
 
@@ -25,10 +34,8 @@ pub data Phase : Type 0 where
   group_written : Phase
   -- that is synced
   group_synced : Phase
-  -- the gate was opened
+  -- the gate was opened: when that is synced, the group is written to its end, and the append of the next one can begin
   gate_opened : Phase
-  -- that is synced: the group is on the disk for good, and can be settled
-  gate_synced : Phase
 
 -- an output that waits until so many events of this run are settled
 pub record Waiting : Type 0 where
@@ -45,18 +52,36 @@ pub record Given : Type 0 where
   pub outgoing : Outgoing
   pub history : History
 
+-- of a node on two disks: the disk that isn't read, with its bytes when this run began, all of them firm, and its calls since; and the
+-- side and the generation of the area that is read
+pub record Spare : Type 0 where
+  pub bytes_at_start : List ℕ
+  pub calls : List Call
+  pub side : Side
+  pub generation : ℕ
+
+-- a rewriting in flight: the bytes of a checkpoint behind their first gate, and how many of its calls are made
+pub record Rewriting : Type 0 where
+  pub bytes : List ℕ
+  pub made : ℕ
+
 pub record World : Type 0 where
   -- the history with which this run began
   pub began : History
-  -- the events that this run accepted, oldest first; of these those that are settled on the disk, and after them the groups that were
-  -- taken and are on their way there, oldest first: the append is at the first of them
+  -- the events that this run accepted, oldest first; of these those that are settled, and after them the groups in flight, oldest first:
+  -- those that were taken and aren't settled. So many of these, from the first on, are written to their end; the append is at the next one.
+  -- Where a rewriting is in flight the first of the groups has the events that it settles, as many as there are
   pub accepted : History
   pub settled : History
   pub groups : List History
-  -- the disk: its bytes when this run began, all of them firm, and its calls since
+  pub written : ℕ
+  -- the disk that is read: its bytes when this run began, all of them firm, and its calls since
   pub bytes_at_start : List ℕ
   pub calls : List Call
   pub phase : Phase
+  -- the other disk of two, and what is written to it
+  pub spare : Option Spare
+  pub rewriting : Option Rewriting
   -- the outputs of this run's events, each with its ticket
   pub waiting : List Waiting
   -- all that was given out in all runs, oldest first
@@ -66,9 +91,17 @@ pub record World : Type 0 where
 abbrev pub events_of : List History → History
 events_of groups = flat_map (λ group. group) groups
 
--- all that was taken for the disk: what is settled there, and what is on its way
+-- all that was taken for the disk: what is settled, and what is in flight
 abbrev pub taken_in : World → History
 taken_in world = world.settled ++ events_of world.groups
+
+-- what is durable of that: what is settled, and the groups in flight that are written to their end
+abbrev pub written_in : World → History
+written_in world = world.settled ++ events_of (take world.written world.groups)
+
+-- the groups in flight that aren't written to their end
+abbrev pub unwritten_in : World → List History
+unwritten_in world = drop world.written world.groups
 
 -- the first of these groups; where there is none, no events
 abbrev pub first_of : List History → History
@@ -81,31 +114,65 @@ first_of (group ∷ groups) = group
 abbrev pub bytes_of : List Record → List (List ℕ)
 bytes_of records = map (λ kept. kept.bytes) records
 
--- the records of a node's journal in a version: its configuration, and then those of its events
-abbrev pub journal_of : Version → Node → History → List (List ℕ)
-journal_of version node history = configuration_of version node.charter node.own ∷ map record_of history
+-- the areas of two disks, of which one is read
+abbrev pub IsPair : Areas → Type 0
+IsPair (alone bytes) = ⊥
+IsPair (pair one other) = ⊤
 
--- the bytes of a disk are a journal of the node with these events, each as the node takes it, in a version that can tell the node's
--- committee: the first only where each stake is 1. The configuration is alone in the first group, whose gate is at place 0
-pub record Holds (node : Node) (bytes : List ℕ) (history : History) : Type 0 where
+-- What is read of a journal are these records, so many of them alone in the first group, and after them those of these events.
+pub record IsJournal (read : Result (List Record) ℕ) (front : List (List ℕ)) (in_first : ℕ) (events : History) : Type 0 where
   pub records : List Record
-  pub stands_for : stands bytes ≡ Ok records
-  pub version : Version
-  pub are : bytes_of records ≡ journal_of version node history
-  pub alone : All (λ kept. 0 < kept.gate) (drop 1 records)
-  pub each_taken : All (IsTaken node) history
-  pub can_tell : CanTell version node.charter
+  pub stands_for : read ≡ Ok records
+  pub are : bytes_of records ≡ front ++ map record_of events
+  pub first_gate : ℕ
+  pub first : All (λ kept. kept.gate ≡ first_gate) (take in_first records)
+  pub others : All (λ kept. first_gate < kept.gate) (drop in_first records)
 
--- the bytes of a disk stand for these events: they are a journal with them, or there is no record yet, and no event
-pub data StandsFor (node : Node) (bytes : List ℕ) (history : History) : Type 0 where
-  as_journal : Holds node bytes history → StandsFor node bytes history
-  as_new : stands bytes ≡ Ok [] → history ≡ [] → StandsFor node bytes history
+-- the record of a node's configuration in a version
+abbrev pub own : Version → Node → List ℕ
+own version node = configuration_of version node.charter node.own
 
--- ---- the disk
+-- The state with which a node's journal begins, by the records before its events, so many of them in the first group: the fresh state after
+-- the node's configuration alone, or, on two disks, that of a checkpoint after the configuration and a head. The version of the
+-- configuration can tell the node's committee: the first one can only where each stake is 1.
+pub data BeginsAs (node : Node) (areas : Areas) (front : List (List ℕ)) (in_first : ℕ) (base : State) : Type 0 where
+  as_fresh : (version : Version) → CanTell version node.charter → front ≡ own version node ∷ [] → in_first ≡ 1 → base ≡ fresh node → BeginsAs node areas front in_first base
+  as_checkpoint : (version : Version) (generation : ℕ) (kept : Checkpoint) → IsPair areas → CanTell version node.charter → IsWritten node kept
+      → front ≡ own version node ∷ head_record generation ∷ state_records kept → in_first ≡ 2 → base ≡ checkpoint.state_in node kept
+      → BeginsAs node areas front in_first base
 
--- the records of the first group on its way
+-- areas are a journal of the node at this state: they begin as a sound one, and the events after it are legal and lead to this one
+pub record Holds (node : Node) (areas : Areas) (state_held : State) : Type 0 where
+  pub front : List (List ℕ)
+  pub in_first : ℕ
+  pub base : State
+  pub begins : BeginsAs node areas front in_first base
+  pub events : History
+  pub journal : IsJournal (stands_in areas) front in_first events
+  pub legal : IsLegalAfter node base events
+  pub leads : after_all node base events ≡ state_held
+
+-- areas stand for this state: they are a journal at it, or there is no record yet, and it is the fresh one
+pub data StandsFor (node : Node) (areas : Areas) (state_held : State) : Type 0 where
+  as_journal : Holds node areas state_held → StandsFor node areas state_held
+  as_new : stands_in areas ≡ Ok [] → state_held ≡ fresh node → StandsFor node areas state_held
+
+-- Bytes behind an open gate are a checkpoint of this generation at this state: a journal in the newest version without events that begins
+-- as the checkpoint of the state, and ends with its closed gate.
+pub record IsCheckpointOf (node : Node) (generation : ℕ) (state_kept : State) (bytes : List ℕ) : Type 0 where
+  pub kept : Checkpoint
+  pub written : IsWritten node kept
+  pub is : checkpoint.state_in node kept ≡ state_kept
+  pub journal : IsJournal (stands (OPEN ∷ bytes)) (own Second node ∷ head_record generation ∷ state_records kept) 2 []
+  pub told : tells (OPEN ∷ bytes) ≡ Some (Some generation)
+  pub ends_closed : EndsClosed (OPEN ∷ bytes)
+  pub are_bytes : AreBytes bytes
+
+-- ---- the disks
+
+-- the records of the first group that isn't written to its end
 abbrev pub group_in : World → List (List ℕ)
-group_in world = map record_of (first_of world.groups)
+group_in world = map record_of (first_of (unwritten_in world))
 
 -- what a read of the disk gives
 abbrev pub content_in : World → List ℕ
@@ -118,31 +185,80 @@ call_in not_begun content group = Some (Wrote (length content) (group_bytes grou
 call_in group_written content group = Some Synced
 call_in group_synced content group = Some (Wrote (length content - length (group_bytes group) - 1) (OPEN ∷ []))
 call_in gate_opened content group = Some Synced
-call_in gate_synced content group = None
 
--- no call is due where no group is on its way
+-- no call is due where there is no group to write
 abbrev pub call_for : List History → Phase → List ℕ → Option Call
 call_for [] phase content = None
 call_for (group ∷ groups) phase content = call_in phase content (map record_of group)
 
+-- nor while a rewriting is in flight
 abbrev pub next_call : World → Option Call
-next_call world = call_for world.groups world.phase (content_in world)
+next_call world = option_map_or (λ rewriting. None) world.rewriting (call_for (unwritten_in world) world.phase (content_in world))
 
--- what a stop may leave now: what it may leave after the calls so far, or after the next call too, which it then came into. A call
--- that fails is such a stop: it may have had any part of its effect, and the disk is opened again
-pub data MayStop (world : World) (found : List ℕ) : Type 0 where
-  between : IsOutcome world.bytes_at_start world.calls found → MayStop world found
-  inside : (call : Call) → next_call world ≡ Some call → IsOutcome world.bytes_at_start (world.calls ++ call ∷ []) found → MayStop world found
+-- the next device call of a rewriting. So never is a call due at both disks
+abbrev pub next_spare_call : World → Option Call
+next_spare_call world = option_and_then (λ rewriting. slice_get (rewrite_calls rewriting.bytes) rewriting.made) world.rewriting
+
+-- What a stop may leave now of a disk with these calls, and this one due: what it may leave after the calls so far, or after the next call
+-- too, which it then came into. A call that fails is such a stop: it may have had any part of its effect, and the disk is opened again.
+pub data MayLeave (bytes : List ℕ) (calls : List Call) (next : Option Call) (found : List ℕ) : Type 0 where
+  between : IsOutcome bytes calls found → MayLeave bytes calls next found
+  inside : (call : Call) → next ≡ Some call → IsOutcome bytes (calls ++ call ∷ []) found → MayLeave bytes calls next found
+
+-- what a stop may leave now: of each disk one of these
+pub data MayStop (world : World) (areas : Areas) : Type 0 where
+  of_one : (found : List ℕ) → world.spare ≡ None → MayLeave world.bytes_at_start world.calls (next_call world) found → areas ≡ alone found → MayStop world areas
+  of_pair : (spare : Spare) (live other : List ℕ) → world.spare ≡ Some spare → MayLeave world.bytes_at_start world.calls (next_call world) live
+      → MayLeave spare.bytes_at_start spare.calls (next_spare_call world) other → areas ≡ pair_of spare.side live other → MayStop world areas
 
 -- ---- how a run begins
 
--- a run that has just begun on a disk with these bytes
-abbrev pub run_on : List ℕ → History → List Given → World
-run_on bytes began given =
-    record { began = began; accepted = []; settled = []; groups = []; bytes_at_start = bytes; calls = []; phase = not_begun; waiting = []; given = given }
+-- the disk that isn't read, as an opening leaves it, with the side and the generation of the area that is
+pub record Rest : Type 0 where
+  pub bytes : List ℕ
+  pub side : Side
+  pub generation : ℕ
 
--- a disk as an opening leaves it, all firm: bytes that are a journal of the node with these events, and end with their closed gate
-pub record IsOpened (node : Node) (bytes : List ℕ) (history : History) : Type 0 where
-  pub holds : Holds node bytes history
-  pub ends_closed : EndsClosed bytes
-  pub are_bytes : AreBytes bytes
+-- what an opening leaves of one disk, or of two
+pub record Opened : Type 0 where
+  pub bytes : List ℕ
+  pub rest : Option Rest
+
+abbrev pub alone_on : List ℕ → Opened
+alone_on bytes = record { bytes = bytes; rest = None }
+
+abbrev pub areas_of : Opened → Areas
+areas_of opened = option_map_or (λ rest. pair_of rest.side opened.bytes rest.bytes) opened.rest (alone opened.bytes)
+
+abbrev pub spare_on : Rest → Spare
+spare_on rest = record { bytes_at_start = rest.bytes; calls = []; side = rest.side; generation = rest.generation }
+
+-- a run that has just begun on disks with these bytes
+abbrev pub run_on : Opened → History → List Given → World
+run_on opened began given = record {
+  began = began;
+  accepted = [];
+  settled = [];
+  groups = [];
+  written = 0;
+  bytes_at_start = opened.bytes;
+  calls = [];
+  phase = not_begun;
+  spare = option_map spare_on opened.rest;
+  rewriting = None;
+  waiting = [];
+  given = given;
+}
+
+-- the other disk is at rest, beside an area that is read with these bytes
+pub record IsRest (bytes : List ℕ) (rest : Rest) : Type 0 where
+  pub told : tells bytes ≡ Some (Some rest.generation)
+  pub at_rest : IsAtRest rest.generation rest.bytes
+  pub are_bytes : AreBytes rest.bytes
+
+-- disks as an opening leaves them, all firm: they are a journal of the node at this state, and the one that is read ends with its closed gate
+pub record IsOpened (node : Node) (opened : Opened) (state_held : State) : Type 0 where
+  pub holds : Holds node (areas_of opened) state_held
+  pub ends_closed : EndsClosed opened.bytes
+  pub are_bytes : AreBytes opened.bytes
+  pub rest : IfSome opened.rest (IsRest opened.bytes)

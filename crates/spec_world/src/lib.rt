@@ -4,7 +4,7 @@
 
 ghost use Rattle.spec_world.specs.Lasting.{SettledGrows, GivenStays, EventsCameIn, GivenVotesAreSettled, GivenOrdersAreSettled};
 ghost use Rattle.spec_world.specs.Promise.{NothingTakenBack, WhatGoesOutAgrees};
-ghost use Rattle.spec_world.specs.Runs.{RunsBegin, StopsArePossible, RunsGoOn, RunsBeginWithWhatStands, HistoriesBegin, GroupsSettle, AppendsMakeCalls};
+ghost use Rattle.spec_world.specs.Runs.{RunsBegin, RunsBeginOnTwo, StopsArePossible, RunsGoOn, RunsBeginWithWhatStands, HistoriesBegin, GroupsSettle, TwoGroupsSettle, AppendsMakeCalls, CheckpointsSettle, SnapshotsAreCheckpoints, RewritingsMakeCalls};
 ghost use Rattle.spec_world.specs.Scripts.{ScriptsAreRuns, ScriptsBegin};
 
 /// Over every list of runs of one node, in every interleaving of accepts, takes, writes, syncs, settlements and
@@ -21,7 +21,12 @@ pub fn runs_begin()
     ensures { RunsBegin }
 {}
 
-/// A stop is possible in each of these worlds: it may leave what a read of the disk gives.
+/// And such runs begin on what an opening leaves of two empty disks.
+pub fn runs_begin_on_two()
+    ensures { RunsBeginOnTwo }
+{}
+
+/// A stop is possible in each of these worlds: it may leave what a read of each disk gives.
 pub fn stops_are_possible()
     ensures { StopsArePossible }
 {}
@@ -31,7 +36,7 @@ pub fn runs_go_on()
     ensures { RunsGoOn }
 {}
 
-/// That run begins with the history for which the bytes stand, and nothing that was given out is forgotten.
+/// That run begins with each recovered history for whose state the areas stand, and nothing that was given out is forgotten.
 pub fn runs_begin_with_what_stands()
     ensures { RunsBeginWithWhatStands }
 {}
@@ -42,15 +47,37 @@ pub fn histories_begin()
     ensures { HistoriesBegin }
 {}
 
-/// Accepted events that fit a group can be settled, where no group is on its way: taken, written, synced, their gate opened
+/// Accepted events that fit a group can be settled, where no group is in flight: taken, written, synced, their gate opened
 /// and synced. The disk then has what is settled, and nothing else changed.
 pub fn groups_settle()
     ensures { GroupsSettle }
 {}
 
+/// Several groups can be in flight: a second one can be taken and written before the first is settled, and then both are
+/// settled.
+pub fn two_groups_settle()
+    ensures { TwoGroupsSettle }
+{}
+
 /// The four device calls of an append are those that `Journal::append` makes of its disk.
 pub fn appends_make_calls()
     ensures { AppendsMakeCalls }
+{}
+
+/// A checkpoint of all that was accepted can be settled on two disks, where no group is in flight: all is taken, the other
+/// disk is rewritten by eight calls, and the disks change places.
+pub fn checkpoints_settle()
+    ensures { CheckpointsSettle }
+{}
+
+/// What `Journal::rewrite` writes of a snapshot is a checkpoint: of the configuration and the records of a state.
+pub fn snapshots_are_checkpoints()
+    ensures { SnapshotsAreCheckpoints }
+{}
+
+/// The eight device calls of a rewriting are those that `Journal::rewrite` makes of the other disk.
+pub fn rewritings_make_calls()
+    ensures { RewritingsMakeCalls }
 {}
 
 /// What is settled only grows, over each step and each stop.
