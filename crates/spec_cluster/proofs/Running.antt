@@ -6,7 +6,7 @@ use Rattle.wire.specs.Lists.{Begins}
 use Rattle.spec_laws.proofs.Lists.{Contains-nothing, Contains-cases}
 use Rattle.spec_model.specs.Words.{Event}
 use Rattle.spec_world.specs.World.{World}
-use Rattle.spec_world.specs.Steps.{Move, accept, IsStep, IsRun, IsFirst, take_all, spare_call, settle_all}
+use Rattle.spec_world.specs.Steps.{Move, accept, IsStep, IsRun, IsFirst}
 use Rattle.spec_world.specs.Steps as one
 use Rattle.spec_world.proofs.Beginning.{runs_begin}
 use Rattle.spec_world.proofs.Lasting.{given_stays}

@@ -1,6 +1,6 @@
 -- That runs go on: what a stop leaves can be opened, and what is accepted can be settled.
 use Rattle.std.proofs.Common.{◌≡◌, ℕ, zero, suc, ◌+◌, ◌-◌, ◌*◌, ◌≤◌, List, [], ◌∷◌, ◌++◌, length, map, take, drop, inr, Option, Some, None, refl, ap, sym, ◌∙◌, subst, arith, append_assoc, length-drop}
-use Rattle.std.proofs.lemmas.List.{append-nil, length-map}
+use Rattle.std.proofs.lemmas.List.{append-nil, drop_all, length-map}
 use Rattle.std.proofs.lemmas.Option.{same_Some, none-some}
 use Rattle.diskmodel.specs.Disk.{written}
 use Rattle.diskmodel.specs.Outcomes.{AreBytes, CanLeave, State, after, firmed, state}
@@ -11,7 +11,7 @@ use Rattle.diskmodel.proofs.Torn.{length-written}
 use Rattle.journal.specs.Format.{FitsGroup, file_with, group_bytes}
 use Rattle.journal.specs.Areas.{Areas, alone, pair_of, other_side, rewrite_calls}
 use Rattle.std.specs.Option.{option_map_or}
-use Rattle.std.specs.Prelude.{slice_get}
+use Rattle.std.specs.Prelude.{◌==◌, ◌<◌, false, slice_get}
 use Rattle.spec_model.specs.Giving.{kept}
 use Rattle.diskmodel.proofs.Calls.{possible_firm}
 use Rattle.journal.specs.Journal.{EndsClosed, append_calls}
@@ -21,15 +21,15 @@ use Rattle.spec_model.specs.Nodes.{Node}
 use Rattle.spec_records.specs.Records.{record_of}
 use Rattle.spec_world.specs.World.{Phase, not_begun, group_written, group_synced, gate_opened, World, Holds, events_of, written_in, unwritten_in, first_of}
 use Rattle.spec_world.specs.World.{group_in, content_in, call_in, call_for, as_journal, MayStop, of_one, of_pair, between, run_on, IsOpened, Spare, Rewriting}
-use Rattle.spec_world.specs.Steps.{Move, take_to, device_call, settle, take_all, spare_call, settle_all, IsTakenAll, IsSpareCalled, IsSettledAll, group_to, IsTakenTo, IsCalled, next_phase, next_written, Leads}
-use Rattle.spec_world.specs.Runs.{StopsArePossible, RunsGoOn, RunsBeginWithWhatStands, GroupsSettle, TwoGroupsSettle, two_in_flight, device_calls, spare_calls, areas_in, CheckpointsSettle, RewritingsMakeCalls, AppendsMakeCalls}
+use Rattle.spec_world.specs.Steps.{Move, take_to, device_call, settle, take_all, spare_call, IsTakenAll, with_spare_call, with_rewritten, after_spare_call, replaced, IsSpareCalled, group_to, IsTakenTo, IsCalled, next_phase, next_written, Leads}
+use Rattle.spec_world.specs.Runs.{StopsArePossible, RunsGoOn, RunsBeginWithWhatStands, RunsBeginAtStates, GroupsSettle, TwoGroupsSettle, two_in_flight, device_calls, spare_calls, areas_in, CheckpointsSettle, RewritingsMakeCalls, AppendsMakeCalls}
 use Rattle.spec_world.proofs.Bytes.{group_in_bytes}
 use Rattle.spec_world.proofs.Disks.{stage_of, called, read_possible}
 use Rattle.spec_world.proofs.Groups.{take_none, taken_more}
-use Rattle.spec_world.proofs.Law.{stands_there, run_stands}
-use Rattle.spec_world.proofs.Moving.{due_alone, none_written, none_begun, spare_at, beside_at, rewriting_at, pending_parts, step_stands, all_stand}
+use Rattle.spec_world.proofs.Law.{stands_there, run_stands, nothing_taken_back}
+use Rattle.spec_world.proofs.Moving.{IsCallOfEight, eighth, earlier, of_eight, not_eighth, due_alone, none_written, none_begun, spare_at, beside_at, rewriting_at, pending_parts, step_stands, all_stand}
 use Rattle.spec_world.proofs.Recovering.{stands_once}
-use Rattle.spec_world.proofs.Rewriting.{get_inside, last_state, spare_possible}
+use Rattle.spec_world.proofs.Rewriting.{get_inside, made_more, last_state, spare_possible}
 use Rattle.spec_world.proofs.Standing.{Stands, areas_with, IsSpareAt, none_rewritten, fresh_disk, left, group_events, begun_many}
 
 -- ---- a run begins on what a stop left
@@ -53,13 +53,20 @@ runs_begin_with_what_stands node moves world found history sound run may recover
       begun_many is_left.on.rest ∙ is_left.as_many,
     )
 
+pub runs_begin_at_states : RunsBeginAtStates
+runs_begin_at_states node moves world found state_found sound run may stands_for =
+    let never = nothing_taken_back node moves world sound run in
+    let is = never.stands found may in
+    let there = runs_begin_with_what_stands node moves world found is.0 sound run may is.1 is.2 in
+    (there.0, there.1, ap (kept node) there.2 ∙ never.only found (kept node is.0) state_found may is.2 stands_for, there.3, there.4)
+
 -- ---- a stop is always possible
 
 spare_read : (node : Node) (history : History) (groups : List History) (written : ℕ) (phase : Phase) (spare : Spare) (rewriting : Option Rewriting) (rest : List ℕ)
     → IsSpareAt node history groups written phase (Some spare) rewriting rest → AreBytes rest → CanLeave (state spare.bytes_at_start spare.calls) (state spare.bytes_at_start spare.calls).content
 spare_read node history groups written phase spare None rest is are = subst (λ (s : State). CanLeave s s.content) (sym is) (possible_firm rest are)
 spare_read node history groups written phase spare (Some rewriting) rest is are =
-    subst (λ (s : State). CanLeave s s.content) (sym is.disk) (spare_possible rest rewriting.bytes rewriting.made is.few are is.checkpoint.are_bytes)
+    subst (λ (s : State). CanLeave s s.content) (sym is.disk) (spare_possible rest rewriting.bytes rewriting.made (omega (arith, is.few)) are is.checkpoint.are_bytes)
 
 may_read : (node : Node) (world : World) (at : Stands node world) (spare : Option Spare) → world.spare ≡ spare
     → MayStop world (option_map_or (λ s. pair_of s.side (content_in world) (state s.bytes_at_start s.calls).content) spare (alone (content_in world)))
@@ -235,6 +242,11 @@ two_groups_settle node moves world count more sound run none fits also =
         accepted = refl;
         settled = all;
         groups = refl;
+        phase = refl;
+        waiting = refl;
+        given = refl;
+        spare = refl;
+        rewriting = refl;
         holds = idle_holds node last then refl;
       },
     )
@@ -248,8 +260,10 @@ rewriting_in one spare bytes calls made = record one { spare = Some (record spar
 pub checkpoints_settle : CheckpointsSettle
 checkpoints_settle node moves world spare bytes sound run none pair checkpoint =
     let at = run_stands node moves world sound run in
+    let idle = none_begun node world at none in
+    let zero_written = none_written node world at none in
     let pending = drop (length world.settled) world.accepted in
-    let one : World = record world { groups = pending ∷ []; rewriting = Some (record { bytes = bytes; made = 0 }) } in
+    let one : World = record world { groups = pending ∷ []; written = 0; phase = not_begun; rewriting = Some (record { bytes = bytes; made = 0 }) } in
     let c1 = spare.calls ++ Wrote 0 (0 ∷ []) ∷ [] in
     let c2 = c1 ++ Synced ∷ [] in
     let c3 = c2 ++ Cut 1 ∷ [] in
@@ -258,22 +272,31 @@ checkpoints_settle node moves world spare bytes sound run none pair checkpoint =
     let c6 = c5 ++ Synced ∷ [] in
     let c7 = c6 ++ Wrote 0 (1 ∷ []) ∷ [] in
     let c8 = c7 ++ Synced ∷ [] in
-    let nine = rewriting_in one spare bytes c8 8 in
-    let last : World = record nine {
-      settled = world.settled ++ pending;
-      groups = [];
-      bytes_at_start = spare.bytes_at_start;
-      calls = c8;
-      spare = Some (record { bytes_at_start = world.bytes_at_start; calls = world.calls; side = other_side spare.side; generation = spare.generation + 1 });
-      rewriting = None;
-    } in
-    let made : (calls : List Call) (count : ℕ) (call : Call) → slice_get (rewrite_calls bytes) count ≡ Some call
+    let eight = rewriting_in one spare bytes c7 7 in
+    let nine = with_rewritten eight (record spare { calls = c7 }) Synced in
+    let last : World = record nine { settled = world.settled ++ pending; groups = []; written = 0 } in
+    let made : (calls : List Call) (count : ℕ) (call : Call) → slice_get (rewrite_calls bytes) count ≡ Some call → (count + 1 == 8) ≡ false
     → IsSpareCalled (rewriting_in one spare bytes calls count) (rewriting_in one spare bytes (calls ++ call ∷ []) (count + 1)) =
-    λ calls count call due. record { spare = record spare { calls = calls }; pair = refl; rewriting = record { bytes = bytes; made = count }; in_flight = refl; call = call; due = due; is = refl } in
+    λ calls count call due more. record {
+      spare = record spare { calls = calls };
+      pair = refl;
+      rewriting = record { bytes = bytes; made = count };
+      in_flight = refl;
+      call = call;
+      due = due;
+      is = not_eighth (rewriting_in one spare bytes calls count) (record spare { calls = calls }) (record { bytes = bytes; made = count }) call more;
+    } in
     let first : IsSpareCalled one (rewriting_in one spare bytes c1 1) =
     record { spare = spare; pair = pair; rewriting = record { bytes = bytes; made = 0 }; in_flight = refl; call = Wrote 0 (0 ∷ []); due = refl; is = refl } in
-    let taken : IsTakenAll node world bytes one = record { spare = spare; pair = pair; idle = none; checkpoint = checkpoint; is = refl } in
-    let calls : (end : World) (rest : List Move) → Leads node nine rest end → Leads node world (take_all bytes ∷ spare_call ∷ spare_call ∷ spare_call ∷ spare_call ∷ spare_call ∷ spare_call ∷ spare_call ∷ spare_call ∷ rest) end =
+    let taken : IsTakenAll node world bytes one =
+    record {
+      spare = spare;
+      pair = pair;
+      idle = none;
+      checkpoint = checkpoint;
+      is = λ i. record world { groups = pending ∷ []; written = sym zero_written i; phase = sym idle i; rewriting = Some (record { bytes = bytes; made = 0 }) };
+    } in
+    let calls : (end : World) (rest : List Move) → Leads node eight rest end → Leads node world (take_all bytes ∷ spare_call ∷ spare_call ∷ spare_call ∷ spare_call ∷ spare_call ∷ spare_call ∷ spare_call ∷ rest) end =
     λ end rest more. (
       one,
       taken,
@@ -282,24 +305,20 @@ checkpoints_settle node moves world spare bytes sound run none pair checkpoint =
         first,
         (
           rewriting_in one spare bytes c2 2,
-          made c1 1 Synced refl,
+          made c1 1 Synced refl refl,
           (
             rewriting_in one spare bytes c3 3,
-            made c2 2 (Cut 1) refl,
+            made c2 2 (Cut 1) refl refl,
             (
               rewriting_in one spare bytes c4 4,
-              made c3 3 Synced refl,
+              made c3 3 Synced refl refl,
               (
                 rewriting_in one spare bytes c5 5,
-                made c4 4 (Wrote 1 bytes) refl,
+                made c4 4 (Wrote 1 bytes) refl refl,
                 (
                   rewriting_in one spare bytes c6 6,
-                  made c5 5 Synced refl,
-                  (
-                    rewriting_in one spare bytes c7 7,
-                    made c6 6 (Wrote 0 (1 ∷ [])) refl,
-                    (nine, made c7 7 Synced refl, more),
-                  ),
+                  made c5 5 Synced refl refl,
+                  (eight, made c6 6 (Wrote 0 (1 ∷ [])) refl refl, more),
                 ),
               ),
             ),
@@ -307,13 +326,15 @@ checkpoints_settle node moves world spare bytes sound run none pair checkpoint =
         ),
       ),
     ) in
-    let settled : IsSettledAll nine last =
-    record { spare = record spare { calls = c8 }; pair = refl; rewriting = record { bytes = bytes; made = 8 }; in_flight = refl; done = refl; is = refl } in
-    let leads = calls last (settle_all ∷ []) (last, settled, refl) in
-    let at_nine = all_stand node (take_all bytes ∷ spare_call ∷ spare_call ∷ spare_call ∷ spare_call ∷ spare_call ∷ spare_call ∷ spare_call ∷ spare_call ∷ []) world nine at (calls nine [] refl) in
-    let is = rewriting_at node nine at_nine (record spare { calls = c8 }) refl (record { bytes = bytes; made = 8 }) refl in
-    let whole : state spare.bytes_at_start c8 ≡ firmed (1 ∷ bytes) = is.disk ∙ last_state at_nine.rest bytes in
-    let then = all_stand node (take_all bytes ∷ (spare_calls 8 ++ settle_all ∷ [])) world last at leads in (
+    let eighth_call : IsSpareCalled eight nine =
+    record { spare = record spare { calls = c7 }; pair = refl; rewriting = record { bytes = bytes; made = 7 }; in_flight = refl; call = Synced; due = refl; is = refl } in
+    let leads : Leads node world (take_all bytes ∷ (spare_calls 8 ++ settle ∷ [])) last =
+    calls last (spare_call ∷ settle ∷ []) (nine, eighth_call, (last, record { done = omega arith; is = refl {a = last} }, refl {a = last})) in
+    let at_eight = all_stand node (take_all bytes ∷ spare_call ∷ spare_call ∷ spare_call ∷ spare_call ∷ spare_call ∷ spare_call ∷ spare_call ∷ []) world eight at (calls eight [] refl) in
+    let is = rewriting_at node eight at_eight (record spare { calls = c7 }) refl (record { bytes = bytes; made = 7 }) refl in
+    let whole : state spare.bytes_at_start c8 ≡ firmed (1 ∷ bytes) =
+    after_all-push (firmed spare.bytes_at_start) c7 Synced ∙ made_more at_eight.rest bytes 7 (state spare.bytes_at_start c7) Synced is.disk refl ∙ last_state at_eight.rest bytes in
+    let then = all_stand node (take_all bytes ∷ (spare_calls 8 ++ settle ∷ [])) world last at leads in (
       last,
       leads,
       record {
@@ -321,6 +342,7 @@ checkpoints_settle node moves world spare bytes sound run none pair checkpoint =
         accepted = refl;
         settled = pending_parts node world at;
         groups = refl;
+        phase = refl;
         rewriting = refl;
         waiting = refl;
         given = refl;
@@ -337,34 +359,91 @@ drop_here [] n x is = absurd (none-some x is)
 drop_here (y ∷ xs) zero x is = ap (λ (z : _). z ∷ xs) (same_Some y x is)
 drop_here (y ∷ xs) (suc n) x is = drop_here xs n x is
 
--- after so many of them others are made
-rewriting_calls : (node : Node) (count made : ℕ) (world next : World) (spare : Spare) (bytes : List ℕ) → made ≤ 8 → world.spare ≡ Some spare → world.rewriting ≡ Some (record { bytes = bytes; made = made })
-    → Leads node world (spare_calls count) next
-    → (made + count ≤ 8) × (next.spare ≡ Some (record spare { calls = spare.calls ++ take count (drop made (rewrite_calls bytes)) })) × (next.calls ≡ world.calls)
-rewriting_calls node zero made world next spare bytes few pair in_flight leads =
-    (omega (arith, few), ap (λ (w : World). w.spare) (sym leads) ∙ pair ∙ ap (λ (l : List Call). Some (record spare { calls = l })) (sym (append-nil spare.calls)), ap (λ (w : World). w.calls) (sym leads))
-rewriting_calls node (suc count) made world next spare bytes few pair in_flight leads =
-    let step = leads.1 in
-    let one = leads.0 in
-    let same_spare : step.spare ≡ spare = same_Some step.spare spare (sym step.pair ∙ pair) in
-    let same_rewriting : step.rewriting ≡ record { bytes = bytes; made = made } = same_Some step.rewriting (record { bytes = bytes; made = made }) (sym step.in_flight ∙ in_flight) in
-    let due : slice_get (rewrite_calls bytes) made ≡ Some step.call = ap (λ (r : Rewriting). slice_get (rewrite_calls r.bytes) r.made) (sym same_rewriting) ∙ step.due in
-    let inside = get_inside (rewrite_calls bytes) made step.call due in
-    let now : Spare = record spare { calls = spare.calls ++ step.call ∷ [] } in
-    let next_made : made + 1 ≡ suc made = omega arith in
-    let pair_now : one.spare ≡ Some now = ap (λ (w : World). w.spare) step.is ∙ ap (λ (s : Spare). Some (record s { calls = s.calls ++ step.call ∷ [] })) same_spare in
-    let in_flight_now : one.rewriting ≡ Some (record { bytes = bytes; made = suc made }) =
-    ap (λ (w : World). w.rewriting) step.is ∙ ap (λ (r : Rewriting). Some (record r { made = r.made + 1 })) same_rewriting ∙ ap (λ (n : ℕ). Some (record { bytes = bytes; made = n })) next_made in
-    let more = rewriting_calls node count (suc made) one next now bytes (omega (arith, inside)) pair_now in_flight_now leads.2 in
-    let all : (spare.calls ++ step.call ∷ []) ++ take count (drop (suc made) (rewrite_calls bytes)) ≡ spare.calls ++ take (suc count) (drop made (rewrite_calls bytes)) =
-    append_assoc spare.calls (step.call ∷ []) (take count (drop (suc made) (rewrite_calls bytes)))
-    ∙ ap (λ (l : List Call). spare.calls ++ take (suc count) l) (sym (drop_here (rewrite_calls bytes) made step.call due)) in
-    (omega (arith, more.0), more.1 ∙ ap (λ (l : List Call). Some (record spare { calls = l })) all, more.2 ∙ ap (λ (w : World). w.calls) step.is)
+-- after the last one there is none
+calls_ended : (node : Node) (count : ℕ) (one next : World) → one.rewriting ≡ None → Leads node one (spare_calls count) next → (count ≡ 0) × (one ≡ next)
+calls_ended node zero one next none leads = (refl, leads)
+calls_ended node (suc count) one next none leads = absurd (none-some leads.1.rewriting (sym none ∙ leads.1.in_flight))
+
+-- what the calls of a rewriting come to when there are so many in all, if these are yet to be made
+record AreMade (world : World) (spare : Spare) (count all : ℕ) (due : List Call) (next : World) : Type 0 where
+  pub within : all ≤ 8
+  pub before : all < 8 → (next.spare ≡ Some (record spare { calls = spare.calls ++ take count due })) × (next.calls ≡ world.calls)
+  pub ended : all ≡ 8 → (next.bytes_at_start ≡ spare.bytes_at_start) × (next.calls ≡ spare.calls ++ due) × (next.spare ≡ Some (replaced world spare))
+
+module _ (node : Node) (bytes : List ℕ) where
+  rewriting_calls : (count made : ℕ) (world next : World) (spare : Spare) → made < 8 → world.spare ≡ Some spare → world.rewriting ≡ Some (record { bytes = bytes; made = made })
+      → Leads node world (spare_calls count) next → AreMade world spare count (made + count) (drop made (rewrite_calls bytes)) next
+  rewriting_calls zero made world next spare few pair in_flight leads = record {
+    within = omega (arith, few);
+    before = λ less. (
+      ap (λ (w : World). w.spare) (sym leads) ∙ pair ∙ ap (λ (l : List Call). Some (record spare { calls = l })) (sym (append-nil spare.calls)),
+      ap (λ (w : World). w.calls) (sym leads),
+    );
+    ended = λ all. absurd (omega (arith, few, all));
+  }
+  rewriting_calls (suc count) made world next spare few pair in_flight leads =
+      let step = leads.1 in
+      let one = leads.0 in
+      let same_spare : step.spare ≡ spare = same_Some step.spare spare (sym step.pair ∙ pair) in
+      let same_rewriting : step.rewriting ≡ record { bytes = bytes; made = made } = same_Some step.rewriting (record { bytes = bytes; made = made }) (sym step.in_flight ∙ in_flight) in
+      let due : slice_get (rewrite_calls bytes) made ≡ Some step.call = ap (λ (r : Rewriting). slice_get (rewrite_calls r.bytes) r.made) (sym same_rewriting) ∙ step.due in
+      let is : one ≡ after_spare_call world spare (record { bytes = bytes; made = made }) step.call =
+      step.is ∙ (λ i. after_spare_call world (same_spare i) (same_rewriting i) step.call) in
+      after_one one step.call due (of_eight world spare (record { bytes = bytes; made = made }) step.call one due is) leads.2
+      (λ now less pair_now in_flight_now. rewriting_calls count (suc made) one next now (omega (arith, less)) pair_now in_flight_now leads.2)
+    where
+      after_one : (one : World) (call : Call) → slice_get (rewrite_calls bytes) made ≡ Some call → IsCallOfEight world spare (record { bytes = bytes; made = made }) call one
+          → Leads node one (spare_calls count) next
+          → ((now : Spare) → made + 1 < 8 → one.spare ≡ Some now → one.rewriting ≡ Some (record { bytes = bytes; made = suc made })
+          → AreMade one now count (suc made + count) (drop (suc made) (rewrite_calls bytes)) next)
+          → AreMade world spare (suc count) (made + suc count) (drop made (rewrite_calls bytes)) next
+      after_one one call due (eighth last is) leads again =
+          let end = calls_ended node count one next (ap (λ (w : World). w.rewriting) is) leads in
+          let same : next ≡ with_rewritten world spare call = sym end.1 ∙ is in
+          let those : call ∷ [] ≡ drop made (rewrite_calls bytes) =
+          ap (λ (l : List Call). call ∷ l) (sym (drop_all (suc made) (rewrite_calls bytes) (omega (arith, last)))) ∙ sym (drop_here (rewrite_calls bytes) made call due) in
+          record {
+            within = omega (arith, last, end.0);
+            before = λ less. absurd (omega (arith, last, less));
+            ended = λ all. (
+              ap (λ (w : World). w.bytes_at_start) same,
+              ap (λ (w : World). w.calls) same ∙ ap (λ (l : List Call). spare.calls ++ l) those,
+              ap (λ (w : World). w.spare) same,
+            );
+          }
+      after_one one call due (earlier less is) leads again =
+          let now : Spare = record spare { calls = spare.calls ++ call ∷ [] } in
+          let next_made : made + 1 ≡ suc made = omega arith in
+          let more = again now less (ap (λ (w : World). w.spare) is) (ap (λ (w : World). w.rewriting) is ∙ ap (λ (n : ℕ). Some (record { bytes = bytes; made = n })) next_made) in
+          let rest = drop (suc made) (rewrite_calls bytes) in
+          let here : drop made (rewrite_calls bytes) ≡ call ∷ rest = drop_here (rewrite_calls bytes) made call due in
+          let joined : (l : List Call) → (spare.calls ++ call ∷ []) ++ l ≡ spare.calls ++ call ∷ l = λ l. append_assoc spare.calls (call ∷ []) l in
+          let read : one.calls ≡ world.calls = ap (λ (w : World). w.calls) is in
+          record {
+            within = omega (arith, more.within);
+            before = λ few. let then = more.before (omega (arith, few)) in (
+              then.0 ∙ ap (λ (l : List Call). Some (record spare { calls = l })) (joined (take count rest) ∙ ap (λ (l : List Call). spare.calls ++ take (suc count) l) (sym here)),
+              then.1 ∙ read,
+            );
+            ended = λ all. let then = more.ended (omega (arith, all)) in (
+              then.0,
+              then.1 ∙ joined rest ∙ ap (λ (l : List Call). spare.calls ++ l) (sym here),
+              then.2 ∙ (λ i. Some (record {
+                bytes_at_start = ap (λ (w : World). w.bytes_at_start) is i;
+                calls = read i;
+                side = other_side spare.side;
+                generation = spare.generation + 1;
+              })),
+            );
+          }
 
 pub rewritings_make_calls : RewritingsMakeCalls
 rewritings_make_calls node world next spare bytes count pair in_flight leads =
-    let is = rewriting_calls node count 0 world next spare bytes (omega arith) pair in_flight leads in
-    (omega (arith, is.0), is.1, is.2)
+    let is = rewriting_calls node bytes count 0 world next spare (omega arith) pair in_flight leads in (
+      omega (arith, is.within),
+      λ less. is.before (omega (arith, less)),
+      λ all. let then = is.ended (omega (arith, all)) in record { bytes_at_start = then.0; calls = then.1; spare = then.2 },
+    )
 
 -- ---- the calls of an append
 
@@ -512,8 +591,13 @@ first_calls node world next (suc (suc (suc (suc zero)))) begun leads few =
     at_last leads.2.2.2.0 next _ leads.2.2.2.2 (made_four world leads.0 begun leads.1 leads.2.0 leads.2.1 leads.2.2.0 leads.2.2.1 leads.2.2.2.0 leads.2.2.2.1)
 first_calls node world next (suc (suc (suc (suc (suc count))))) begun leads few = absurd (omega (arith, few))
 
+-- the other disk stays
+spare_stays : (node : Node) (count : ℕ) (world next : World) → Leads node world (device_calls count) next → next.spare ≡ world.spare
+spare_stays node zero world next leads = ap (λ (w : World). w.spare) (sym leads)
+spare_stays node (suc count) world next leads = spare_stays node count leads.0 next leads.2 ∙ ap (λ (w : World). w.spare) leads.1.is
+
 pub appends_make_calls : AppendsMakeCalls
 unfolding calls_made
 appends_make_calls node world next count begun leads =
     let none : calls_made world.phase ≡ 0 = ap calls_made begun in
-    (omega (arith, none, few_calls node count world next (omega (arith, none)) leads), first_calls node world next count begun leads)
+    (omega (arith, none, few_calls node count world next (omega (arith, none)) leads), first_calls node world next count begun leads, spare_stays node count world next leads)

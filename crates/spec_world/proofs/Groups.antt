@@ -75,6 +75,17 @@ first_written count groups some =
     let next : count ≡ suc (count - 1) = omega (arith, some) in
     ap (λ n. events_of (take n groups)) next ∙ take_first (count - 1) groups
 
+-- the groups after the next one
+drop_more : (count : ℕ) (groups : List History) → drop 1 (drop count groups) ≡ drop (suc count) groups
+drop_more zero groups = refl
+drop_more (suc count) [] = refl
+drop_more (suc count) (group ∷ groups) = drop_more count groups
+
+pub drop_next : (count : ℕ) (groups : List History) → drop 1 (drop count groups) ≡ drop (count + 1) groups
+drop_next count groups =
+    let next : suc count ≡ count + 1 = omega arith in
+    drop_more count groups ∙ ap (λ n. drop n groups) next
+
 -- where the first is settled, the same aren't written
 drop_first : (before : ℕ) (groups : List History) → drop before (drop 1 groups) ≡ drop (suc before) groups
 drop_first before [] = drop_none before

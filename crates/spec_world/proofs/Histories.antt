@@ -6,15 +6,16 @@ use Rattle.header.specs.declared.admission.Admission.TheVariants.{New, Known, Re
 use Rattle.journal.specs.Format.{FitsGroup}
 use Rattle.spec_laws.proofs.Legal.{Adds, legal-induction}
 use Rattle.spec_model.specs.Admitting.{admit, is_new, IsLegal}
+use Rattle.spec_model.specs.Giving.{kept}
 use Rattle.spec_model.specs.Histories.{History}
 use Rattle.spec_model.specs.Nodes.{Node, IsNode}
 use Rattle.spec_model.specs.Words.{Event}
 use Rattle.spec_records.specs.Records.{record_of}
-use Rattle.spec_world.specs.World.{World, alone_on, events_of, taken_in, run_on}
-use Rattle.spec_world.specs.Steps.{Move, accept, take_to, device_call, settle, restart, with_new, group_to, IsAnswered, Leads, IsRun}
+use Rattle.spec_world.specs.World.{World, StandsFor, alone_on, events_of, taken_in, run_on}
+use Rattle.spec_world.specs.Steps.{Move, accept, take_to, device_call, settle, restart, with_new, group_to, IsAnswered, IsRecovered, IsRestarted, Leads, IsRun}
 use Rattle.spec_world.specs.Runs.{areas_in, AreKeys, first_bytes, HistoriesBegin}
 use Rattle.spec_world.proofs.Beginning.{runs_begin}
-use Rattle.spec_world.proofs.GoingOn.{stops_are_possible, runs_begin_with_what_stands, groups_settle}
+use Rattle.spec_world.proofs.GoingOn.{stops_are_possible, groups_settle}
 use Rattle.spec_world.proofs.Law.{nothing_taken_back}
 use Rattle.spec_world.proofs.Scripts.{run_more}
 use Rattle.spec_world.proofs.Sizes.{event_fits}
@@ -88,7 +89,7 @@ all_settled node history legal keys =
     (λ so_far event adds settled. one_more node so_far event legal.sound adds settled) history legal
 
 pub histories_begin : HistoriesBegin
-histories_begin node history legal keys =
+histories_begin node history on legal keys opened =
     let settled = all_settled node history legal keys in
     let world = settled.world in
     let found = areas_in world in
@@ -98,13 +99,13 @@ histories_begin node history legal keys =
     let never = nothing_taken_back node settled.moves world sound settled.run in
     let is = never.stands found may in
     let same : is.0 ≡ history = is.1.without_group settled.idle ∙ all in
-    let there = runs_begin_with_what_stands node settled.moves world found is.0 sound settled.run may is.1 is.2 in
-    let next = there.0 in (
-      next,
-      record {
-        moves = settled.moves ++ restart found ∷ [];
-        run = run_more node settled.moves (restart found ∷ []) world next settled.run (next, there.1, refl);
-        on = there.1.on;
-        is = there.1.is ∙ (λ i. run_on there.1.on ((there.2 ∙ same) i) (sym there.3 i));
-      },
-    )
+    let next = run_on on history world.given in
+    let restarted : IsRestarted node world found next = record {
+      left = may;
+      recovered = subst (IsRecovered node world) same is.1;
+      stands_for = subst (λ h. StandsFor node found (kept node h)) same is.2;
+      on = on;
+      opened = opened;
+      is = refl;
+    } in
+    (world.given, settled.moves ++ restart found ∷ [], run_more node settled.moves (restart found ∷ []) world next settled.run (next, restarted, refl))

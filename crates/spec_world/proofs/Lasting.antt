@@ -17,12 +17,12 @@ use Rattle.spec_model.specs.Words.{Event, Header}
 use Rattle.header.specs.declared.admission.Admission.{Admission}
 use Rattle.header.specs.declared.admission.Admission.TheVariants.{New, Known, Refused}
 use Rattle.spec_world.specs.World.{World, Given, first_of}
-use Rattle.spec_world.specs.Steps.{Move, accept, take_to, device_call, settle, release, read_order, take_all, spare_call, settle_all, restart, IsFirst, IsAnswered, IsStep, Leads}
+use Rattle.spec_world.specs.Steps.{Move, accept, take_to, device_call, settle, release, read_order, take_all, spare_call, restart, IsFirst, IsAnswered, IsStep, Leads}
 use Rattle.spec_world.specs.Promise.{Ballot}
 use Rattle.spec_world.specs.Lasting.{settled_in, SettledGrows, GivenStays, EventsCameIn, GivenVotesAreSettled, GivenOrdersAreSettled}
 use Rattle.spec_world.proofs.Ballots.{voted_for}
 use Rattle.spec_world.proofs.Law.{run_stands, first_empty, first_stands, vote_there, legal_at, kept}
-use Rattle.spec_world.proofs.Moving.{step_stands}
+use Rattle.spec_world.proofs.Moving.{spare_call_keeps, step_stands}
 use Rattle.spec_world.proofs.Orders.{begins_same, begins_trans, begins_join, order_of}
 use Rattle.spec_world.proofs.Standing.{Stands, settled_legal}
 
@@ -46,10 +46,7 @@ step_settled node world settle next at step =
 step_settled node world (release waiting) next at step = same_settled world next (ap (λ (w : World). w.began) step.is) (ap (λ (w : World). w.settled) step.is)
 step_settled node world read_order next at step = same_settled world next (ap (λ (w : World). w.began) step) (ap (λ (w : World). w.settled) step)
 step_settled node world (take_all bytes) next at step = same_settled world next (ap (λ (w : World). w.began) step.is) (ap (λ (w : World). w.settled) step.is)
-step_settled node world spare_call next at step = same_settled world next (ap (λ (w : World). w.began) step.is) (ap (λ (w : World). w.settled) step.is)
-step_settled node world settle_all next at step =
-    let grown = begins_join world.began world.settled (world.settled ++ first_of world.groups) (record { rest = first_of world.groups; parts = refl }) in
-    subst (λ (w : World). Begins (settled_in world) (settled_in w)) (sym step.is) grown
+step_settled node world spare_call next at step = let keeps = spare_call_keeps world next step in same_settled world next keeps.0 keeps.2
 step_settled node world (restart found) next at step =
     let none : next.settled ≡ [] = ap (λ (w : World). w.settled) step.is in
     let all : next.began ≡ settled_in next = sym (append-nil next.began) ∙ ap (λ (l : History). next.began ++ l) (sym none) in
@@ -79,8 +76,7 @@ given_stays node world settle next step = same_given world next (ap (λ (w : Wor
 given_stays node world (release waiting) next step = one_given world next _ (ap (λ (w : World). w.given) step.is)
 given_stays node world read_order next step = one_given world next _ (ap (λ (w : World). w.given) step)
 given_stays node world (take_all bytes) next step = same_given world next (ap (λ (w : World). w.given) step.is)
-given_stays node world spare_call next step = same_given world next (ap (λ (w : World). w.given) step.is)
-given_stays node world settle_all next step = same_given world next (ap (λ (w : World). w.given) step.is)
+given_stays node world spare_call next step = same_given world next (spare_call_keeps world next step).3
 given_stays node world (restart found) next step = same_given world next (ap (λ (w : World). w.given) step.is)
 
 -- ---- each event came in by a move
@@ -113,8 +109,7 @@ step_events node world (release waiting) next event at step inside = same_events
     (ap (λ (w : World). w.began) step.is) (ap (λ (w : World). w.accepted) step.is) inside
 step_events node world read_order next event at step inside = same_events world next read_order event (ap (λ (w : World). w.began) step) (ap (λ (w : World). w.accepted) step) inside
 step_events node world (take_all bytes) next event at step inside = same_events world next (take_all bytes) event (ap (λ (w : World). w.began) step.is) (ap (λ (w : World). w.accepted) step.is) inside
-step_events node world spare_call next event at step inside = same_events world next spare_call event (ap (λ (w : World). w.began) step.is) (ap (λ (w : World). w.accepted) step.is) inside
-step_events node world settle_all next event at step inside = same_events world next settle_all event (ap (λ (w : World). w.began) step.is) (ap (λ (w : World). w.accepted) step.is) inside
+step_events node world spare_call next event at step inside = let keeps = spare_call_keeps world next step in same_events world next spare_call event keeps.0 keeps.1 inside
 step_events node world (restart found) next event at step inside =
     let all : next.began ++ next.accepted ≡ next.began = (λ i. next.began ++ ap (λ (w : World). w.accepted) step.is i) ∙ append-nil next.began in
     let begins = step.recovered.accepted in

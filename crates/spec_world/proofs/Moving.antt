@@ -1,7 +1,8 @@
 -- Each step keeps what holds of the world.
 use Rattle.std.proofs.Common.{◌≡◌, ◌⊎◌, inl, inr, ℕ, suc, ◌+◌, ◌-◌, ◌<◌, ◌≤◌, List, [], ◌∷◌, ◌++◌, map, length, take, drop, Option, Some, None, refl, ap, sym, ◌∙◌, subst, arith, append_assoc, length-take, length-drop, take-append-drop}
-use Rattle.std.specs.Prelude.{All}
+use Rattle.std.specs.Prelude.{◌≢◌, ◌==◌, All, Bool, true, false, if◌then◌else◌, slice_get}
 use Rattle.std.proofs.lemmas.List.{take_all as all_taken, take-append-le, drop-append-le, drop_all, drop_at, append-nil, length_push, length-map}
+use Rattle.std.proofs.lemmas.Bool.{cases_Bool, eqb-true, eq-eqb, true≢false}
 use Rattle.std.proofs.lemmas.Option.{none-some}
 use Rattle.std.proofs.lemmas.List.Elements.{All-nil, All-cons, All-append, All-push, All-map, All-weaker, All-contains, All-drop}
 use Rattle.diskmodel.specs.declared.call.Call.{Call}
@@ -19,18 +20,18 @@ use Rattle.header.specs.declared.admission.Admission.{Admission}
 use Rattle.header.specs.declared.admission.Admission.TheVariants.{New, Known, Refused}
 use Rattle.spec_records.specs.Records.{record_of}
 use Rattle.spec_world.specs.World.{Phase, not_begun, gate_opened, Waiting, Outgoing, put_out, read, World, Holds, events_of, taken_in, written_in, unwritten_in, first_of, group_in, content_in, call_in, call_for, next_call, Spare, Rewriting, IsCheckpointOf}
-use Rattle.spec_world.specs.Steps.{Move, accept, take_to, device_call, settle, release, read_order, take_all, spare_call, settle_all, restart, IsTakenAll, IsSpareCalled, IsSettledAll, ticketed, with_new, with_known}
+use Rattle.spec_world.specs.Steps.{Move, accept, take_to, device_call, settle, release, read_order, take_all, spare_call, restart, IsTakenAll, with_spare_call, with_rewritten, after_spare_call, replaced, IsSpareCalled, ticketed, with_new, with_known}
 use Rattle.spec_world.specs.Steps.{with_given, IsAnswered, IsTakenTo, IsCalled, IsSettled, IsReleased, IsRestarted, next_phase, next_written, group_to, IsStep}
 use Rattle.spec_world.specs.Steps.{Leads}
 use Rattle.spec_world.proofs.Answered.{new_put, known_put}
 use Rattle.spec_world.proofs.Bytes.{group_in_bytes, longer_bytes}
 use Rattle.spec_world.proofs.Disks.{Stage, stage_of, stage_after, IsAt, FitsAsGroup, due_first, called, longer_stands, longer_ends, whole_keeps, IsNextStage, last_stage, earlier_stage, next_stage}
-use Rattle.spec_world.proofs.Groups.{with_first, events_split, take_next, take_none, some_after, first_written, same_unwritten, taken_more}
+use Rattle.spec_world.proofs.Groups.{with_first, events_split, take_next, take_none, some_after, first_written, same_unwritten, drop_next, taken_more}
 use Rattle.spec_world.proofs.Orders.{begins_same, begins_trans, begins_join, shorter_begins, IsPut, IsEnded}
 use Rattle.spec_world.proofs.Recovering.{holds_more}
 use Rattle.spec_world.proofs.Standing.{IsDue, IsKept, Stands, IsAtRestBeside, IsBeside, IsRewritingAt, IsSpareAt, to_append, areas_with, side_of, spare_same, none_rewritten, fit_to_write}
 use Rattle.spec_world.proofs.Standing.{settled_accepted, first_between, legal_between, group_events, pair_is, pair_stays, reads_live, beside_older, fresh_disk, checkpoint_holds, begins_standing}
-use Rattle.spec_world.proofs.Rewriting.{keeps_telling, get_inside, get_outside, made_state, last_state, made_more}
+use Rattle.spec_world.proofs.Rewriting.{keeps_telling, get_inside, made_state, last_state, made_more}
 use Rattle.journal.specs.Areas.{Areas, pair_of, other_side, tells, stands_at, stands_in, IsAtRest, rewrite_calls}
 use Rattle.journal.proofs.Telling.{at_rest_older, both_older}
 use Rattle.spec_laws.proofs.Legal.{legal-begins}
@@ -152,11 +153,12 @@ spare_taken node began settled groups more written phase (Some spare) (Some rewr
   some = omega (arith, is.some, length_push groups more);
 }
 
-fits_taken : (rewriting : Option Rewriting) (groups : List History) (more : History) → (rewriting ≡ None) ⊎ (1 ≤ length groups) → All FitsAsGroup (to_append rewriting groups) → FitsAsGroup more
-    → All FitsAsGroup (to_append rewriting (groups ++ more ∷ []))
-fits_taken None groups more some fits also = All-push FitsAsGroup groups more fits also
-fits_taken (Some rewriting) [] more some fits also = elim some [ inl none ↦ absurd (none-some rewriting (sym none)) | inr long ↦ absurd (omega (arith, long)) ]
-fits_taken (Some rewriting) (group ∷ groups) more some fits also = All-push FitsAsGroup groups more fits also
+fits_taken : (rewriting : Option Rewriting) (written : ℕ) (groups : List History) (more : History) → written ≤ length groups → (rewriting ≡ None) ⊎ (1 ≤ length groups)
+    → All FitsAsGroup (to_append rewriting written groups) → FitsAsGroup more → All FitsAsGroup (to_append rewriting written (groups ++ more ∷ []))
+fits_taken None written groups more within some fits also =
+    subst (All FitsAsGroup) (sym (drop-append-le written groups (more ∷ []) within)) (All-push FitsAsGroup (drop written groups) more fits also)
+fits_taken (Some rewriting) written [] more within some fits also = elim some [ inl none ↦ absurd (none-some rewriting (sym none)) | inr long ↦ absurd (omega (arith, long)) ]
+fits_taken (Some rewriting) written (group ∷ groups) more within some fits also = All-push FitsAsGroup groups more fits also
 
 some_more : (groups : List History) (more : History) → groups ++ more ∷ [] ≡ [] → ⊥
 some_more [] more none = cc
@@ -178,7 +180,7 @@ take_stands node world next count at step =
       holds = subst (λ (l : List History). Holds node (areas_with world.spare at.file at.rest) (kept node (world.began ++ (world.settled ++ events_of l)))) (sym written) at.holds;
       disk = subst (λ (l : List History). IsAt (stage_of world.phase) (state world.bytes_at_start world.calls) at.file (map record_of (first_of l))) (sym unwritten)
           (taken_at (unwritten_in world) world.phase (state world.bytes_at_start world.calls) at.file more at.idle at.disk);
-      fits = fits_taken world.rewriting world.groups more
+      fits = fits_taken world.rewriting world.written world.groups more at.within
           (some_rewritten node world.spare world.rewriting at.rest _ world.groups world.written world.phase at.spare) at.fits step.fits;
       rest = at.rest;
       beside = at.beside;
@@ -223,6 +225,12 @@ longer_holds node world at fits =
     (reads_live spare longer at.rest (beside_older spare longer at.rest (longer_beside node world at fits)))
     at.ends_closed (longer_stands at.file at.ends_closed (group_in world) fits)
     (subst (IsLegal node) (sym joined) (legal_between node world (world.began ++ with_first world) at (first_between node world at))))
+
+-- where one group more is durable, the others fit
+fits_next : (rewriting : Option Rewriting) (written : ℕ) (groups : List History) → rewriting ≡ None → All FitsAsGroup (to_append rewriting written groups)
+    → All FitsAsGroup (to_append rewriting (written + 1) groups)
+fits_next None written groups none fits = subst (All FitsAsGroup) (drop_next written groups) (All-drop FitsAsGroup 1 (drop written groups) fits)
+fits_next (Some rewriting) written groups none fits = absurd (none-some rewriting (sym none))
 
 -- a device call before the last of an append, or the last one
 module _ (node : Node) (world : World) (at : Stands node world) (step_call : Call) (due : next_call world ≡ Some step_call) where
@@ -283,7 +291,7 @@ module _ (node : Node) (world : World) (at : Stands node world) (step_call : Cal
         beside = longer_beside node world at first.0;
         spare = spare_same node world.spare world.rewriting at.rest _ _ world.groups world.groups world.written (world.written + 1) world.phase not_begun alone_due.0 at.spare;
         disk = whole;
-        fits = at.fits;
+        fits = fits_next world.rewriting world.written world.groups alone_due.0 at.fits;
         idle = λ none. refl;
         waiting = at.waiting;
         given = at.given;
@@ -299,9 +307,10 @@ module _ (node : Node) (world : World) (at : Stands node world) (step_call : Cal
 call_stands : (node : Node) (world next : World) → Stands node world → IsCalled world next → Stands node next
 call_stands node world next at step = subst (Stands node) (sym step.is) (call_made node world at step.call step.due (next_stage world.phase))
 
-others_fit : (rewriting : Option Rewriting) (groups : List History) → rewriting ≡ None → All FitsAsGroup (to_append rewriting groups) → All FitsAsGroup (to_append rewriting (drop 1 groups))
-others_fit None groups none all = All-drop FitsAsGroup 1 groups all
-others_fit (Some rewriting) groups none all = absurd (none-some rewriting (sym none))
+others_fit : (rewriting : Option Rewriting) (written : ℕ) (groups : List History) → 1 ≤ written → rewriting ≡ None → All FitsAsGroup (to_append rewriting written groups)
+    → All FitsAsGroup (to_append rewriting (written - 1) (drop 1 groups))
+others_fit None written groups some none all = subst (All FitsAsGroup) (sym (same_unwritten written groups some)) all
+others_fit (Some rewriting) written groups some none all = absurd (none-some rewriting (sym none))
 
 settle_stands : (node : Node) (world next : World) → Stands node world → IsSettled world next → Stands node next
 settle_stands node world next at step =
@@ -326,7 +335,7 @@ settle_stands node world next at step =
       beside = at.beside;
       spare = spare_same node world.spare world.rewriting at.rest _ _ world.groups (drop 1 world.groups) world.written (world.written - 1) world.phase world.phase none at.spare;
       disk = subst (λ (l : List History). IsAt (stage_of world.phase) (state world.bytes_at_start world.calls) at.file (map record_of (first_of l))) (sym unwritten) at.disk;
-      fits = others_fit world.rewriting world.groups none at.fits;
+      fits = others_fit world.rewriting world.written world.groups step.done none at.fits;
       idle = λ none. at.idle (sym unwritten ∙ none);
       waiting = at.waiting;
       given = All-weaker (IsKept node (world.began ++ world.settled)) (IsKept node (world.began ++ settled))
@@ -411,88 +420,133 @@ take_all_stands node world bytes next at step =
       given = at.given;
     })
 
+-- a device call of a rewriting is the last one, which ends it, or an earlier one
+pub data IsCallOfEight (world : World) (spare : Spare) (rewriting : Rewriting) (call : Call) (next : World) : Type 0 where
+  eighth : rewriting.made + 1 ≡ 8 → next ≡ with_rewritten world spare call → IsCallOfEight world spare rewriting call next
+  earlier : rewriting.made + 1 < 8 → next ≡ with_spare_call world spare rewriting call → IsCallOfEight world spare rewriting call next
+
+pub of_eight : (world : World) (spare : Spare) (rewriting : Rewriting) (call : Call) (next : World) → slice_get (rewrite_calls rewriting.bytes) rewriting.made ≡ Some call
+    → next ≡ after_spare_call world spare rewriting call → IsCallOfEight world spare rewriting call next
+of_eight world spare rewriting call next due is =
+    let inside : rewriting.made < 8 = get_inside (rewrite_calls rewriting.bytes) rewriting.made call due in
+    let chosen : (last : Bool) → (rewriting.made + 1 == 8) ≡ last → next ≡ (if last then with_rewritten world spare call else with_spare_call world spare rewriting call) =
+    λ last same. is ∙ ap (λ (b : Bool). if b then with_rewritten world spare call else with_spare_call world spare rewriting call) same in
+    elim (cases_Bool (rewriting.made + 1 == 8)) [
+      | inl same ↦ eighth (eqb-true (rewriting.made + 1) 8 same) (chosen true same)
+      | inr differs ↦
+          let other : rewriting.made + 1 ≢ 8 = λ same. true≢false (sym (eq-eqb (rewriting.made + 1) 8 same) ∙ differs) in
+          earlier (omega (arith, inside, other)) (chosen false differs)
+    ]
+
+pub not_eighth : (world : World) (spare : Spare) (rewriting : Rewriting) (call : Call) → (rewriting.made + 1 == 8) ≡ false
+    → with_spare_call world spare rewriting call ≡ after_spare_call world spare rewriting call
+not_eighth world spare rewriting call more = ap (λ (b : Bool). if b then with_rewritten world spare call else with_spare_call world spare rewriting call) (sym more)
+
+-- it keeps these
+pub spare_call_keeps : (world next : World) → IsSpareCalled world next
+    → (next.began ≡ world.began) × (next.accepted ≡ world.accepted) × (next.settled ≡ world.settled) × (next.given ≡ world.given)
+spare_call_keeps world next step = kept_by (of_eight world step.spare step.rewriting step.call next step.due step.is)
+  where
+    kept_by : IsCallOfEight world step.spare step.rewriting step.call next
+        → (next.began ≡ world.began) × (next.accepted ≡ world.accepted) × (next.settled ≡ world.settled) × (next.given ≡ world.given)
+    kept_by (eighth last is) = (ap (λ (w : World). w.began) is, ap (λ (w : World). w.accepted) is, ap (λ (w : World). w.settled) is, ap (λ (w : World). w.given) is)
+    kept_by (earlier few is) = (ap (λ (w : World). w.began) is, ap (λ (w : World). w.accepted) is, ap (λ (w : World). w.settled) is, ap (λ (w : World). w.given) is)
+
+-- the first group, which one call more makes durable, where none was
+first_durable : (written : ℕ) (groups : List History) → written ≡ 0 → first_of groups ≡ events_of (take (written + 1) groups)
+first_durable written groups none = sym (take_next 0 groups) ∙ ap (λ (n : ℕ). events_of (take (n + 1) groups)) (sym none)
+
+module _ (node : Node) (world : World) (at : Stands node world) (spare : Spare) (pair : world.spare ≡ Some spare) (rewriting : Rewriting) (in_flight : world.rewriting ≡ Some rewriting)
+    (call : Call) (due : slice_get (rewrite_calls rewriting.bytes) rewriting.made ≡ Some call) where
+  in_rewriting : IsRewritingAt node (world.began ++ (world.settled ++ first_of world.groups)) world.groups world.written world.phase spare rewriting at.rest
+  in_rewriting = rewriting_at node world at spare pair rewriting in_flight
+
+  called_state : state spare.bytes_at_start (spare.calls ++ call ∷ []) ≡ made_state at.rest rewriting.bytes (suc rewriting.made)
+  called_state =
+      after_all-push (firmed spare.bytes_at_start) spare.calls call
+      ∙ made_more at.rest rewriting.bytes rewriting.made (state spare.bytes_at_start spare.calls) call in_rewriting.disk due
+
+  earlier_stands : rewriting.made + 1 < 8 → Stands node (with_spare_call world spare rewriting call)
+  earlier_stands few =
+      let is = in_rewriting in
+      let one_more : suc rewriting.made ≡ rewriting.made + 1 = omega arith in
+      let beside = beside_at node world at spare pair in
+      record {
+        legal = at.legal;
+        taken = at.taken;
+        within = at.within;
+        file = at.file;
+        ends_closed = at.ends_closed;
+        are_bytes = at.are_bytes;
+        holds = subst (λ (a : Areas). Holds node a (kept node (world.began ++ written_in world))) (ap (λ (s : Option Spare). areas_with s at.file at.rest) pair) at.holds;
+        rest = at.rest;
+        beside = record { told = beside.told; at_rest = beside.at_rest; are_bytes = beside.are_bytes };
+        spare = record {
+          few = few;
+          disk = called_state ∙ ap (λ (n : ℕ). made_state at.rest rewriting.bytes n) one_more;
+          checkpoint = is.checkpoint;
+          none_written = is.none_written;
+          not_begun = is.not_begun;
+          some = is.some;
+        };
+        disk = at.disk;
+        fits = subst (λ (r : Option Rewriting). All FitsAsGroup (to_append r world.written world.groups)) in_flight at.fits;
+        idle = at.idle;
+        waiting = at.waiting;
+        given = at.given;
+      }
+
+  rewritten_stands : rewriting.made + 1 ≡ 8 → Stands node (with_rewritten world spare call)
+  rewritten_stands last =
+      let is = in_rewriting in
+      let bytes = rewriting.bytes in
+      let generation = spare.generation in
+      let side = other_side spare.side in
+      let beside = beside_at node world at spare pair in
+      let more = first_of world.groups in
+      let settled = world.settled ++ more in
+      let eight : suc rewriting.made ≡ 8 = omega (arith, last) in
+      let whole : state spare.bytes_at_start (spare.calls ++ call ∷ []) ≡ firmed (1 ∷ bytes) = called_state ∙ ap (λ (n : ℕ). made_state at.rest bytes n) eight ∙ last_state at.rest bytes in
+      let durable : settled ≡ world.settled ++ events_of (take (world.written + 1) world.groups) =
+      ap (λ l. world.settled ++ l) (first_durable world.written world.groups is.none_written) in
+      let taken : settled ++ events_of (drop 1 world.groups) ≡ taken_in world =
+      append_assoc world.settled more (events_of (drop 1 world.groups)) ∙ ap (λ l. world.settled ++ l) (sym (events_split world.groups)) in
+      let accepted : Begins settled world.accepted =
+      begins_trans settled (taken_in world) world.accepted (record { rest = events_of (drop 1 world.groups); parts = sym taken }) at.taken in
+      let joined = begins_join world.began settled world.accepted accepted in
+      let legal : IsLegal node (world.began ++ settled) = legal-begins node (world.began ++ settled) joined.rest (subst (IsLegal node) joined.parts at.legal) in
+      let rested : IsAtRest (generation + 1) at.file = inr (generation, beside.told, omega arith) in
+      let areas = pair_of side (1 ∷ bytes) at.file in
+      let reads : stands_in areas ≡ stands_at side (1 ∷ bytes) =
+      both_older side (generation + 1) (1 ∷ bytes) at.file is.checkpoint.told (at_rest_older (generation + 1) at.file rested) in
+      let held : Holds node areas (kept node (world.began ++ settled)) =
+      checkpoint_holds node areas side (generation + 1) (kept node (world.began ++ settled)) bytes (pair_is side (1 ∷ bytes) at.file) reads legal.sound (kept_is_sound node (world.began ++ settled) legal) is.checkpoint in
+      record {
+        legal = at.legal;
+        taken = at.taken;
+        within = omega (arith, is.none_written, is.some);
+        file = 1 ∷ bytes;
+        ends_closed = is.checkpoint.ends_closed;
+        are_bytes = All-cons (λ n. n < 256) 1 bytes (omega arith) is.checkpoint.are_bytes;
+        holds = subst (λ l. Holds node areas (kept node (world.began ++ l))) durable held;
+        rest = at.file;
+        beside = record { told = is.checkpoint.told; at_rest = rested; are_bytes = at.are_bytes };
+        spare = fresh_disk node world at is.not_begun;
+        disk = begun_disk world.phase (state spare.bytes_at_start (spare.calls ++ call ∷ [])) (1 ∷ bytes) (map record_of (first_of (drop (world.written + 1) world.groups))) is.not_begun whole;
+        fits = subst (λ (n : ℕ). All FitsAsGroup (drop (n + 1) world.groups)) (sym is.none_written)
+            (subst (λ (r : Option Rewriting). All FitsAsGroup (to_append r world.written world.groups)) in_flight at.fits);
+        idle = λ none. is.not_begun;
+        waiting = at.waiting;
+        given = at.given;
+      }
+
+  of_eight_stands : (next : World) → IsCallOfEight world spare rewriting call next → Stands node next
+  of_eight_stands next (eighth last is) = subst (Stands node) (sym is) (rewritten_stands last)
+  of_eight_stands next (earlier few is) = subst (Stands node) (sym is) (earlier_stands few)
+
 spare_call_stands : (node : Node) (world next : World) → Stands node world → IsSpareCalled world next → Stands node next
 spare_call_stands node world next at step =
-    let spare = step.spare in
-    let rewriting = step.rewriting in
-    let is = rewriting_at node world at spare step.pair rewriting step.in_flight in
-    let now : Rewriting = record rewriting { made = rewriting.made + 1 } in
-    let inside = get_inside (rewrite_calls rewriting.bytes) rewriting.made step.call step.due in
-    let one_more : suc rewriting.made ≡ rewriting.made + 1 = omega arith in
-    let made = made_more at.rest rewriting.bytes rewriting.made (state spare.bytes_at_start spare.calls) step.call is.disk step.due in
-    let beside = beside_at node world at spare step.pair in
-    subst (Stands node) (sym step.is) (record {
-      legal = at.legal;
-      taken = at.taken;
-      within = at.within;
-      file = at.file;
-      ends_closed = at.ends_closed;
-      are_bytes = at.are_bytes;
-      holds = subst (λ (a : Areas). Holds node a (kept node (world.began ++ written_in world))) (ap (λ (s : Option Spare). areas_with s at.file at.rest) step.pair) at.holds;
-      rest = at.rest;
-      beside = record { told = beside.told; at_rest = beside.at_rest; are_bytes = beside.are_bytes };
-      spare = record {
-        few = omega (arith, inside);
-        disk = after_all-push (firmed spare.bytes_at_start) spare.calls step.call ∙ made ∙ ap (λ (n : ℕ). made_state at.rest rewriting.bytes n) one_more;
-        checkpoint = is.checkpoint;
-        none_written = is.none_written;
-        not_begun = is.not_begun;
-        some = is.some;
-      };
-      disk = at.disk;
-      fits = subst (λ (r : Option Rewriting). All FitsAsGroup (to_append r world.groups)) step.in_flight at.fits;
-      idle = at.idle;
-      waiting = at.waiting;
-      given = at.given;
-    })
-
-settle_all_stands : (node : Node) (world next : World) → Stands node world → IsSettledAll world next → Stands node next
-settle_all_stands node world next at step =
-    let spare = step.spare in
-    let rewriting = step.rewriting in
-    let bytes = rewriting.bytes in
-    let generation = spare.generation in
-    let side = other_side spare.side in
-    let is = rewriting_at node world at spare step.pair rewriting step.in_flight in
-    let beside = beside_at node world at spare step.pair in
-    let more = first_of world.groups in
-    let settled = world.settled ++ more in
-    let outside = get_outside (rewrite_calls bytes) rewriting.made step.done in
-    let last : rewriting.made ≡ 8 = omega (arith, outside, is.few) in
-    let whole : state spare.bytes_at_start spare.calls ≡ firmed (1 ∷ bytes) = is.disk ∙ ap (λ (n : ℕ). made_state at.rest bytes n) last ∙ last_state at.rest bytes in
-    let written : settled ≡ settled ++ events_of (take world.written (drop 1 world.groups)) =
-    sym (append-nil settled) ∙ ap (λ (n : ℕ). settled ++ events_of (take n (drop 1 world.groups))) (sym is.none_written) in
-    let taken : settled ++ events_of (drop 1 world.groups) ≡ taken_in world =
-    append_assoc world.settled more (events_of (drop 1 world.groups)) ∙ ap (λ l. world.settled ++ l) (sym (events_split world.groups)) in
-    let grown = begins_join world.began world.settled settled (record { rest = more; parts = refl }) in
-    let accepted : Begins settled world.accepted =
-    begins_trans settled (taken_in world) world.accepted (record { rest = events_of (drop 1 world.groups); parts = sym taken }) at.taken in
-    let joined = begins_join world.began settled world.accepted accepted in
-    let legal : IsLegal node (world.began ++ settled) = legal-begins node (world.began ++ settled) joined.rest (subst (IsLegal node) joined.parts at.legal) in
-    let rested : IsAtRest (generation + 1) at.file = inr (generation, beside.told, omega arith) in
-    let areas = pair_of side (1 ∷ bytes) at.file in
-    let reads : stands_in areas ≡ stands_at side (1 ∷ bytes) =
-    both_older side (generation + 1) (1 ∷ bytes) at.file is.checkpoint.told (at_rest_older (generation + 1) at.file rested) in
-    let held : Holds node areas (kept node (world.began ++ settled)) =
-    checkpoint_holds node areas side (generation + 1) (kept node (world.began ++ settled)) bytes (pair_is side (1 ∷ bytes) at.file) reads legal.sound (kept_is_sound node (world.began ++ settled) legal) is.checkpoint in
-    subst (Stands node) (sym step.is) (record {
-      legal = at.legal;
-      taken = subst (λ l. Begins l world.accepted) (sym taken) at.taken;
-      within = omega (arith, is.none_written);
-      file = 1 ∷ bytes;
-      ends_closed = is.checkpoint.ends_closed;
-      are_bytes = All-cons (λ n. n < 256) 1 bytes (omega arith) is.checkpoint.are_bytes;
-      holds = subst (λ l. Holds node areas (kept node (world.began ++ l))) written held;
-      rest = at.file;
-      beside = record { told = is.checkpoint.told; at_rest = rested; are_bytes = at.are_bytes };
-      spare = fresh_disk node world at is.not_begun;
-      disk = begun_disk world.phase (state spare.bytes_at_start spare.calls) (1 ∷ bytes) (map record_of (first_of (drop world.written (drop 1 world.groups)))) is.not_begun whole;
-      fits = subst (λ (r : Option Rewriting). All FitsAsGroup (to_append r world.groups)) step.in_flight at.fits;
-      idle = λ none. is.not_begun;
-      waiting = at.waiting;
-      given = All-weaker (IsKept node (world.began ++ world.settled)) (IsKept node (world.began ++ settled))
-          (λ g given_kept. record { begins = begins_trans g.history (world.began ++ world.settled) (world.began ++ settled) given_kept.begins grown; ended = given_kept.ended }) world.given at.given;
-    })
+    of_eight_stands node world at step.spare step.pair step.rewriting step.in_flight step.call step.due next (of_eight world step.spare step.rewriting step.call next step.due step.is)
 
 -- ---- something goes out
 
@@ -547,7 +601,6 @@ step_stands node world read_order next at step =
     given_stands node world next (read (order node (world.began ++ world.settled))) (world.began ++ world.settled) at (begins_same (world.began ++ world.settled)) refl step
 step_stands node world (take_all bytes) next at step = take_all_stands node world bytes next at step
 step_stands node world spare_call next at step = spare_call_stands node world next at step
-step_stands node world settle_all next at step = settle_all_stands node world next at step
 step_stands node world (restart found) next at step = restart_stands node world next found at step
 
 pub all_stand : (node : Node) (moves : List Move) (world last : World) → Stands node world → Leads node world moves last → Stands node last

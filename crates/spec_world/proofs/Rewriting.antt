@@ -53,11 +53,6 @@ get_inside [] n x is = absurd (none-some x is)
 get_inside (y ∷ xs) zero x is = omega arith
 get_inside (y ∷ xs) (suc n) x is = omega (arith, get_inside xs n x is)
 
-pub get_outside : {X : Type 0} (xs : List X) (n : ℕ) → slice_get xs n ≡ None → length xs ≤ n
-get_outside [] n is = omega arith
-get_outside (y ∷ xs) zero is = absurd (none-some y (sym is))
-get_outside (y ∷ xs) (suc n) is = omega (arith, get_outside xs n is)
-
 -- ---- each moment of a rewriting
 
 module _ (file bytes : List ℕ) where

@@ -73,7 +73,7 @@ IsBeside (Some spare) file rest = IsAtRestBeside spare file rest
 
 -- how far a rewriting is, to a checkpoint of this history; none is written to its end meanwhile, and no append has begun
 pub record IsRewritingAt (node : Node) (history : History) (groups : List History) (written : ℕ) (phase : Phase) (spare : Spare) (rewriting : Rewriting) (rest : List ℕ) : Type 0 where
-  pub few : rewriting.made ≤ 8
+  pub few : rewriting.made < 8
   pub disk : state spare.bytes_at_start spare.calls ≡ made_state rest rewriting.bytes rewriting.made
   pub checkpoint : IsCheckpointOf node (spare.generation + 1) (kept node history) rewriting.bytes
   pub none_written : written ≡ 0
@@ -87,10 +87,10 @@ IsSpareAt node history groups written phase None (Some rewriting) rest = ⊥
 IsSpareAt node history groups written phase (Some spare) None rest = state spare.bytes_at_start spare.calls ≡ firmed rest
 IsSpareAt node history groups written phase (Some spare) (Some rewriting) rest = IsRewritingAt node history groups written phase spare rewriting rest
 
--- the groups that are appended, and not rewritten to
-abbrev pub to_append : Option Rewriting → List History → List History
-to_append None groups = groups
-to_append (Some rewriting) groups = drop 1 groups
+-- the groups that are yet to be appended: those that aren't durable, or, during a rewriting, all but the first
+abbrev pub to_append : Option Rewriting → ℕ → List History → List History
+to_append None written groups = drop written groups
+to_append (Some rewriting) written groups = drop 1 groups
 
 -- ---- the invariant of a world
 
@@ -103,7 +103,7 @@ pub record Stands (node : Node) (world : World) : Type 0 where
   pub ends_closed : EndsClosed file
   pub are_bytes : AreBytes file
   pub disk : IsAt (stage_of world.phase) (state world.bytes_at_start world.calls) file (group_in world)
-  pub fits : All FitsAsGroup (to_append world.rewriting world.groups)
+  pub fits : All FitsAsGroup (to_append world.rewriting world.written world.groups)
   pub idle : unwritten_in world ≡ [] → world.phase ≡ not_begun
   -- the bytes of the other disk, from before a rewriting
   pub rest : List ℕ
@@ -197,8 +197,8 @@ pub record LeavesLive (node : Node) (world : World) (at : Stands node world) (li
   pub keeps : KeepsFront at.file live
   pub are_bytes : AreBytes live
 
-unwritten_fit : (rewriting : Option Rewriting) (groups : List History) (written : ℕ) → rewriting ≡ None → All FitsAsGroup (to_append rewriting groups) → All FitsAsGroup (drop written groups)
-unwritten_fit None groups written none fits = All-drop FitsAsGroup written groups fits
+unwritten_fit : (rewriting : Option Rewriting) (groups : List History) (written : ℕ) → rewriting ≡ None → All FitsAsGroup (to_append rewriting written groups) → All FitsAsGroup (drop written groups)
+unwritten_fit None groups written none fits = fits
 unwritten_fit (Some rewriting) groups written none fits = absurd (none-some rewriting (sym none))
 
 pub fit_to_write : (node : Node) (world : World) (at : Stands node world) → world.rewriting ≡ None → All FitsAsGroup (unwritten_in world)
@@ -450,7 +450,7 @@ leaves_rewritten : (node : Node) (history : History) (groups : List History) (wr
     → (other : List ℕ) → MayLeave spare.bytes_at_start spare.calls (slice_get (rewrite_calls rewriting.bytes) rewriting.made) other
     → IsOlderOrNew spare.generation rewriting.bytes other
 leaves_rewritten node history groups written phase spare rewriting rest at_rest is other (between outcome) =
-    spare_leaves rest rewriting.bytes spare.generation rewriting.made other is.few at_rest (subst (λ (s : State). CanLeave s other) is.disk outcome)
+    spare_leaves rest rewriting.bytes spare.generation rewriting.made other (omega (arith, is.few)) at_rest (subst (λ (s : State). CanLeave s other) is.disk outcome)
 leaves_rewritten node history groups written phase spare rewriting rest at_rest is other (inside call due outcome) =
     let inside = get_inside (rewrite_calls rewriting.bytes) rewriting.made call due in
     let next = made_more rest rewriting.bytes rewriting.made (state spare.bytes_at_start spare.calls) call is.disk due in

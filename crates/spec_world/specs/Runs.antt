@@ -5,7 +5,7 @@ use Rattle.diskmodel.specs.Outcomes.{AreBytes, state}
 use Rattle.spec_checkpoint.specs.Data.{Checkpoint, IsWritten}
 use Rattle.spec_checkpoint.specs.Meaning as checkpoint
 use Rattle.spec_checkpoint.specs.Records.{state_records}
-use Rattle.journal.specs.Areas.{Areas, alone, pair_of, other_side, rewrite_calls}
+use Rattle.journal.specs.Areas.{Areas, alone, pair_of, rewrite_calls}
 use Rattle.journal.specs.declared.side.Side.TheVariants.{First}
 use Rattle.journal.specs.Format.{FitsGroup, file_with}
 use Rattle.journal.specs.Snapshot.{bytes_for, CanPack}
@@ -15,11 +15,12 @@ use Rattle.spec_model.specs.Admitting.{IsLegal}
 use Rattle.spec_model.specs.Giving.{kept}
 use Rattle.spec_model.specs.Histories.{History}
 use Rattle.spec_model.specs.Nodes.{Node, IsNode}
+use Rattle.spec_model.specs.States.{State}
 use Rattle.spec_records.specs.Records.{record_of, configuration_of}
 use Rattle.journal.specs.declared.version.Version.TheVariants.{Second}
 use Rattle.wire.specs.Fields.{HasBytes}
-use Rattle.spec_world.specs.World.{own, not_begun, Spare, World, Holds, IsCheckpointOf, Opened, alone_on, unwritten_in, group_in, content_in, StandsFor, MayStop, run_on}
-use Rattle.spec_world.specs.Steps.{Move, take_to, device_call, settle, take_all, spare_call, settle_all, restart, group_to, IsRecovered, IsStep, Leads, IsRun}
+use Rattle.spec_world.specs.World.{own, not_begun, Given, Spare, World, Holds, IsCheckpointOf, IsOpened, Opened, alone_on, unwritten_in, group_in, content_in, StandsFor, MayStop, run_on}
+use Rattle.spec_world.specs.Steps.{Move, take_to, device_call, settle, take_all, spare_call, restart, replaced, group_to, IsRecovered, IsStep, Leads, IsRun}
 
 -- each key has 32 bytes
 abbrev pub AreKeys : Node → Type 0
@@ -33,7 +34,7 @@ first_bytes node = file_with (CLOSED ∷ []) (configuration_of Second node.chart
 abbrev pub first_pair : Node → Opened
 first_pair node = record { bytes = first_bytes node; rest = Some (record { bytes = CLOSED ∷ []; side = First; generation = 0 }) }
 
--- a run without moves leads to the one, whatever the stakes are, and one to the other
+-- there is a run without moves to the first, whatever the stakes are, and one to the second
 abbrev pub RunsBegin : Type 0
 RunsBegin = (node : Node) → IsNode node → AreKeys node → IsRun node [] (run_on (alone_on (first_bytes node)) [] [])
 
@@ -54,11 +55,17 @@ abbrev pub RunsGoOn : Type 0
 RunsGoOn = (node : Node) (moves : List Move) (world : World) (found : Areas) → IsNode node → IsRun node moves world → MayStop world found
     → (next : World) × IsStep node world (restart found) next × (is_some next.spare ≡ is_some world.spare)
 
--- and it begins with each recovered history for whose state that stands
+-- a new run can begin with each recovered history for whose state that stands
 abbrev pub RunsBeginWithWhatStands : Type 0
 RunsBeginWithWhatStands = (node : Node) (moves : List Move) (world : World) (found : Areas) (history : History) → IsNode node → IsRun node moves world → MayStop world found
     → IsRecovered node world history → StandsFor node found (kept node history)
     → (next : World) × IsStep node world (restart found) next × (next.began ≡ history) × (next.given ≡ world.given) × (is_some next.spare ≡ is_some world.spare)
+
+-- and at each state for which it stands
+abbrev pub RunsBeginAtStates : Type 0
+RunsBeginAtStates = (node : Node) (moves : List Move) (world : World) (found : Areas) (state_found : State) → IsNode node → IsRun node moves world → MayStop world found
+    → StandsFor node found state_found
+    → (next : World) × IsStep node world (restart found) next × (kept node next.began ≡ state_found) × (next.given ≡ world.given) × (is_some next.spare ≡ is_some world.spare)
 
 -- a world in which a run of the node has just begun with this history
 pub record HasJustBegun (node : Node) (world : World) (history : History) : Type 0 where
@@ -67,9 +74,10 @@ pub record HasJustBegun (node : Node) (world : World) (history : History) : Type
   pub on : Opened
   pub is : world ≡ run_on on history world.given
 
--- each legal history is one with which some run begins
+-- each legal history is one with which some run begins, on any disks that are opened as a journal at its state
 abbrev pub HistoriesBegin : Type 0
-HistoriesBegin = (node : Node) (history : History) → IsLegal node history → AreKeys node → (world : World) × HasJustBegun node world history
+HistoriesBegin = (node : Node) (history : History) (on : Opened) → IsLegal node history → AreKeys node → IsOpened node on (kept node history)
+    → (given : List Given) × (moves : List Move) × IsRun node moves (run_on on history given)
 
 -- the accepted events up to so many are settled, no group is in flight, and the disk has what is settled, which is its file with one
 -- group more; nothing else changed
@@ -100,16 +108,21 @@ device_calls (suc count) = device_call ∷ device_calls count
 abbrev pub with_group : World → ℕ → World
 with_group world count = record world { groups = group_to world count ∷ [] }
 
--- two groups are in flight, both written to their end, before the first of them is settled
+-- two groups are in flight, both durable, before the first of them is settled
 abbrev pub two_in_flight : ℕ → ℕ → List Move
 two_in_flight count more = take_to count ∷ (device_calls 4 ++ take_to more ∷ (device_calls 4 ++ settle ∷ settle ∷ []))
 
--- the accepted events up to so many are settled, no group is in flight, and the disk has what is settled
+-- the accepted events up to so many are settled, no group is in flight, and the disk has what is settled; nothing else changed
 pub record AreSettledTo (node : Node) (world : World) (count : ℕ) (next : World) : Type 0 where
   pub began : next.began ≡ world.began
   pub accepted : next.accepted ≡ world.accepted
   pub settled : next.settled ≡ take count world.accepted
   pub groups : next.groups ≡ []
+  pub phase : next.phase ≡ not_begun
+  pub waiting : next.waiting ≡ world.waiting
+  pub given : next.given ≡ world.given
+  pub spare : next.spare ≡ world.spare
+  pub rewriting : next.rewriting ≡ world.rewriting
   pub holds : Holds node (areas_in next) (kept node (next.began ++ next.settled))
 
 -- so accepted events that fit two groups can be settled, where no group is in flight
@@ -118,11 +131,12 @@ TwoGroupsSettle = (node : Node) (moves : List Move) (world : World) (count more 
     → FitsGroup (map record_of (group_to world count)) → FitsGroup (map record_of (group_to (with_group world count) more))
     → (next : World) × Leads node world (two_in_flight count more) next × AreSettledTo node world more next
 
--- Device calls that follow one another are those of appends, four for each group that isn't written to its end. The first ones of an
--- append are the first of the four that a journal makes of the disk to add the group.
+-- Device calls that follow one another are those of appends: at most four for each group that isn't durable, and the first four are those
+-- that a journal makes of the disk to add the first such group. Applied again after these, it says the same of the next group.
 abbrev pub AppendsMakeCalls : Type 0
 AppendsMakeCalls = (node : Node) (world next : World) (count : ℕ) → world.phase ≡ not_begun → Leads node world (device_calls count) next
     → (count ≤ 4 * length (unwritten_in world)) × (count ≤ 4 → next.calls ≡ world.calls ++ take count (append_calls (length (content_in world)) (group_in world)))
+    × (next.spare ≡ world.spare)
 
 -- ---- checkpoints
 
@@ -131,17 +145,18 @@ abbrev pub spare_calls : ℕ → List Move
 spare_calls zero = []
 spare_calls (suc count) = spare_call ∷ spare_calls count
 
--- all that was accepted is settled, no group and no rewriting is in flight, and the disks have changed places
+-- all that was accepted is settled, no group and no rewriting is in flight, and the disks have changed places; nothing else changed
 pub record IsAllSettled (node : Node) (world : World) (before : Spare) (bytes : List ℕ) (next : World) : Type 0 where
   pub began : next.began ≡ world.began
   pub accepted : next.accepted ≡ world.accepted
   pub settled : next.settled ≡ world.accepted
   pub groups : next.groups ≡ []
+  pub phase : next.phase ≡ not_begun
   pub rewriting : next.rewriting ≡ None
   pub waiting : next.waiting ≡ world.waiting
   pub given : next.given ≡ world.given
   -- the other disk is the one that was read
-  pub spare : next.spare ≡ Some (record { bytes_at_start = world.bytes_at_start; calls = world.calls; side = other_side before.side; generation = before.generation + 1 })
+  pub spare : next.spare ≡ Some (replaced world before)
   pub content : content_in next ≡ OPEN ∷ bytes
   pub holds : Holds node (areas_in next) (kept node (next.began ++ next.settled))
 
@@ -149,14 +164,21 @@ pub record IsAllSettled (node : Node) (world : World) (before : Spare) (bytes : 
 abbrev pub CheckpointsSettle : Type 0
 CheckpointsSettle = (node : Node) (moves : List Move) (world : World) (spare : Spare) (bytes : List ℕ) → IsNode node → IsRun node moves world → world.groups ≡ []
     → world.spare ≡ Some spare → IsCheckpointOf node (spare.generation + 1) (kept node (world.began ++ world.accepted)) bytes
-    → (next : World) × Leads node world (take_all bytes ∷ (spare_calls 8 ++ settle_all ∷ [])) next × IsAllSettled node world spare bytes next
+    → (next : World) × Leads node world (take_all bytes ∷ (spare_calls 8 ++ settle ∷ [])) next × IsAllSettled node world spare bytes next
 
--- The first device calls of a rewriting are the first of the eight that a journal makes of the disk to rewrite it, and there is no ninth;
--- the disk that is read stays as it is.
+-- the disk that was rewritten is read, and the other one is the one that was read
+pub record HaveChangedPlaces (world : World) (before : Spare) (bytes : List ℕ) (next : World) : Type 0 where
+  pub bytes_at_start : next.bytes_at_start ≡ before.bytes_at_start
+  pub calls : next.calls ≡ before.calls ++ rewrite_calls bytes
+  pub spare : next.spare ≡ Some (replaced world before)
+
+-- The first device calls of a rewriting are the first of the eight that a journal makes of the other disk to rewrite it, and there is no
+-- ninth. Before the eighth the disk that is read stays as it is; with it the disks change places.
 abbrev pub RewritingsMakeCalls : Type 0
 RewritingsMakeCalls = (node : Node) (world next : World) (spare : Spare) (bytes : List ℕ) (count : ℕ) → world.spare ≡ Some spare
     → world.rewriting ≡ Some (record { bytes = bytes; made = 0 }) → Leads node world (spare_calls count) next
-    → (count ≤ 8) × (next.spare ≡ Some (record spare { calls = spare.calls ++ take count (rewrite_calls bytes) })) × (next.calls ≡ world.calls)
+    → (count ≤ 8) × (count < 8 → (next.spare ≡ Some (record spare { calls = spare.calls ++ take count (rewrite_calls bytes) })) × (next.calls ≡ world.calls))
+    × (count ≡ 8 → HaveChangedPlaces world spare bytes next)
 
 -- What a journal's rewriting writes behind the first gate is a checkpoint: of a snapshot whose records are the configuration and those of a
 -- state, each of which fits a group.

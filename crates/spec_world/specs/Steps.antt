@@ -1,5 +1,5 @@
 -- What may happen next in a world, and all that may have happened.
-use Rattle.std.specs.Prelude.{◌≡◌, ◌⊎◌, ℕ, ◌+◌, ◌-◌, ◌≤◌, List, [], ◌∷◌, ◌++◌, map, length, take, drop, slice_get, None, Some, Contains}
+use Rattle.std.specs.Prelude.{◌≡◌, ◌⊎◌, ℕ, ◌+◌, ◌-◌, ◌≤◌, ◌==◌, List, [], ◌∷◌, ◌++◌, map, length, take, drop, slice_get, None, Some, Contains, if◌then◌else◌}
 use Rattle.diskmodel.specs.declared.call.Call.{Call}
 use Rattle.journal.specs.Areas.{Areas, alone, pair, other_side, rewrite_calls}
 use Rattle.journal.specs.Format.{FitsGroup}
@@ -21,8 +21,8 @@ use Rattle.spec_world.specs.World.{taken_in, written_in, unwritten_in, first_of,
 
 -- what may happen: an event comes in; so many of the accepted events are taken, the last of them as a group; the append makes its next
 -- device call; the first group in flight is settled; an output goes out; the settled order is read; all that is
--- accepted is taken, for a checkpoint of these bytes; its rewriting makes its next device call; it is settled; the machine stops, leaves
--- these areas, and they are opened
+-- accepted is taken, for a checkpoint of these bytes; its rewriting makes its next device call; the machine stops, leaves these areas, and
+-- they are opened
 pub data Move : Type 0 where
   accept : Event → Move
   take_to : ℕ → Move
@@ -32,7 +32,6 @@ pub data Move : Type 0 where
   read_order : Move
   take_all : List ℕ → Move
   spare_call : Move
-  settle_all : Move
   restart : Areas → Move
 
 -- outputs, each with this ticket
@@ -63,7 +62,7 @@ next_phase group_written = group_synced
 next_phase group_synced = gate_opened
 next_phase gate_opened = not_begun
 
--- and how many groups are then written to their end, where it were so many: the last call is the sync after the gate's write
+-- and how many groups are durable then, where so many were before: the last call is the sync after the gate's write
 abbrev pub next_written : Phase → ℕ → ℕ
 next_written gate_opened written = written + 1
 next_written _ written = written
@@ -81,8 +80,8 @@ pub record IsAccepted (node : Node) (world : World) (event : Event) (next : Worl
 abbrev pub group_to : World → ℕ → History
 group_to world count = drop (length (taken_in world)) (take count world.accepted)
 
--- so many of the accepted events are taken, and those that weren't are a group after the ones in flight: any that fits, not the
--- longest one alone
+-- so many of the accepted events are taken, and those that weren't taken yet are one group more, the last in flight: any that fits, not
+-- the longest one alone
 pub record IsTakenTo (world : World) (count : ℕ) (next : World) : Type 0 where
   pub fits : FitsGroup (map record_of (group_to world count))
   pub is : next ≡ record world { groups = world.groups ++ group_to world count ∷ [] }
@@ -93,7 +92,7 @@ pub record IsCalled (world : World) (next : World) : Type 0 where
   pub due : next_call world ≡ Some call
   pub is : next ≡ record world { calls = world.calls ++ call ∷ []; phase = next_phase world.phase; written = next_written world.phase world.written }
 
--- where a group is written to its end, the first one in flight is settled; the append of a later one may have begun
+-- where a group is durable, the first one in flight is settled; the append of a later one may have begun
 pub record IsSettled (world : World) (next : World) : Type 0 where
   pub done : 1 ≤ world.written
   pub is : next ≡ record world { settled = world.settled ++ first_of world.groups; groups = drop 1 world.groups; written = world.written - 1 }
@@ -104,13 +103,41 @@ pub record IsReleased (world : World) (waiting : Waiting) (next : World) : Type 
   pub ready : waiting.ticket ≤ length world.settled
   pub is : next ≡ with_given world (put_out waiting.output) (world.began ++ take waiting.ticket world.accepted)
 
--- all that is accepted is taken, where no group is in flight, and the rewriting of the other disk to the checkpoint of it begins
+-- all that is accepted is taken, where no group is in flight, and the rewriting of the other disk to a checkpoint of all that was
+-- accepted begins
 pub record IsTakenAll (node : Node) (world : World) (bytes : List ℕ) (next : World) : Type 0 where
   pub spare : Spare
   pub pair : world.spare ≡ Some spare
   pub idle : world.groups ≡ []
   pub checkpoint : IsCheckpointOf node (spare.generation + 1) (kept node (world.began ++ world.accepted)) bytes
   pub is : next ≡ record world { groups = drop (length world.settled) world.accepted ∷ []; rewriting = Some (record { bytes = bytes; made = 0 }) }
+
+-- with a device call of a rewriting more
+abbrev pub with_spare_call : World → Spare → Rewriting → Call → World
+with_spare_call world spare rewriting call = record world {
+  spare = Some (record spare { calls = spare.calls ++ call ∷ [] });
+  rewriting = Some (record rewriting { made = rewriting.made + 1 });
+}
+
+-- the disk that was read until the other one was rewritten: it is the other one then
+abbrev pub replaced : World → Spare → Spare
+replaced world spare = record { bytes_at_start = world.bytes_at_start; calls = world.calls; side = other_side spare.side; generation = spare.generation + 1 }
+
+-- With the last call of a rewriting the disks change places: the one that was written is read from then on, and the events that the
+-- rewriting settles are durable.
+abbrev pub with_rewritten : World → Spare → Call → World
+with_rewritten world spare call = record world {
+  bytes_at_start = spare.bytes_at_start;
+  calls = spare.calls ++ call ∷ [];
+  spare = Some (replaced world spare);
+  rewriting = None;
+  written = world.written + 1;
+}
+
+-- after a device call of a rewriting: the last one ends it
+abbrev pub after_spare_call : World → Spare → Rewriting → Call → World
+after_spare_call world spare rewriting call =
+    if rewriting.made + 1 == length (rewrite_calls rewriting.bytes) then with_rewritten world spare call else with_spare_call world spare rewriting call
 
 -- the next device call of the rewriting is made, and does not fail
 pub record IsSpareCalled (world : World) (next : World) : Type 0 where
@@ -120,39 +147,21 @@ pub record IsSpareCalled (world : World) (next : World) : Type 0 where
   pub in_flight : world.rewriting ≡ Some rewriting
   pub call : Call
   pub due : slice_get (rewrite_calls rewriting.bytes) rewriting.made ≡ Some call
-  pub is : next ≡ record world {
-    spare = Some (record spare { calls = spare.calls ++ call ∷ [] });
-    rewriting = Some (record rewriting { made = rewriting.made + 1 });
-  }
+  pub is : next ≡ after_spare_call world spare rewriting call
 
--- after its last device call all that it took is settled, and the disks change places: the one that was written is read from now on
-pub record IsSettledAll (world : World) (next : World) : Type 0 where
-  pub spare : Spare
-  pub pair : world.spare ≡ Some spare
-  pub rewriting : Rewriting
-  pub in_flight : world.rewriting ≡ Some rewriting
-  pub done : slice_get (rewrite_calls rewriting.bytes) rewriting.made ≡ None
-  pub is : next ≡ record world {
-    settled = world.settled ++ first_of world.groups;
-    groups = drop 1 world.groups;
-    bytes_at_start = spare.bytes_at_start;
-    calls = spare.calls;
-    spare = Some (record { bytes_at_start = world.bytes_at_start; calls = world.calls; side = other_side spare.side; generation = spare.generation + 1 });
-    rewriting = None;
-  }
-
--- what is found again: a legal history that begins what the run began with and accepted, and that what is settled begins. Of the
--- groups in flight it has those that are written to their end, the next one as a whole or not at all, and no other; where there is
--- none it is what is settled
+-- what is found again: a legal history that is a prefix of what the run began with and accepted; what it began with and settled is a
+-- prefix of it. Of the groups in flight it has those that are durable, the next one as a whole or not at all, and no other
 pub record IsRecovered (node : Node) (world : World) (history : History) : Type 0 where
   pub legal : IsLegal node history
   pub accepted : Begins history (world.began ++ world.accepted)
   pub settled : Begins (world.began ++ world.settled) history
   pub whole : (history ≡ world.began ++ written_in world) ⊎ (history ≡ world.began ++ (written_in world ++ first_of (unwritten_in world)))
+  -- it follows from `whole`, and is there for convenience
   pub without_group : world.groups ≡ [] → history ≡ world.began ++ world.settled
 
--- a new run begins on what the stop left, with a recovered history for whose state that stands. Openings that fail, or are stopped
--- themselves, belong to the same step, as does an opening after a device call that failed; the bytes are any that are opened
+-- a new run begins on what the stop left, with a recovered history for whose state that stands; on any disks, one or two, that are a
+-- journal at the same state: an opening cuts, writes a first group or rewrites, and a journal on one disk may be given a second one.
+-- Openings that fail, or are stopped themselves, belong to the same step, as does an opening after a device call that failed
 pub record IsRestarted (node : Node) (world : World) (found : Areas) (next : World) : Type 0 where
   pub left : MayStop world found
   pub recovered : IsRecovered node world next.began
@@ -171,7 +180,6 @@ IsStep node world read_order next =
     next ≡ with_given world (read (order node (world.began ++ world.settled))) (world.began ++ world.settled)
 IsStep node world (take_all bytes) next = IsTakenAll node world bytes next
 IsStep node world spare_call next = IsSpareCalled world next
-IsStep node world settle_all next = IsSettledAll world next
 IsStep node world (restart found) next = IsRestarted node world found next
 
 -- ---- runs

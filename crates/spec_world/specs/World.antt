@@ -34,7 +34,7 @@ pub data Phase : Type 0 where
   group_written : Phase
   -- that is synced
   group_synced : Phase
-  -- the gate was opened: when that is synced, the group is written to its end, and the append of the next one can begin
+  -- the gate was opened: when that is synced, the group is durable, and the append of the next one can begin
   gate_opened : Phase
 
 -- an output that waits until so many events of this run are settled
@@ -60,7 +60,7 @@ pub record Spare : Type 0 where
   pub side : Side
   pub generation : ℕ
 
--- a rewriting in flight: the bytes of a checkpoint behind their first gate, and how many of its calls are made
+-- a rewriting in flight: the bytes of a checkpoint, without the first gate, and how many of its calls are made
 pub record Rewriting : Type 0 where
   pub bytes : List ℕ
   pub made : ℕ
@@ -69,8 +69,8 @@ pub record World : Type 0 where
   -- the history with which this run began
   pub began : History
   -- the events that this run accepted, oldest first; of these those that are settled, and after them the groups in flight, oldest first:
-  -- those that were taken and aren't settled. So many of these, from the first on, are written to their end; the append is at the next one.
-  -- Where a rewriting is in flight the first of the groups has the events that it settles, as many as there are
+  -- those that were taken and aren't settled. So many of these, from the first on, are durable; the append is at the next one.
+  -- Where a rewriting is in flight the first of the groups has all the events that it settles: they needn't fit a group
   pub accepted : History
   pub settled : History
   pub groups : List History
@@ -95,11 +95,11 @@ events_of groups = flat_map (λ group. group) groups
 abbrev pub taken_in : World → History
 taken_in world = world.settled ++ events_of world.groups
 
--- what is durable of that: what is settled, and the groups in flight that are written to their end
+-- what is durable of that: what is settled, and the groups in flight that are durable
 abbrev pub written_in : World → History
 written_in world = world.settled ++ events_of (take world.written world.groups)
 
--- the groups in flight that aren't written to their end
+-- the groups in flight that aren't durable
 abbrev pub unwritten_in : World → List History
 unwritten_in world = drop world.written world.groups
 
@@ -114,12 +114,12 @@ first_of (group ∷ groups) = group
 abbrev pub bytes_of : List Record → List (List ℕ)
 bytes_of records = map (λ kept. kept.bytes) records
 
--- the areas of two disks, of which one is read
+-- there are two areas
 abbrev pub IsPair : Areas → Type 0
 IsPair (alone bytes) = ⊥
 IsPair (pair one other) = ⊤
 
--- What is read of a journal are these records, so many of them alone in the first group, and after them those of these events.
+-- what is read of a journal: first these records, of which so many are the whole first group, then those of these events
 pub record IsJournal (read : Result (List Record) ℕ) (front : List (List ℕ)) (in_first : ℕ) (events : History) : Type 0 where
   pub records : List Record
   pub stands_for : read ≡ Ok records
@@ -141,7 +141,8 @@ pub data BeginsAs (node : Node) (areas : Areas) (front : List (List ℕ)) (in_fi
       → front ≡ own version node ∷ head_record generation ∷ state_records kept → in_first ≡ 2 → base ≡ checkpoint.state_in node kept
       → BeginsAs node areas front in_first base
 
--- areas are a journal of the node at this state: they begin as a sound one, and the events after it are legal and lead to this one
+-- areas are a journal of the node at this state: the state with which they begin is sound, and the events after it are legal and lead to
+-- this one
 pub record Holds (node : Node) (areas : Areas) (state_held : State) : Type 0 where
   pub front : List (List ℕ)
   pub in_first : ℕ
@@ -157,7 +158,7 @@ pub data StandsFor (node : Node) (areas : Areas) (state_held : State) : Type 0 w
   as_journal : Holds node areas state_held → StandsFor node areas state_held
   as_new : stands_in areas ≡ Ok [] → state_held ≡ fresh node → StandsFor node areas state_held
 
--- Bytes behind an open gate are a checkpoint of this generation at this state: a journal in the newest version without events that begins
+-- Bytes behind an open gate are a checkpoint of this generation at this state: a journal in the second version without events that begins
 -- as the checkpoint of the state, and ends with its closed gate.
 pub record IsCheckpointOf (node : Node) (generation : ℕ) (state_kept : State) (bytes : List ℕ) : Type 0 where
   pub kept : Checkpoint
@@ -170,7 +171,7 @@ pub record IsCheckpointOf (node : Node) (generation : ℕ) (state_kept : State) 
 
 -- ---- the disks
 
--- the records of the first group that isn't written to its end
+-- the records of the first group that isn't durable
 abbrev pub group_in : World → List (List ℕ)
 group_in world = map record_of (first_of (unwritten_in world))
 
@@ -195,12 +196,12 @@ call_for (group ∷ groups) phase content = call_in phase content (map record_of
 abbrev pub next_call : World → Option Call
 next_call world = option_map_or (λ rewriting. None) world.rewriting (call_for (unwritten_in world) world.phase (content_in world))
 
--- the next device call of a rewriting. So never is a call due at both disks
+-- the next device call of a rewriting. So no two calls are due at once
 abbrev pub next_spare_call : World → Option Call
 next_spare_call world = option_and_then (λ rewriting. slice_get (rewrite_calls rewriting.bytes) rewriting.made) world.rewriting
 
 -- What a stop may leave now of a disk with these calls, and this one due: what it may leave after the calls so far, or after the next call
--- too, which it then came into. A call that fails is such a stop: it may have had any part of its effect, and the disk is opened again.
+-- too, if the stop came inside that. A call that fails is such a stop: it may have had any part of its effect, and the disk is opened again.
 pub data MayLeave (bytes : List ℕ) (calls : List Call) (next : Option Call) (found : List ℕ) : Type 0 where
   between : IsOutcome bytes calls found → MayLeave bytes calls next found
   inside : (call : Call) → next ≡ Some call → IsOutcome bytes (calls ++ call ∷ []) found → MayLeave bytes calls next found

@@ -4,7 +4,7 @@
 
 ghost use Rattle.spec_world.specs.Lasting.{SettledGrows, GivenStays, EventsCameIn, GivenVotesAreSettled, GivenOrdersAreSettled};
 ghost use Rattle.spec_world.specs.Promise.{NothingTakenBack, WhatGoesOutAgrees};
-ghost use Rattle.spec_world.specs.Runs.{RunsBegin, RunsBeginOnTwo, StopsArePossible, RunsGoOn, RunsBeginWithWhatStands, HistoriesBegin, GroupsSettle, TwoGroupsSettle, AppendsMakeCalls, CheckpointsSettle, SnapshotsAreCheckpoints, RewritingsMakeCalls};
+ghost use Rattle.spec_world.specs.Runs.{RunsBegin, RunsBeginOnTwo, StopsArePossible, RunsGoOn, RunsBeginWithWhatStands, RunsBeginAtStates, HistoriesBegin, GroupsSettle, TwoGroupsSettle, AppendsMakeCalls, CheckpointsSettle, SnapshotsAreCheckpoints, RewritingsMakeCalls};
 ghost use Rattle.spec_world.specs.Scripts.{ScriptsAreRuns, ScriptsBegin};
 
 /// Over every list of runs of one node, in every interleaving of accepts, takes, writes, syncs, settlements and
@@ -31,18 +31,24 @@ pub fn stops_are_possible()
     ensures { StopsArePossible }
 {}
 
-/// Whatever a stop leaves in any of these worlds, a new run can begin on it.
+/// Whatever a stop leaves in any of these worlds, a new run can begin on it, on as many disks.
 pub fn runs_go_on()
     ensures { RunsGoOn }
 {}
 
-/// That run begins with each recovered history for whose state the areas stand, and nothing that was given out is forgotten.
+/// A new run can begin with each recovered history for whose state the areas stand, and nothing that was given out is
+/// forgotten.
 pub fn runs_begin_with_what_stands()
     ensures { RunsBeginWithWhatStands }
 {}
 
-/// Each legal history is one with which some run begins, of a node whose keys have 32 bytes each. So what is said of each run that has
-/// just begun with what a disk is read as is said of some run.
+/// And at each state for which the areas stand.
+pub fn runs_begin_at_states()
+    ensures { RunsBeginAtStates }
+{}
+
+/// Each legal history is one with which some run begins, of a node whose keys have 32 bytes each, on any disks that are opened as a
+/// journal at its state. So what is said of each run that has just begun with what disks are read as is said of some run.
 pub fn histories_begin()
     ensures { HistoriesBegin }
 {}
@@ -59,28 +65,29 @@ pub fn two_groups_settle()
     ensures { TwoGroupsSettle }
 {}
 
-/// The four device calls of an append are those that `Journal::append` makes of its disk.
+/// The four device calls of an append are those that `Journal::append` makes of its disk; the other disk stays as it is.
 pub fn appends_make_calls()
     ensures { AppendsMakeCalls }
 {}
 
-/// A checkpoint of all that was accepted can be settled on two disks, where no group is in flight: all is taken, the other
-/// disk is rewritten by eight calls, and the disks change places.
+/// A checkpoint of all that was accepted can be settled on two disks, where no group is in flight: all is taken, and the other
+/// disk is rewritten by eight calls, with the last of which the disks change places.
 pub fn checkpoints_settle()
     ensures { CheckpointsSettle }
 {}
 
-/// What `Journal::rewrite` writes of a snapshot is a checkpoint: of the configuration and the records of a state.
+/// What `Journal::rewrite` writes of a snapshot is a checkpoint of the state whose records it has, after the configuration.
 pub fn snapshots_are_checkpoints()
     ensures { SnapshotsAreCheckpoints }
 {}
 
-/// The eight device calls of a rewriting are those that `Journal::rewrite` makes of the other disk.
+/// The eight device calls of a rewriting are those that `Journal::rewrite` makes of the other disk, which is read after them.
 pub fn rewritings_make_calls()
     ensures { RewritingsMakeCalls }
 {}
 
-/// What is settled only grows, over each step and each stop.
+/// What is settled only grows, over each step and each stop: a restart begins with a recovered history; that each stop leaves the state of
+/// one is what `never_takes_back` says.
 pub fn settled_grows()
     ensures { SettledGrows }
 {}
@@ -90,7 +97,8 @@ pub fn given_stays()
     ensures { GivenStays }
 {}
 
-/// Each event of a run came in by a move, in this run or in an earlier one.
+/// Each event of a run came in by a move, in this run or in an earlier one: a restart begins with a recovered history; that each stop
+/// leaves the state of one is what `never_takes_back` says.
 pub fn events_came_in()
     ensures { EventsCameIn }
 {}
@@ -112,7 +120,8 @@ pub fn what_goes_out_agrees()
 {}
 
 /// Every text of a script is what some run gives out: wherever a run stands at a script's desk, it goes on by moves and gives
-/// out the text of the commands, as frames, and nothing else, and stands at the desk after them.
+/// out the text of the commands, as frames, and nothing else, and stands at the desk after them. The text of `checkpoint` is what
+/// settling all gives; that a rewriting settles it is `checkpoints_settle`.
 pub fn scripts_are_runs()
     ensures { ScriptsAreRuns }
 {}
