@@ -34,7 +34,7 @@ use Rattle.journal.specs.declared.version.Version.{Version}
 use Rattle.journal.specs.declared.version.Version.TheVariants.{First, Second}
 use Rattle.wire.specs.Fields.{HasBytes}
 use Rattle.wire.specs.declared.keys.Key.{Key}
-use Rattle.spec_world.specs.World.{bytes_of, own, as_fresh, Holds, as_new, MayLeave, between, of_one, of_pair, Opened, alone_on, run_on}
+use Rattle.spec_world.specs.World.{bytes_of, own_configuration, as_fresh, Holds, as_empty, MayLeave, between, of_one, of_pair, Opened, alone_on, run_on}
 use Rattle.spec_world.specs.Steps.{IsRecovered, IsRun, nothing_on_one, nothing_on_two}
 use Rattle.spec_world.proofs.Orders.{begins_same}
 use Rattle.spec_world.proofs.Recovering.{bytes_of-kept}
@@ -59,7 +59,7 @@ stakes_long [] = refl
 stakes_long (stake ∷ stakes) = omega (arith, stakes_long stakes)
 
 -- the configuration's record is short
-pub configuration_short : (node : Node) → IsNode node → AreKeys node → length (own Second node) ≤ 14 + 36 * 65535
+pub configuration_short : (node : Node) → IsNode node → AreKeys node → length (own_configuration Second node) ≤ 14 + 36 * 65535
 configuration_short node sound keys =
     let charter = node.charter in
     let long = keys_long charter.keys keys in
@@ -68,7 +68,7 @@ configuration_short node sound keys =
     omega (arith, long, stakes, both, sound.charter.size, sound.charter.staked)
 
 -- and fits a group
-pub configuration_fits : (node : Node) → IsNode node → AreKeys node → FitsGroup (own Second node ∷ [])
+pub configuration_fits : (node : Node) → IsNode node → AreKeys node → FitsGroup (own_configuration Second node ∷ [])
 configuration_fits node sound keys = record { some = omega arith; not_many = omega arith; not_long = omega (arith, configuration_short node sound keys) }
 
 pub empty_ends : EndsClosed (CLOSED ∷ [])
@@ -123,20 +123,20 @@ tells_first_group group fits =
     ∙ ap (λ (o : Option (List (List ℕ))). Some (option_and_then generation_of o)) is.is_group
 
 -- the record of a configuration has its shape
-shape_is : (node : Node) → length node.charter.keys < 2 ^ 16 → length (own Second node) ≡ size_in Second (length node.charter.keys) → is_configuration Second (own Second node) ≡ true
+shape_is : (node : Node) → length node.charter.keys < 2 ^ 16 → length (own_configuration Second node) ≡ size_in Second (length node.charter.keys) → is_configuration Second (own_configuration Second node) ≡ true
 unfolding is_configuration
 shape_is node small long =
     let keys = node.charter.keys in
     let members : from_be_bytes w16 (to_be_bytes w16 (length keys)) ≡ length keys = from_be_bytes-to_be_bytes_2 (length keys) small in
     let size = size_in Second (from_be_bytes w16 (to_be_bytes w16 (length keys))) in
-    and_from (has_front Second (own Second node)) (eqb (length (own Second node)) size) refl
-    (eq-eqb (length (own Second node)) size (long ∙ ap (size_in Second) (sym members)))
+    and_from (has_front Second (own_configuration Second node)) (eqb (length (own_configuration Second node)) size) refl
+    (eq-eqb (length (own_configuration Second node)) size (long ∙ ap (size_in Second) (sym members)))
 
-not_first : (node : Node) → is_configuration First (own Second node) ≡ false
+not_first : (node : Node) → is_configuration First (own_configuration Second node) ≡ false
 unfolding is_configuration
 not_first node = refl
 
-pub shaped : (node : Node) → IsNode node → AreKeys node → shaped_version (own Second node) ≡ Some Second
+pub shaped : (node : Node) → IsNode node → AreKeys node → shaped_version (own_configuration Second node) ≡ Some Second
 shaped node sound keys =
     let charter = node.charter in
     let long = keys_long charter.keys keys in
@@ -148,7 +148,7 @@ shaped node sound keys =
 pub first_tells : (node : Node) → IsNode node → AreKeys node → tells (first_bytes node) ≡ Some (Some 0)
 unfolding generation_of
 first_tells node sound keys =
-    tells_first_group (own Second node ∷ []) (configuration_fits node sound keys)
+    tells_first_group (own_configuration Second node ∷ []) (configuration_fits node sound keys)
     ∙ ap (λ (o : Option Version). Some (option_map (λ version. 0) o)) (shaped node sound keys)
 
 -- ---- runs
@@ -160,7 +160,7 @@ module _ (node : Node) (sound : IsNode node) (keys : AreKeys node) where
   -- the first bytes are the journal of no event
   first_holds : (areas : Areas) → stands_in areas ≡ stands (first_bytes node) → Holds node areas (kept_of node [])
   first_holds areas reads =
-      let group = own Second node ∷ [] in
+      let group = own_configuration Second node ∷ [] in
       let fits = configuration_fits node sound keys in
       record {
         front = group;
@@ -173,7 +173,7 @@ module _ (node : Node) (sound : IsNode node) (keys : AreKeys node) where
           stands_for = reads ∙ longer_stands (CLOSED ∷ []) empty_ends group fits ∙ ap (with_group 0 group) (stands_short (0 ∷ []) (omega arith));
           are = refl;
           first_gate = 0;
-          first = All-cons (λ (one : Record). one.gate ≡ 0) (kept_at 0 (own Second node)) [] refl (All-nil (λ (one : Record). one.gate ≡ 0));
+          first = All-cons (λ (one : Record). one.gate ≡ 0) (kept_at 0 (own_configuration Second node)) [] refl (All-nil (λ (one : Record). one.gate ≡ 0));
           others = All-nil (λ (one : Record). 0 < one.gate);
         };
         legal = legal_none node (fresh node) sound (subst (IsSound node) (starts_fresh node) (kept_is_sound node [] (empty_legal node sound)));
@@ -181,12 +181,12 @@ module _ (node : Node) (sound : IsNode node) (keys : AreKeys node) where
       }
 
   first_ends : EndsClosed (first_bytes node)
-  first_ends = longer_ends (CLOSED ∷ []) empty_ends (own Second node ∷ []) (configuration_fits node sound keys)
+  first_ends = longer_ends (CLOSED ∷ []) empty_ends (own_configuration Second node ∷ []) (configuration_fits node sound keys)
 
   first_are : AreBytes (first_bytes node)
   first_are =
-      let group = own Second node ∷ [] in
-      longer_bytes (CLOSED ∷ []) group closed_bytes (group_are group (All-cons AreBytes (own Second node) [] (configuration_are Second node keys) (All-nil AreBytes)))
+      let group = own_configuration Second node ∷ [] in
+      longer_bytes (CLOSED ∷ []) group closed_bytes (group_are group (All-cons AreBytes (own_configuration Second node) [] (configuration_are Second node keys) (All-nil AreBytes)))
 
   -- nothing is recovered of a world in which nothing happened
   nothing_recovered : (on : Opened) → IsRecovered node (run_on on [] []) []
@@ -202,9 +202,9 @@ module _ (node : Node) (sound : IsNode node) (keys : AreKeys node) where
     begins = inl (record {
       left = of_one [] refl nothing_left refl;
       recovered = nothing_recovered nothing_on_one;
-      stands_for = as_new (stands_short [] (omega arith)) (starts_fresh node);
-      on = alone_on (first_bytes node);
-      opened = record { holds = first_holds (alone (first_bytes node)) refl; ends_closed = first_ends; are_bytes = first_are; rest = tt };
+      stands_for = as_empty (stands_short [] (omega arith)) (starts_fresh node);
+      disks = alone_on (first_bytes node);
+      opened = record { holds = first_holds (alone (first_bytes node)) refl; ends_closed = first_ends; are_bytes = first_are; spare = tt };
       is = refl;
     });
     leads = refl;
@@ -222,13 +222,13 @@ module _ (node : Node) (sound : IsNode node) (keys : AreKeys node) where
         begins = inr (record {
           left = of_pair (record { bytes_at_start = []; calls = []; side = sides.First; generation = 0 }) [] [] refl nothing_left nothing_left refl;
           recovered = nothing_recovered nothing_on_two;
-          stands_for = as_new nothing_stands (starts_fresh node);
-          on = first_pair node;
+          stands_for = as_empty nothing_stands (starts_fresh node);
+          disks = first_pair node;
           opened = record {
             holds = first_holds (pair (first_bytes node) (CLOSED ∷ [])) (both_older sides.First 0 (first_bytes node) (CLOSED ∷ []) told (inl (tells_closed 0 [] refl)));
             ends_closed = first_ends;
             are_bytes = first_are;
-            rest = record { told = told; at_rest = inl refl; are_bytes = closed_bytes };
+            spare = record { told = told; at_rest = inl refl; are_bytes = closed_bytes };
           };
           is = refl;
         });

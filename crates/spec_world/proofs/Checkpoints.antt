@@ -23,7 +23,7 @@ use Rattle.spec_checkpoint.specs.Records.{state_records}
 use Rattle.spec_checkpoint.specs.Data.{Checkpoint, IsWritten}
 use Rattle.spec_checkpoint.specs.Meaning as checkpoint
 use Rattle.spec_model.specs.Nodes.{Node, IsNode}
-use Rattle.spec_world.specs.World.{IsJournal, own, IsCheckpointOf}
+use Rattle.spec_world.specs.World.{IsJournal, own_configuration, IsCheckpointOf}
 use Rattle.spec_world.specs.Runs.{AreKeys, SnapshotsAreCheckpoints}
 use Rattle.spec_world.proofs.Beginning.{configuration_short, empty_ends, shaped, tells_first_group}
 use Rattle.spec_world.proofs.Disks.{whole_keeps, longer_stands, longer_ends}
@@ -88,10 +88,10 @@ head_back generation some small =
     ap (λ (n : ℕ). cond (eqb n 0) None (Some n)) (from_be_bytes-to_be_bytes_8 generation small) ∙ cond-false (eqb generation 0) None (Some generation) (ne_eqb generation 0 (λ none. omega arith))
 
 first_group : (node : Node) (generation : ℕ) → IsNode node → AreKeys node → 1 ≤ generation → generation < 2 ^ 64
-    → IsFile generation (own Second node ∷ head_record generation ∷ []) (file_bytes ((own Second node ∷ head_record generation ∷ []) ∷ []))
+    → IsFile generation (own_configuration Second node ∷ head_record generation ∷ []) (file_bytes ((own_configuration Second node ∷ head_record generation ∷ []) ∷ []))
 unfolding generation_of
 first_group node generation sound keys some small =
-    let group = own Second node ∷ head_record generation ∷ [] in
+    let group = own_configuration Second node ∷ head_record generation ∷ [] in
     let fits : FitsGroup group = record { some = omega arith; not_many = omega arith; not_long = omega (arith, configuration_short node sound keys) } in
     let told : tells (file_with (0 ∷ []) group) ≡ Some (Some generation) =
     tells_first_group group fits ∙ ap (λ (o : Option Version). Some (option_and_then (λ version. head_in (head_record generation)) o)) (shaped node sound keys) ∙ ap Some (head_back generation some small) in
@@ -103,7 +103,7 @@ first_group node generation sound keys some small =
         stands_for = longer_stands (0 ∷ []) empty_ends group fits ∙ ap (with_group 0 group) (stands_short (0 ∷ []) (omega arith));
         are = refl;
         first_gate = 0;
-        first = All-cons (λ (one : Record). one.gate ≡ 0) (kept_at 0 (own Second node)) (kept_at 0 (head_record generation) ∷ []) refl
+        first = All-cons (λ (one : Record). one.gate ≡ 0) (kept_at 0 (own_configuration Second node)) (kept_at 0 (head_record generation) ∷ []) refl
             (All-cons (λ (one : Record). one.gate ≡ 0) (kept_at 0 (head_record generation)) [] refl (All-nil (λ (one : Record). one.gate ≡ 0)));
         others = All-nil (λ (one : Record). 0 < one.gate);
       };
@@ -113,9 +113,9 @@ first_group node generation sound keys some small =
 
 groups_are : (node : Node) (generation : ℕ) (kept_data : Checkpoint) (groups : List (List (List ℕ))) (bytes : List ℕ) → IsNode node → AreKeys node
     → 1 ≤ generation → generation < 2 ^ 64 → IsWritten node kept_data → All FitsGroup groups → flat_map (λ group. group) groups ≡ state_records kept_data → AreBytes bytes
-    → 1 ∷ bytes ≡ file_bytes ((own Second node ∷ head_record generation ∷ []) ∷ groups) → IsCheckpointOf node generation (checkpoint.state_in node kept_data) bytes
+    → 1 ∷ bytes ≡ file_bytes ((own_configuration Second node ∷ head_record generation ∷ []) ∷ groups) → IsCheckpointOf node generation (checkpoint.state_in node kept_data) bytes
 groups_are node generation kept_data groups bytes sound keys some small written fits all are is =
-    let front = own Second node ∷ head_record generation ∷ [] in
+    let front = own_configuration Second node ∷ head_record generation ∷ [] in
     let file = with_all generation (front ∷ []) groups front (first_group node generation sound keys some small) fits in
     let found : IsFile generation (front ++ state_records kept_data) (1 ∷ bytes) =
     subst (λ (l : List ℕ). IsFile generation (front ++ state_records kept_data) l) (sym is)
@@ -170,6 +170,6 @@ fit_packed (first ∷ rest) each = fit_packed_after (first ∷ []) rest (All-hea
 pub snapshots_are_checkpoints : SnapshotsAreCheckpoints
 snapshots_are_checkpoints node generation kept_data sound keys some small written can are =
     let state = state_records kept_data in
-    let front = own Second node ∷ head_record generation ∷ [] in
-    groups_are node generation kept_data (packed state) (bytes_for generation (own Second node ∷ state)) sound keys some small written (fit_packed state can.1) (all_packed state) are
+    let front = own_configuration Second node ∷ head_record generation ∷ [] in
+    groups_are node generation kept_data (packed state) (bytes_for generation (own_configuration Second node ∷ state)) sound keys some small written (fit_packed state can.1) (all_packed state) are
     (ap (λ (l : List ℕ). 1 ∷ l) (sym (append_assoc (sized_body front) (in_turn (map as_written (packed state))) (0 ∷ []))))

@@ -22,7 +22,7 @@ use Rattle.spec_model.specs.Histories.{History}
 use Rattle.spec_records.specs.Records.{record_of}
 use Rattle.spec_world.proofs.Bytes.{one_more, joined, longer_bytes}
 use Rattle.spec_world.specs.World.{Phase, not_begun, group_written, group_synced, gate_opened, first_of, call_in, call_for}
-use Rattle.spec_world.specs.Steps.{next_phase, next_written}
+use Rattle.spec_world.specs.Steps.{next_phase, next_durable}
 
 -- ---- one write on firm bytes
 
@@ -186,15 +186,15 @@ fits_in synced_behind_gate group fits = fits
 fits_in opened group fits = fits
 fits_in whole group fits = fits
 
--- before the last call of an append the stage after it is that of the next phase, and no group more is written to its end
+-- before the last call of an append the stage after it is that of the next phase, and no group more is durable
 pub data IsNextStage : Phase → Type 0 where
   last_stage : (phase : Phase) → phase ≡ gate_opened → IsNextStage phase
-  earlier_stage : (phase : Phase) → stage_after phase ≡ stage_of (next_phase phase) → ((written : ℕ) → next_written phase written ≡ written) → IsNextStage phase
+  earlier_stage : (phase : Phase) → stage_after phase ≡ stage_of (next_phase phase) → ((durable : ℕ) → next_durable phase durable ≡ durable) → IsNextStage phase
 
 pub next_stage : (phase : Phase) → IsNextStage phase
-next_stage not_begun = earlier_stage not_begun refl (λ written. refl)
-next_stage group_written = earlier_stage group_written refl (λ written. refl)
-next_stage group_synced = earlier_stage group_synced refl (λ written. refl)
+next_stage not_begun = earlier_stage not_begun refl (λ durable. refl)
+next_stage group_written = earlier_stage group_written refl (λ durable. refl)
+next_stage group_synced = earlier_stage group_synced refl (λ durable. refl)
 next_stage gate_opened = last_stage gate_opened refl
 
 -- ---- the groups in flight

@@ -19,15 +19,15 @@ use Rattle.journal.specs.declared.layout.TheConstants.{OPEN}
 use Rattle.spec_model.specs.Histories.{History}
 use Rattle.spec_model.specs.Nodes.{Node}
 use Rattle.spec_records.specs.Records.{record_of}
-use Rattle.spec_world.specs.World.{Phase, not_begun, group_written, group_synced, gate_opened, World, Holds, events_of, written_in, unwritten_in, first_of}
+use Rattle.spec_world.specs.World.{Phase, not_begun, group_written, group_synced, gate_opened, World, Holds, events_of, durable_in, undurable_in, first_of}
 use Rattle.spec_world.specs.World.{group_in, content_in, call_in, call_for, as_journal, MayStop, of_one, of_pair, between, run_on, IsOpened, Spare, Rewriting}
-use Rattle.spec_world.specs.Steps.{Move, take_to, device_call, settle, take_all, spare_call, IsTakenAll, with_spare_call, with_rewritten, after_spare_call, replaced, IsSpareCalled, group_to, IsTakenTo, IsCalled, next_phase, next_written, Leads}
+use Rattle.spec_world.specs.Steps.{Move, take_to, device_call, settle, take_all, spare_call, IsTakenAll, with_spare_call, with_rewritten, after_spare_call, replaced, IsSpareCalled, group_to, IsTakenTo, IsCalled, next_phase, next_durable, Leads}
 use Rattle.spec_world.specs.Runs.{StopsArePossible, RunsGoOn, RunsBeginWithWhatStands, RunsBeginAtStates, GroupsSettle, TwoGroupsSettle, two_in_flight, device_calls, spare_calls, areas_in, CheckpointsSettle, RewritingsMakeCalls, AppendsMakeCalls}
 use Rattle.spec_world.proofs.Bytes.{group_in_bytes}
 use Rattle.spec_world.proofs.Disks.{stage_of, called, read_possible}
 use Rattle.spec_world.proofs.Groups.{take_none, taken_more}
 use Rattle.spec_world.proofs.Law.{stands_there, run_stands, nothing_taken_back}
-use Rattle.spec_world.proofs.Moving.{IsCallOfEight, eighth, earlier, of_eight, not_eighth, due_alone, none_written, none_begun, spare_at, beside_at, rewriting_at, pending_parts, step_stands, all_stand}
+use Rattle.spec_world.proofs.Moving.{IsCallOfEight, eighth, earlier, of_eight, not_eighth, due_alone, none_durable, none_begun, spare_at, beside_at, rewriting_at, pending_parts, step_stands, all_stand}
 use Rattle.spec_world.proofs.Recovering.{stands_once}
 use Rattle.spec_world.proofs.Rewriting.{get_inside, made_more, last_state, spare_possible}
 use Rattle.spec_world.proofs.Standing.{Stands, areas_with, IsSpareAt, none_rewritten, fresh_disk, left, group_events, begun_many}
@@ -39,7 +39,7 @@ runs_go_on node moves world found sound run may =
     let at = run_stands node moves world sound run in
     let is_left = left node world found at may in
     let recovered = stands_there node world at found may in
-    (run_on is_left.on is_left.history world.given, record { left = may; recovered = recovered; stands_for = as_journal is_left.holds; on = is_left.on; opened = is_left.opened; is = refl }, begun_many is_left.on.rest ∙ is_left.as_many)
+    (run_on is_left.on is_left.history world.given, record { left = may; recovered = recovered; stands_for = as_journal is_left.holds; disks = is_left.on; opened = is_left.opened; is = refl }, begun_many is_left.on.spare ∙ is_left.as_many)
 
 pub runs_begin_with_what_stands : RunsBeginWithWhatStands
 runs_begin_with_what_stands node moves world found history sound run may recovered stands_for =
@@ -47,10 +47,10 @@ runs_begin_with_what_stands node moves world found history sound run may recover
     let is_left = left node world found at may in
     let same : kept node is_left.history ≡ kept node history = sym (stands_once node found (kept node is_left.history) (kept node history) is_left.holds stands_for) in (
       run_on is_left.on history world.given,
-      record { left = may; recovered = recovered; stands_for = stands_for; on = is_left.on; opened = subst (IsOpened node is_left.on) same is_left.opened; is = refl },
+      record { left = may; recovered = recovered; stands_for = stands_for; disks = is_left.on; opened = subst (IsOpened node is_left.on) same is_left.opened; is = refl },
       refl,
       refl,
-      begun_many is_left.on.rest ∙ is_left.as_many,
+      begun_many is_left.on.spare ∙ is_left.as_many,
     )
 
 pub runs_begin_at_states : RunsBeginAtStates
@@ -62,22 +62,22 @@ runs_begin_at_states node moves world found state_found sound run may stands_for
 
 -- ---- a stop is always possible
 
-spare_read : (node : Node) (history : History) (groups : List History) (written : ℕ) (phase : Phase) (spare : Spare) (rewriting : Option Rewriting) (rest : List ℕ)
-    → IsSpareAt node history groups written phase (Some spare) rewriting rest → AreBytes rest → CanLeave (state spare.bytes_at_start spare.calls) (state spare.bytes_at_start spare.calls).content
-spare_read node history groups written phase spare None rest is are = subst (λ (s : State). CanLeave s s.content) (sym is) (possible_firm rest are)
-spare_read node history groups written phase spare (Some rewriting) rest is are =
+spare_read : (node : Node) (history : History) (groups : List History) (durable : ℕ) (phase : Phase) (spare : Spare) (rewriting : Option Rewriting) (rest : List ℕ)
+    → IsSpareAt node history groups durable phase (Some spare) rewriting rest → AreBytes rest → CanLeave (state spare.bytes_at_start spare.calls) (state spare.bytes_at_start spare.calls).content
+spare_read node history groups durable phase spare None rest is are = subst (λ (s : State). CanLeave s s.content) (sym is) (possible_firm rest are)
+spare_read node history groups durable phase spare (Some rewriting) rest is are =
     subst (λ (s : State). CanLeave s s.content) (sym is.disk) (spare_possible rest rewriting.bytes rewriting.made (omega (arith, is.few)) are is.checkpoint.are_bytes)
 
 may_read : (node : Node) (world : World) (at : Stands node world) (spare : Option Spare) → world.spare ≡ spare
     → MayStop world (option_map_or (λ s. pair_of s.side (content_in world) (state s.bytes_at_start s.calls).content) spare (alone (content_in world)))
 may_read node world at None is =
-    let events = first_of (unwritten_in world) in
+    let events = first_of (undurable_in world) in
     let live = read_possible at.file at.ends_closed (group_in world) (stage_of world.phase) (state world.bytes_at_start world.calls) at.are_bytes (group_in_bytes node events (group_events node world at)) at.disk in
     of_one (content_in world) is (between live) refl
 may_read node world at (Some spare) is =
-    let events = first_of (unwritten_in world) in
+    let events = first_of (undurable_in world) in
     let live = read_possible at.file at.ends_closed (group_in world) (stage_of world.phase) (state world.bytes_at_start world.calls) at.are_bytes (group_in_bytes node events (group_events node world at)) at.disk in
-    let other = spare_read node _ world.groups world.written world.phase spare world.rewriting at.rest (spare_at node world at spare is) (beside_at node world at spare is).are_bytes in
+    let other = spare_read node _ world.groups world.durable world.phase spare world.rewriting at.rest (spare_at node world at spare is) (beside_at node world at spare is).are_bytes in
     of_pair spare (content_in world) (state spare.bytes_at_start spare.calls).content is (between live) (between other) refl
 
 pub stops_are_possible : StopsArePossible
@@ -85,22 +85,22 @@ stops_are_possible node moves world sound run = may_read node world (run_stands 
 
 -- ---- what is settled is on the disks where no group is in flight
 
-areas_read : (node : Node) (history : History) (groups : List History) (written : ℕ) (phase : Phase) (content file rest : List ℕ) (spare : Option Spare) (rewriting : Option Rewriting) → content ≡ file
-    → rewriting ≡ None → IsSpareAt node history groups written phase spare rewriting rest
+areas_read : (node : Node) (history : History) (groups : List History) (durable : ℕ) (phase : Phase) (content file rest : List ℕ) (spare : Option Spare) (rewriting : Option Rewriting) → content ≡ file
+    → rewriting ≡ None → IsSpareAt node history groups durable phase spare rewriting rest
     → areas_with spare file rest ≡ option_map_or (λ s. pair_of s.side content (state s.bytes_at_start s.calls).content) spare (alone content)
-areas_read node history groups written phase content file rest None rewriting same none is = ap alone (sym same)
-areas_read node history groups written phase content file rest (Some spare) None same none is =
+areas_read node history groups durable phase content file rest None rewriting same none is = ap alone (sym same)
+areas_read node history groups durable phase content file rest (Some spare) None same none is =
     (λ i. pair_of spare.side (sym same i) (ap (λ (s : State). s.content) (sym is) i))
-areas_read node history groups written phase content file rest (Some spare) (Some rewriting) same none is = absurd (none-some rewriting (sym none))
+areas_read node history groups durable phase content file rest (Some spare) (Some rewriting) same none is = absurd (none-some rewriting (sym none))
 
 pub idle_holds : (node : Node) (world : World) → Stands node world → world.groups ≡ [] → Holds node (areas_in world) (kept node (world.began ++ world.settled))
 idle_holds node world at idle =
     let begun = none_begun node world at idle in
     let fresh = ap (λ (s : State). s.content) (fresh_disk node world at begun) in
-    let none = none_rewritten node world.spare world.rewriting at.rest _ world.groups world.written world.phase at.spare (inr idle) in
-    let areas = areas_read node _ world.groups world.written world.phase (content_in world) at.file at.rest world.spare world.rewriting fresh none at.spare in
-    let settled : written_in world ≡ world.settled =
-    ap (λ (l : List History). world.settled ++ events_of l) (ap (take world.written) idle ∙ take_none world.written) ∙ append-nil world.settled in
+    let none = none_rewritten node world.spare world.rewriting at.rest _ world.groups world.durable world.phase at.spare (inr idle) in
+    let areas = areas_read node _ world.groups world.durable world.phase (content_in world) at.file at.rest world.spare world.rewriting fresh none at.spare in
+    let settled : durable_in world ≡ world.settled =
+    ap (λ (l : List History). world.settled ++ events_of l) (ap (take world.durable) idle ∙ take_none world.durable) ∙ append-nil world.settled in
     subst (λ (a : Areas). Holds node a (kept node (world.began ++ world.settled))) areas
     (subst (λ l. Holds node (areas_with world.spare at.file at.rest) (kept node (world.began ++ l))) settled at.holds)
 
@@ -108,7 +108,7 @@ idle_holds node world at idle =
 
 -- after a device call
 abbrev called_on : World → Call → World
-called_on world call = record world { calls = world.calls ++ call ∷ []; phase = next_phase world.phase; written = next_written world.phase world.written }
+called_on world call = record world { calls = world.calls ++ call ∷ []; phase = next_phase world.phase; durable = next_durable world.phase world.durable }
 
 -- a world in which an append begins, and after each of its four calls
 abbrev begun_in : World → World
@@ -127,10 +127,10 @@ abbrev pub appended_in : World → List (List ℕ) → World
 appended_in base records = called_on (opened_in base records) Synced
 
 -- where a group can be written its append makes four device calls; then the file has it
-module _ (base : World) (group : History) (rest : List History) (none : base.rewriting ≡ None) (first : unwritten_in base ≡ group ∷ rest) where
-  due_call : (phase : Phase) (content : List ℕ) → option_map_or (λ one. None) base.rewriting (call_for (unwritten_in base) phase content) ≡ call_in phase content (map record_of group)
+module _ (base : World) (group : History) (rest : List History) (none : base.rewriting ≡ None) (first : undurable_in base ≡ group ∷ rest) where
+  due_call : (phase : Phase) (content : List ℕ) → option_map_or (λ one. None) base.rewriting (call_for (undurable_in base) phase content) ≡ call_in phase content (map record_of group)
   due_call phase content =
-      ap (λ (r : Option Rewriting). option_map_or (λ one. None) r (call_for (unwritten_in base) phase content)) none ∙ ap (λ (l : List History). call_for l phase content) first
+      ap (λ (r : Option Rewriting). option_map_or (λ one. None) r (call_for (undurable_in base) phase content)) none ∙ ap (λ (l : List History). call_for l phase content) first
 
   pub append_leads : (node : Node) (last : World) (moves : List Move) → Leads node (appended_in base (map record_of group)) moves last
       → Leads node (begun_in base) (device_call ∷ device_call ∷ device_call ∷ device_call ∷ moves) last
@@ -171,16 +171,16 @@ pub groups_settle : GroupsSettle
 groups_settle node moves world count sound run none fits =
     let at = run_stands node moves world sound run in
     let idle = none_begun node world at none in
-    let zero_written = none_written node world at none in
-    let alone_now = none_rewritten node world.spare world.rewriting at.rest _ world.groups world.written world.phase at.spare (inr none) in
+    let zero_durable = none_durable node world at none in
+    let alone_now = none_rewritten node world.spare world.rewriting at.rest _ world.groups world.durable world.phase at.spare (inr none) in
     let group = group_to world count in
-    let one : World = record world { groups = group ∷ []; written = 0; phase = not_begun } in
+    let one : World = record world { groups = group ∷ []; durable = 0; phase = not_begun } in
     let file = at.file in
     let fresh = fresh_disk node world at idle in
-    let six : World = record (appended_in one (map record_of group)) { settled = world.settled ++ group; groups = []; written = 0 } in
+    let six : World = record (appended_in one (map record_of group)) { settled = world.settled ++ group; groups = []; durable = 0 } in
     let leads : Leads node world (take_to count ∷ device_call ∷ device_call ∷ device_call ∷ device_call ∷ settle ∷ []) six = (
       one,
-      record { fits = fits; is = λ i. record world { groups = sym none i ++ group ∷ []; written = sym zero_written i; phase = sym idle i } },
+      record { fits = fits; is = λ i. record world { groups = sym none i ++ group ∷ []; durable = sym zero_durable i; phase = sym idle i } },
       append_leads one group [] alone_now refl node six (settle ∷ []) (six, record { done = omega arith; is = refl }, refl),
     ) in
     let appended = append_ends one (map record_of group) file at.ends_closed fits fresh in
@@ -208,11 +208,11 @@ pub two_groups_settle : TwoGroupsSettle
 two_groups_settle node moves world count more sound run none fits also =
     let at = run_stands node moves world sound run in
     let idle = none_begun node world at none in
-    let zero_written = none_written node world at none in
-    let alone_now = none_rewritten node world.spare world.rewriting at.rest _ world.groups world.written world.phase at.spare (inr none) in
+    let zero_durable = none_durable node world at none in
+    let alone_now = none_rewritten node world.spare world.rewriting at.rest _ world.groups world.durable world.phase at.spare (inr none) in
     let group = group_to world count in
-    let one : World = record world { groups = group ∷ []; written = 0; phase = not_begun } in
-    let take_one : IsTakenTo world count one = record { fits = fits; is = λ i. record world { groups = sym none i ++ group ∷ []; written = sym zero_written i; phase = sym idle i } } in
+    let one : World = record world { groups = group ∷ []; durable = 0; phase = not_begun } in
+    let take_one : IsTakenTo world count one = record { fits = fits; is = λ i. record world { groups = sym none i ++ group ∷ []; durable = sym zero_durable i; phase = sym idle i } } in
     let at_one : Stands node one = step_stands node world (take_to count) one at take_one in
     let fresh = fresh_disk node world at idle in
     let two = appended_in one (map record_of group) in
@@ -220,8 +220,8 @@ two_groups_settle node moves world count more sound run none fits also =
     let next_group = group_to one more in
     let three : World = record two { groups = group ∷ next_group ∷ [] } in
     let four = appended_in three (map record_of next_group) in
-    let last : World = record four { settled = (world.settled ++ group) ++ next_group; groups = []; written = 0 } in
-    let five : World = record four { settled = world.settled ++ group; groups = next_group ∷ []; written = 1 } in
+    let last : World = record four { settled = (world.settled ++ group) ++ next_group; groups = []; durable = 0 } in
+    let five : World = record four { settled = world.settled ++ group; groups = next_group ∷ []; durable = 1 } in
     let leads : Leads node world (two_in_flight count more) last = (
       one,
       take_one,
@@ -261,9 +261,9 @@ pub checkpoints_settle : CheckpointsSettle
 checkpoints_settle node moves world spare bytes sound run none pair checkpoint =
     let at = run_stands node moves world sound run in
     let idle = none_begun node world at none in
-    let zero_written = none_written node world at none in
+    let zero_durable = none_durable node world at none in
     let pending = drop (length world.settled) world.accepted in
-    let one : World = record world { groups = pending ∷ []; written = 0; phase = not_begun; rewriting = Some (record { bytes = bytes; made = 0 }) } in
+    let one : World = record world { groups = pending ∷ []; durable = 0; phase = not_begun; rewriting = Some (record { bytes = bytes; made = 0 }) } in
     let c1 = spare.calls ++ Wrote 0 (0 ∷ []) ∷ [] in
     let c2 = c1 ++ Synced ∷ [] in
     let c3 = c2 ++ Cut 1 ∷ [] in
@@ -274,7 +274,7 @@ checkpoints_settle node moves world spare bytes sound run none pair checkpoint =
     let c8 = c7 ++ Synced ∷ [] in
     let eight = rewriting_in one spare bytes c7 7 in
     let nine = with_rewritten eight (record spare { calls = c7 }) Synced in
-    let last : World = record nine { settled = world.settled ++ pending; groups = []; written = 0 } in
+    let last : World = record nine { settled = world.settled ++ pending; groups = []; durable = 0 } in
     let made : (calls : List Call) (count : ℕ) (call : Call) → slice_get (rewrite_calls bytes) count ≡ Some call → (count + 1 == 8) ≡ false
     → IsSpareCalled (rewriting_in one spare bytes calls count) (rewriting_in one spare bytes (calls ++ call ∷ []) (count + 1)) =
     λ calls count call due more. record {
@@ -294,7 +294,7 @@ checkpoints_settle node moves world spare bytes sound run none pair checkpoint =
       pair = pair;
       idle = none;
       checkpoint = checkpoint;
-      is = λ i. record world { groups = pending ∷ []; written = sym zero_written i; phase = sym idle i; rewriting = Some (record { bytes = bytes; made = 0 }) };
+      is = λ i. record world { groups = pending ∷ []; durable = sym zero_durable i; phase = sym idle i; rewriting = Some (record { bytes = bytes; made = 0 }) };
     } in
     let calls : (end : World) (rest : List Move) → Leads node eight rest end → Leads node world (take_all bytes ∷ spare_call ∷ spare_call ∷ spare_call ∷ spare_call ∷ spare_call ∷ spare_call ∷ spare_call ∷ rest) end =
     λ end rest more. (
@@ -454,7 +454,7 @@ due_group (group ∷ groups) phase content call due = due
 -- the call that is made, by its phase
 one_call : (world next : World) (phase : Phase) (step : IsCalled world next) → world.phase ≡ phase → call_in phase (content_in world) (group_in world) ≡ Some step.call
 one_call world next phase step is =
-    ap (λ (p : Phase). call_in p (content_in world) (group_in world)) (sym is) ∙ due_group (unwritten_in world) world.phase (content_in world) step.call (due_alone world.rewriting (call_for (unwritten_in world) world.phase (content_in world)) step.call step.due).1
+    ap (λ (p : Phase). call_in p (content_in world) (group_in world)) (sym is) ∙ due_group (undurable_in world) world.phase (content_in world) step.call (due_alone world.rewriting (call_for (undurable_in world) world.phase (content_in world)) step.call step.due).1
 
 -- what a read gives after it
 content_next : (world next : World) (step : IsCalled world next) → content_in next ≡ (after (state world.bytes_at_start world.calls) step.call).content
@@ -463,10 +463,10 @@ content_next world next step = ap content_in step.is ∙ ap (λ (s : State). s.c
 phase_next : (world next : World) (phase : Phase) (step : IsCalled world next) → world.phase ≡ phase → next.phase ≡ next_phase phase
 phase_next world next phase step is = ap (λ (w : World). w.phase) step.is ∙ ap next_phase is
 
--- the group stays where it isn't written to its end
-group_next : (world next : World) (phase : Phase) (step : IsCalled world next) → world.phase ≡ phase → next_written phase world.written ≡ world.written → group_in next ≡ group_in world
+-- the group stays where it isn't durable
+group_next : (world next : World) (phase : Phase) (step : IsCalled world next) → world.phase ≡ phase → next_durable phase world.durable ≡ world.durable → group_in next ≡ group_in world
 group_next world next phase step is same =
-    ap group_in step.is ∙ ap (λ (n : ℕ). map record_of (first_of (drop n world.groups))) (ap (λ (p : Phase). next_written p world.written) is ∙ same)
+    ap group_in step.is ∙ ap (λ (n : ℕ). map record_of (first_of (drop n world.groups))) (ap (λ (p : Phase). next_durable p world.durable) is ∙ same)
 
 calls_next : (world next : World) (step : IsCalled world next) → next.calls ≡ world.calls ++ step.call ∷ []
 calls_next world next step = ap (λ (w : World). w.calls) step.is
@@ -548,28 +548,28 @@ made_few group_written = omega arith
 made_few group_synced = omega arith
 made_few gate_opened = omega arith
 
--- one call more is made, or four calls where one group fewer isn't written to its end
+-- one call more is made, or four calls where one group fewer isn't durable
 call_counts : (world next : World) (phase : Phase) (step : IsCalled world next) → world.phase ≡ phase
-    → (1 ≤ length (unwritten_in world)) × (calls_made next.phase + 4 * length (unwritten_in world) ≡ calls_made phase + 1 + 4 * length (unwritten_in next))
+    → (1 ≤ length (undurable_in world)) × (calls_made next.phase + 4 * length (undurable_in world) ≡ calls_made phase + 1 + 4 * length (undurable_in next))
 unfolding calls_made
 call_counts world next phase step is =
-    let some : 1 ≤ length (unwritten_in world) = some_due (unwritten_in world) world.phase (content_in world) step.call (due_alone world.rewriting (call_for (unwritten_in world) world.phase (content_in world)) step.call step.due).1 in
+    let some : 1 ≤ length (undurable_in world) = some_due (undurable_in world) world.phase (content_in world) step.call (due_alone world.rewriting (call_for (undurable_in world) world.phase (content_in world)) step.call step.due).1 in
     let made : calls_made next.phase ≡ calls_made (next_phase phase) = ap calls_made (phase_next world next phase step is) in
-    let left : length (unwritten_in next) ≡ length world.groups - next_written phase world.written =
-    ap (λ (w : World). length (unwritten_in w)) step.is ∙ length-drop (next_written world.phase world.written) world.groups
-    ∙ ap (λ (p : Phase). length world.groups - next_written p world.written) is in
+    let left : length (undurable_in next) ≡ length world.groups - next_durable phase world.durable =
+    ap (λ (w : World). length (undurable_in w)) step.is ∙ length-drop (next_durable world.phase world.durable) world.groups
+    ∙ ap (λ (p : Phase). length world.groups - next_durable p world.durable) is in
     (some, counted phase made left some)
   where
-    counted : (phase : Phase) → calls_made next.phase ≡ calls_made (next_phase phase) → length (unwritten_in next) ≡ length world.groups - next_written phase world.written
-        → 1 ≤ length (unwritten_in world)
-        → calls_made next.phase + 4 * length (unwritten_in world) ≡ calls_made phase + 1 + 4 * length (unwritten_in next)
-    counted not_begun made left some = omega (arith, made, left, length-drop world.written world.groups)
-    counted group_written made left some = omega (arith, made, left, length-drop world.written world.groups)
-    counted group_synced made left some = omega (arith, made, left, length-drop world.written world.groups)
-    counted gate_opened made left some = omega (arith, made, left, some, length-drop world.written world.groups)
+    counted : (phase : Phase) → calls_made next.phase ≡ calls_made (next_phase phase) → length (undurable_in next) ≡ length world.groups - next_durable phase world.durable
+        → 1 ≤ length (undurable_in world)
+        → calls_made next.phase + 4 * length (undurable_in world) ≡ calls_made phase + 1 + 4 * length (undurable_in next)
+    counted not_begun made left some = omega (arith, made, left, length-drop world.durable world.groups)
+    counted group_written made left some = omega (arith, made, left, length-drop world.durable world.groups)
+    counted group_synced made left some = omega (arith, made, left, length-drop world.durable world.groups)
+    counted gate_opened made left some = omega (arith, made, left, some, length-drop world.durable world.groups)
 
-few_calls : (node : Node) (count : ℕ) (world next : World) → calls_made world.phase ≤ 4 * length (unwritten_in world) → Leads node world (device_calls count) next
-    → count + calls_made world.phase ≤ 4 * length (unwritten_in world)
+few_calls : (node : Node) (count : ℕ) (world next : World) → calls_made world.phase ≤ 4 * length (undurable_in world) → Leads node world (device_calls count) next
+    → count + calls_made world.phase ≤ 4 * length (undurable_in world)
 few_calls node zero world next within leads = omega (arith, within)
 few_calls node (suc count) world next within leads =
     let counts = call_counts world leads.0 world.phase leads.1 refl in

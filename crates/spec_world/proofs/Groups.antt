@@ -3,7 +3,7 @@ use Rattle.std.proofs.Common.{◌≡◌, ℕ, zero, suc, ◌+◌, ◌-◌, ◌�
 use Rattle.std.proofs.lemmas.List.{append-nil, drop_at}
 use Rattle.spec_model.specs.Histories.{History}
 use Rattle.wire.specs.Lists.{Begins}
-use Rattle.spec_world.specs.World.{World, events_of, taken_in, written_in, unwritten_in, first_of}
+use Rattle.spec_world.specs.World.{World, events_of, taken_in, durable_in, undurable_in, first_of}
 use Rattle.spec_world.specs.Steps.{group_to}
 use Rattle.spec_world.proofs.Orders.{shorter_begins}
 
@@ -23,19 +23,19 @@ events_cut zero groups = refl
 events_cut (suc count) [] = refl
 events_cut (suc count) (group ∷ groups) = ap (λ l. group ++ l) (events_cut count groups) ∙ sym (append_assoc group (events_of (take count groups)) (events_of (drop count groups)))
 
--- what is durable, and the first group that isn't written to its end
+-- what is durable, and the first group that isn't durable
 abbrev pub with_first : World → History
-with_first world = written_in world ++ first_of (unwritten_in world)
+with_first world = durable_in world ++ first_of (undurable_in world)
 
 -- with that all that is taken begins
-pub first_and_others : (world : World) → taken_in world ≡ with_first world ++ events_of (drop 1 (unwritten_in world))
+pub first_and_others : (world : World) → taken_in world ≡ with_first world ++ events_of (drop 1 (undurable_in world))
 first_and_others world =
-    ap (λ l. world.settled ++ l) (events_cut world.written world.groups)
-    ∙ sym (append_assoc world.settled (events_of (take world.written world.groups)) (events_of (unwritten_in world)))
-    ∙ ap (λ l. written_in world ++ l) (events_split (unwritten_in world))
-    ∙ sym (append_assoc (written_in world) (first_of (unwritten_in world)) (events_of (drop 1 (unwritten_in world))))
+    ap (λ l. world.settled ++ l) (events_cut world.durable world.groups)
+    ∙ sym (append_assoc world.settled (events_of (take world.durable world.groups)) (events_of (undurable_in world)))
+    ∙ ap (λ l. durable_in world ++ l) (events_split (undurable_in world))
+    ∙ sym (append_assoc (durable_in world) (first_of (undurable_in world)) (events_of (drop 1 (undurable_in world))))
 
--- ---- one group more is written to its end, or settled
+-- ---- one group more is durable, or settled
 
 -- of no groups there are none
 pub take_none : (count : ℕ) → take {A = History} count [] ≡ []
@@ -65,13 +65,13 @@ some_after zero (group ∷ groups) some = omega arith
 some_after (suc count) [] some = absurd (some refl)
 some_after (suc count) (group ∷ groups) some = omega (arith, some_after count groups some)
 
--- the first of the groups that are written, and the others
+-- the first of the groups that are durable, and the others
 take_first : (before : ℕ) (groups : List History) → events_of (take (suc before) groups) ≡ first_of groups ++ events_of (take before (drop 1 groups))
 take_first before [] = sym (ap (λ (l : List History). events_of l) (take_none before))
 take_first before (group ∷ groups) = refl
 
-pub first_written : (count : ℕ) (groups : List History) → 1 ≤ count → events_of (take count groups) ≡ first_of groups ++ events_of (take (count - 1) (drop 1 groups))
-first_written count groups some =
+pub first_of_durable : (count : ℕ) (groups : List History) → 1 ≤ count → events_of (take count groups) ≡ first_of groups ++ events_of (take (count - 1) (drop 1 groups))
+first_of_durable count groups some =
     let next : count ≡ suc (count - 1) = omega (arith, some) in
     ap (λ n. events_of (take n groups)) next ∙ take_first (count - 1) groups
 
@@ -86,13 +86,13 @@ drop_next count groups =
     let next : suc count ≡ count + 1 = omega arith in
     drop_more count groups ∙ ap (λ n. drop n groups) next
 
--- where the first is settled, the same aren't written
+-- where the first is settled, the same aren't durable
 drop_first : (before : ℕ) (groups : List History) → drop before (drop 1 groups) ≡ drop (suc before) groups
 drop_first before [] = drop_none before
 drop_first before (group ∷ groups) = refl
 
-pub same_unwritten : (count : ℕ) (groups : List History) → 1 ≤ count → drop (count - 1) (drop 1 groups) ≡ drop count groups
-same_unwritten count groups some =
+pub same_undurable : (count : ℕ) (groups : List History) → 1 ≤ count → drop (count - 1) (drop 1 groups) ≡ drop count groups
+same_undurable count groups some =
     let next : suc (count - 1) ≡ count = omega (arith, some) in
     drop_first (count - 1) groups ∙ ap (λ n. drop n groups) next
 

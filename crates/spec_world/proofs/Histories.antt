@@ -104,7 +104,7 @@ histories_begin node history on legal keys opened =
       left = may;
       recovered = subst (IsRecovered node world) same is.1;
       stands_for = subst (λ h. StandsFor node found (kept node h)) same is.2;
-      on = on;
+      disks = on;
       opened = opened;
       is = refl;
     } in

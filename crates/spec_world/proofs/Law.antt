@@ -18,7 +18,7 @@ use Rattle.wire.specs.Lists.{Begins}
 use Rattle.spec_model.specs.Holdings.{order}
 use Rattle.spec_model.specs.Nodes.{Node, IsNode}
 use Rattle.spec_model.specs.Words.{Digest, Output}
-use Rattle.spec_world.specs.World.{Outgoing, put_out, read, Given, World, written_in, events_of, first_of, StandsFor, as_journal, MayStop, run_on}
+use Rattle.spec_world.specs.World.{Outgoing, put_out, read, Given, World, durable_in, events_of, first_of, StandsFor, as_journal, MayStop, run_on}
 use Rattle.spec_world.specs.Steps.{Move, IsRecovered, IsRestarted, nothing_on_one, nothing_on_two, IsFirst, IsRun}
 use Rattle.spec_world.specs.Promise.{Ballot, vote_in, vote_given, order_given, IsNoLater, NeverTakesBack, NothingTakenBack}
 use Rattle.spec_world.proofs.Ballots.{votes_agree}
@@ -78,14 +78,14 @@ module _ (node : Node) (world : World) (at : Stands node world) where
         | inr less ↦ inl (shorter_begins one.history other.history all first second less)
       ]
 
-  settled_alone : (history : History) → (history ≡ world.began ++ written_in world) ⊎ (history ≡ world.began ++ with_first world) → world.groups ≡ [] → history ≡ world.began ++ world.settled
+  settled_alone : (history : History) → (history ≡ world.began ++ durable_in world) ⊎ (history ≡ world.began ++ with_first world) → world.groups ≡ [] → history ≡ world.began ++ world.settled
   settled_alone history whole idle =
       let none : (count : ℕ) → (drop count world.groups ≡ []) × (take count world.groups ≡ []) =
       λ count. (drop_all count world.groups (omega (arith, ap length idle)), ap (take count) idle ∙ take_none count) in
-      let written : written_in world ≡ world.settled = ap (λ l. world.settled ++ events_of l) (none world.written).1 ∙ append-nil world.settled in
-      let first : with_first world ≡ world.settled = (λ i. written i ++ first_of ((none world.written).0 i)) ∙ append-nil world.settled in
+      let durable : durable_in world ≡ world.settled = ap (λ l. world.settled ++ events_of l) (none world.durable).1 ∙ append-nil world.settled in
+      let first : with_first world ≡ world.settled = (λ i. durable i ++ first_of ((none world.durable).0 i)) ∙ append-nil world.settled in
       elim whole [
-        | inl is ↦ is ∙ ap (λ l. world.began ++ l) written
+        | inl is ↦ is ∙ ap (λ l. world.began ++ l) durable
         | inr is ↦ is ∙ ap (λ l. world.began ++ l) first
       ]
 
@@ -136,7 +136,7 @@ first_empty node first (inr two) = no_more first.began two.recovered.accepted
 restarted_stands : (node : Node) (found : Areas) (world first : World) → world.given ≡ [] → IsRestarted node world found first → Stands node first
 restarted_stands node found world first none step =
     subst (Stands node) (sym step.is)
-    (begins_standing node step.on first.began world.given step.recovered.legal step.opened (subst (λ g. All (IsKept node first.began) g) (sym none) (All-nil (IsKept node first.began))))
+    (begins_standing node step.disks first.began world.given step.recovered.legal step.opened (subst (λ g. All (IsKept node first.began) g) (sym none) (All-nil (IsKept node first.began))))
 
 pub first_stands : (node : Node) (first : World) → IsFirst node first → Stands node first
 first_stands node first (inl one) = restarted_stands node (alone []) (run_on nothing_on_one [] []) first refl one

@@ -19,14 +19,14 @@ use Rattle.spec_model.specs.Words.{Event, Output}
 use Rattle.header.specs.declared.admission.Admission.{Admission}
 use Rattle.header.specs.declared.admission.Admission.TheVariants.{New, Known, Refused}
 use Rattle.spec_records.specs.Records.{record_of}
-use Rattle.spec_world.specs.World.{Phase, not_begun, gate_opened, Waiting, Outgoing, put_out, read, World, Holds, events_of, taken_in, written_in, unwritten_in, first_of, group_in, content_in, call_in, call_for, next_call, Spare, Rewriting, IsCheckpointOf}
+use Rattle.spec_world.specs.World.{Phase, not_begun, gate_opened, Waiting, Outgoing, put_out, read, World, Holds, events_of, taken_in, durable_in, undurable_in, first_of, group_in, content_in, call_in, call_for, next_call, Spare, Rewriting, IsCheckpointOf}
 use Rattle.spec_world.specs.Steps.{Move, accept, take_to, device_call, settle, release, read_order, take_all, spare_call, restart, IsTakenAll, with_spare_call, with_rewritten, after_spare_call, replaced, IsSpareCalled, ticketed, with_new, with_known}
-use Rattle.spec_world.specs.Steps.{with_given, IsAnswered, IsTakenTo, IsCalled, IsSettled, IsReleased, IsRestarted, next_phase, next_written, group_to, IsStep}
+use Rattle.spec_world.specs.Steps.{with_given, IsAnswered, IsTakenTo, IsCalled, IsSettled, IsReleased, IsRestarted, next_phase, next_durable, group_to, IsStep}
 use Rattle.spec_world.specs.Steps.{Leads}
 use Rattle.spec_world.proofs.Answered.{new_put, known_put}
 use Rattle.spec_world.proofs.Bytes.{group_in_bytes, longer_bytes}
 use Rattle.spec_world.proofs.Disks.{Stage, stage_of, stage_after, IsAt, FitsAsGroup, due_first, called, longer_stands, longer_ends, whole_keeps, IsNextStage, last_stage, earlier_stage, next_stage}
-use Rattle.spec_world.proofs.Groups.{with_first, events_split, take_next, take_none, some_after, first_written, same_unwritten, drop_next, taken_more}
+use Rattle.spec_world.proofs.Groups.{with_first, events_split, take_next, take_none, some_after, first_of_durable, same_undurable, drop_next, taken_more}
 use Rattle.spec_world.proofs.Orders.{begins_same, begins_trans, begins_join, shorter_begins, IsPut, IsEnded}
 use Rattle.spec_world.proofs.Recovering.{holds_more}
 use Rattle.spec_world.proofs.Standing.{IsDue, IsKept, Stands, IsAtRestBeside, IsBeside, IsRewritingAt, IsSpareAt, to_append, areas_with, side_of, spare_same, none_rewritten, fit_to_write}
@@ -127,38 +127,38 @@ taken_at [] phase s file more idle is =
 taken_at (group ∷ groups) phase s file more idle is = is
 
 -- where a rewriting is in flight it is of the first group
-some_rewritten : (node : Node) (spare : Option Spare) (rewriting : Option Rewriting) (rest : List ℕ) (history : History) (groups : List History) (written : ℕ) (phase : Phase)
-    → IsSpareAt node history groups written phase spare rewriting rest → (rewriting ≡ None) ⊎ (1 ≤ length groups)
-some_rewritten node spare None rest history groups written phase is = inl refl
-some_rewritten node None (Some rewriting) rest history groups written phase is = absurd is
-some_rewritten node (Some spare) (Some rewriting) rest history groups written phase is = inr is.some
+some_rewritten : (node : Node) (spare : Option Spare) (rewriting : Option Rewriting) (rest : List ℕ) (history : History) (groups : List History) (durable : ℕ) (phase : Phase)
+    → IsSpareAt node history groups durable phase spare rewriting rest → (rewriting ≡ None) ⊎ (1 ≤ length groups)
+some_rewritten node spare None rest history groups durable phase is = inl refl
+some_rewritten node None (Some rewriting) rest history groups durable phase is = absurd is
+some_rewritten node (Some spare) (Some rewriting) rest history groups durable phase is = inr is.some
 
 first_stays : (groups : List History) (more : History) → 1 ≤ length groups → first_of (groups ++ more ∷ []) ≡ first_of groups
 first_stays [] more some = absurd (omega (arith, some))
 first_stays (group ∷ groups) more some = refl
 
 -- a group more changes nothing of it
-spare_taken : (node : Node) (began settled : History) (groups : List History) (more : History) (written : ℕ) (phase : Phase) (spare : Option Spare) (rewriting : Option Rewriting) (rest : List ℕ)
-    → IsSpareAt node (began ++ (settled ++ first_of groups)) groups written phase spare rewriting rest
-    → IsSpareAt node (began ++ (settled ++ first_of (groups ++ more ∷ []))) (groups ++ more ∷ []) written phase spare rewriting rest
-spare_taken node began settled groups more written phase None None rest is = tt
-spare_taken node began settled groups more written phase None (Some rewriting) rest is = is
-spare_taken node began settled groups more written phase (Some spare) None rest is = is
-spare_taken node began settled groups more written phase (Some spare) (Some rewriting) rest is = record {
+spare_taken : (node : Node) (began settled : History) (groups : List History) (more : History) (durable : ℕ) (phase : Phase) (spare : Option Spare) (rewriting : Option Rewriting) (rest : List ℕ)
+    → IsSpareAt node (began ++ (settled ++ first_of groups)) groups durable phase spare rewriting rest
+    → IsSpareAt node (began ++ (settled ++ first_of (groups ++ more ∷ []))) (groups ++ more ∷ []) durable phase spare rewriting rest
+spare_taken node began settled groups more durable phase None None rest is = tt
+spare_taken node began settled groups more durable phase None (Some rewriting) rest is = is
+spare_taken node began settled groups more durable phase (Some spare) None rest is = is
+spare_taken node began settled groups more durable phase (Some spare) (Some rewriting) rest is = record {
   few = is.few;
   disk = is.disk;
   checkpoint = subst (λ l. IsCheckpointOf node (spare.generation + 1) (kept node (began ++ (settled ++ l))) rewriting.bytes) (sym (first_stays groups more is.some)) is.checkpoint;
-  none_written = is.none_written;
+  none_durable = is.none_durable;
   not_begun = is.not_begun;
   some = omega (arith, is.some, length_push groups more);
 }
 
-fits_taken : (rewriting : Option Rewriting) (written : ℕ) (groups : List History) (more : History) → written ≤ length groups → (rewriting ≡ None) ⊎ (1 ≤ length groups)
-    → All FitsAsGroup (to_append rewriting written groups) → FitsAsGroup more → All FitsAsGroup (to_append rewriting written (groups ++ more ∷ []))
-fits_taken None written groups more within some fits also =
-    subst (All FitsAsGroup) (sym (drop-append-le written groups (more ∷ []) within)) (All-push FitsAsGroup (drop written groups) more fits also)
-fits_taken (Some rewriting) written [] more within some fits also = elim some [ inl none ↦ absurd (none-some rewriting (sym none)) | inr long ↦ absurd (omega (arith, long)) ]
-fits_taken (Some rewriting) written (group ∷ groups) more within some fits also = All-push FitsAsGroup groups more fits also
+fits_taken : (rewriting : Option Rewriting) (durable : ℕ) (groups : List History) (more : History) → durable ≤ length groups → (rewriting ≡ None) ⊎ (1 ≤ length groups)
+    → All FitsAsGroup (to_append rewriting durable groups) → FitsAsGroup more → All FitsAsGroup (to_append rewriting durable (groups ++ more ∷ []))
+fits_taken None durable groups more within some fits also =
+    subst (All FitsAsGroup) (sym (drop-append-le durable groups (more ∷ []) within)) (All-push FitsAsGroup (drop durable groups) more fits also)
+fits_taken (Some rewriting) durable [] more within some fits also = elim some [ inl none ↦ absurd (none-some rewriting (sym none)) | inr long ↦ absurd (omega (arith, long)) ]
+fits_taken (Some rewriting) durable (group ∷ groups) more within some fits also = All-push FitsAsGroup groups more fits also
 
 some_more : (groups : List History) (more : History) → groups ++ more ∷ [] ≡ [] → ⊥
 some_more [] more none = cc
@@ -168,8 +168,8 @@ take_stands : (node : Node) (world next : World) (count : ℕ) → Stands node w
 take_stands node world next count at step =
     let more = group_to world count in
     let some : 1 ≤ length more = omega (arith, step.fits.some, length-map more record_of) in
-    let unwritten : drop world.written (world.groups ++ more ∷ []) ≡ unwritten_in world ++ more ∷ [] = drop-append-le world.written world.groups (more ∷ []) at.within in
-    let written : take world.written (world.groups ++ more ∷ []) ≡ take world.written world.groups = take-append-le world.written world.groups (more ∷ []) at.within in
+    let undurable : drop world.durable (world.groups ++ more ∷ []) ≡ undurable_in world ++ more ∷ [] = drop-append-le world.durable world.groups (more ∷ []) at.within in
+    let durable : take world.durable (world.groups ++ more ∷ []) ≡ take world.durable world.groups = take-append-le world.durable world.groups (more ∷ []) at.within in
     subst (Stands node) (sym step.is) (record {
       legal = at.legal;
       taken = record { rest = drop count world.accepted; parts = sym (take-append-drop count world.accepted) ∙ ap (λ l. l ++ drop count world.accepted) (sym (taken_more world count at.taken some)) };
@@ -177,15 +177,15 @@ take_stands node world next count at step =
       file = at.file;
       ends_closed = at.ends_closed;
       are_bytes = at.are_bytes;
-      holds = subst (λ (l : List History). Holds node (areas_with world.spare at.file at.rest) (kept node (world.began ++ (world.settled ++ events_of l)))) (sym written) at.holds;
-      disk = subst (λ (l : List History). IsAt (stage_of world.phase) (state world.bytes_at_start world.calls) at.file (map record_of (first_of l))) (sym unwritten)
-          (taken_at (unwritten_in world) world.phase (state world.bytes_at_start world.calls) at.file more at.idle at.disk);
-      fits = fits_taken world.rewriting world.written world.groups more at.within
-          (some_rewritten node world.spare world.rewriting at.rest _ world.groups world.written world.phase at.spare) at.fits step.fits;
+      holds = subst (λ (l : List History). Holds node (areas_with world.spare at.file at.rest) (kept node (world.began ++ (world.settled ++ events_of l)))) (sym durable) at.holds;
+      disk = subst (λ (l : List History). IsAt (stage_of world.phase) (state world.bytes_at_start world.calls) at.file (map record_of (first_of l))) (sym undurable)
+          (taken_at (undurable_in world) world.phase (state world.bytes_at_start world.calls) at.file more at.idle at.disk);
+      fits = fits_taken world.rewriting world.durable world.groups more at.within
+          (some_rewritten node world.spare world.rewriting at.rest _ world.groups world.durable world.phase at.spare) at.fits step.fits;
       rest = at.rest;
       beside = at.beside;
-      spare = spare_taken node world.began world.settled world.groups more world.written world.phase world.spare world.rewriting at.rest at.spare;
-      idle = λ none. absurd (some_more (unwritten_in world) more (sym unwritten ∙ none));
+      spare = spare_taken node world.began world.settled world.groups more world.durable world.phase world.spare world.rewriting at.rest at.spare;
+      idle = λ none. absurd (some_more (undurable_in world) more (sym undurable ∙ none));
       waiting = at.waiting;
       given = at.given;
     })
@@ -206,20 +206,20 @@ beside_longer None file longer rest same is = tt
 beside_longer (Some spare) file longer rest same is = record { told = same (Some spare.generation) is.told ∙ is.told; at_rest = is.at_rest; are_bytes = is.are_bytes }
 
 -- the file with the group that is written
-longer_beside : (node : Node) (world : World) (at : Stands node world) → FitsAsGroup (first_of (unwritten_in world)) → IsBeside world.spare (file_with at.file (group_in world)) at.rest
+longer_beside : (node : Node) (world : World) (at : Stands node world) → FitsAsGroup (first_of (undurable_in world)) → IsBeside world.spare (file_with at.file (group_in world)) at.rest
 longer_beside node world at fits =
     beside_longer world.spare at.file (file_with at.file (group_in world)) at.rest
     (λ told is. keeps_telling at.file (file_with at.file (group_in world)) told at.ends_closed is (whole_keeps at.file at.ends_closed (group_in world))) at.beside
 
-longer_holds : (node : Node) (world : World) (at : Stands node world) → FitsAsGroup (first_of (unwritten_in world))
+longer_holds : (node : Node) (world : World) (at : Stands node world) → FitsAsGroup (first_of (undurable_in world))
     → Holds node (areas_with world.spare (file_with at.file (group_in world)) at.rest) (kept node (world.began ++ with_first world))
 longer_holds node world at fits =
-    let more = first_of (unwritten_in world) in
+    let more = first_of (undurable_in world) in
     let longer = file_with at.file (group_in world) in
     let spare = world.spare in
-    let joined : (world.began ++ written_in world) ++ more ≡ world.began ++ with_first world = append_assoc world.began (written_in world) more in
+    let joined : (world.began ++ durable_in world) ++ more ≡ world.began ++ with_first world = append_assoc world.began (durable_in world) more in
     subst (λ h. Holds node (areas_with spare longer at.rest) (kept node h)) joined
-    (holds_more node (areas_with spare at.file at.rest) (areas_with spare longer at.rest) (side_of spare) at.file longer (world.began ++ written_in world) more at.holds
+    (holds_more node (areas_with spare at.file at.rest) (areas_with spare longer at.rest) (side_of spare) at.file longer (world.began ++ durable_in world) more at.holds
     (pair_stays spare at.file at.rest longer at.rest)
     (reads_live spare at.file at.rest (beside_older spare at.file at.rest at.beside))
     (reads_live spare longer at.rest (beside_older spare longer at.rest (longer_beside node world at fits)))
@@ -227,29 +227,29 @@ longer_holds node world at fits =
     (subst (IsLegal node) (sym joined) (legal_between node world (world.began ++ with_first world) at (first_between node world at))))
 
 -- where one group more is durable, the others fit
-fits_next : (rewriting : Option Rewriting) (written : ℕ) (groups : List History) → rewriting ≡ None → All FitsAsGroup (to_append rewriting written groups)
-    → All FitsAsGroup (to_append rewriting (written + 1) groups)
-fits_next None written groups none fits = subst (All FitsAsGroup) (drop_next written groups) (All-drop FitsAsGroup 1 (drop written groups) fits)
-fits_next (Some rewriting) written groups none fits = absurd (none-some rewriting (sym none))
+fits_next : (rewriting : Option Rewriting) (durable : ℕ) (groups : List History) → rewriting ≡ None → All FitsAsGroup (to_append rewriting durable groups)
+    → All FitsAsGroup (to_append rewriting (durable + 1) groups)
+fits_next None durable groups none fits = subst (All FitsAsGroup) (drop_next durable groups) (All-drop FitsAsGroup 1 (drop durable groups) fits)
+fits_next (Some rewriting) durable groups none fits = absurd (none-some rewriting (sym none))
 
 -- a device call before the last of an append, or the last one
 module _ (node : Node) (world : World) (at : Stands node world) (step_call : Call) (due : next_call world ≡ Some step_call) where
   abbrev s : State
   s = state world.bytes_at_start world.calls
 
-  alone_due : (world.rewriting ≡ None) × (call_for (unwritten_in world) world.phase (content_in world) ≡ Some step_call)
-  alone_due = due_alone world.rewriting (call_for (unwritten_in world) world.phase (content_in world)) step_call due
+  alone_due : (world.rewriting ≡ None) × (call_for (undurable_in world) world.phase (content_in world) ≡ Some step_call)
+  alone_due = due_alone world.rewriting (call_for (undurable_in world) world.phase (content_in world)) step_call due
 
-  first : FitsAsGroup (first_of (unwritten_in world)) × (call_in world.phase s.content (group_in world) ≡ Some step_call)
-  first = due_first (unwritten_in world) world.phase s.content step_call (fit_to_write node world at alone_due.0) alone_due.1
+  first : FitsAsGroup (first_of (undurable_in world)) × (call_in world.phase s.content (group_in world) ≡ Some step_call)
+  first = due_first (undurable_in world) world.phase s.content step_call (fit_to_write node world at alone_due.0) alone_due.1
 
   now : IsAt (stage_after world.phase) (state world.bytes_at_start (world.calls ++ step_call ∷ [])) at.file (group_in world)
   now =
       subst (λ t. IsAt (stage_after world.phase) t at.file (group_in world)) (sym (after_all-push (firmed world.bytes_at_start) world.calls step_call))
       (called at.file at.ends_closed (group_in world) world.phase s step_call first.0 at.disk first.1)
 
-  some : unwritten_in world ≡ [] → ⊥
-  some none = none_due (unwritten_in world) world.phase s.content step_call alone_due.1 none
+  some : undurable_in world ≡ [] → ⊥
+  some none = none_due (undurable_in world) world.phase s.content step_call alone_due.1 none
 
   within_call : stage_after world.phase ≡ stage_of (next_phase world.phase)
       → Stands node (record world { calls = world.calls ++ step_call ∷ []; phase = next_phase world.phase })
@@ -263,7 +263,7 @@ module _ (node : Node) (world : World) (at : Stands node world) (step_call : Cal
     holds = at.holds;
     rest = at.rest;
     beside = at.beside;
-    spare = spare_same node world.spare world.rewriting at.rest _ _ world.groups world.groups world.written world.written world.phase (next_phase world.phase) alone_due.0 at.spare;
+    spare = spare_same node world.spare world.rewriting at.rest _ _ world.groups world.groups world.durable world.durable world.phase (next_phase world.phase) alone_due.0 at.spare;
     disk = subst (λ (g : Stage). IsAt g (state world.bytes_at_start (world.calls ++ step_call ∷ [])) at.file (group_in world)) same now;
     fits = at.fits;
     idle = λ none. absurd (some none);
@@ -272,54 +272,54 @@ module _ (node : Node) (world : World) (at : Stands node world) (step_call : Cal
   }
 
   last_call : world.phase ≡ gate_opened
-      → Stands node (record world { calls = world.calls ++ step_call ∷ []; phase = not_begun; written = world.written + 1 })
+      → Stands node (record world { calls = world.calls ++ step_call ∷ []; phase = not_begun; durable = world.durable + 1 })
   last_call is_last =
       let group = group_in world in
       let whole : state world.bytes_at_start (world.calls ++ step_call ∷ []) ≡ firmed (file_with at.file group) =
       subst (λ (p : Phase). IsAt (stage_after p) (state world.bytes_at_start (world.calls ++ step_call ∷ [])) at.file group) is_last now in
-      let grown : world.settled ++ events_of (take (world.written + 1) world.groups) ≡ with_first world =
-      ap (λ l. world.settled ++ l) (take_next world.written world.groups) ∙ sym (append_assoc world.settled (events_of (take world.written world.groups)) (first_of (unwritten_in world))) in
+      let grown : world.settled ++ events_of (take (world.durable + 1) world.groups) ≡ with_first world =
+      ap (λ l. world.settled ++ l) (take_next world.durable world.groups) ∙ sym (append_assoc world.settled (events_of (take world.durable world.groups)) (first_of (undurable_in world))) in
       record {
         legal = at.legal;
         taken = at.taken;
-        within = some_after world.written world.groups some;
+        within = some_after world.durable world.groups some;
         file = file_with at.file group;
         ends_closed = longer_ends at.file at.ends_closed group first.0;
-        are_bytes = longer_bytes at.file group at.are_bytes (group_in_bytes node (first_of (unwritten_in world)) (group_events node world at));
+        are_bytes = longer_bytes at.file group at.are_bytes (group_in_bytes node (first_of (undurable_in world)) (group_events node world at));
         holds = subst (λ (l : History). Holds node (areas_with world.spare (file_with at.file group) at.rest) (kept node (world.began ++ l))) (sym grown) (longer_holds node world at first.0);
         rest = at.rest;
         beside = longer_beside node world at first.0;
-        spare = spare_same node world.spare world.rewriting at.rest _ _ world.groups world.groups world.written (world.written + 1) world.phase not_begun alone_due.0 at.spare;
+        spare = spare_same node world.spare world.rewriting at.rest _ _ world.groups world.groups world.durable (world.durable + 1) world.phase not_begun alone_due.0 at.spare;
         disk = whole;
-        fits = fits_next world.rewriting world.written world.groups alone_due.0 at.fits;
+        fits = fits_next world.rewriting world.durable world.groups alone_due.0 at.fits;
         idle = λ none. refl;
         waiting = at.waiting;
         given = at.given;
       }
 
   call_made : IsNextStage world.phase
-      → Stands node (record world { calls = world.calls ++ step_call ∷ []; phase = next_phase world.phase; written = next_written world.phase world.written })
+      → Stands node (record world { calls = world.calls ++ step_call ∷ []; phase = next_phase world.phase; durable = next_durable world.phase world.durable })
   call_made (last_stage _ is) =
-      subst (λ (p : Phase). Stands node (record world { calls = world.calls ++ step_call ∷ []; phase = next_phase p; written = next_written p world.written })) (sym is) (last_call is)
+      subst (λ (p : Phase). Stands node (record world { calls = world.calls ++ step_call ∷ []; phase = next_phase p; durable = next_durable p world.durable })) (sym is) (last_call is)
   call_made (earlier_stage _ same none) =
-      subst (λ (n : ℕ). Stands node (record world { calls = world.calls ++ step_call ∷ []; phase = next_phase world.phase; written = n })) (sym (none world.written)) (within_call same)
+      subst (λ (n : ℕ). Stands node (record world { calls = world.calls ++ step_call ∷ []; phase = next_phase world.phase; durable = n })) (sym (none world.durable)) (within_call same)
 
 call_stands : (node : Node) (world next : World) → Stands node world → IsCalled world next → Stands node next
 call_stands node world next at step = subst (Stands node) (sym step.is) (call_made node world at step.call step.due (next_stage world.phase))
 
-others_fit : (rewriting : Option Rewriting) (written : ℕ) (groups : List History) → 1 ≤ written → rewriting ≡ None → All FitsAsGroup (to_append rewriting written groups)
-    → All FitsAsGroup (to_append rewriting (written - 1) (drop 1 groups))
-others_fit None written groups some none all = subst (All FitsAsGroup) (sym (same_unwritten written groups some)) all
-others_fit (Some rewriting) written groups some none all = absurd (none-some rewriting (sym none))
+others_fit : (rewriting : Option Rewriting) (durable : ℕ) (groups : List History) → 1 ≤ durable → rewriting ≡ None → All FitsAsGroup (to_append rewriting durable groups)
+    → All FitsAsGroup (to_append rewriting (durable - 1) (drop 1 groups))
+others_fit None durable groups some none all = subst (All FitsAsGroup) (sym (same_undurable durable groups some)) all
+others_fit (Some rewriting) durable groups some none all = absurd (none-some rewriting (sym none))
 
 settle_stands : (node : Node) (world next : World) → Stands node world → IsSettled world next → Stands node next
 settle_stands node world next at step =
     let more = first_of world.groups in
     let settled = world.settled ++ more in
-    let none = none_rewritten node world.spare world.rewriting at.rest _ world.groups world.written world.phase at.spare (inl step.done) in
-    let unwritten : drop (world.written - 1) (drop 1 world.groups) ≡ unwritten_in world = same_unwritten world.written world.groups step.done in
-    let written : settled ++ events_of (take (world.written - 1) (drop 1 world.groups)) ≡ written_in world =
-    append_assoc world.settled more (events_of (take (world.written - 1) (drop 1 world.groups))) ∙ ap (λ l. world.settled ++ l) (sym (first_written world.written world.groups step.done)) in
+    let none = none_rewritten node world.spare world.rewriting at.rest _ world.groups world.durable world.phase at.spare (inl step.done) in
+    let undurable : drop (world.durable - 1) (drop 1 world.groups) ≡ undurable_in world = same_undurable world.durable world.groups step.done in
+    let durable : settled ++ events_of (take (world.durable - 1) (drop 1 world.groups)) ≡ durable_in world =
+    append_assoc world.settled more (events_of (take (world.durable - 1) (drop 1 world.groups))) ∙ ap (λ l. world.settled ++ l) (sym (first_of_durable world.durable world.groups step.done)) in
     let taken : settled ++ events_of (drop 1 world.groups) ≡ taken_in world =
     append_assoc world.settled more (events_of (drop 1 world.groups)) ∙ ap (λ l. world.settled ++ l) (sym (events_split world.groups)) in
     let grown = begins_join world.began world.settled settled (record { rest = more; parts = refl }) in
@@ -330,13 +330,13 @@ settle_stands node world next at step =
       file = at.file;
       ends_closed = at.ends_closed;
       are_bytes = at.are_bytes;
-      holds = subst (λ l. Holds node (areas_with world.spare at.file at.rest) (kept node (world.began ++ l))) (sym written) at.holds;
+      holds = subst (λ l. Holds node (areas_with world.spare at.file at.rest) (kept node (world.began ++ l))) (sym durable) at.holds;
       rest = at.rest;
       beside = at.beside;
-      spare = spare_same node world.spare world.rewriting at.rest _ _ world.groups (drop 1 world.groups) world.written (world.written - 1) world.phase world.phase none at.spare;
-      disk = subst (λ (l : List History). IsAt (stage_of world.phase) (state world.bytes_at_start world.calls) at.file (map record_of (first_of l))) (sym unwritten) at.disk;
-      fits = others_fit world.rewriting world.written world.groups step.done none at.fits;
-      idle = λ none. at.idle (sym unwritten ∙ none);
+      spare = spare_same node world.spare world.rewriting at.rest _ _ world.groups (drop 1 world.groups) world.durable (world.durable - 1) world.phase world.phase none at.spare;
+      disk = subst (λ (l : List History). IsAt (stage_of world.phase) (state world.bytes_at_start world.calls) at.file (map record_of (first_of l))) (sym undurable) at.disk;
+      fits = others_fit world.rewriting world.durable world.groups step.done none at.fits;
+      idle = λ none. at.idle (sym undurable ∙ none);
       waiting = at.waiting;
       given = All-weaker (IsKept node (world.began ++ world.settled)) (IsKept node (world.began ++ settled))
           (λ g kept. record { begins = begins_trans g.history (world.began ++ world.settled) (world.began ++ settled) kept.begins grown; ended = kept.ended }) world.given at.given;
@@ -344,35 +344,35 @@ settle_stands node world next at step =
 
 -- ---- a checkpoint
 
--- where no group is in flight, none is written and none is begun
-pub none_written : (node : Node) (world : World) → Stands node world → world.groups ≡ [] → world.written ≡ 0
-none_written node world at none = omega (arith, at.within, ap length none)
+-- where no group is in flight, none is durable and none is begun
+pub none_durable : (node : Node) (world : World) → Stands node world → world.groups ≡ [] → world.durable ≡ 0
+none_durable node world at none = omega (arith, at.within, ap length none)
 
 pub none_begun : (node : Node) (world : World) → Stands node world → world.groups ≡ [] → world.phase ≡ not_begun
-none_begun node world at none = at.idle (drop_all world.written world.groups (omega (arith, ap length none)))
+none_begun node world at none = at.idle (drop_all world.durable world.groups (omega (arith, ap length none)))
 
 -- the disk of a phase in which no append has begun, with any group
 begun_disk : (phase : Phase) (s : State) (file : List ℕ) (group : List (List ℕ)) → phase ≡ not_begun → s ≡ firmed file → IsAt (stage_of phase) s file group
 begun_disk phase s file group idle fresh = subst (λ (p : Phase). IsAt (stage_of p) s file group) (sym idle) fresh
 
 -- of two disks the other one is firm where no rewriting is in flight
-firm_rest : (node : Node) (history : History) (groups : List History) (written : ℕ) (phase : Phase) (spare : Spare) (rewriting : Option Rewriting) (rest : List ℕ)
-    → rewriting ≡ None → IsSpareAt node history groups written phase (Some spare) rewriting rest → state spare.bytes_at_start spare.calls ≡ firmed rest
-firm_rest node history groups written phase spare None rest none is = is
-firm_rest node history groups written phase spare (Some rewriting) rest none is = absurd (none-some rewriting (sym none))
+firm_rest : (node : Node) (history : History) (groups : List History) (durable : ℕ) (phase : Phase) (spare : Spare) (rewriting : Option Rewriting) (rest : List ℕ)
+    → rewriting ≡ None → IsSpareAt node history groups durable phase (Some spare) rewriting rest → state spare.bytes_at_start spare.calls ≡ firmed rest
+firm_rest node history groups durable phase spare None rest none is = is
+firm_rest node history groups durable phase spare (Some rewriting) rest none is = absurd (none-some rewriting (sym none))
 
 module _ (node : Node) (world : World) (at : Stands node world) (spare : Spare) (is_spare : world.spare ≡ Some spare) where
-  pub spare_at : IsSpareAt node (world.began ++ (world.settled ++ first_of world.groups)) world.groups world.written world.phase (Some spare) world.rewriting at.rest
-  spare_at = subst (λ (s : Option Spare). IsSpareAt node (world.began ++ (world.settled ++ first_of world.groups)) world.groups world.written world.phase s world.rewriting at.rest) is_spare at.spare
+  pub spare_at : IsSpareAt node (world.began ++ (world.settled ++ first_of world.groups)) world.groups world.durable world.phase (Some spare) world.rewriting at.rest
+  spare_at = subst (λ (s : Option Spare). IsSpareAt node (world.began ++ (world.settled ++ first_of world.groups)) world.groups world.durable world.phase s world.rewriting at.rest) is_spare at.spare
 
   pub beside_at : IsAtRestBeside spare at.file at.rest
   beside_at = subst (λ (s : Option Spare). IsBeside s at.file at.rest) is_spare at.beside
 
   -- a rewriting that is in flight
   pub rewriting_at : (rewriting : Rewriting) → world.rewriting ≡ Some rewriting
-      → IsRewritingAt node (world.began ++ (world.settled ++ first_of world.groups)) world.groups world.written world.phase spare rewriting at.rest
+      → IsRewritingAt node (world.began ++ (world.settled ++ first_of world.groups)) world.groups world.durable world.phase spare rewriting at.rest
   rewriting_at rewriting in_flight =
-      subst (λ (r : Option Rewriting). IsSpareAt node (world.began ++ (world.settled ++ first_of world.groups)) world.groups world.written world.phase (Some spare) r at.rest) in_flight spare_at
+      subst (λ (r : Option Rewriting). IsSpareAt node (world.began ++ (world.settled ++ first_of world.groups)) world.groups world.durable world.phase (Some spare) r at.rest) in_flight spare_at
 
 -- what isn't settled, after what is
 pub pending_parts : (node : Node) (world : World) → Stands node world → world.settled ++ drop (length world.settled) world.accepted ≡ world.accepted
@@ -384,36 +384,36 @@ take_all_stands : (node : Node) (world : World) (bytes : List ℕ) (next : World
 take_all_stands node world bytes next at step =
     let pending = drop (length world.settled) world.accepted in
     let all = pending_parts node world at in
-    let zero_written = none_written node world at step.idle in
+    let zero_durable = none_durable node world at step.idle in
     let begun = none_begun node world at step.idle in
-    let none = none_rewritten node world.spare world.rewriting at.rest _ world.groups world.written world.phase at.spare (inr step.idle) in
+    let none = none_rewritten node world.spare world.rewriting at.rest _ world.groups world.durable world.phase at.spare (inr step.idle) in
     let groups : List History = pending ∷ [] in
-    let written : world.settled ++ events_of (take world.written groups) ≡ written_in world =
-    ap (λ (n : ℕ). world.settled ++ events_of (take n groups)) zero_written
-    ∙ ap (λ (l : List History). world.settled ++ events_of l) (sym (take_none world.written) ∙ ap (take world.written) (sym step.idle)) in
+    let durable : world.settled ++ events_of (take world.durable groups) ≡ durable_in world =
+    ap (λ (n : ℕ). world.settled ++ events_of (take n groups)) zero_durable
+    ∙ ap (λ (l : List History). world.settled ++ events_of l) (sym (take_none world.durable) ∙ ap (take world.durable) (sym step.idle)) in
     let taken : world.settled ++ events_of groups ≡ world.accepted = ap (λ l. world.settled ++ l) (append-nil pending) ∙ all in
     let fresh = fresh_disk node world at begun in
-    let firm = firm_rest node _ world.groups world.written world.phase step.spare world.rewriting at.rest none (spare_at node world at step.spare step.pair) in
+    let firm = firm_rest node _ world.groups world.durable world.phase step.spare world.rewriting at.rest none (spare_at node world at step.spare step.pair) in
     subst (Stands node) (sym step.is) (record {
       legal = at.legal;
       taken = subst (λ l. Begins l world.accepted) (sym taken) (begins_same world.accepted);
-      within = omega (arith, zero_written);
+      within = omega (arith, zero_durable);
       file = at.file;
       ends_closed = at.ends_closed;
       are_bytes = at.are_bytes;
-      holds = subst (λ l. Holds node (areas_with world.spare at.file at.rest) (kept node (world.began ++ l))) (sym written) at.holds;
+      holds = subst (λ l. Holds node (areas_with world.spare at.file at.rest) (kept node (world.began ++ l))) (sym durable) at.holds;
       rest = at.rest;
       beside = at.beside;
-      spare = subst (λ (s : Option Spare). IsSpareAt node (world.began ++ (world.settled ++ pending)) groups world.written world.phase s (Some (record { bytes = bytes; made = 0 })) at.rest)
+      spare = subst (λ (s : Option Spare). IsSpareAt node (world.began ++ (world.settled ++ pending)) groups world.durable world.phase s (Some (record { bytes = bytes; made = 0 })) at.rest)
           (sym step.pair) (record {
             few = omega arith;
             disk = firm;
             checkpoint = subst (λ l. IsCheckpointOf node (step.spare.generation + 1) (kept node (world.began ++ l)) bytes) (sym all) step.checkpoint;
-            none_written = zero_written;
+            none_durable = zero_durable;
             not_begun = begun;
             some = omega arith;
           });
-      disk = begun_disk world.phase (state world.bytes_at_start world.calls) at.file (map record_of (first_of (drop world.written groups))) begun fresh;
+      disk = begun_disk world.phase (state world.bytes_at_start world.calls) at.file (map record_of (first_of (drop world.durable groups))) begun fresh;
       fits = All-nil FitsAsGroup;
       idle = λ is. begun;
       waiting = at.waiting;
@@ -453,12 +453,12 @@ spare_call_keeps world next step = kept_by (of_eight world step.spare step.rewri
     kept_by (earlier few is) = (ap (λ (w : World). w.began) is, ap (λ (w : World). w.accepted) is, ap (λ (w : World). w.settled) is, ap (λ (w : World). w.given) is)
 
 -- the first group, which one call more makes durable, where none was
-first_durable : (written : ℕ) (groups : List History) → written ≡ 0 → first_of groups ≡ events_of (take (written + 1) groups)
-first_durable written groups none = sym (take_next 0 groups) ∙ ap (λ (n : ℕ). events_of (take (n + 1) groups)) (sym none)
+first_durable : (durable : ℕ) (groups : List History) → durable ≡ 0 → first_of groups ≡ events_of (take (durable + 1) groups)
+first_durable durable groups none = sym (take_next 0 groups) ∙ ap (λ (n : ℕ). events_of (take (n + 1) groups)) (sym none)
 
 module _ (node : Node) (world : World) (at : Stands node world) (spare : Spare) (pair : world.spare ≡ Some spare) (rewriting : Rewriting) (in_flight : world.rewriting ≡ Some rewriting)
     (call : Call) (due : slice_get (rewrite_calls rewriting.bytes) rewriting.made ≡ Some call) where
-  in_rewriting : IsRewritingAt node (world.began ++ (world.settled ++ first_of world.groups)) world.groups world.written world.phase spare rewriting at.rest
+  in_rewriting : IsRewritingAt node (world.began ++ (world.settled ++ first_of world.groups)) world.groups world.durable world.phase spare rewriting at.rest
   in_rewriting = rewriting_at node world at spare pair rewriting in_flight
 
   called_state : state spare.bytes_at_start (spare.calls ++ call ∷ []) ≡ made_state at.rest rewriting.bytes (suc rewriting.made)
@@ -478,19 +478,19 @@ module _ (node : Node) (world : World) (at : Stands node world) (spare : Spare) 
         file = at.file;
         ends_closed = at.ends_closed;
         are_bytes = at.are_bytes;
-        holds = subst (λ (a : Areas). Holds node a (kept node (world.began ++ written_in world))) (ap (λ (s : Option Spare). areas_with s at.file at.rest) pair) at.holds;
+        holds = subst (λ (a : Areas). Holds node a (kept node (world.began ++ durable_in world))) (ap (λ (s : Option Spare). areas_with s at.file at.rest) pair) at.holds;
         rest = at.rest;
         beside = record { told = beside.told; at_rest = beside.at_rest; are_bytes = beside.are_bytes };
         spare = record {
           few = few;
           disk = called_state ∙ ap (λ (n : ℕ). made_state at.rest rewriting.bytes n) one_more;
           checkpoint = is.checkpoint;
-          none_written = is.none_written;
+          none_durable = is.none_durable;
           not_begun = is.not_begun;
           some = is.some;
         };
         disk = at.disk;
-        fits = subst (λ (r : Option Rewriting). All FitsAsGroup (to_append r world.written world.groups)) in_flight at.fits;
+        fits = subst (λ (r : Option Rewriting). All FitsAsGroup (to_append r world.durable world.groups)) in_flight at.fits;
         idle = at.idle;
         waiting = at.waiting;
         given = at.given;
@@ -507,8 +507,8 @@ module _ (node : Node) (world : World) (at : Stands node world) (spare : Spare) 
       let settled = world.settled ++ more in
       let eight : suc rewriting.made ≡ 8 = omega (arith, last) in
       let whole : state spare.bytes_at_start (spare.calls ++ call ∷ []) ≡ firmed (1 ∷ bytes) = called_state ∙ ap (λ (n : ℕ). made_state at.rest bytes n) eight ∙ last_state at.rest bytes in
-      let durable : settled ≡ world.settled ++ events_of (take (world.written + 1) world.groups) =
-      ap (λ l. world.settled ++ l) (first_durable world.written world.groups is.none_written) in
+      let durable : settled ≡ world.settled ++ events_of (take (world.durable + 1) world.groups) =
+      ap (λ l. world.settled ++ l) (first_durable world.durable world.groups is.none_durable) in
       let taken : settled ++ events_of (drop 1 world.groups) ≡ taken_in world =
       append_assoc world.settled more (events_of (drop 1 world.groups)) ∙ ap (λ l. world.settled ++ l) (sym (events_split world.groups)) in
       let accepted : Begins settled world.accepted =
@@ -524,7 +524,7 @@ module _ (node : Node) (world : World) (at : Stands node world) (spare : Spare) 
       record {
         legal = at.legal;
         taken = at.taken;
-        within = omega (arith, is.none_written, is.some);
+        within = omega (arith, is.none_durable, is.some);
         file = 1 ∷ bytes;
         ends_closed = is.checkpoint.ends_closed;
         are_bytes = All-cons (λ n. n < 256) 1 bytes (omega arith) is.checkpoint.are_bytes;
@@ -532,9 +532,9 @@ module _ (node : Node) (world : World) (at : Stands node world) (spare : Spare) 
         rest = at.file;
         beside = record { told = is.checkpoint.told; at_rest = rested; are_bytes = at.are_bytes };
         spare = fresh_disk node world at is.not_begun;
-        disk = begun_disk world.phase (state spare.bytes_at_start (spare.calls ++ call ∷ [])) (1 ∷ bytes) (map record_of (first_of (drop (world.written + 1) world.groups))) is.not_begun whole;
-        fits = subst (λ (n : ℕ). All FitsAsGroup (drop (n + 1) world.groups)) (sym is.none_written)
-            (subst (λ (r : Option Rewriting). All FitsAsGroup (to_append r world.written world.groups)) in_flight at.fits);
+        disk = begun_disk world.phase (state spare.bytes_at_start (spare.calls ++ call ∷ [])) (1 ∷ bytes) (map record_of (first_of (drop (world.durable + 1) world.groups))) is.not_begun whole;
+        fits = subst (λ (n : ℕ). All FitsAsGroup (drop (n + 1) world.groups)) (sym is.none_durable)
+            (subst (λ (r : Option Rewriting). All FitsAsGroup (to_append r world.durable world.groups)) in_flight at.fits);
         idle = λ none. is.not_begun;
         waiting = at.waiting;
         given = at.given;
@@ -587,7 +587,7 @@ restart_stands node world next found at step =
     let given_kept : All (IsKept node next.began) world.given =
     All-weaker (IsKept node (world.began ++ world.settled)) (IsKept node next.began)
     (λ g is. record { begins = begins_trans g.history (world.began ++ world.settled) next.began is.begins step.recovered.settled; ended = is.ended }) world.given at.given in
-    subst (Stands node) (sym step.is) (begins_standing node step.on next.began world.given step.recovered.legal step.opened given_kept)
+    subst (Stands node) (sym step.is) (begins_standing node step.disks next.began world.given step.recovered.legal step.opened given_kept)
 
 -- ---- all of them
 

@@ -25,7 +25,7 @@ use Rattle.spec_model.specs.Nodes.{Node, IsNode}
 use Rattle.spec_model.specs.States.{State}
 use Rattle.spec_records.specs.Records.{record_of}
 use Rattle.spec_records.proofs.Once.{one_record}
-use Rattle.spec_world.specs.World.{bytes_of, IsPair, IsJournal, own, BeginsAs, as_fresh, as_checkpoint, Holds, StandsFor, as_journal, as_new}
+use Rattle.spec_world.specs.World.{bytes_of, IsPair, IsJournal, own_configuration, BeginsAs, as_fresh, as_checkpoint, Holds, StandsFor, as_journal, as_empty}
 
 -- one result has one list
 pub ok_is : (one other : List Record) → ◌≡◌ {A = Result (List Record) ℕ} (Ok one) (Ok other) → one ≡ other
@@ -337,20 +337,20 @@ one_begins : (node : Node) (areas : Areas) → IsNode node
     → (front' : List (List ℕ)) (in_first' : ℕ) (base' : State) (events' : History) → BeginsAs node areas front' in_first' base' → All (IsTaken node) events'
     → front ++ map record_of events ≡ front' ++ map record_of events' → AreOne base events base' events'
 one_begins node areas sound front in_first base events (as_fresh version can is first base_is) taken front' in_first' base' events' (as_fresh version' can' is' first' base_is') taken' same =
-    let journals : own version node ∷ map record_of events ≡ own version' node ∷ map record_of events' = (λ i. sym is i ++ map record_of events) ∙ same ∙ (λ i. is' i ++ map record_of events') in
-    (base_is ∙ sym base_is', same_events node sound events events' taken taken' (rest_same (own version node) (own version' node) (map record_of events) (map record_of events') journals))
+    let journals : own_configuration version node ∷ map record_of events ≡ own_configuration version' node ∷ map record_of events' = (λ i. sym is i ++ map record_of events) ∙ same ∙ (λ i. is' i ++ map record_of events') in
+    (base_is ∙ sym base_is', same_events node sound events events' taken taken' (rest_same (own_configuration version node) (own_configuration version' node) (map record_of events) (map record_of events') journals))
 one_begins node areas sound front in_first base events (as_fresh version can is first base_is) taken front' in_first' base' events' (as_checkpoint version' generation kept' two' can' written' is' first' base_is') taken' same =
-    let journals : own version node ∷ map record_of events ≡ own version' node ∷ head_record generation ∷ state_records kept' ++ map record_of events' =
+    let journals : own_configuration version node ∷ map record_of events ≡ own_configuration version' node ∷ head_record generation ∷ state_records kept' ++ map record_of events' =
     (λ i. sym is i ++ map record_of events) ∙ same ∙ (λ i. is' i ++ map record_of events') in
     absurd (no_head generation events (state_records kept' ++ map record_of events')
-    (rest_same (own version node) (own version' node) (map record_of events) (head_record generation ∷ state_records kept' ++ map record_of events') journals))
+    (rest_same (own_configuration version node) (own_configuration version' node) (map record_of events) (head_record generation ∷ state_records kept' ++ map record_of events') journals))
 one_begins node areas sound front in_first base events (as_checkpoint version generation kept two can written is first base_is) taken front' in_first' base' events' (as_fresh version' can' is' first' base_is') taken' same =
-    let journals : own version' node ∷ map record_of events' ≡ own version node ∷ head_record generation ∷ state_records kept ++ map record_of events =
+    let journals : own_configuration version' node ∷ map record_of events' ≡ own_configuration version node ∷ head_record generation ∷ state_records kept ++ map record_of events =
     (λ i. sym is' i ++ map record_of events') ∙ sym same ∙ (λ i. is i ++ map record_of events) in
     absurd (no_head generation events' (state_records kept ++ map record_of events)
-    (rest_same (own version' node) (own version node) (map record_of events') (head_record generation ∷ state_records kept ++ map record_of events) journals))
+    (rest_same (own_configuration version' node) (own_configuration version node) (map record_of events') (head_record generation ∷ state_records kept ++ map record_of events) journals))
 one_begins node areas sound front in_first base events (as_checkpoint version generation kept two can written is first base_is) taken front' in_first' base' events' (as_checkpoint version' generation' kept' two' can' written' is' first' base_is') taken' same =
-    let journals : own version node ∷ head_record generation ∷ state_records kept ++ map record_of events ≡ own version' node ∷ head_record generation' ∷ state_records kept' ++ map record_of events' =
+    let journals : own_configuration version node ∷ head_record generation ∷ state_records kept ++ map record_of events ≡ own_configuration version' node ∷ head_record generation' ∷ state_records kept' ++ map record_of events' =
     (λ i. sym is i ++ map record_of events) ∙ same ∙ (λ i. is' i ++ map record_of events') in
     let rest : state_records kept ++ map record_of events ≡ state_records kept' ++ map record_of events' = ap (λ (l : List (List ℕ)). drop 2 l) journals in
     let parts = split_same (state_records kept) (map record_of events) (state_records kept') (map record_of events') (state_are kept) (events_are events) (state_are kept') (events_are events') rest in
@@ -368,6 +368,6 @@ one_state node areas one other held also =
 -- and stand for no other
 pub stands_once : (node : Node) (areas : Areas) (one other : State) → Holds node areas one → StandsFor node areas other → other ≡ one
 stands_once node areas one other held (as_journal also) = one_state node areas other one also held
-stands_once node areas one other held (as_new none is) =
+stands_once node areas one other held (as_empty none is) =
     let records = ok_is held.journal.records [] (sym held.journal.stands_for ∙ none) in
     absurd (omega (arith, ap length records, some_record node areas one held))

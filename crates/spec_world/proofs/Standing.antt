@@ -31,7 +31,7 @@ use Rattle.spec_model.specs.Admitting.{IsTaken, IsLegal}
 use Rattle.spec_model.specs.Histories.{History}
 use Rattle.wire.specs.Lists.{Begins}
 use Rattle.spec_model.specs.Nodes.{Node, IsNode}
-use Rattle.spec_world.specs.World.{Phase, not_begun, Waiting, Given, World, Holds, events_of, taken_in, written_in, unwritten_in, first_of, group_in, content_in, call_for, next_call, next_spare_call, Spare, Rewriting, IsPair, IsCheckpointOf, as_checkpoint, own, MayLeave, between, inside, MayStop, of_one, of_pair, Rest, Opened, alone_on, areas_of, spare_on, run_on, IsRest, IsOpened}
+use Rattle.spec_world.specs.World.{Phase, not_begun, Waiting, Given, World, Holds, events_of, taken_in, durable_in, undurable_in, first_of, group_in, content_in, call_for, next_call, next_spare_call, Spare, Rewriting, IsPair, IsCheckpointOf, as_checkpoint, own_configuration, MayLeave, between, inside, MayStop, of_one, of_pair, OpenedSpare, Opened, alone_on, areas_of, spare_on, run_on, IsOpenedSpare, IsOpened}
 use Rattle.spec_world.proofs.Disks.{stage_of, stage_after, IsAt, FitsAsGroup, fits_in, first_fits, due_first, KeepsFront, keeps_front, leaves, called}
 use Rattle.spec_world.proofs.Groups.{with_first, first_and_others}
 use Rattle.spec_world.proofs.Recovering.{ok_is, same_at, journal_at, journal_same, holds_same, holds_more, journal_long}
@@ -71,80 +71,80 @@ abbrev pub IsBeside : Option Spare → List ℕ → List ℕ → Type 0
 IsBeside None file rest = Unit {0}
 IsBeside (Some spare) file rest = IsAtRestBeside spare file rest
 
--- how far a rewriting is, to a checkpoint of this history; none is written to its end meanwhile, and no append has begun
-pub record IsRewritingAt (node : Node) (history : History) (groups : List History) (written : ℕ) (phase : Phase) (spare : Spare) (rewriting : Rewriting) (rest : List ℕ) : Type 0 where
+-- how far a rewriting is, to a checkpoint of this history; none is durable meanwhile, and no append has begun
+pub record IsRewritingAt (node : Node) (history : History) (groups : List History) (durable : ℕ) (phase : Phase) (spare : Spare) (rewriting : Rewriting) (rest : List ℕ) : Type 0 where
   pub few : rewriting.made < 8
   pub disk : state spare.bytes_at_start spare.calls ≡ made_state rest rewriting.bytes rewriting.made
   pub checkpoint : IsCheckpointOf node (spare.generation + 1) (kept node history) rewriting.bytes
-  pub none_written : written ≡ 0
+  pub none_durable : durable ≡ 0
   pub not_begun : phase ≡ not_begun
   pub some : 1 ≤ length groups
 
 -- what the calls of the other disk come to: it is firm, or a rewriting is in flight; of one disk none is
 abbrev pub IsSpareAt : Node → History → List History → ℕ → Phase → Option Spare → Option Rewriting → List ℕ → Type 0
-IsSpareAt node history groups written phase None None rest = Unit {0}
-IsSpareAt node history groups written phase None (Some rewriting) rest = ⊥
-IsSpareAt node history groups written phase (Some spare) None rest = state spare.bytes_at_start spare.calls ≡ firmed rest
-IsSpareAt node history groups written phase (Some spare) (Some rewriting) rest = IsRewritingAt node history groups written phase spare rewriting rest
+IsSpareAt node history groups durable phase None None rest = Unit {0}
+IsSpareAt node history groups durable phase None (Some rewriting) rest = ⊥
+IsSpareAt node history groups durable phase (Some spare) None rest = state spare.bytes_at_start spare.calls ≡ firmed rest
+IsSpareAt node history groups durable phase (Some spare) (Some rewriting) rest = IsRewritingAt node history groups durable phase spare rewriting rest
 
 -- the groups that are yet to be appended: those that aren't durable, or, during a rewriting, all but the first
 abbrev pub to_append : Option Rewriting → ℕ → List History → List History
-to_append None written groups = drop written groups
-to_append (Some rewriting) written groups = drop 1 groups
+to_append None durable groups = drop durable groups
+to_append (Some rewriting) durable groups = drop 1 groups
 
 -- ---- the invariant of a world
 
 pub record Stands (node : Node) (world : World) : Type 0 where
   pub legal : IsLegal node (world.began ++ world.accepted)
   pub taken : Begins (taken_in world) world.accepted
-  pub within : world.written ≤ length world.groups
-  -- the file of the disk that is read from before the first group that isn't written to its end
+  pub within : world.durable ≤ length world.groups
+  -- the file of the disk that is read from before the first group that isn't durable
   pub file : List ℕ
   pub ends_closed : EndsClosed file
   pub are_bytes : AreBytes file
   pub disk : IsAt (stage_of world.phase) (state world.bytes_at_start world.calls) file (group_in world)
-  pub fits : All FitsAsGroup (to_append world.rewriting world.written world.groups)
-  pub idle : unwritten_in world ≡ [] → world.phase ≡ not_begun
+  pub fits : All FitsAsGroup (to_append world.rewriting world.durable world.groups)
+  pub idle : undurable_in world ≡ [] → world.phase ≡ not_begun
   -- the bytes of the other disk, from before a rewriting
   pub rest : List ℕ
   pub beside : IsBeside world.spare file rest
-  pub spare : IsSpareAt node (world.began ++ (world.settled ++ first_of world.groups)) world.groups world.written world.phase world.spare world.rewriting rest
-  pub holds : Holds node (areas_with world.spare file rest) (kept node (world.began ++ written_in world))
+  pub spare : IsSpareAt node (world.began ++ (world.settled ++ first_of world.groups)) world.groups world.durable world.phase world.spare world.rewriting rest
+  pub holds : Holds node (areas_with world.spare file rest) (kept node (world.began ++ durable_in world))
   pub waiting : All (IsDue node world.began world.accepted) world.waiting
   pub given : All (IsKept node (world.began ++ world.settled)) world.given
 
 -- where no rewriting is in flight, the other disk doesn't depend on the groups
-pub spare_same : (node : Node) (spare : Option Spare) (rewriting : Option Rewriting) (rest : List ℕ) (history history' : History) (groups groups' : List History) (written written' : ℕ) (phase phase' : Phase)
-    → rewriting ≡ None → IsSpareAt node history groups written phase spare rewriting rest → IsSpareAt node history' groups' written' phase' spare rewriting rest
-spare_same node None None rest history history' groups groups' written written' phase phase' none is = tt
-spare_same node None (Some rewriting) rest history history' groups groups' written written' phase phase' none is = is
-spare_same node (Some spare) None rest history history' groups groups' written written' phase phase' none is = is
-spare_same node (Some spare) (Some rewriting) rest history history' groups groups' written written' phase phase' none is = absurd (none-some rewriting (sym none))
+pub spare_same : (node : Node) (spare : Option Spare) (rewriting : Option Rewriting) (rest : List ℕ) (history history' : History) (groups groups' : List History) (durable durable' : ℕ) (phase phase' : Phase)
+    → rewriting ≡ None → IsSpareAt node history groups durable phase spare rewriting rest → IsSpareAt node history' groups' durable' phase' spare rewriting rest
+spare_same node None None rest history history' groups groups' durable durable' phase phase' none is = tt
+spare_same node None (Some rewriting) rest history history' groups groups' durable durable' phase phase' none is = is
+spare_same node (Some spare) None rest history history' groups groups' durable durable' phase phase' none is = is
+spare_same node (Some spare) (Some rewriting) rest history history' groups groups' durable durable' phase phase' none is = absurd (none-some rewriting (sym none))
 
--- where a group is written to its end, or an append has begun, or no group is in flight, none is
-pub none_rewritten : (node : Node) (spare : Option Spare) (rewriting : Option Rewriting) (rest : List ℕ) (history : History) (groups : List History) (written : ℕ) (phase : Phase)
-    → IsSpareAt node history groups written phase spare rewriting rest → (1 ≤ written) ⊎ (groups ≡ []) → rewriting ≡ None
-none_rewritten node None None rest history groups written phase is so = refl
-none_rewritten node None (Some rewriting) rest history groups written phase is so = absurd is
-none_rewritten node (Some spare) None rest history groups written phase is so = refl
-none_rewritten node (Some spare) (Some rewriting) rest history groups written phase is (inl some) = absurd (omega (arith, is.none_written, some))
-none_rewritten node (Some spare) (Some rewriting) rest history groups written phase is (inr none) = absurd (omega (arith, is.some, ap length none))
+-- where a group is durable, or an append has begun, or no group is in flight, none is
+pub none_rewritten : (node : Node) (spare : Option Spare) (rewriting : Option Rewriting) (rest : List ℕ) (history : History) (groups : List History) (durable : ℕ) (phase : Phase)
+    → IsSpareAt node history groups durable phase spare rewriting rest → (1 ≤ durable) ⊎ (groups ≡ []) → rewriting ≡ None
+none_rewritten node None None rest history groups durable phase is so = refl
+none_rewritten node None (Some rewriting) rest history groups durable phase is so = absurd is
+none_rewritten node (Some spare) None rest history groups durable phase is so = refl
+none_rewritten node (Some spare) (Some rewriting) rest history groups durable phase is (inl some) = absurd (omega (arith, is.none_durable, some))
+none_rewritten node (Some spare) (Some rewriting) rest history groups durable phase is (inr none) = absurd (omega (arith, is.some, ap length none))
 
 -- one disk is never rewritten
-pub none_alone : (node : Node) (spare : Option Spare) (rewriting : Option Rewriting) (rest : List ℕ) (history : History) (groups : List History) (written : ℕ) (phase : Phase)
-    → IsSpareAt node history groups written phase spare rewriting rest → spare ≡ None → rewriting ≡ None
-none_alone node None None rest history groups written phase is none = refl
-none_alone node None (Some rewriting) rest history groups written phase is none = absurd is
-none_alone node (Some spare) rewriting rest history groups written phase is none = absurd (none-some spare (sym none))
+pub none_alone : (node : Node) (spare : Option Spare) (rewriting : Option Rewriting) (rest : List ℕ) (history : History) (groups : List History) (durable : ℕ) (phase : Phase)
+    → IsSpareAt node history groups durable phase spare rewriting rest → spare ≡ None → rewriting ≡ None
+none_alone node None None rest history groups durable phase is none = refl
+none_alone node None (Some rewriting) rest history groups durable phase is none = absurd is
+none_alone node (Some spare) rewriting rest history groups durable phase is none = absurd (none-some spare (sym none))
 
 -- ---- what a stop leaves
 
 first_begins : (world : World) → Begins (with_first world) (taken_in world)
-first_begins world = record { rest = events_of (drop 1 (unwritten_in world)); parts = first_and_others world }
+first_begins world = record { rest = events_of (drop 1 (undurable_in world)); parts = first_and_others world }
 
 -- what is settled is durable, and what is durable was accepted
-pub settled_written : (world : World) → Begins world.settled (written_in world)
-settled_written world = record { rest = events_of (take world.written world.groups); parts = refl }
+pub settled_durable : (world : World) → Begins world.settled (durable_in world)
+settled_durable world = record { rest = events_of (take world.durable world.groups); parts = refl }
 
 pub first_accepted : (node : Node) (world : World) → Stands node world → Begins (with_first world) world.accepted
 first_accepted node world at = begins_trans (with_first world) (taken_in world) world.accepted (first_begins world) at.taken
@@ -153,12 +153,12 @@ first_accepted node world at = begins_trans (with_first world) (taken_in world) 
 pub settled_accepted : (node : Node) (world : World) → Stands node world → Begins world.settled world.accepted
 settled_accepted node world at = begins_trans world.settled (taken_in world) world.accepted (record { rest = events_of world.groups; parts = refl }) at.taken
 
-pub written_accepted : (node : Node) (world : World) → Stands node world → Begins (written_in world) world.accepted
-written_accepted node world at =
-    begins_trans (written_in world) (with_first world) world.accepted (record { rest = first_of (unwritten_in world); parts = refl }) (first_accepted node world at)
+pub durable_accepted : (node : Node) (world : World) → Stands node world → Begins (durable_in world) world.accepted
+durable_accepted node world at =
+    begins_trans (durable_in world) (with_first world) world.accepted (record { rest = first_of (undurable_in world); parts = refl }) (first_accepted node world at)
 
--- the events of the first group that isn't written to its end are taken ones
-pub group_events : (node : Node) (world : World) → Stands node world → All (IsTaken node) (first_of (unwritten_in world))
+-- the events of the first group that isn't durable are taken ones
+pub group_events : (node : Node) (world : World) → Stands node world → All (IsTaken node) (first_of (undurable_in world))
 group_events node world at =
     let all : All (IsTaken node) world.accepted =
     subst (All (IsTaken node)) (drop_at world.began world.accepted (length world.began) refl) (All-drop (IsTaken node) (length world.began) (world.began ++ world.accepted) at.legal.taken) in
@@ -166,7 +166,7 @@ group_events node world at =
     let begins = first_accepted node world at in
     let front : take (length some) world.accepted ≡ some = ap (take (length some)) begins.parts ∙ take_at some begins.rest (length some) refl in
     let those : All (IsTaken node) some = subst (All (IsTaken node)) front (All-take (IsTaken node) (length some) world.accepted all) in
-    subst (All (IsTaken node)) (drop_at (written_in world) (first_of (unwritten_in world)) (length (written_in world)) refl) (All-drop (IsTaken node) (length (written_in world)) some those)
+    subst (All (IsTaken node)) (drop_at (durable_in world) (first_of (undurable_in world)) (length (durable_in world)) refl) (All-drop (IsTaken node) (length (durable_in world)) some those)
 
 -- ---- what is read
 
@@ -197,22 +197,22 @@ pub record LeavesLive (node : Node) (world : World) (at : Stands node world) (li
   pub keeps : KeepsFront at.file live
   pub are_bytes : AreBytes live
 
-unwritten_fit : (rewriting : Option Rewriting) (groups : List History) (written : ℕ) → rewriting ≡ None → All FitsAsGroup (to_append rewriting written groups) → All FitsAsGroup (drop written groups)
-unwritten_fit None groups written none fits = fits
-unwritten_fit (Some rewriting) groups written none fits = absurd (none-some rewriting (sym none))
+undurable_fit : (rewriting : Option Rewriting) (groups : List History) (durable : ℕ) → rewriting ≡ None → All FitsAsGroup (to_append rewriting durable groups) → All FitsAsGroup (drop durable groups)
+undurable_fit None groups durable none fits = fits
+undurable_fit (Some rewriting) groups durable none fits = absurd (none-some rewriting (sym none))
 
-pub fit_to_write : (node : Node) (world : World) (at : Stands node world) → world.rewriting ≡ None → All FitsAsGroup (unwritten_in world)
-fit_to_write node world at none = unwritten_fit world.rewriting world.groups world.written none at.fits
+pub fit_to_write : (node : Node) (world : World) (at : Stands node world) → world.rewriting ≡ None → All FitsAsGroup (undurable_in world)
+fit_to_write node world at none = undurable_fit world.rewriting world.groups world.durable none at.fits
 
 -- the call that is due is that of the group, where no rewriting is in flight
-pub next_is : (world : World) → world.rewriting ≡ None → next_call world ≡ call_for (unwritten_in world) world.phase (content_in world)
-next_is world none = ap (λ (r : Option Rewriting). option_map_or (λ rewriting. None) r (call_for (unwritten_in world) world.phase (content_in world))) none
+pub next_is : (world : World) → world.rewriting ≡ None → next_call world ≡ call_for (undurable_in world) world.phase (content_in world)
+next_is world none = ap (λ (r : Option Rewriting). option_map_or (λ rewriting. None) r (call_for (undurable_in world) world.phase (content_in world))) none
 
 leaves_appended : (node : Node) (world : World) (at : Stands node world) (live : List ℕ) → world.rewriting ≡ None
-    → MayLeave world.bytes_at_start world.calls (call_for (unwritten_in world) world.phase (content_in world)) live → LeavesLive node world at live
+    → MayLeave world.bytes_at_start world.calls (call_for (undurable_in world) world.phase (content_in world)) live → LeavesLive node world at live
 leaves_appended node world at live none (between outcome) =
     let s = state world.bytes_at_start world.calls in
-    let fits = first_fits (unwritten_in world) world.phase (fit_to_write node world at none) at.idle in
+    let fits = first_fits (undurable_in world) world.phase (fit_to_write node world at none) at.idle in
     record {
       stand = leaves at.file at.ends_closed (group_in world) (stage_of world.phase) s live fits at.disk outcome;
       keeps = keeps_front at.file at.ends_closed (group_in world) (stage_of world.phase) s live at.disk outcome;
@@ -220,7 +220,7 @@ leaves_appended node world at live none (between outcome) =
     }
 leaves_appended node world at live none (inside call due outcome) =
     let s = state world.bytes_at_start world.calls in
-    let first = due_first (unwritten_in world) world.phase s.content call (fit_to_write node world at none) due in
+    let first = due_first (undurable_in world) world.phase s.content call (fit_to_write node world at none) due in
     let now : CanLeave (after s call) live = subst (λ t. CanLeave t live) (after_all-push (firmed world.bytes_at_start) world.calls call) outcome in
     let is = called at.file at.ends_closed (group_in world) world.phase s call first.0 at.disk first.1 in
     record {
@@ -246,12 +246,12 @@ leaves_firm bytes calls next file found none is (inside call due outcome) = absu
 pub record IsBetween (world : World) (history : History) : Type 0 where
   pub accepted : Begins history (world.began ++ world.accepted)
   pub settled : Begins (world.began ++ world.settled) history
-  pub whole : (history ≡ world.began ++ written_in world) ⊎ (history ≡ world.began ++ with_first world)
+  pub whole : (history ≡ world.began ++ durable_in world) ⊎ (history ≡ world.began ++ with_first world)
 
-written_between : (node : Node) (world : World) → Stands node world → IsBetween world (world.began ++ written_in world)
-written_between node world at = record {
-  accepted = begins_join world.began (written_in world) world.accepted (written_accepted node world at);
-  settled = begins_join world.began world.settled (written_in world) (settled_written world);
+durable_between : (node : Node) (world : World) → Stands node world → IsBetween world (world.began ++ durable_in world)
+durable_between node world at = record {
+  accepted = begins_join world.began (durable_in world) world.accepted (durable_accepted node world at);
+  settled = begins_join world.began world.settled (durable_in world) (settled_durable world);
   whole = inl refl;
 }
 
@@ -259,7 +259,7 @@ pub first_between : (node : Node) (world : World) → Stands node world → IsBe
 first_between node world at = record {
   accepted = begins_join world.began (with_first world) world.accepted (first_accepted node world at);
   settled = begins_join world.began world.settled (with_first world)
-      (begins_trans world.settled (written_in world) (with_first world) (settled_written world) (record { rest = first_of (unwritten_in world); parts = refl }));
+      (begins_trans world.settled (durable_in world) (with_first world) (settled_durable world) (record { rest = first_of (undurable_in world); parts = refl }));
   whole = inr refl;
 }
 
@@ -270,7 +270,7 @@ pub record IsLeft (node : Node) (world : World) (found : Areas) : Type 0 where
   pub holds : Holds node found (kept node history)
   pub on : Opened
   pub opened : IsOpened node on (kept node history)
-  pub as_many : is_some on.rest ≡ is_some world.spare
+  pub as_many : is_some on.spare ≡ is_some world.spare
 
 pub legal_between : (node : Node) (world : World) (history : History) → Stands node world → IsBetween world history → IsLegal node history
 legal_between node world history at is = legal-begins node history is.accepted.rest (subst (IsLegal node) is.accepted.parts at.legal)
@@ -325,7 +325,7 @@ at_rest_of generation other (inl none) are = (0 ∷ [], inl refl, All-cons (λ n
 at_rest_of generation other (inr lower) are = (other, inr lower, are)
 
 -- one area
-open_one : (node : Node) (found : List ℕ) (held_state : Kept) → Holds node (alone found) held_state → AreBytes found → (on : Opened) × IsOpened node on held_state × (is_some on.rest ≡ false)
+open_one : (node : Node) (found : List ℕ) (held_state : Kept) → Holds node (alone found) held_state → AreBytes found → (on : Opened) × IsOpened node on held_state × (is_some on.spare ≡ false)
 unfolding stands_in
 open_one node found held_state held are =
     let cut = cut_off found held.journal.records (journal_long node found held_state held) held.journal.stands_for are in (
@@ -334,7 +334,7 @@ open_one node found held_state held are =
         holds = holds_same node (alone found) (alone cut.0) held_state held (λ is. is) cut.1.stand;
         ends_closed = cut.1.ends_closed;
         are_bytes = cut.1.are_bytes;
-        rest = tt;
+        spare = tt;
       },
       refl,
     )
@@ -349,20 +349,20 @@ stands_read Second live records is = of_moved (stands live) is
     of_moved (Err gate) same = absurd cc
 
 open_two : (node : Node) (side : Side) (generation : ℕ) (live other : List ℕ) (held_state : Kept) → Holds node (pair_of side live other) held_state → tells live ≡ Some (Some generation)
-    → IsOlder generation other → AreBytes live → AreBytes other → (on : Opened) × IsOpened node on held_state × (is_some on.rest ≡ true)
+    → IsOlder generation other → AreBytes live → AreBytes other → (on : Opened) × IsOpened node on held_state × (is_some on.spare ≡ true)
 open_two node side generation live other held_state held told older are also =
     let reads = both_older side generation live other told older in
     let read = stands_read side live held.journal.records (sym reads ∙ held.journal.stands_for) in
     let cut = cut_off live read.0 (tells_long live (Some generation) told) read.1 are in
     let rest = at_rest_of generation other older also in
     let told_now : tells cut.0 ≡ Some (Some generation) = cut.1.told ∙ told in (
-      record { bytes = cut.0; rest = Some (record { bytes = rest.0; side = side; generation = generation }) },
+      record { bytes = cut.0; spare = Some (record { bytes = rest.0; side = side; generation = generation }) },
       record {
         holds = holds_same node (pair_of side live other) (pair_of side cut.0 rest.0) held_state held (λ is. pair_is side cut.0 rest.0)
             (both_older side generation cut.0 rest.0 told_now (at_rest_older generation rest.0 rest.1) ∙ same_at side live cut.0 cut.1.stand ∙ sym reads);
         ends_closed = cut.1.ends_closed;
         are_bytes = cut.1.are_bytes;
-        rest = record { told = told_now; at_rest = rest.1; are_bytes = rest.2 };
+        spare = record { told = told_now; at_rest = rest.1; are_bytes = rest.2 };
       },
       refl,
     )
@@ -372,7 +372,7 @@ open_two node side generation live other held_state held told older are also =
 pub checkpoint_holds : (node : Node) (areas : Areas) (side : Side) (generation : ℕ) (held_state : Kept) (bytes : List ℕ) → IsPair areas → stands_in areas ≡ stands_at side (1 ∷ bytes)
     → IsNode node → IsSound node held_state → IsCheckpointOf node generation held_state bytes → Holds node areas held_state
 checkpoint_holds node areas side generation held_state bytes two reads sound held_sound is =
-    let front = own versions.Second node ∷ head_record generation ∷ state_records is.kept in
+    let front = own_configuration versions.Second node ∷ head_record generation ∷ state_records is.kept in
     let same : held_state ≡ checkpoint.state_in node is.kept = sym is.is in
     record {
       front = front;
@@ -397,12 +397,12 @@ ends_any gate bytes is_open ends = record {
 -- ---- what a stop leaves
 
 -- one of two histories, opened on as many disks
-left_as : (node : Node) (world : World) (found : Areas) (at : Stands node world) → Holds node found (kept node (world.began ++ written_in world)) ⊎ Holds node found (kept node (world.began ++ with_first world))
-    → ((held_state : Kept) → Holds node found held_state → (on : Opened) × IsOpened node on held_state × (is_some on.rest ≡ is_some world.spare)) → IsLeft node world found
+left_as : (node : Node) (world : World) (found : Areas) (at : Stands node world) → Holds node found (kept node (world.began ++ durable_in world)) ⊎ Holds node found (kept node (world.began ++ with_first world))
+    → ((held_state : Kept) → Holds node found held_state → (on : Opened) × IsOpened node on held_state × (is_some on.spare ≡ is_some world.spare)) → IsLeft node world found
 left_as node world found at (inl held) opens =
-    let history = world.began ++ written_in world in
+    let history = world.began ++ durable_in world in
     let is = opens (kept node history) held in
-    record { history = history; is_between = written_between node world at; holds = held; on = is.0; opened = is.1; as_many = is.2 }
+    record { history = history; is_between = durable_between node world at; holds = held; on = is.0; opened = is.1; as_many = is.2 }
 left_as node world found at (inr held) opens =
     let history = world.began ++ with_first world in
     let is = opens (kept node history) held in
@@ -411,32 +411,32 @@ left_as node world found at (inr held) opens =
 -- beside another area that tells less
 left_live : (node : Node) (world : World) (at : Stands node world) (live other : List ℕ) → LeavesLive node world at live
     → IfSome world.spare (λ s. (tells live ≡ Some (Some s.generation)) × IsOlder s.generation other)
-    → Holds node (areas_with world.spare live other) (kept node (world.began ++ written_in world)) ⊎ Holds node (areas_with world.spare live other) (kept node (world.began ++ with_first world))
+    → Holds node (areas_with world.spare live other) (kept node (world.began ++ durable_in world)) ⊎ Holds node (areas_with world.spare live other) (kept node (world.began ++ with_first world))
 left_live node world at live other is older =
     let spare = world.spare in
     let before = areas_with spare at.file at.rest in
     let now = areas_with spare live other in
     let reads = reads_live spare at.file at.rest (beside_older spare at.file at.rest at.beside) in
     let also = reads_live spare live other older in
-    let more = first_of (unwritten_in world) in
-    let joined : (world.began ++ written_in world) ++ more ≡ world.began ++ with_first world = append_assoc world.began (written_in world) more in
+    let more = first_of (undurable_in world) in
+    let joined : (world.began ++ durable_in world) ++ more ≡ world.began ++ with_first world = append_assoc world.began (durable_in world) more in
     elim is.stand [
-      | inl same ↦ inl (holds_same node before now (kept node (world.began ++ written_in world)) at.holds (pair_stays spare at.file at.rest live other)
+      | inl same ↦ inl (holds_same node before now (kept node (world.began ++ durable_in world)) at.holds (pair_stays spare at.file at.rest live other)
           (also ∙ same_at (side_of spare) at.file live same ∙ sym reads))
       | inr longer ↦ inr (subst (λ h. Holds node now (kept node h)) joined
-          (holds_more node before now (side_of spare) at.file live (world.began ++ written_in world) more at.holds (pair_stays spare at.file at.rest live other) reads also at.ends_closed longer
+          (holds_more node before now (side_of spare) at.file live (world.began ++ durable_in world) more at.holds (pair_stays spare at.file at.rest live other) reads also at.ends_closed longer
           (subst (IsLegal node) (sym joined) (legal_between node world (world.began ++ with_first world) at (first_between node world at)))))
     ]
 
 left_one : (node : Node) (world : World) (found : List ℕ) (at : Stands node world) → world.spare ≡ None → MayLeave world.bytes_at_start world.calls (next_call world) found → IsLeft node world (alone found)
 left_one node world found at none leave =
-    let idle = none_alone node world.spare world.rewriting at.rest _ world.groups world.written world.phase at.spare none in
+    let idle = none_alone node world.spare world.rewriting at.rest _ world.groups world.durable world.phase at.spare none in
     let is = leaves_live node world at found idle leave in
     let same : areas_with world.spare found [] ≡ alone found = ap (λ (s : Option Spare). areas_with s found []) none in
     let older : IfSome world.spare (λ s. (tells found ≡ Some (Some s.generation)) × IsOlder s.generation []) =
     subst (λ (s : Option Spare). IfSome s (λ t. (tells found ≡ Some (Some t.generation)) × IsOlder t.generation [])) (sym none) tt in
     left_as node world (alone found) at
-    (subst (λ (a : Areas). Holds node a (kept node (world.began ++ written_in world)) ⊎ Holds node a (kept node (world.began ++ with_first world))) same (left_live node world at found [] is older))
+    (subst (λ (a : Areas). Holds node a (kept node (world.began ++ durable_in world)) ⊎ Holds node a (kept node (world.began ++ with_first world))) same (left_live node world at found [] is older))
     (λ held_state held. let opened = open_one node found held_state held is.are_bytes in (opened.0, opened.1, opened.2 ∙ ap (λ (s : Option Spare). is_some s) (sym none)))
 
 -- the bytes that a disk may leave
@@ -445,13 +445,13 @@ leave_bytes bytes calls next found (between outcome) = outcome.are_bytes
 leave_bytes bytes calls next found (inside call due outcome) = outcome.are_bytes
 
 -- what a rewriting leaves
-leaves_rewritten : (node : Node) (history : History) (groups : List History) (written : ℕ) (phase : Phase) (spare : Spare) (rewriting : Rewriting) (rest : List ℕ)
-    → IsAtRest spare.generation rest → IsRewritingAt node history groups written phase spare rewriting rest
+leaves_rewritten : (node : Node) (history : History) (groups : List History) (durable : ℕ) (phase : Phase) (spare : Spare) (rewriting : Rewriting) (rest : List ℕ)
+    → IsAtRest spare.generation rest → IsRewritingAt node history groups durable phase spare rewriting rest
     → (other : List ℕ) → MayLeave spare.bytes_at_start spare.calls (slice_get (rewrite_calls rewriting.bytes) rewriting.made) other
     → IsOlderOrNew spare.generation rewriting.bytes other
-leaves_rewritten node history groups written phase spare rewriting rest at_rest is other (between outcome) =
+leaves_rewritten node history groups durable phase spare rewriting rest at_rest is other (between outcome) =
     spare_leaves rest rewriting.bytes spare.generation rewriting.made other (omega (arith, is.few)) at_rest (subst (λ (s : State). CanLeave s other) is.disk outcome)
-leaves_rewritten node history groups written phase spare rewriting rest at_rest is other (inside call due outcome) =
+leaves_rewritten node history groups durable phase spare rewriting rest at_rest is other (inside call due outcome) =
     let inside = get_inside (rewrite_calls rewriting.bytes) rewriting.made call due in
     let next = made_more rest rewriting.bytes rewriting.made (state spare.bytes_at_start spare.calls) call is.disk due in
     spare_leaves rest rewriting.bytes spare.generation (suc rewriting.made) other (omega (arith, inside)) at_rest
@@ -469,11 +469,11 @@ module _ (node : Node) (world : World) (at : Stands node world) (spare : Spare) 
       let both : IfSome world.spare (λ s. (tells live ≡ Some (Some s.generation)) × IsOlder s.generation other) =
       subst (λ (s : Option Spare). IfSome s (λ t. (tells live ≡ Some (Some t.generation)) × IsOlder t.generation other)) (sym is_spare) (told, older) in
       left_as node world (pair_of spare.side live other) at
-      (subst (λ (a : Areas). Holds node a (kept node (world.began ++ written_in world)) ⊎ Holds node a (kept node (world.began ++ with_first world))) same (left_live node world at live other is both))
+      (subst (λ (a : Areas). Holds node a (kept node (world.began ++ durable_in world)) ⊎ Holds node a (kept node (world.began ++ with_first world))) same (left_live node world at live other is both))
       (λ held_state held. let opened = open_two node spare.side spare.generation live other held_state held told older is.are_bytes (leave_bytes spare.bytes_at_start spare.calls (next_spare_call world) other also) in (opened.0, opened.1, opened.2 ∙ ap (λ (s : Option Spare). is_some s) (sym is_spare)))
 
   left_pair : (rewriting : Option Rewriting) → world.rewriting ≡ rewriting
-      → IsSpareAt node (world.began ++ (world.settled ++ first_of world.groups)) world.groups world.written world.phase (Some spare) rewriting at.rest → IsLeft node world (pair_of spare.side live other)
+      → IsSpareAt node (world.began ++ (world.settled ++ first_of world.groups)) world.groups world.durable world.phase (Some spare) rewriting at.rest → IsLeft node world (pair_of spare.side live other)
   left_pair None none firm =
       let is = leaves_live node world at live none leave in
       let no_call : next_spare_call world ≡ None = ap (λ (r : Option Rewriting). option_and_then (λ one. slice_get (rewrite_calls one.bytes) one.made) r) none in
@@ -481,12 +481,12 @@ module _ (node : Node) (world : World) (at : Stands node world) (spare : Spare) 
       older_left is (keeps_telling at.file live (Some spare.generation) at.ends_closed beside.told is.keeps ∙ beside.told)
       (subst (IsOlder spare.generation) (sym same) (at_rest_older spare.generation at.rest beside.at_rest))
   left_pair (Some rewriting) in_flight is =
-      let no_call : next_call world ≡ None = ap (λ (r : Option Rewriting). option_map_or (λ one. None) r (call_for (unwritten_in world) world.phase (content_in world))) in_flight in
+      let no_call : next_call world ≡ None = ap (λ (r : Option Rewriting). option_map_or (λ one. None) r (call_for (undurable_in world) world.phase (content_in world))) in_flight in
       let fresh = fresh_disk node world at is.not_begun in
       let same : live ≡ at.file = leaves_firm world.bytes_at_start world.calls (next_call world) at.file live no_call fresh leave in
       let call : next_spare_call world ≡ slice_get (rewrite_calls rewriting.bytes) rewriting.made =
       ap (λ (r : Option Rewriting). option_and_then (λ one. slice_get (rewrite_calls one.bytes) one.made) r) in_flight in
-      let left = leaves_rewritten node _ world.groups world.written world.phase spare rewriting at.rest beside.at_rest is other
+      let left = leaves_rewritten node _ world.groups world.durable world.phase spare rewriting at.rest beside.at_rest is other
       (subst (λ (c : Option Call). MayLeave spare.bytes_at_start spare.calls c other) call also) in
       let told : tells live ≡ Some (Some spare.generation) = ap tells same ∙ beside.told in
       let live_bytes : AreBytes live = leave_bytes world.bytes_at_start world.calls (next_call world) live leave in
@@ -495,7 +495,7 @@ module _ (node : Node) (world : World) (at : Stands node world) (spare : Spare) 
         | inr new ↦ new_left rewriting is told live_bytes (subst EndsClosed (sym same) at.ends_closed) new.0 new.1 new.2
       ]
     where
-      new_left : (rewriting : Rewriting) → IsRewritingAt node (world.began ++ (world.settled ++ first_of world.groups)) world.groups world.written world.phase spare rewriting at.rest
+      new_left : (rewriting : Rewriting) → IsRewritingAt node (world.began ++ (world.settled ++ first_of world.groups)) world.groups world.durable world.phase spare rewriting at.rest
           → tells live ≡ Some (Some spare.generation) → AreBytes live → EndsClosed live → (gate : ℕ) → gate ≢ 0 → other ≡ gate ∷ rewriting.bytes → IsLeft node world (pair_of spare.side live other)
       new_left rewriting is told live_bytes live_ends gate is_open new =
           let bytes = rewriting.bytes in
@@ -503,11 +503,11 @@ module _ (node : Node) (world : World) (at : Stands node world) (spare : Spare) 
           let checkpoint = is.checkpoint in
           let side = other_side spare.side in
           let history = world.began ++ with_first world in
-          let none : take world.written world.groups ≡ [] = ap (λ (n : ℕ). take n world.groups) is.none_written in
-          let all : unwritten_in world ≡ world.groups = ap (λ (n : ℕ). drop n world.groups) is.none_written in
-          let written : written_in world ≡ world.settled = ap (λ l. world.settled ++ events_of l) none ∙ append-nil world.settled in
+          let none : take world.durable world.groups ≡ [] = ap (λ (n : ℕ). take n world.groups) is.none_durable in
+          let all : undurable_in world ≡ world.groups = ap (λ (n : ℕ). drop n world.groups) is.none_durable in
+          let durable : durable_in world ≡ world.settled = ap (λ l. world.settled ++ events_of l) none ∙ append-nil world.settled in
           let same_history : world.began ++ (world.settled ++ first_of world.groups) ≡ history =
-          ap (λ l. world.began ++ l) (λ i. sym written i ++ first_of (sym all i)) in
+          ap (λ l. world.began ++ l) (λ i. sym durable i ++ first_of (sym all i)) in
           let reads : stands_in (pair_of spare.side live other) ≡ stands_at side (1 ∷ bytes) =
           ap (λ (l : List ℕ). stands_in (pair_of spare.side live l)) new ∙ both_new spare.side generation (generation + 1) gate live bytes told checkpoint.told (omega arith) is_open in
           let legal = legal_between node world history at (first_between node world at) in
@@ -521,14 +521,14 @@ module _ (node : Node) (world : World) (at : Stands node world) (spare : Spare) 
             history = history;
             is_between = first_between node world at;
             holds = held;
-            on = record { bytes = gate ∷ bytes; rest = Some (record { bytes = live; side = side; generation = generation + 1 }) };
+            on = record { bytes = gate ∷ bytes; spare = Some (record { bytes = live; side = side; generation = generation + 1 }) };
             opened = record {
               holds = holds_same node (pair_of spare.side live other) (pair_of side (gate ∷ bytes) live) (kept node history) held (λ two. pair_is side (gate ∷ bytes) live)
                   (both_older side (generation + 1) (gate ∷ bytes) live told_new (at_rest_older (generation + 1) live at_rest)
                   ∙ same_at side (1 ∷ bytes) (gate ∷ bytes) (stands_any gate 1 bytes is_open (λ one. omega arith)) ∙ sym reads);
               ends_closed = ends_any gate bytes is_open checkpoint.ends_closed;
               are_bytes = bytes_are;
-              rest = record { told = told_new; at_rest = at_rest; are_bytes = live_bytes };
+              spare = record { told = told_new; at_rest = at_rest; are_bytes = live_bytes };
             };
             as_many = ap (λ (s : Option Spare). is_some s) (sym is_spare);
           }
@@ -538,26 +538,26 @@ left node world found at (of_one bytes none leave is) = subst (IsLeft node world
 left node world found at (of_pair spare live other is_spare leave also is) =
     subst (IsLeft node world) (sym is)
     (left_pair node world at spare is_spare live other leave also world.rewriting refl
-    (subst (λ (s : Option Spare). IsSpareAt node (world.began ++ (world.settled ++ first_of world.groups)) world.groups world.written world.phase s world.rewriting at.rest) is_spare at.spare))
+    (subst (λ (s : Option Spare). IsSpareAt node (world.began ++ (world.settled ++ first_of world.groups)) world.groups world.durable world.phase s world.rewriting at.rest) is_spare at.spare))
 
 -- ---- a run begins
 
 -- the bytes of the other disk
-rest_bytes : Option Rest → List ℕ
+rest_bytes : Option OpenedSpare → List ℕ
 rest_bytes None = []
 rest_bytes (Some rest) = rest.bytes
 
-begun_beside : (bytes : List ℕ) (rest : Option Rest) → IfSome rest (IsRest bytes) → IsBeside (option_map spare_on rest) bytes (rest_bytes rest)
+begun_beside : (bytes : List ℕ) (rest : Option OpenedSpare) → IfSome rest (IsOpenedSpare bytes) → IsBeside (option_map spare_on rest) bytes (rest_bytes rest)
 unfolding rest_bytes
 begun_beside bytes None is = tt
 begun_beside bytes (Some rest) is = record { told = is.told; at_rest = is.at_rest; are_bytes = is.are_bytes }
 
-begun_spare : (node : Node) (history : History) (groups : List History) (written : ℕ) (phase : Phase) (rest : Option Rest) → IsSpareAt node history groups written phase (option_map spare_on rest) None (rest_bytes rest)
+begun_spare : (node : Node) (history : History) (groups : List History) (durable : ℕ) (phase : Phase) (rest : Option OpenedSpare) → IsSpareAt node history groups durable phase (option_map spare_on rest) None (rest_bytes rest)
 unfolding rest_bytes
-begun_spare node history groups written phase None = tt
-begun_spare node history groups written phase (Some rest) = refl
+begun_spare node history groups durable phase None = tt
+begun_spare node history groups durable phase (Some rest) = refl
 
-begun_areas : (bytes : List ℕ) (rest : Option Rest) → areas_of (record { bytes = bytes; rest = rest }) ≡ areas_with (option_map spare_on rest) bytes (rest_bytes rest)
+begun_areas : (bytes : List ℕ) (rest : Option OpenedSpare) → areas_of (record { bytes = bytes; spare = rest }) ≡ areas_with (option_map spare_on rest) bytes (rest_bytes rest)
 unfolding rest_bytes
 begun_areas bytes None = refl
 begun_areas bytes (Some rest) = refl
@@ -576,15 +576,15 @@ begins_standing node on began given legal opened given_kept =
       disk = refl;
       fits = All-nil FitsAsGroup;
       idle = λ none. refl;
-      rest = rest_bytes on.rest;
-      beside = begun_beside on.bytes on.rest opened.rest;
-      spare = begun_spare node (began ++ []) [] 0 not_begun on.rest;
-      holds = subst (λ (a : Areas). Holds node a (kept node (began ++ []))) (begun_areas on.bytes on.rest) (subst (λ h. Holds node (areas_of on) (kept node h)) same opened.holds);
+      rest = rest_bytes on.spare;
+      beside = begun_beside on.bytes on.spare opened.spare;
+      spare = begun_spare node (began ++ []) [] 0 not_begun on.spare;
+      holds = subst (λ (a : Areas). Holds node a (kept node (began ++ []))) (begun_areas on.bytes on.spare) (subst (λ h. Holds node (areas_of on) (kept node h)) same opened.holds);
       waiting = All-nil (IsDue node began []);
       given = subst (λ h. All (IsKept node h) given) same given_kept;
     }
 
 -- a run begins on as many disks as it was opened on
-pub begun_many : (rest : Option Rest) → is_some (option_map spare_on rest) ≡ is_some rest
+pub begun_many : (rest : Option OpenedSpare) → is_some (option_map spare_on rest) ≡ is_some rest
 begun_many None = refl
 begun_many (Some rest) = refl

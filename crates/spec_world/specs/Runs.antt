@@ -19,7 +19,7 @@ use Rattle.spec_model.specs.States.{State}
 use Rattle.spec_records.specs.Records.{record_of, configuration_of}
 use Rattle.journal.specs.declared.version.Version.TheVariants.{Second}
 use Rattle.wire.specs.Fields.{HasBytes}
-use Rattle.spec_world.specs.World.{own, not_begun, Given, Spare, World, Holds, IsCheckpointOf, IsOpened, Opened, alone_on, unwritten_in, group_in, content_in, StandsFor, MayStop, run_on}
+use Rattle.spec_world.specs.World.{own_configuration, not_begun, Given, Spare, World, Holds, IsCheckpointOf, IsOpened, Opened, alone_on, undurable_in, group_in, content_in, StandsFor, MayStop, run_on}
 use Rattle.spec_world.specs.Steps.{Move, take_to, device_call, settle, take_all, spare_call, restart, replaced, group_to, IsRecovered, IsStep, Leads, IsRun}
 
 -- each key has 32 bytes
@@ -32,7 +32,7 @@ first_bytes node = file_with (CLOSED ∷ []) (configuration_of Second node.chart
 
 -- and of two that in the first one, and one closed gate in the second
 abbrev pub first_pair : Node → Opened
-first_pair node = record { bytes = first_bytes node; rest = Some (record { bytes = CLOSED ∷ []; side = First; generation = 0 }) }
+first_pair node = record { bytes = first_bytes node; spare = Some (record { bytes = CLOSED ∷ []; side = First; generation = 0 }) }
 
 -- there is a run without moves to the first, whatever the stakes are, and one to the second
 abbrev pub RunsBegin : Type 0
@@ -81,7 +81,7 @@ HistoriesBegin = (node : Node) (history : History) (on : Opened) → IsLegal nod
 
 -- the accepted events up to so many are settled, no group is in flight, and the disk has what is settled, which is its file with one
 -- group more; nothing else changed
-pub record IsSettledTo (node : Node) (world : World) (count : ℕ) (next : World) : Type 0 where
+pub record HasSettledGroup (node : Node) (world : World) (count : ℕ) (next : World) : Type 0 where
   pub began : next.began ≡ world.began
   pub accepted : next.accepted ≡ world.accepted
   pub settled : next.settled ≡ take count world.accepted
@@ -97,7 +97,7 @@ pub record IsSettledTo (node : Node) (world : World) (count : ℕ) (next : World
 -- accepted events that fit a group can be settled where no group is in flight, by these moves
 abbrev pub GroupsSettle : Type 0
 GroupsSettle = (node : Node) (moves : List Move) (world : World) (count : ℕ) → IsNode node → IsRun node moves world → world.groups ≡ [] → FitsGroup (map record_of (group_to world count))
-    → (next : World) × Leads node world (take_to count ∷ device_call ∷ device_call ∷ device_call ∷ device_call ∷ settle ∷ []) next × IsSettledTo node world count next
+    → (next : World) × Leads node world (take_to count ∷ device_call ∷ device_call ∷ device_call ∷ device_call ∷ settle ∷ []) next × HasSettledGroup node world count next
 
 -- so many device calls
 abbrev pub device_calls : ℕ → List Move
@@ -113,7 +113,7 @@ abbrev pub two_in_flight : ℕ → ℕ → List Move
 two_in_flight count more = take_to count ∷ (device_calls 4 ++ take_to more ∷ (device_calls 4 ++ settle ∷ settle ∷ []))
 
 -- the accepted events up to so many are settled, no group is in flight, and the disk has what is settled; nothing else changed
-pub record AreSettledTo (node : Node) (world : World) (count : ℕ) (next : World) : Type 0 where
+pub record HasSettledGroups (node : Node) (world : World) (count : ℕ) (next : World) : Type 0 where
   pub began : next.began ≡ world.began
   pub accepted : next.accepted ≡ world.accepted
   pub settled : next.settled ≡ take count world.accepted
@@ -129,13 +129,13 @@ pub record AreSettledTo (node : Node) (world : World) (count : ℕ) (next : Worl
 abbrev pub TwoGroupsSettle : Type 0
 TwoGroupsSettle = (node : Node) (moves : List Move) (world : World) (count more : ℕ) → IsNode node → IsRun node moves world → world.groups ≡ []
     → FitsGroup (map record_of (group_to world count)) → FitsGroup (map record_of (group_to (with_group world count) more))
-    → (next : World) × Leads node world (two_in_flight count more) next × AreSettledTo node world more next
+    → (next : World) × Leads node world (two_in_flight count more) next × HasSettledGroups node world more next
 
 -- Device calls that follow one another are those of appends: at most four for each group that isn't durable, and the first four are those
 -- that a journal makes of the disk to add the first such group. Applied again after these, it says the same of the next group.
 abbrev pub AppendsMakeCalls : Type 0
 AppendsMakeCalls = (node : Node) (world next : World) (count : ℕ) → world.phase ≡ not_begun → Leads node world (device_calls count) next
-    → (count ≤ 4 * length (unwritten_in world)) × (count ≤ 4 → next.calls ≡ world.calls ++ take count (append_calls (length (content_in world)) (group_in world)))
+    → (count ≤ 4 * length (undurable_in world)) × (count ≤ 4 → next.calls ≡ world.calls ++ take count (append_calls (length (content_in world)) (group_in world)))
     × (next.spare ≡ world.spare)
 
 -- ---- checkpoints
@@ -146,7 +146,7 @@ spare_calls zero = []
 spare_calls (suc count) = spare_call ∷ spare_calls count
 
 -- all that was accepted is settled, no group and no rewriting is in flight, and the disks have changed places; nothing else changed
-pub record IsAllSettled (node : Node) (world : World) (before : Spare) (bytes : List ℕ) (next : World) : Type 0 where
+pub record HasSettledCheckpoint (node : Node) (world : World) (before : Spare) (bytes : List ℕ) (next : World) : Type 0 where
   pub began : next.began ≡ world.began
   pub accepted : next.accepted ≡ world.accepted
   pub settled : next.settled ≡ world.accepted
@@ -164,7 +164,7 @@ pub record IsAllSettled (node : Node) (world : World) (before : Spare) (bytes : 
 abbrev pub CheckpointsSettle : Type 0
 CheckpointsSettle = (node : Node) (moves : List Move) (world : World) (spare : Spare) (bytes : List ℕ) → IsNode node → IsRun node moves world → world.groups ≡ []
     → world.spare ≡ Some spare → IsCheckpointOf node (spare.generation + 1) (kept node (world.began ++ world.accepted)) bytes
-    → (next : World) × Leads node world (take_all bytes ∷ (spare_calls 8 ++ settle ∷ [])) next × IsAllSettled node world spare bytes next
+    → (next : World) × Leads node world (take_all bytes ∷ (spare_calls 8 ++ settle ∷ [])) next × HasSettledCheckpoint node world spare bytes next
 
 -- the disk that was rewritten is read, and the other one is the one that was read
 pub record HaveChangedPlaces (world : World) (before : Spare) (bytes : List ℕ) (next : World) : Type 0 where
@@ -184,5 +184,5 @@ RewritingsMakeCalls = (node : Node) (world next : World) (spare : Spare) (bytes 
 -- state, each of which fits a group.
 abbrev pub SnapshotsAreCheckpoints : Type 0
 SnapshotsAreCheckpoints = (node : Node) (generation : ℕ) (kept_data : Checkpoint) → IsNode node → AreKeys node → 1 ≤ generation → generation < 2 ^ 64 → IsWritten node kept_data
-    → CanPack (own Second node ∷ state_records kept_data) → AreBytes (bytes_for generation (own Second node ∷ state_records kept_data))
-    → IsCheckpointOf node generation (checkpoint.state_in node kept_data) (bytes_for generation (own Second node ∷ state_records kept_data))
+    → CanPack (own_configuration Second node ∷ state_records kept_data) → AreBytes (bytes_for generation (own_configuration Second node ∷ state_records kept_data))
+    → IsCheckpointOf node generation (checkpoint.state_in node kept_data) (bytes_for generation (own_configuration Second node ∷ state_records kept_data))

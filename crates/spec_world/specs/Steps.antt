@@ -15,7 +15,7 @@ use Rattle.header.specs.declared.admission.Admission.{Admission}
 use Rattle.header.specs.declared.admission.Admission.TheVariants.{New, Known, Refused}
 use Rattle.spec_records.specs.Records.{record_of}
 use Rattle.spec_world.specs.World.{Phase, not_begun, group_written, group_synced, gate_opened, Waiting, Outgoing, put_out, read, Spare, Rewriting, World}
-use Rattle.spec_world.specs.World.{taken_in, written_in, unwritten_in, first_of, StandsFor, IsCheckpointOf, IsOpened, Opened, alone_on, next_call, MayStop, run_on}
+use Rattle.spec_world.specs.World.{taken_in, durable_in, undurable_in, first_of, StandsFor, IsCheckpointOf, IsOpened, Opened, alone_on, next_call, MayStop, run_on}
 
 -- ---- the moves
 
@@ -63,9 +63,9 @@ next_phase group_synced = gate_opened
 next_phase gate_opened = not_begun
 
 -- and how many groups are durable then, where so many were before: the last call is the sync after the gate's write
-abbrev pub next_written : Phase → ℕ → ℕ
-next_written gate_opened written = written + 1
-next_written _ written = written
+abbrev pub next_durable : Phase → ℕ → ℕ
+next_durable gate_opened durable = durable + 1
+next_durable _ durable = durable
 
 -- with one thing more given out
 abbrev pub with_given : World → Outgoing → History → World
@@ -90,12 +90,12 @@ pub record IsTakenTo (world : World) (count : ℕ) (next : World) : Type 0 where
 pub record IsCalled (world : World) (next : World) : Type 0 where
   pub call : Call
   pub due : next_call world ≡ Some call
-  pub is : next ≡ record world { calls = world.calls ++ call ∷ []; phase = next_phase world.phase; written = next_written world.phase world.written }
+  pub is : next ≡ record world { calls = world.calls ++ call ∷ []; phase = next_phase world.phase; durable = next_durable world.phase world.durable }
 
 -- where a group is durable, the first one in flight is settled; the append of a later one may have begun
 pub record IsSettled (world : World) (next : World) : Type 0 where
-  pub done : 1 ≤ world.written
-  pub is : next ≡ record world { settled = world.settled ++ first_of world.groups; groups = drop 1 world.groups; written = world.written - 1 }
+  pub done : 1 ≤ world.durable
+  pub is : next ≡ record world { settled = world.settled ++ first_of world.groups; groups = drop 1 world.groups; durable = world.durable - 1 }
 
 -- an output goes out whose ticket is settled. It stays, so it may go out again: a node gives it once, which is one case of this
 pub record IsReleased (world : World) (waiting : Waiting) (next : World) : Type 0 where
@@ -131,7 +131,7 @@ with_rewritten world spare call = record world {
   calls = spare.calls ++ call ∷ [];
   spare = Some (replaced world spare);
   rewriting = None;
-  written = world.written + 1;
+  durable = world.durable + 1;
 }
 
 -- after a device call of a rewriting: the last one ends it
@@ -155,7 +155,7 @@ pub record IsRecovered (node : Node) (world : World) (history : History) : Type 
   pub legal : IsLegal node history
   pub accepted : Begins history (world.began ++ world.accepted)
   pub settled : Begins (world.began ++ world.settled) history
-  pub whole : (history ≡ world.began ++ written_in world) ⊎ (history ≡ world.began ++ (written_in world ++ first_of (unwritten_in world)))
+  pub whole : (history ≡ world.began ++ durable_in world) ⊎ (history ≡ world.began ++ (durable_in world ++ first_of (undurable_in world)))
   -- it follows from `whole`, and is there for convenience
   pub without_group : world.groups ≡ [] → history ≡ world.began ++ world.settled
 
@@ -166,9 +166,9 @@ pub record IsRestarted (node : Node) (world : World) (found : Areas) (next : Wor
   pub left : MayStop world found
   pub recovered : IsRecovered node world next.began
   pub stands_for : StandsFor node found (kept node next.began)
-  pub on : Opened
-  pub opened : IsOpened node on (kept node next.began)
-  pub is : next ≡ run_on on next.began world.given
+  pub disks : Opened
+  pub opened : IsOpened node disks (kept node next.began)
+  pub is : next ≡ run_on disks next.began world.given
 
 abbrev pub IsStep : Node → World → Move → World → Type 0
 IsStep node world (accept event) next = IsAccepted node world event next
@@ -194,7 +194,7 @@ abbrev pub nothing_on_one : Opened
 nothing_on_one = alone_on []
 
 abbrev pub nothing_on_two : Opened
-nothing_on_two = record { bytes = []; rest = Some (record { bytes = []; side = First; generation = 0 }) }
+nothing_on_two = record { bytes = []; spare = Some (record { bytes = []; side = First; generation = 0 }) }
 
 -- a first world begins as after a stop that leaves empty disks, with nothing given out
 abbrev pub IsFirst : Node → World → Type 0

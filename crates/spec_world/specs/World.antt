@@ -74,7 +74,7 @@ pub record World : Type 0 where
   pub accepted : History
   pub settled : History
   pub groups : List History
-  pub written : ℕ
+  pub durable : ℕ
   -- the disk that is read: its bytes when this run began, all of them firm, and its calls since
   pub bytes_at_start : List ℕ
   pub calls : List Call
@@ -96,12 +96,12 @@ abbrev pub taken_in : World → History
 taken_in world = world.settled ++ events_of world.groups
 
 -- what is durable of that: what is settled, and the groups in flight that are durable
-abbrev pub written_in : World → History
-written_in world = world.settled ++ events_of (take world.written world.groups)
+abbrev pub durable_in : World → History
+durable_in world = world.settled ++ events_of (take world.durable world.groups)
 
 -- the groups in flight that aren't durable
-abbrev pub unwritten_in : World → List History
-unwritten_in world = drop world.written world.groups
+abbrev pub undurable_in : World → List History
+undurable_in world = drop world.durable world.groups
 
 -- the first of these groups; where there is none, no events
 abbrev pub first_of : List History → History
@@ -129,16 +129,16 @@ pub record IsJournal (read : Result (List Record) ℕ) (front : List (List ℕ))
   pub others : All (λ kept. first_gate < kept.gate) (drop in_first records)
 
 -- the record of a node's configuration in a version
-abbrev pub own : Version → Node → List ℕ
-own version node = configuration_of version node.charter node.own
+abbrev pub own_configuration : Version → Node → List ℕ
+own_configuration version node = configuration_of version node.charter node.own
 
 -- The state with which a node's journal begins, by the records before its events, so many of them in the first group: the fresh state after
 -- the node's configuration alone, or, on two disks, that of a checkpoint after the configuration and a head. The version of the
 -- configuration can tell the node's committee: the first one can only where each stake is 1.
 pub data BeginsAs (node : Node) (areas : Areas) (front : List (List ℕ)) (in_first : ℕ) (base : State) : Type 0 where
-  as_fresh : (version : Version) → CanTell version node.charter → front ≡ own version node ∷ [] → in_first ≡ 1 → base ≡ fresh node → BeginsAs node areas front in_first base
+  as_fresh : (version : Version) → CanTell version node.charter → front ≡ own_configuration version node ∷ [] → in_first ≡ 1 → base ≡ fresh node → BeginsAs node areas front in_first base
   as_checkpoint : (version : Version) (generation : ℕ) (kept : Checkpoint) → IsPair areas → CanTell version node.charter → IsWritten node kept
-      → front ≡ own version node ∷ head_record generation ∷ state_records kept → in_first ≡ 2 → base ≡ checkpoint.state_in node kept
+      → front ≡ own_configuration version node ∷ head_record generation ∷ state_records kept → in_first ≡ 2 → base ≡ checkpoint.state_in node kept
       → BeginsAs node areas front in_first base
 
 -- areas are a journal of the node at this state: the state with which they begin is sound, and the events after it are legal and lead to
@@ -156,7 +156,7 @@ pub record Holds (node : Node) (areas : Areas) (state_held : State) : Type 0 whe
 -- areas stand for this state: they are a journal at it, or there is no record yet, and it is the fresh one
 pub data StandsFor (node : Node) (areas : Areas) (state_held : State) : Type 0 where
   as_journal : Holds node areas state_held → StandsFor node areas state_held
-  as_new : stands_in areas ≡ Ok [] → state_held ≡ fresh node → StandsFor node areas state_held
+  as_empty : stands_in areas ≡ Ok [] → state_held ≡ fresh node → StandsFor node areas state_held
 
 -- Bytes behind an open gate are a checkpoint of this generation at this state: a journal in the second version without events that begins
 -- as the checkpoint of the state, and ends with its closed gate.
@@ -164,7 +164,7 @@ pub record IsCheckpointOf (node : Node) (generation : ℕ) (state_kept : State) 
   pub kept : Checkpoint
   pub written : IsWritten node kept
   pub is : checkpoint.state_in node kept ≡ state_kept
-  pub journal : IsJournal (stands (OPEN ∷ bytes)) (own Second node ∷ head_record generation ∷ state_records kept) 2 []
+  pub journal : IsJournal (stands (OPEN ∷ bytes)) (own_configuration Second node ∷ head_record generation ∷ state_records kept) 2 []
   pub told : tells (OPEN ∷ bytes) ≡ Some (Some generation)
   pub ends_closed : EndsClosed (OPEN ∷ bytes)
   pub are_bytes : AreBytes bytes
@@ -173,7 +173,7 @@ pub record IsCheckpointOf (node : Node) (generation : ℕ) (state_kept : State) 
 
 -- the records of the first group that isn't durable
 abbrev pub group_in : World → List (List ℕ)
-group_in world = map record_of (first_of (unwritten_in world))
+group_in world = map record_of (first_of (undurable_in world))
 
 -- what a read of the disk gives
 abbrev pub content_in : World → List ℕ
@@ -194,7 +194,7 @@ call_for (group ∷ groups) phase content = call_in phase content (map record_of
 
 -- nor while a rewriting is in flight
 abbrev pub next_call : World → Option Call
-next_call world = option_map_or (λ rewriting. None) world.rewriting (call_for (unwritten_in world) world.phase (content_in world))
+next_call world = option_map_or (λ rewriting. None) world.rewriting (call_for (undurable_in world) world.phase (content_in world))
 
 -- the next device call of a rewriting. So no two calls are due at once
 abbrev pub next_spare_call : World → Option Call
@@ -215,7 +215,7 @@ pub data MayStop (world : World) (areas : Areas) : Type 0 where
 -- ---- how a run begins
 
 -- the disk that isn't read, as an opening leaves it, with the side and the generation of the area that is
-pub record Rest : Type 0 where
+pub record OpenedSpare : Type 0 where
   pub bytes : List ℕ
   pub side : Side
   pub generation : ℕ
@@ -223,16 +223,16 @@ pub record Rest : Type 0 where
 -- what an opening leaves of one disk, or of two
 pub record Opened : Type 0 where
   pub bytes : List ℕ
-  pub rest : Option Rest
+  pub spare : Option OpenedSpare
 
 abbrev pub alone_on : List ℕ → Opened
-alone_on bytes = record { bytes = bytes; rest = None }
+alone_on bytes = record { bytes = bytes; spare = None }
 
 abbrev pub areas_of : Opened → Areas
-areas_of opened = option_map_or (λ rest. pair_of rest.side opened.bytes rest.bytes) opened.rest (alone opened.bytes)
+areas_of opened = option_map_or (λ spare. pair_of spare.side opened.bytes spare.bytes) opened.spare (alone opened.bytes)
 
-abbrev pub spare_on : Rest → Spare
-spare_on rest = record { bytes_at_start = rest.bytes; calls = []; side = rest.side; generation = rest.generation }
+abbrev pub spare_on : OpenedSpare → Spare
+spare_on spare = record { bytes_at_start = spare.bytes; calls = []; side = spare.side; generation = spare.generation }
 
 -- a run that has just begun on disks with these bytes
 abbrev pub run_on : Opened → History → List Given → World
@@ -241,25 +241,25 @@ run_on opened began given = record {
   accepted = [];
   settled = [];
   groups = [];
-  written = 0;
+  durable = 0;
   bytes_at_start = opened.bytes;
   calls = [];
   phase = not_begun;
-  spare = option_map spare_on opened.rest;
+  spare = option_map spare_on opened.spare;
   rewriting = None;
   waiting = [];
   given = given;
 }
 
 -- the other disk is at rest, beside an area that is read with these bytes
-pub record IsRest (bytes : List ℕ) (rest : Rest) : Type 0 where
-  pub told : tells bytes ≡ Some (Some rest.generation)
-  pub at_rest : IsAtRest rest.generation rest.bytes
-  pub are_bytes : AreBytes rest.bytes
+pub record IsOpenedSpare (bytes : List ℕ) (spare : OpenedSpare) : Type 0 where
+  pub told : tells bytes ≡ Some (Some spare.generation)
+  pub at_rest : IsAtRest spare.generation spare.bytes
+  pub are_bytes : AreBytes spare.bytes
 
 -- disks as an opening leaves them, all firm: they are a journal of the node at this state, and the one that is read ends with its closed gate
 pub record IsOpened (node : Node) (opened : Opened) (state_held : State) : Type 0 where
   pub holds : Holds node (areas_of opened) state_held
   pub ends_closed : EndsClosed opened.bytes
   pub are_bytes : AreBytes opened.bytes
-  pub rest : IfSome opened.rest (IsRest opened.bytes)
+  pub spare : IfSome opened.spare (IsOpenedSpare opened.bytes)
