@@ -21,7 +21,7 @@ use Rattle.spec_model.specs.Nodes.{Node}
 use Rattle.spec_records.specs.Records.{record_of}
 use Rattle.spec_world.specs.World.{Phase, not_begun, group_written, group_synced, gate_opened, World, Holds, events_of, durable_in, undurable_in, first_of}
 use Rattle.spec_world.specs.World.{group_in, content_in, call_in, call_for, as_journal, MayStop, of_one, of_pair, between, run_on, IsOpened, Spare, Rewriting}
-use Rattle.spec_world.specs.Steps.{Move, take_to, device_call, settle, take_all, spare_call, IsTakenAll, with_spare_call, with_rewritten, after_spare_call, replaced, IsSpareCalled, group_to, IsTakenTo, IsCalled, next_phase, next_durable, Leads}
+use Rattle.spec_world.specs.Steps.{Move, take_to, device_call, settle, take_all, spare_call, IsTakenAll, with_rewritten, after_spare_call, replaced, IsSpareCalled, group_to, IsTakenTo, IsCalled, next_phase, next_durable, Leads}
 use Rattle.spec_world.specs.Runs.{StopsArePossible, RunsGoOn, RunsBeginWithWhatStands, RunsBeginAtStates, GroupsSettle, TwoGroupsSettle, two_in_flight, device_calls, spare_calls, areas_in, CheckpointsSettle, RewritingsMakeCalls, AppendsMakeCalls}
 use Rattle.spec_world.proofs.Bytes.{group_in_bytes}
 use Rattle.spec_world.proofs.Disks.{stage_of, called, read_possible}
@@ -29,7 +29,7 @@ use Rattle.spec_world.proofs.Groups.{take_none, taken_more}
 use Rattle.spec_world.proofs.Law.{stands_there, run_stands, nothing_taken_back}
 use Rattle.spec_world.proofs.Moving.{IsCallOfEight, eighth, earlier, of_eight, not_eighth, due_alone, none_durable, none_begun, spare_at, beside_at, rewriting_at, pending_parts, step_stands, all_stand}
 use Rattle.spec_world.proofs.Recovering.{stands_once}
-use Rattle.spec_world.proofs.Rewriting.{get_inside, made_more, last_state, spare_possible}
+use Rattle.spec_world.proofs.Rewriting.{made_more, last_state, spare_possible}
 use Rattle.spec_world.proofs.Standing.{Stands, areas_with, IsSpareAt, none_rewritten, fresh_disk, left, group_events, begun_many}
 
 -- ---- a run begins on what a stop left

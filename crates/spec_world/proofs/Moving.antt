@@ -20,7 +20,7 @@ use Rattle.header.specs.declared.admission.Admission.{Admission}
 use Rattle.header.specs.declared.admission.Admission.TheVariants.{New, Known, Refused}
 use Rattle.spec_records.specs.Records.{record_of}
 use Rattle.spec_world.specs.World.{Phase, not_begun, gate_opened, Waiting, Outgoing, put_out, read, World, Holds, events_of, taken_in, durable_in, undurable_in, first_of, group_in, content_in, call_in, call_for, next_call, Spare, Rewriting, IsCheckpointOf}
-use Rattle.spec_world.specs.Steps.{Move, accept, take_to, device_call, settle, release, read_order, take_all, spare_call, restart, IsTakenAll, with_spare_call, with_rewritten, after_spare_call, replaced, IsSpareCalled, ticketed, with_new, with_known}
+use Rattle.spec_world.specs.Steps.{Move, accept, take_to, device_call, settle, release, read_order, take_all, spare_call, restart, IsTakenAll, with_spare_call, with_rewritten, after_spare_call, IsSpareCalled, ticketed, with_new, with_known}
 use Rattle.spec_world.specs.Steps.{with_given, IsAnswered, IsTakenTo, IsCalled, IsSettled, IsReleased, IsRestarted, next_phase, next_durable, group_to, IsStep}
 use Rattle.spec_world.specs.Steps.{Leads}
 use Rattle.spec_world.proofs.Answered.{new_put, known_put}

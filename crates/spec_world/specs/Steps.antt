@@ -21,8 +21,8 @@ use Rattle.spec_world.specs.World.{taken_in, durable_in, undurable_in, first_of,
 
 -- what may happen: an event comes in; so many of the accepted events are taken, the last of them as a group; the append makes its next
 -- device call; the first group in flight is settled; an output goes out; the settled order is read; all that is
--- accepted is taken, for a checkpoint of these bytes; its rewriting makes its next device call; the machine stops, leaves these areas, and
--- they are opened
+-- accepted is taken, for a checkpoint of these bytes; its rewriting makes its next device call, and with the last one the disks change
+-- places; the machine stops, leaves these areas, and they are opened
 pub data Move : Type 0 where
   accept : Event → Move
   take_to : ℕ → Move
@@ -119,12 +119,12 @@ with_spare_call world spare rewriting call = record world {
   rewriting = Some (record rewriting { made = rewriting.made + 1 });
 }
 
--- the disk that was read until the other one was rewritten: it is the other one then
+-- the disk that was read before a rewriting: it is the other one then, beside an area of the next generation
 abbrev pub replaced : World → Spare → Spare
 replaced world spare = record { bytes_at_start = world.bytes_at_start; calls = world.calls; side = other_side spare.side; generation = spare.generation + 1 }
 
--- With the last call of a rewriting the disks change places: the one that was written is read from then on, and the events that the
--- rewriting settles are durable.
+-- With the last call of a rewriting the disks change places: the one that was written is read from then on, and the events of the first
+-- group, which are in its checkpoint, are durable.
 abbrev pub with_rewritten : World → Spare → Call → World
 with_rewritten world spare call = record world {
   bytes_at_start = spare.bytes_at_start;
