@@ -92,7 +92,8 @@ found_is one other same = cc
 long_body : (records : List (List ℕ)) → length (body_bytes records) ≡ body_len records
 long_body [] = refl
 long_body (bytes ∷ records) =
-    let one : body_len (bytes ∷ records) ≡ (4 + length bytes) + body_len records = sum_by-append (λ (b : List ℕ). 4 + length b) (bytes ∷ []) records ∙ ap (λ (n : ℕ). n + body_len records) (omega arith) in
+    let one : body_len (bytes ∷ records) ≡ (4 + length bytes) + body_len records =
+    sum_by-append (λ (b : List ℕ). 4 + length b) (bytes ∷ []) records ∙ ap (λ (n : ℕ). n + body_len records) (omega arith) in
     omega (arith, one, long_body records, length-append bytes (body_bytes records))
 
 group_is_read : (group : List (List ℕ)) → FitsGroup group → IsRead group
@@ -123,7 +124,8 @@ tells_first_group group fits =
     ∙ ap (λ (o : Option (List (List ℕ))). Some (option_and_then generation_of o)) is.is_group
 
 -- the record of a configuration has its shape
-shape_is : (node : Node) → length node.charter.keys < 2 ^ 16 → length (own_configuration Second node) ≡ size_in Second (length node.charter.keys) → is_configuration Second (own_configuration Second node) ≡ true
+shape_is : (node : Node) → length node.charter.keys < 2 ^ 16 → length (own_configuration Second node) ≡ size_in Second (length node.charter.keys)
+    → is_configuration Second (own_configuration Second node) ≡ true
 unfolding is_configuration
 shape_is node small long =
     let keys = node.charter.keys in

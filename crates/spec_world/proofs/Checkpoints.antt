@@ -56,7 +56,8 @@ record IsFile (generation : ℕ) (records : List (List ℕ)) (file : List ℕ) :
   journal : IsJournal (stands file) records 2 []
   many : 2 ≤ length records
 
-with_one : (generation : ℕ) (records : List (List ℕ)) (file : List ℕ) (group : List (List ℕ)) → IsFile generation records file → FitsGroup group → IsFile generation (records ++ group) (file_with file group)
+with_one : (generation : ℕ) (records : List (List ℕ)) (file : List ℕ) (group : List (List ℕ)) → IsFile generation records file → FitsGroup group
+    → IsFile generation (records ++ group) (file_with file group)
 with_one generation records file group is fits = record {
   ends_closed = longer_ends file is.ends_closed group fits;
   told = keeps_telling file (file_with file group) (Some generation) is.ends_closed is.told (whole_keeps file is.ends_closed group) ∙ is.told;
@@ -73,7 +74,8 @@ with_one generation records file group is fits = record {
 with_all : (generation : ℕ) (done groups : List (List (List ℕ))) (records : List (List ℕ)) → IsFile generation records (file_bytes done) → All FitsGroup groups
     → IsFile generation (records ++ flat_map (λ group. group) groups) (file_bytes (done ++ groups))
 with_all generation done [] records is fits =
-    subst (λ (r : List (List ℕ)). IsFile generation r (file_bytes (done ++ []))) (sym (append-nil records)) (subst (λ (g : List (List (List ℕ))). IsFile generation records (file_bytes g)) (sym (append-nil done)) is)
+    subst (λ (r : List (List ℕ)). IsFile generation r (file_bytes (done ++ []))) (sym (append-nil records))
+    (subst (λ (g : List (List (List ℕ))). IsFile generation records (file_bytes g)) (sym (append-nil done)) is)
 with_all generation done (group ∷ groups) records is fits =
     let next = subst (IsFile generation (records ++ group)) (one_more done group) (with_one generation records (file_bytes done) group is (All-head FitsGroup group groups fits)) in
     let all = with_all generation (done ++ group ∷ []) groups (records ++ group) next (All-tail FitsGroup group groups fits) in
@@ -94,7 +96,8 @@ first_group node generation sound keys some small =
     let group = own_configuration Second node ∷ head_record generation ∷ [] in
     let fits : FitsGroup group = record { some = omega arith; not_many = omega arith; not_long = omega (arith, configuration_short node sound keys) } in
     let told : tells (file_with (0 ∷ []) group) ≡ Some (Some generation) =
-    tells_first_group group fits ∙ ap (λ (o : Option Version). Some (option_and_then (λ version. head_in (head_record generation)) o)) (shaped node sound keys) ∙ ap Some (head_back generation some small) in
+    tells_first_group group fits ∙ ap (λ (o : Option Version). Some (option_and_then (λ version. head_in (head_record generation)) o)) (shaped node sound keys)
+    ∙ ap Some (head_back generation some small) in
     let is : IsFile generation group (file_with (0 ∷ []) group) = record {
       ends_closed = longer_ends (0 ∷ []) empty_ends group fits;
       told = told;

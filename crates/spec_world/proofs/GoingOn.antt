@@ -38,8 +38,11 @@ pub runs_go_on : RunsGoOn
 runs_go_on node moves world found sound run may =
     let at = run_stands node moves world sound run in
     let is_left = left node world found at may in
-    let recovered = stands_there node world at found may in
-    (run_on is_left.on is_left.history world.given, record { left = may; recovered = recovered; stands_for = as_journal is_left.holds; disks = is_left.on; opened = is_left.opened; is = refl }, begun_many is_left.on.spare ∙ is_left.as_many)
+    let recovered = stands_there node world at found may in (
+      run_on is_left.on is_left.history world.given,
+      record { left = may; recovered = recovered; stands_for = as_journal is_left.holds; disks = is_left.on; opened = is_left.opened; is = refl },
+      begun_many is_left.on.spare ∙ is_left.as_many,
+    )
 
 pub runs_begin_with_what_stands : RunsBeginWithWhatStands
 runs_begin_with_what_stands node moves world found history sound run may recovered stands_for =
@@ -72,11 +75,13 @@ may_read : (node : Node) (world : World) (at : Stands node world) (spare : Optio
     → MayStop world (option_map_or (λ s. pair_of s.side (content_in world) (state s.bytes_at_start s.calls).content) spare (alone (content_in world)))
 may_read node world at None is =
     let events = first_of (undurable_in world) in
-    let live = read_possible at.file at.ends_closed (group_in world) (stage_of world.phase) (state world.bytes_at_start world.calls) at.are_bytes (group_in_bytes node events (group_events node world at)) at.disk in
+    let live = read_possible at.file at.ends_closed (group_in world) (stage_of world.phase) (state world.bytes_at_start world.calls) at.are_bytes
+    (group_in_bytes node events (group_events node world at)) at.disk in
     of_one (content_in world) is (between live) refl
 may_read node world at (Some spare) is =
     let events = first_of (undurable_in world) in
-    let live = read_possible at.file at.ends_closed (group_in world) (stage_of world.phase) (state world.bytes_at_start world.calls) at.are_bytes (group_in_bytes node events (group_events node world at)) at.disk in
+    let live = read_possible at.file at.ends_closed (group_in world) (stage_of world.phase) (state world.bytes_at_start world.calls) at.are_bytes
+    (group_in_bytes node events (group_events node world at)) at.disk in
     let other = spare_read node _ world.groups world.durable world.phase spare world.rewriting at.rest (spare_at node world at spare is) (beside_at node world at spare is).are_bytes in
     of_pair spare (content_in world) (state spare.bytes_at_start spare.calls).content is (between live) (between other) refl
 
@@ -228,7 +233,8 @@ two_groups_settle node moves world count more sound run none fits also =
       append_leads one group [] alone_now refl node last (take_to more ∷ (device_calls 4 ++ settle ∷ settle ∷ [])) (
         three,
         record { fits = also; is = refl {a = three} },
-        append_leads three next_group [] alone_now refl node last (settle ∷ settle ∷ []) (five, record { done = omega arith; is = refl {a = five} }, (last, record { done = omega arith; is = refl {a = last} }, refl {a = last})),
+        append_leads three next_group [] alone_now refl node last (settle ∷ settle ∷ [])
+            (five, record { done = omega arith; is = refl {a = five} }, (last, record { done = omega arith; is = refl {a = last} }, refl {a = last})),
       ),
     ) in
     let then = all_stand node (two_in_flight count more) world last at leads in
@@ -296,7 +302,8 @@ checkpoints_settle node moves world spare bytes sound run none pair checkpoint =
       checkpoint = checkpoint;
       is = λ i. record world { groups = pending ∷ []; durable = sym zero_durable i; phase = sym idle i; rewriting = Some (record { bytes = bytes; made = 0 }) };
     } in
-    let calls : (end : World) (rest : List Move) → Leads node eight rest end → Leads node world (take_all bytes ∷ spare_call ∷ spare_call ∷ spare_call ∷ spare_call ∷ spare_call ∷ spare_call ∷ spare_call ∷ rest) end =
+    let calls : (end : World) (rest : List Move) → Leads node eight rest end
+    → Leads node world (take_all bytes ∷ spare_call ∷ spare_call ∷ spare_call ∷ spare_call ∷ spare_call ∷ spare_call ∷ spare_call ∷ rest) end =
     λ end rest more. (
       one,
       taken,
@@ -454,7 +461,8 @@ due_group (group ∷ groups) phase content call due = due
 -- the call that is made, by its phase
 one_call : (world next : World) (phase : Phase) (step : IsCalled world next) → world.phase ≡ phase → call_in phase (content_in world) (group_in world) ≡ Some step.call
 one_call world next phase step is =
-    ap (λ (p : Phase). call_in p (content_in world) (group_in world)) (sym is) ∙ due_group (undurable_in world) world.phase (content_in world) step.call (due_alone world.rewriting (call_for (undurable_in world) world.phase (content_in world)) step.call step.due).1
+    let due = (due_alone world.rewriting (call_for (undurable_in world) world.phase (content_in world)) step.call step.due).1 in
+    ap (λ (p : Phase). call_in p (content_in world) (group_in world)) (sym is) ∙ due_group (undurable_in world) world.phase (content_in world) step.call due
 
 -- what a read gives after it
 content_next : (world next : World) (step : IsCalled world next) → content_in next ≡ (after (state world.bytes_at_start world.calls) step.call).content
@@ -553,7 +561,8 @@ call_counts : (world next : World) (phase : Phase) (step : IsCalled world next) 
     → (1 ≤ length (undurable_in world)) × (calls_made next.phase + 4 * length (undurable_in world) ≡ calls_made phase + 1 + 4 * length (undurable_in next))
 unfolding calls_made
 call_counts world next phase step is =
-    let some : 1 ≤ length (undurable_in world) = some_due (undurable_in world) world.phase (content_in world) step.call (due_alone world.rewriting (call_for (undurable_in world) world.phase (content_in world)) step.call step.due).1 in
+    let some : 1 ≤ length (undurable_in world) =
+    some_due (undurable_in world) world.phase (content_in world) step.call (due_alone world.rewriting (call_for (undurable_in world) world.phase (content_in world)) step.call step.due).1 in
     let made : calls_made next.phase ≡ calls_made (next_phase phase) = ap calls_made (phase_next world next phase step is) in
     let left : length (undurable_in next) ≡ length world.groups - next_durable phase world.durable =
     ap (λ (w : World). length (undurable_in w)) step.is ∙ length-drop (next_durable world.phase world.durable) world.groups

@@ -519,8 +519,9 @@ module _ (node : Node) (world : World) (at : Stands node world) (spare : Spare) 
       let areas = pair_of side (1 ∷ bytes) at.file in
       let reads : stands_in areas ≡ stands_at side (1 ∷ bytes) =
       both_older side (generation + 1) (1 ∷ bytes) at.file is.checkpoint.told (at_rest_older (generation + 1) at.file rested) in
+      let held_sound = kept_is_sound node (world.began ++ settled) legal in
       let held : Holds node areas (kept node (world.began ++ settled)) =
-      checkpoint_holds node areas side (generation + 1) (kept node (world.began ++ settled)) bytes (pair_is side (1 ∷ bytes) at.file) reads legal.sound (kept_is_sound node (world.began ++ settled) legal) is.checkpoint in
+      checkpoint_holds node areas side (generation + 1) (kept node (world.began ++ settled)) bytes (pair_is side (1 ∷ bytes) at.file) reads legal.sound held_sound is.checkpoint in
       record {
         legal = at.legal;
         taken = at.taken;

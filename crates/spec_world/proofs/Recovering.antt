@@ -122,7 +122,8 @@ bytes_moved : (base : ℕ) (records : List Record) → bytes_of (map (moved_by b
 bytes_moved base [] = refl
 bytes_moved base (one ∷ records) = ap (λ (l : List (List ℕ)). one.bytes ∷ l) (bytes_moved base records)
 
-pub journal_at : (side : Side) (file : List ℕ) (front : List (List ℕ)) (in_first : ℕ) (events : History) → IsJournal (stands file) front in_first events → IsJournal (stands_at side file) front in_first events
+pub journal_at : (side : Side) (file : List ℕ) (front : List (List ℕ)) (in_first : ℕ) (events : History) → IsJournal (stands file) front in_first events
+    → IsJournal (stands_at side file) front in_first events
 journal_at side file front in_first events is =
     let base = base_of side in
     record {
@@ -131,12 +132,14 @@ journal_at side file front in_first events is =
       are = bytes_moved base is.records ∙ is.are;
       first_gate = base + is.first_gate;
       first = subst (All (λ (one : Record). one.gate ≡ base + is.first_gate)) (sym (take-map (moved_by base) in_first is.records))
-          (moved_each (λ (one : Record). one.gate ≡ is.first_gate) (λ (one : Record). one.gate ≡ base + is.first_gate) base (take in_first is.records) (λ one same. ap (λ (n : ℕ). base + n) same) is.first);
+          (moved_each (λ (one : Record). one.gate ≡ is.first_gate) (λ (one : Record). one.gate ≡ base + is.first_gate) base (take in_first is.records)
+          (λ one same. ap (λ (n : ℕ). base + n) same) is.first);
       others = subst (All (IsAfter (base + is.first_gate))) (sym (drop-map (moved_by base) in_first is.records))
           (moved_each (IsAfter is.first_gate) (IsAfter (base + is.first_gate)) base (drop in_first is.records) (λ one less. omega (arith, less)) is.others);
     }
 
-pub journal_same : (one other : Result (List Record) ℕ) (front : List (List ℕ)) (in_first : ℕ) (events : History) → other ≡ one → IsJournal one front in_first events → IsJournal other front in_first events
+pub journal_same : (one other : Result (List Record) ℕ) (front : List (List ℕ)) (in_first : ℕ) (events : History) → other ≡ one → IsJournal one front in_first events
+    → IsJournal other front in_first events
 journal_same one other front in_first events same is = record {
   records = is.records;
   stands_for = same ∙ is.stands_for;
@@ -337,20 +340,26 @@ one_begins : (node : Node) (areas : Areas) → IsNode node
     → (front' : List (List ℕ)) (in_first' : ℕ) (base' : State) (events' : History) → BeginsAs node areas front' in_first' base' → All (IsTaken node) events'
     → front ++ map record_of events ≡ front' ++ map record_of events' → AreOne base events base' events'
 one_begins node areas sound front in_first base events (as_fresh version can is first base_is) taken front' in_first' base' events' (as_fresh version' can' is' first' base_is') taken' same =
-    let journals : own_configuration version node ∷ map record_of events ≡ own_configuration version' node ∷ map record_of events' = (λ i. sym is i ++ map record_of events) ∙ same ∙ (λ i. is' i ++ map record_of events') in
-    (base_is ∙ sym base_is', same_events node sound events events' taken taken' (rest_same (own_configuration version node) (own_configuration version' node) (map record_of events) (map record_of events') journals))
-one_begins node areas sound front in_first base events (as_fresh version can is first base_is) taken front' in_first' base' events' (as_checkpoint version' generation kept' two' can' written' is' first' base_is') taken' same =
+    let journals : own_configuration version node ∷ map record_of events ≡ own_configuration version' node ∷ map record_of events' =
+    (λ i. sym is i ++ map record_of events) ∙ same ∙ (λ i. is' i ++ map record_of events') in
+    let same_rest = rest_same (own_configuration version node) (own_configuration version' node) (map record_of events) (map record_of events') journals in
+    (base_is ∙ sym base_is', same_events node sound events events' taken taken' same_rest)
+one_begins node areas sound front in_first base events (as_fresh version can is first base_is) taken front' in_first' base' events'
+    (as_checkpoint version' generation kept' two' can' written' is' first' base_is') taken' same =
     let journals : own_configuration version node ∷ map record_of events ≡ own_configuration version' node ∷ head_record generation ∷ state_records kept' ++ map record_of events' =
     (λ i. sym is i ++ map record_of events) ∙ same ∙ (λ i. is' i ++ map record_of events') in
     absurd (no_head generation events (state_records kept' ++ map record_of events')
     (rest_same (own_configuration version node) (own_configuration version' node) (map record_of events) (head_record generation ∷ state_records kept' ++ map record_of events') journals))
-one_begins node areas sound front in_first base events (as_checkpoint version generation kept two can written is first base_is) taken front' in_first' base' events' (as_fresh version' can' is' first' base_is') taken' same =
+one_begins node areas sound front in_first base events (as_checkpoint version generation kept two can written is first base_is) taken front' in_first' base' events'
+    (as_fresh version' can' is' first' base_is') taken' same =
     let journals : own_configuration version' node ∷ map record_of events' ≡ own_configuration version node ∷ head_record generation ∷ state_records kept ++ map record_of events =
     (λ i. sym is' i ++ map record_of events') ∙ sym same ∙ (λ i. is i ++ map record_of events) in
     absurd (no_head generation events' (state_records kept ++ map record_of events)
     (rest_same (own_configuration version' node) (own_configuration version node) (map record_of events') (head_record generation ∷ state_records kept ++ map record_of events) journals))
-one_begins node areas sound front in_first base events (as_checkpoint version generation kept two can written is first base_is) taken front' in_first' base' events' (as_checkpoint version' generation' kept' two' can' written' is' first' base_is') taken' same =
-    let journals : own_configuration version node ∷ head_record generation ∷ state_records kept ++ map record_of events ≡ own_configuration version' node ∷ head_record generation' ∷ state_records kept' ++ map record_of events' =
+one_begins node areas sound front in_first base events (as_checkpoint version generation kept two can written is first base_is) taken front' in_first' base' events'
+    (as_checkpoint version' generation' kept' two' can' written' is' first' base_is') taken' same =
+    let journals : own_configuration version node ∷ head_record generation ∷ state_records kept ++ map record_of events
+    ≡ own_configuration version' node ∷ head_record generation' ∷ state_records kept' ++ map record_of events' =
     (λ i. sym is i ++ map record_of events) ∙ same ∙ (λ i. is' i ++ map record_of events') in
     let rest : state_records kept ++ map record_of events ≡ state_records kept' ++ map record_of events' = ap (λ (l : List (List ℕ)). drop 2 l) journals in
     let parts = split_same (state_records kept) (map record_of events) (state_records kept') (map record_of events') (state_are kept) (events_are events) (state_are kept') (events_are events') rest in

@@ -92,7 +92,8 @@ more_waits at_world at_desk more also waits same w inside =
       | inr new ↦ Contains-append_right at_world also w (subst (λ (l : List Waiting). Contains l w) (sym same) new)
     ]
 
-answer_goes : (node : Node) (world : World) (desk : Desk) (event : Event) (answer : Admission) → IsAtDesk node world desk → IsTaken node event → admit node (world.began ++ world.accepted) event ≡ answer
+answer_goes : (node : Node) (world : World) (desk : Desk) (event : Event) (answer : Admission) → IsAtDesk node world desk → IsTaken node event
+    → admit node (world.began ++ world.accepted) event ≡ answer
     → Goes node world (with_answer desk event answer) []
 answer_goes node world desk event (New outputs) at taken is =
     let later = with_new world event outputs in
@@ -237,7 +238,8 @@ module _ (node : Node) (sound : IsNode node) (moves : List Move) (world : World)
       let accepted : All (IsTaken node) world.accepted =
       subst (All (IsTaken node)) (drop_at world.began world.accepted (length world.began) refl) (All-drop (IsTaken node) (length world.began) (world.began ++ world.accepted) stands.legal.taken) in
       let pending : All (IsTaken node) begins.rest =
-      subst (All (IsTaken node)) (ap (drop (length world.settled)) begins.parts ∙ drop_at world.settled begins.rest (length world.settled) refl) (All-drop (IsTaken node) (length world.settled) world.accepted accepted) in
+      subst (All (IsTaken node)) (ap (drop (length world.settled)) begins.parts ∙ drop_at world.settled begins.rest (length world.settled) refl)
+      (All-drop (IsTaken node) (length world.settled) world.accepted accepted) in
       each_goes node sound begins.rest moves world run desk at (sym at.accepted ∙ begins.parts ∙ ap (λ (l : History). l ++ begins.rest) at.settled) pending
 
   -- what a command makes of it
@@ -297,7 +299,8 @@ due_goes node world desk at =
 
 -- ---- commands
 
-command_goes : (node : Node) (sound : IsNode node) (moves : List Move) (world : World) (run : IsRun node moves world) (desk : Desk) (command : Command) → IsAtDesk node world desk → IsTakenIn node command
+command_goes : (node : Node) (sound : IsNode node) (moves : List Move) (world : World) (run : IsRun node moves world) (desk : Desk) (command : Command) → IsAtDesk node world desk
+    → IsTakenIn node command
     → Goes node world (carried_out node desk command) (due (after node desk command))
 command_goes node sound moves world run desk command at taken =
     let first = after_goes node sound moves world run desk at command taken in

@@ -114,7 +114,8 @@ pub record Stands (node : Node) (world : World) : Type 0 where
   pub given : All (IsKept node (world.began ++ world.settled)) world.given
 
 -- where no rewriting is in flight, the other disk doesn't depend on the groups
-pub spare_same : (node : Node) (spare : Option Spare) (rewriting : Option Rewriting) (rest : List ℕ) (history history' : History) (groups groups' : List History) (durable durable' : ℕ) (phase phase' : Phase)
+pub spare_same : (node : Node) (spare : Option Spare) (rewriting : Option Rewriting) (rest : List ℕ) (history history' : History) (groups groups' : List History)
+    (durable durable' : ℕ) (phase phase' : Phase)
     → rewriting ≡ None → IsSpareAt node history groups durable phase spare rewriting rest → IsSpareAt node history' groups' durable' phase' spare rewriting rest
 spare_same node None None rest history history' groups groups' durable durable' phase phase' none is = tt
 spare_same node None (Some rewriting) rest history history' groups groups' durable durable' phase phase' none is = is
@@ -229,7 +230,8 @@ leaves_appended node world at live none (inside call due outcome) =
       are_bytes = outcome.are_bytes;
     }
 
-pub leaves_live : (node : Node) (world : World) (at : Stands node world) (live : List ℕ) → world.rewriting ≡ None → MayLeave world.bytes_at_start world.calls (next_call world) live → LeavesLive node world at live
+pub leaves_live : (node : Node) (world : World) (at : Stands node world) (live : List ℕ) → world.rewriting ≡ None → MayLeave world.bytes_at_start world.calls (next_call world) live
+    → LeavesLive node world at live
 leaves_live node world at live none leave =
     leaves_appended node world at live none (subst (λ (c : Option Call). MayLeave world.bytes_at_start world.calls c live) (next_is world none) leave)
 
@@ -397,7 +399,8 @@ ends_any gate bytes is_open ends = record {
 -- ---- what a stop leaves
 
 -- one of two histories, opened on as many disks
-left_as : (node : Node) (world : World) (found : Areas) (at : Stands node world) → Holds node found (kept node (world.began ++ durable_in world)) ⊎ Holds node found (kept node (world.began ++ with_first world))
+left_as : (node : Node) (world : World) (found : Areas) (at : Stands node world)
+    → Holds node found (kept node (world.began ++ durable_in world)) ⊎ Holds node found (kept node (world.began ++ with_first world))
     → ((held_state : Kept) → Holds node found held_state → (on : Opened) × IsOpened node on held_state × (is_some on.spare ≡ is_some world.spare)) → IsLeft node world found
 left_as node world found at (inl held) opens =
     let history = world.began ++ durable_in world in
@@ -428,7 +431,8 @@ left_live node world at live other is older =
           (subst (IsLegal node) (sym joined) (legal_between node world (world.began ++ with_first world) at (first_between node world at)))))
     ]
 
-left_one : (node : Node) (world : World) (found : List ℕ) (at : Stands node world) → world.spare ≡ None → MayLeave world.bytes_at_start world.calls (next_call world) found → IsLeft node world (alone found)
+left_one : (node : Node) (world : World) (found : List ℕ) (at : Stands node world) → world.spare ≡ None → MayLeave world.bytes_at_start world.calls (next_call world) found
+    → IsLeft node world (alone found)
 left_one node world found at none leave =
     let idle = none_alone node world.spare world.rewriting at.rest _ world.groups world.durable world.phase at.spare none in
     let is = leaves_live node world at found idle leave in
@@ -470,10 +474,14 @@ module _ (node : Node) (world : World) (at : Stands node world) (spare : Spare) 
       subst (λ (s : Option Spare). IfSome s (λ t. (tells live ≡ Some (Some t.generation)) × IsOlder t.generation other)) (sym is_spare) (told, older) in
       left_as node world (pair_of spare.side live other) at
       (subst (λ (a : Areas). Holds node a (kept node (world.began ++ durable_in world)) ⊎ Holds node a (kept node (world.began ++ with_first world))) same (left_live node world at live other is both))
-      (λ held_state held. let opened = open_two node spare.side spare.generation live other held_state held told older is.are_bytes (leave_bytes spare.bytes_at_start spare.calls (next_spare_call world) other also) in (opened.0, opened.1, opened.2 ∙ ap (λ (s : Option Spare). is_some s) (sym is_spare)))
+      (λ held_state held.
+      let are = leave_bytes spare.bytes_at_start spare.calls (next_spare_call world) other also in
+      let opened = open_two node spare.side spare.generation live other held_state held told older is.are_bytes are in
+      (opened.0, opened.1, opened.2 ∙ ap (λ (s : Option Spare). is_some s) (sym is_spare)))
 
   left_pair : (rewriting : Option Rewriting) → world.rewriting ≡ rewriting
-      → IsSpareAt node (world.began ++ (world.settled ++ first_of world.groups)) world.groups world.durable world.phase (Some spare) rewriting at.rest → IsLeft node world (pair_of spare.side live other)
+      → IsSpareAt node (world.began ++ (world.settled ++ first_of world.groups)) world.groups world.durable world.phase (Some spare) rewriting at.rest
+      → IsLeft node world (pair_of spare.side live other)
   left_pair None none firm =
       let is = leaves_live node world at live none leave in
       let no_call : next_spare_call world ≡ None = ap (λ (r : Option Rewriting). option_and_then (λ one. slice_get (rewrite_calls one.bytes) one.made) r) none in
@@ -552,7 +560,8 @@ unfolding rest_bytes
 begun_beside bytes None is = tt
 begun_beside bytes (Some rest) is = record { told = is.told; at_rest = is.at_rest; are_bytes = is.are_bytes }
 
-begun_spare : (node : Node) (history : History) (groups : List History) (durable : ℕ) (phase : Phase) (rest : Option OpenedSpare) → IsSpareAt node history groups durable phase (option_map spare_on rest) None (rest_bytes rest)
+begun_spare : (node : Node) (history : History) (groups : List History) (durable : ℕ) (phase : Phase) (rest : Option OpenedSpare)
+    → IsSpareAt node history groups durable phase (option_map spare_on rest) None (rest_bytes rest)
 unfolding rest_bytes
 begun_spare node history groups durable phase None = tt
 begun_spare node history groups durable phase (Some rest) = refl
