@@ -1,5 +1,5 @@
 -- What a book does is a step of its world.
-use Rattle.std.proofs.Common.{◌≡◌, ◌⊎◌, ℕ, ◌+◌, ◌≤◌, List, [], ◌∷◌, ◌++◌, length, take, drop, map, inl, inr, Bool, true, false, refl, sym, ap, ◌∙◌, subst, arith, length-append, length-take}
+use Rattle.std.proofs.Common.{◌≡◌, ◌⊎◌, ℕ, ◌+◌, ◌-◌, ◌≤◌, List, [], ◌∷◌, ◌++◌, length, take, drop, map, inl, inr, Bool, true, false, refl, sym, ap, ◌∙◌, subst, arith, append_assoc, length-append, length-take}
 use Rattle.std.specs.Prelude.{Option, Some, None, All, Contains, nat_le, if◌then◌else◌}
 use Rattle.std.proofs.lemmas.Bool.{cases_Bool, leb-true}
 use Rattle.std.proofs.lemmas.List.{append-nil, take_all, take_at, length-map}
@@ -15,10 +15,10 @@ use Rattle.spec_model.specs.Histories.{History}
 use Rattle.spec_model.specs.Nodes.{Node, IsNode}
 use Rattle.spec_model.specs.Words.{Event, Output}
 use Rattle.spec_records.specs.Records.{record_of}
-use Rattle.spec_world.specs.World.{World, Waiting, not_begun, gate_synced, events_of, taken_in, first_of, group_in, put_out}
+use Rattle.spec_world.specs.World.{World, Waiting, events_of, taken_in, first_of, put_out}
 use Rattle.spec_world.specs.Steps.{Move, accept, settle, release, ticketed, with_new, with_known, with_given, group_to, IsAnswered, IsRun}
 use Rattle.spec_world.proofs.GoingOn.{groups_settle}
-use Rattle.spec_world.proofs.Groups.{first_and_others, taken_more}
+use Rattle.spec_world.proofs.Groups.{events_split, taken_more}
 use Rattle.book.specs.Book.{BookView, Run, Stands, state_in, with_taken, with_settled, TakesNew, TakesKnown, releasable}
 use Rattle.book.specs.Queue.{settled_head}
 use Rattle.book.specs.OnTheWay.{Flushes, GoesDown}
@@ -103,18 +103,18 @@ module _ {S : Type 0} (node : Node) (world : World) (before later : BookView S) 
         records = records;
       }
 
-  settles : (group : List (List ℕ)) → world.phase ≡ gate_synced → group_in world ≡ group → Stands node (with_settled (run_of node world) (length group)) later → later.queue ≡ before.queue
-      → Moves node world settle later
+  settles : (group : List (List ℕ)) → 1 ≤ world.written → map record_of (first_of world.groups) ≡ group → Stands node (with_settled (run_of node world) (length group)) later
+      → later.queue ≡ before.queue → Moves node world settle later
   settles group done is stands queue =
       let more = first_of world.groups in
       let some = world.settled ++ more in
       let others = events_of (drop 1 world.groups) in
-      let all : taken_in world ≡ some ++ others = first_and_others world in
+      let all : taken_in world ≡ some ++ others = ap (λ l. world.settled ++ l) (events_split world.groups) ∙ sym (append_assoc world.settled more others) in
       let number : length world.settled + length group ≡ length some = omega (arith, ap length is, length-map more record_of, length-append world.settled more) in
       let settled : take (length world.settled + length group) (taken_in world) ≡ some = ap (take (length world.settled + length group)) all
       ∙ take_at some others (length world.settled + length group) (sym number) in
       record {
-        next = record world { settled = some; groups = drop 1 world.groups; phase = not_begun };
+        next = record world { settled = some; groups = drop 1 world.groups; written = world.written - 1 };
         step = record { done = done; is = refl };
         is_of = record {
           began = is_of.began;

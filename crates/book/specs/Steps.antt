@@ -1,12 +1,12 @@
 -- What a book does is a step of its world.
-use Rattle.std.specs.Prelude.{◌≡◌, ◌⊎◌, ℕ, ◌+◌, List, [], ◌∷◌, ◌++◌, length, map, drop, Some, All, Contains}
+use Rattle.std.specs.Prelude.{◌≡◌, ◌⊎◌, ℕ, ◌+◌, ◌≤◌, List, [], ◌∷◌, ◌++◌, length, map, drop, Some, All, Contains}
 use Rattle.spec_model.specs.Admitting.{IsLegal}
 use Rattle.spec_model.specs.Giving.{kept}
 use Rattle.spec_model.specs.Histories.{History}
 use Rattle.spec_model.specs.Nodes.{Node, IsNode}
 use Rattle.spec_model.specs.Words.{Event, Output}
 use Rattle.spec_records.specs.Records.{record_of}
-use Rattle.spec_world.specs.World.{World, gate_synced, taken_in, group_in, content_in}
+use Rattle.spec_world.specs.World.{World, taken_in, first_of, content_in}
 use Rattle.spec_world.specs.Runs.{IsSettledTo}
 use Rattle.spec_world.specs.Steps.{Move, accept, take_to, device_call, settle, release, IsStep, Leads, IsRun}
 use Rattle.book.specs.Book.{BookView, Run, Stands, with_settled, TakesNew, TakesKnown, releasable}
@@ -46,10 +46,10 @@ TakeIsAStep S = (node : Node) (world : World) (before later : BookView S) (group
     → IsLongestBeginning before.pending group later.pending → later ≡ record before { pending = later.pending; taken = before.taken + length group }
     → TakesBehind node world group later
 
--- the first group on its way in the world, once its gate is synced, is settled there
+-- the first group in flight in the world, once one is written to its end, is settled there
 abbrev pub SettleIsAStep : Type 0 → Type 0
-SettleIsAStep S = (node : Node) (world : World) (before later : BookView S) (group : List (List ℕ)) → IsOf node world before → world.phase ≡ gate_synced → group_in world ≡ group
-    → Stands node (with_settled (run_of node world) (length group)) later → later.queue ≡ before.queue → Moves node world settle later
+SettleIsAStep S = (node : Node) (world : World) (before later : BookView S) (group : List (List ℕ)) → IsOf node world before → 1 ≤ world.written
+    → map record_of (first_of world.groups) ≡ group → Stands node (with_settled (run_of node world) (length group)) later → later.queue ≡ before.queue → Moves node world settle later
 
 -- what is released goes out there
 abbrev pub ReleaseIsAStep : Type 0 → Type 0

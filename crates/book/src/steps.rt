@@ -14,7 +14,7 @@ pub fn take_is_a_step<S: Sign>()
     ensures { TakeIsAStep S }
 {}
 
-/// The group that a book settles is settled in its world, where it is the first on its way and its gate is synced.
+/// The group that a book settles is settled in its world, where it is the first in flight and written to its end.
 pub fn settle_is_a_step<S: Sign>()
     ensures { SettleIsAStep S }
 {}
