@@ -103,7 +103,7 @@ module _ {S : Type 0} (node : Node) (world : World) (before later : BookView S) 
         records = records;
       }
 
-  settles : (group : List (List ℕ)) → 1 ≤ world.written → map record_of (first_of world.groups) ≡ group → Stands node (with_settled (run_of node world) (length group)) later
+  settles : (group : List (List ℕ)) → 1 ≤ world.durable → map record_of (first_of world.groups) ≡ group → Stands node (with_settled (run_of node world) (length group)) later
       → later.queue ≡ before.queue → Moves node world settle later
   settles group done is stands queue =
       let more = first_of world.groups in
@@ -114,7 +114,7 @@ module _ {S : Type 0} (node : Node) (world : World) (before later : BookView S) 
       let settled : take (length world.settled + length group) (taken_in world) ≡ some = ap (take (length world.settled + length group)) all
       ∙ take_at some others (length world.settled + length group) (sym number) in
       record {
-        next = record world { settled = some; groups = drop 1 world.groups; written = world.written - 1 };
+        next = record world { settled = some; groups = drop 1 world.groups; durable = world.durable - 1 };
         step = record { done = done; is = refl };
         is_of = record {
           began = is_of.began;

@@ -7,7 +7,7 @@ use Rattle.spec_model.specs.Nodes.{Node, IsNode}
 use Rattle.spec_model.specs.Words.{Event, Output}
 use Rattle.spec_records.specs.Records.{record_of}
 use Rattle.spec_world.specs.World.{World, taken_in, first_of, content_in}
-use Rattle.spec_world.specs.Runs.{IsSettledTo}
+use Rattle.spec_world.specs.Runs.{HasSettledGroup}
 use Rattle.spec_world.specs.Steps.{Move, accept, take_to, device_call, settle, release, IsStep, Leads, IsRun}
 use Rattle.book.specs.Book.{BookView, Run, Stands, with_settled, TakesNew, TakesKnown, releasable}
 use Rattle.book.specs.OnTheWay.{Flushes, GoesDown}
@@ -48,7 +48,7 @@ TakeIsAStep S = (node : Node) (world : World) (before later : BookView S) (group
 
 -- the first group in flight in the world, once one is written to its end, is settled there
 abbrev pub SettleIsAStep : Type 0 → Type 0
-SettleIsAStep S = (node : Node) (world : World) (before later : BookView S) (group : List (List ℕ)) → IsOf node world before → 1 ≤ world.written
+SettleIsAStep S = (node : Node) (world : World) (before later : BookView S) (group : List (List ℕ)) → IsOf node world before → 1 ≤ world.durable
     → map record_of (first_of world.groups) ≡ group → Stands node (with_settled (run_of node world) (length group)) later → later.queue ≡ before.queue → Moves node world settle later
 
 -- what is released goes out there
@@ -62,7 +62,7 @@ ReleaseIsAStep S = (node : Node) (world : World) (before later : BookView S) (ou
 pub record FlushesThere {S : Type 0} (node : Node) (world : World) (count : ℕ) (old new : List ℕ) (later : BookView S) : Type 0 where
   pub next : World
   pub leads : Leads node world (take_to count ∷ device_call ∷ device_call ∷ device_call ∷ device_call ∷ settle ∷ []) next
-  pub settled : IsSettledTo node world count next
+  pub settled : HasSettledGroup node world count next
   pub is_of : IsOf node next later
   pub content : content_in world ≡ old → content_in next ≡ new
 
