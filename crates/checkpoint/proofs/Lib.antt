@@ -15,3 +15,5 @@ mod KeptState
 mod Pieces
 mod Counts
 mod RowsMore
+mod Fitting
+mod Shaped

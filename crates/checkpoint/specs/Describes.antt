@@ -2,7 +2,9 @@
 use Rattle.std.specs.Prelude.{◌≡◌, ℕ, List, ◌∷◌}
 use Rattle.journal.specs.declared.version.Version.TheVariants.{Second}
 use Rattle.spec_machine.specs.Sound.{IsSound}
-use Rattle.spec_model.specs.Nodes.{Node}
+use Rattle.spec_model.specs.Nodes.{Node, IsNode}
+use Rattle.spec_model.specs.States.{State}
+use Rattle.spec_model.specs.Words.{Author}
 use Rattle.spec_records.specs.Records.{configuration_of}
 use Rattle.spec_checkpoint.specs.Data.{Checkpoint, IsWritten}
 use Rattle.spec_checkpoint.specs.Meaning.{state_in}
@@ -18,3 +20,10 @@ pub record Describes (node : Node) (tables : Tables) (records : List (List ℕ))
   pub sound : IsSound node (state_in node checkpoint)
   pub at : AreAt node (state_in node checkpoint) tables
   pub are : records ≡ configuration_of Second node.charter node.own ∷ state_records checkpoint
+
+-- Tables are at a sound state of a node with this number.
+pub record StandFor (own : Author) (tables : Tables) (node : Node) (state : State) : Type 0 where
+  pub number : node.own ≡ own
+  pub node_is : IsNode node
+  pub sound : IsSound node state
+  pub at : AreAt node state tables

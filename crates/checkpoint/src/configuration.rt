@@ -1,8 +1,9 @@
 //! The record of a member's configuration.
 
-ghost use Rattle.std.specs.Prelude.{◌≡◌, ◌+◌, ◌*◌, ◌++◌, length, flat_map, IfOk, OnOk};
+ghost use Rattle.std.specs.Prelude.{◌≡◌, ◌+◌, ◌*◌, ◌++◌, ◌∷◌, [], length, flat_map, IfOk, OnOk, Some};
 ghost use Rattle.std.specs.Int.{w32, to_be_bytes};
-ghost use Rattle.journal.specs.Configuration.{stakes_size, size_in};
+ghost use Rattle.journal.specs.Configuration.{stakes_size, size_in, shaped_version};
+ghost use Rattle.journal.specs.Snapshot.{CanPack};
 ghost use Rattle.journal.specs.declared.configuration.TheConstants.{KEY_BYTES, STAKE_BYTES};
 ghost use Rattle.spec_records.specs.Records.{stakes_of, configuration_of};
 
@@ -22,7 +23,11 @@ pub fn configuration_record(
 ) -> Result<Vec<u8>, AllocError>
     ensures bytes { IfOk result (λ bytes. bytes.items ≡ configuration_of version committee.now own) }
     ensures len { IfOk result (λ bytes. length bytes.items ≡ size_in version (length committee.now.keys)) }
+    ensures shape { IfOk result (λ bytes. shaped_version bytes.items ≡ Some version) }
+    // With a head after it, it fits a group.
+    ensures packs { IfOk result (λ bytes. CanPack (bytes.items ∷ [])) }
 {
+    committee.limits_hold();
     let mut bytes = Vec::new(alloc);
     bytes.extend_from_slice(&[CONFIGURATION, number_of(version)])?;
     bytes.extend_from_slice(&two_bytes(own.0))?;

@@ -5,6 +5,7 @@ mod configuration;
 mod describing;
 mod parts;
 mod records;
+mod snapshot;
 
 ghost use Rattle.checkpoint.specs.Kept.{CheckpointIsState};
 
@@ -12,6 +13,7 @@ pub use configuration::configuration_record;
 pub use describing::kept_records;
 pub use parts::parts_of;
 pub use records::records_of;
+pub use snapshot::snapshot_of;
 
 /// What is kept of a sound state has a checkpoint that a node writes, and it is that state.
 pub fn checkpoint_is_state()

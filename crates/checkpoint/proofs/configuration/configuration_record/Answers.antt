@@ -1,3 +1,6 @@
+use Rattle.std.proofs.Common.{length, ap, sym, ◌∙◌, arith, rules}
+use Rattle.journal.specs.Configuration.{shaped_version}
+use Rattle.checkpoint.proofs.Shaped.{shaped_is}
 use Rattle.checkpoint.proofs.configuration.configuration_record.Goals as goal
 
 pub returns-clause-bytes : goal.returns-clause-bytes
@@ -23,3 +26,12 @@ returns-clause-bytes c =
       c.batches.ensures.value,
       c.size.ensures.value,
     )
+
+pub returns-clause-len : goal.returns-clause-len
+returns-clause-len c = search rules
+
+pub returns-clause-shape : goal.returns-clause-shape
+returns-clause-shape c =
+    let bytes = returns-clause-bytes c in
+    ap shaped_version bytes
+    ∙ shaped_is c.args.version c.args.committee.now c.args.own (omega (arith, c.limits_hold.ensures.size)) (ap length (sym bytes) ∙ returns-clause-len c)

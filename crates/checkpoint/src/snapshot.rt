@@ -1,0 +1,47 @@
+//! The checkpoint of a node's tables, as a journal writes it.
+
+ghost use Rattle.std.specs.Prelude.{◌≡◌, ◌++◌, All, IfOk, OnOk};
+ghost use Rattle.journal.specs.Format.{contents};
+ghost use Rattle.journal.specs.Snapshot.{FitsAlone};
+ghost use Rattle.spec_machine.specs.Sound.{IsSound};
+ghost use Rattle.spec_model.specs.Nodes.{Node, IsNode};
+ghost use Rattle.spec_model.specs.States.{State};
+ghost use Rattle.admission.specs.Standing.{AreAt};
+ghost use Rattle.checkpoint.specs.Describes.{Describes, StandFor};
+
+use crate::checkpoint_is_state;
+use crate::configuration::configuration_record;
+use crate::parts::parts_of;
+use crate::records::records_of;
+use admission::Tables;
+use journal::{Snapshot, SnapshotDraft, Version};
+use std::alloc::{AllocError, Global};
+use wire::Author;
+
+/// The checkpoint of a member's tables: its configuration in the second version, and what is kept. At each sound state of
+/// that member at which the tables are, a node that reads it back is at that state too. `AllocError` where an allocation failed.
+pub fn snapshot_of(alloc: Global, own: Author, tables: &Tables) -> Result<Snapshot, AllocError>
+    requires { (node : Node) × (state : State) × StandFor own tables.now node state }
+    ensures { IfOk result (λ snapshot. (node : Node) (state : State) → node.own ≡ own → IsNode node → IsSound node state → AreAt node state tables.now
+        → Describes node tables.now snapshot) }
+{
+    checkpoint_is_state();
+    let committee = tables.sequencer().dag().committee();
+    let configuration = configuration_record(alloc, Version::Second, committee, own)?;
+    let mut draft = SnapshotDraft::new(alloc, configuration.as_slice())?;
+    let kept = parts_of(alloc, tables)?;
+    let rows = records_of(alloc, &kept)?;
+    push_all(&mut draft, rows.as_slice())?;
+    Ok(draft.close())
+}
+
+/// Puts records after those of a checkpoint.
+fn push_all(draft: &mut SnapshotDraft, rows: &[Vec<u8>]) -> Result<(), AllocError>
+    requires { All FitsAlone (contents rows.now) }
+    ensures { OnOk result (draft.new ≡ draft.old ++ contents rows.now) }
+{
+    for row in rows {
+        draft.push(&[row.as_slice()])?;
+    }
+    Ok(())
+}
