@@ -2,6 +2,8 @@
 
 ghost use Rattle.std.specs.Prelude.{◌≡◌, ◌≢◌, ◌+◌, ◌≤◌, true, false, not, None, IfOk, IfErr, IfSome};
 ghost use Rattle.header.specs.Checks.{fault_of, accepts_all};
+ghost use Rattle.checkpoint.specs.Describes.{Describes};
+ghost use Rattle.journal.specs.Format.{contents};
 ghost use Rattle.spec_model.specs.Admitting.{admit, is_new, IsLegal};
 ghost use Rattle.spec_model.specs.Giving.{kept, unless_low};
 ghost use Rattle.spec_model.specs.Histories.{History};
@@ -24,6 +26,7 @@ use crate::taking::take;
 use admission::{Kept, Refusal, Step, Tables, votes_agree};
 use committee::Committee;
 use header::Checked;
+use journal::Snapshot;
 use sigface::{Sign, TableSeed};
 use std::alloc::{AllocError, Global};
 use std::marker::Model;
@@ -256,5 +259,21 @@ impl<'a, S: Sign> Validator<'a, S> {
             tables.headers(),
             tables.sequencer(),
         )
+    }
+
+    /// The records of a checkpoint of it: its configuration, and what it keeps. `AllocError` where an allocation failed.
+    pub fn kept_records(&self) -> Result<Vec<Vec<u8>>, AllocError>
+        ensures { let node = node_of S.scheme self.now.setting in IfOk result (λ rows. Describes node self.now.tables (contents rows.items)) }
+    {
+        self.config.limits_hold();
+        checkpoint::kept_records(self.alloc, self.config.own(), &self.tables)
+    }
+
+    /// A checkpoint of it, as a journal writes it: these records. `AllocError` where an allocation failed.
+    pub fn snapshot(&self) -> Result<Snapshot, AllocError>
+        ensures { let node = node_of S.scheme self.now.setting in IfOk result (λ snapshot. Describes node self.now.tables snapshot) }
+    {
+        self.config.limits_hold();
+        checkpoint::snapshot_of(self.alloc, self.config.own(), &self.tables)
     }
 }
