@@ -1,13 +1,14 @@
--- That a journal without records ends at its first byte, so that the configuration's group fits after it.
-use Rattle.std.proofs.Common.{◌≡◌, ◌≢◌, ℕ, ◌+◌, ◌-◌, ◌<◌, ◌≤◌, inl, inr, Bool, true, false, cond, eqb, ltb, List, [], ◌∷◌, ◌++◌, length, Option}
+-- That the first record of a journal stands in a group at place 0, and that a journal without records ends there, so that the
+-- configuration's group fits after it.
+use Rattle.std.proofs.Common.{◌≡◌, ◌≢◌, ℕ, ◌+◌, ◌-◌, ◌<◌, ◌≤◌, inl, inr, Bool, true, false, cond, eqb, ltb, List, [], ◌∷◌, ◌++◌, length, get_or, Option}
 use Rattle.std.proofs.Common.{Some, None, Result, Ok, Err, refl, sym, ap, ◌∙◌, arith, length-append}
 use Rattle.std.specs.Option.{option_map, option_and_then, option_map_or}
-use Rattle.std.proofs.lemmas.Bool.{cases_eq, ne_eqb, cond-false}
-use Rattle.journal.specs.Format.{group_bytes, split_record, records_behind, records_of, group_of, body_at, kept_at, kept, with_front, walk, stands}
+use Rattle.std.proofs.lemmas.Bool.{cases_eq, cases_lt, le-ltb, ne_eqb, cond-false}
+use Rattle.journal.specs.Format.{group_bytes, split_record, records_behind, records_of, group_of, body_at, kept_at, kept, with_front, walk, scan, only_records, stands}
 use Rattle.journal.specs.Journal.{with_group, EndsClosed, IsBeforeOrAfter}
 use Rattle.journal.specs.declared.layout.TheConstants.{MAX_GROUP_RECORDS, MAX_JOURNAL_BYTES}
 use Rattle.journal.specs.declared.record.Record.{Record}
-use Rattle.journal.proofs.Walks.{walk_closed, body_stands}
+use Rattle.journal.proofs.Walks.{walk_closed, body_stands, goes, stands_short}
 use Rattle.spec_model.specs.Nodes.{Node}
 use Rattle.spec_records.specs.Records.{configuration_of}
 use Rattle.journal.specs.declared.version.Version.{Version}
@@ -56,6 +57,9 @@ place_of (Err gate) = gate
 none_there : (one : Record) (rest : List Record) → one ∷ rest ≡ [] → ⊥
 none_there one rest is = cc
 
+ok_is : (one other : List Record) → ◌≡◌ {A = Result (List Record) ℕ} (Ok one) (Ok other) → one ≡ other
+ok_is one other same = cc
+
 -- what an open gate gives has a record
 front_some : (records : List (List ℕ)) (behind : Result Found ℕ) (place : ℕ) → with_front (kept 0 records) behind ≡ Ok ([], place) → records ≡ []
 front_some records (Err gate) place is = absurd (cc)
@@ -78,6 +82,43 @@ walk_open gate rest place other is =
     (λ b found. let s = body_stands rest b found in omega (arith, s.some, s.long))
     (sym (cond-false (eqb gate 0) (Ok ([], 0)) _ (ne_eqb gate 0 other)) ∙ is)
 
+-- ---- the first record
+
+first_kept : (one first : Record) (records : List (List ℕ)) (more rest : List Record) → 1 ≤ length records → kept 0 records ++ more ≡ first ∷ rest → first.gate ≡ 0
+first_kept one first [] more rest some is = absurd (omega (arith, some))
+first_kept one first (bytes ∷ records) more rest some is = ap (λ (l : List Record). (get_or l 0 one).gate) (sym is)
+
+some_in : (records : List (List ℕ)) → (records ≡ [] → ⊥) → 1 ≤ length records
+some_in [] none = absurd (none refl)
+some_in (one ∷ records) none = omega arith
+
+walk_first : (file : List ℕ) (first : Record) (rest : List Record) (place : ℕ) → walk 0 0 file ≡ Ok (first ∷ rest, place) → first.gate ≡ 0
+unfolding walk
+walk_first [] first rest place is = absurd (none_there first rest (ap firsts (sym is)))
+walk_first (gate ∷ bytes) first rest place is =
+    elim (cases_eq gate 0) [
+      | inl closed ↦ absurd (none_there first rest (ap firsts (sym is ∙ walk_closed 0 gate bytes closed)))
+      | inr other ↦
+          let on = goes 0 gate bytes (first ∷ rest, place) other is in
+          let long = body_stands bytes on.body on.at_body in
+          let some = some_in on.records (λ none. group_some on.body (omega (arith, long.some, long.long)) (on.is_group ∙ ap Some none)) in
+          first_kept first first on.records on.more.0 rest some (ap (λ (found : Found). found.0) (sym on.is))
+    ]
+
+first_in : (found : Result Found ℕ) (file : List ℕ) (first : Record) (rest : List Record) → walk 0 0 file ≡ found → only_records found ≡ Ok (first ∷ rest) → first.gate ≡ 0
+first_in (Ok (records, place)) file first rest walked is = walk_first file first rest place (walked ∙ ap (λ (l : List Record). Ok (l, place)) (ok_is records (first ∷ rest) is))
+first_in (Err gate) file first rest walked is = absurd (cc)
+
+-- it stands in a group whose gate is at place 0
+pub first_at_zero : (file : List ℕ) (first : Record) (rest : List Record) → stands file ≡ Ok (first ∷ rest) → first.gate ≡ 0
+unfolding stands scan
+first_at_zero file first rest is = elim (cases_lt (length file) 2) [
+  | inl short ↦ absurd (none_there first rest (sym (ok_is [] (first ∷ rest) (sym (stands_short file short) ∙ is))))
+  | inr long ↦ first_in (walk 0 0 file) file first rest refl (sym (ap only_records (cond-false (ltb (length file) 2) (Ok ([], 0)) (walk 0 0 file) (le-ltb (length file) 2 long))) ∙ is)
+]
+
+-- ---- no record
+
 walk_none : (gate : ℕ) (rest : List ℕ) (place : ℕ) → walk 0 0 (gate ∷ rest) ≡ Ok ([], place) → place ≡ 0
 walk_none gate rest place is =
     elim (cases_eq gate 0) [
@@ -88,9 +129,6 @@ walk_none gate rest place is =
 one_byte : (file : List ℕ) → walk 0 0 file ≡ Ok ([], length file - 1) → 0 < length file → length file ≡ 1
 one_byte [] ends some = absurd (omega arith)
 one_byte (gate ∷ rest) ends some = let place = walk_none gate rest (length (gate ∷ rest) - 1) ends in omega (arith, place)
-
-ok_is : (one other : List Record) → ◌≡◌ {A = Result (List Record) ℕ} (Ok one) (Ok other) → one ≡ other
-ok_is one other same = cc
 
 -- a file that ends closed and stands for no record is one byte long
 pub empty_length : (file : List ℕ) → EndsClosed file → stands file ≡ Ok [] → length file ≡ 1

@@ -1,14 +1,15 @@
 -- That what bytes are told as is what they stand for, both ways, and so in the world of all runs.
-use Rattle.std.proofs.Common.{◌≡◌, ℕ, ◌*◌, ◌<◌, Bool, true, false, cond, ltb, List, [], ◌∷◌, length, get_or, drop, Option, Some, None, Result, Ok, Err, refl, sym, ap, ◌∙◌, subst, arith, length-append}
+use Rattle.std.proofs.Common.{◌≡◌, ℕ, ◌*◌, ◌<◌, Bool, true, false, cond, ltb, List, [], ◌∷◌, ◌++◌, length, get_or, map, drop, Option, Some, None, Result, Ok, Err, refl, sym, ap, ◌∙◌, subst, arith, length-append}
 use Rattle.std.specs.Prelude.{All}
 use Rattle.std.specs.Int.{w32, to_be_bytes}
 use Rattle.std.specs.List.{flat_map}
 use Rattle.std.specs.Str.{bytes_eq}
 use Rattle.std.proofs.lemmas.Bool.{and_parts, and_from, ltb-true, lt-ltb}
-use Rattle.std.proofs.lemmas.List.Elements.{All-nil, All-head, All-tail, All-drop}
+use Rattle.std.proofs.lemmas.List.Elements.{All-nil, All-cons, All-head, All-tail, All-drop, All-weaker}
 use Rattle.std.proofs.lemmas.Slice.Eq.{bytes_eq-Decides}
 use Rattle.committee.specs.Charter.{Charter}
 use Rattle.diskmodel.specs.Outcomes.{AreBytes}
+use Rattle.journal.specs.Areas.{alone, stands_in}
 use Rattle.journal.specs.Format.{stands}
 use Rattle.journal.specs.declared.error.JournalError.{JournalError}
 use Rattle.journal.specs.declared.error.JournalError.TheVariants.{Damaged}
@@ -17,24 +18,25 @@ use Rattle.spec_machine.specs.After.{after_all, IsLegalAfter}
 use Rattle.spec_machine.specs.Laws.{StartsFresh}
 use Rattle.spec_machine.specs.Machine.{fresh}
 use Rattle.spec_machine.specs.Sound.{IsSound}
-use Rattle.spec_machine.proofs.AfterAll.{kept_is_sound, after_is_kept, legal_after, legal_again}
+use Rattle.spec_machine.proofs.AfterAll.{kept_is_sound, after_is_kept, legal_again}
 use Rattle.spec_model.specs.Admitting.{IsTaken, IsLegal}
 use Rattle.spec_model.specs.Giving.{kept}
 use Rattle.spec_model.specs.Histories.{History}
 use Rattle.spec_model.specs.Nodes.{Node, IsNode}
 use Rattle.spec_model.specs.States.{State}
-use Rattle.spec_records.specs.Records.{stakes_of, configuration_of, CanTell}
+use Rattle.spec_records.specs.Records.{record_of, stakes_of, configuration_of, CanTell}
 use Rattle.journal.specs.declared.version.Version.{Version}
 use Rattle.journal.specs.declared.version.Version.TheVariants.{First, Second}
 use Rattle.wire.specs.Fields as fields
 use Rattle.wire.specs.declared.keys.Key.{Key}
 use Rattle.spec_world.specs.Promise.{NothingTakenBack}
 use Rattle.spec_world.specs.Runs.{AreKeys}
-use Rattle.spec_world.specs.World.{bytes_of, journal_of, Holds, as_journal, as_new}
+use Rattle.spec_world.specs.World.{bytes_of, IsJournal, own, BeginsAs, as_fresh, as_checkpoint, Holds, as_journal, as_new}
 use Rattle.opening.specs.Laws.{IsOfBytes, ToldStandsFor, WhatStandsIsTold, WorldsAreTold}
 use Rattle.opening.specs.Told.{IsText, is_alone, can_tell, is_own, mismatch, first_fault, unless, read_events, read_journal, told}
 use Rattle.journal.specs.Configuration.{stakes_size, shaped_version}
 use Rattle.opening.proofs.Configured.{all_pass, all_passed, tells_of, told_of, shaped_is}
+use Rattle.opening.proofs.Empty.{first_at_zero}
 use Rattle.opening.proofs.GroupTexts.{OnlyGroups, stands_texts}
 use Rattle.opening.proofs.Histories.{AreEvents, read_back, read_whole}
 use Rattle.opening.proofs.Telling.{by_version, fault_none, ok_told, journal_nil, journal_cons, told_records, told_damaged, bytes_same}
@@ -64,10 +66,10 @@ same_bytes one other so = (bytes_eq-Decides one other).0 so
 
 no_fault : (node : Node) (first : Record) (events : List Record) → first_fault node first events ≡ None → HasNoFault node first events
 no_fault node first events none =
-    let (version, shape, alone, own) = tests_passed (is_alone events) (shaped_version first.bytes) (is_own node first.bytes) first.gate none in
+    let (version, shape, only, own) = tests_passed (is_alone events) (shaped_version first.bytes) (is_own node first.bytes) first.gate none in
     let configuration = configuration_of version node.charter node.own in
     let parts = and_parts (can_tell version node.charter) (bytes_eq first.bytes configuration) own in
-    record { version = version; shape = shape; alone = alone; tells = parts.0; own = same_bytes first.bytes configuration parts.1 }
+    record { version = version; shape = shape; alone = only; tells = parts.0; own = same_bytes first.bytes configuration parts.1 }
 
 free : (node : Node) (first : Record) (events : List Record) → HasNoFault node first events → first_fault node first events ≡ None
 free node first events is =
@@ -91,23 +93,36 @@ unless_ok None (Ok found) state is = (refl, ap Ok (ok_is found state is))
 unless_ok None (Err place) state is = absurd (no_ok (Damaged place) state is)
 
 -- the empty history is legal, and the fresh state is sound
-legal_empty : (node : Node) → IsNode node → IsLegal node []
+pub legal_empty : (node : Node) → IsNode node → IsLegal node []
 legal_empty node sound = record { sound = sound; taken = All-nil (IsTaken node); new = refl }
 
-fresh_sound : StartsFresh → (node : Node) → IsNode node → IsSound node (fresh node)
+pub fresh_sound : StartsFresh → (node : Node) → IsNode node → IsSound node (fresh node)
 fresh_sound starts node sound = subst (IsSound node) (starts node) (kept_is_sound node [] (legal_empty node sound))
 
+-- one disk stands for what its bytes do
+pub alone_stands : (bytes : List ℕ) → stands_in (alone bytes) ≡ stands bytes
+unfolding stands_in
+alone_stands bytes = refl
+
 -- the events of a journal come after its configuration, alone in the first group
-held : (node : Node) (bytes : List ℕ) (history : History) (first : Record) (events : List Record) → stands bytes ≡ Ok (first ∷ events) → HasNoFault node first events
-    → AreEvents node (fresh node) events history → Holds node bytes history
-held node bytes history first events stands_for is are = record {
-  records = first ∷ events;
-  stands_for = stands_for;
-  version = is.version;
-  are = λ i. is.own i ∷ are.same i;
-  alone = all_passed (λ (one : Record). ltb 0 one.gate) (λ one. 0 < one.gate) (λ one so. ltb-true 0 one.gate so) events is.alone;
-  each_taken = are.taken;
-  can_tell = tells_of is.version node.charter is.tells;
+held : StartsFresh → (node : Node) (bytes : List ℕ) (state : State) (first : Record) (records : List Record) (events : History) → IsNode node → stands bytes ≡ Ok (first ∷ records)
+    → HasNoFault node first records → AreEvents node (fresh node) records events → state ≡ after_all node (fresh node) events → Holds node (alone bytes) state
+held starts node bytes state first records events sound stands_for is are state_is = record {
+  front = own is.version node ∷ [];
+  in_first = 1;
+  base = fresh node;
+  begins = as_fresh is.version (tells_of is.version node.charter is.tells) refl refl refl;
+  events = events;
+  journal = record {
+    records = first ∷ records;
+    stands_for = alone_stands bytes ∙ stands_for;
+    are = λ i. is.own i ∷ are.same i;
+    first_gate = 0;
+    first = All-cons (λ (one : Record). one.gate ≡ 0) first [] (first_at_zero bytes first records stands_for) (All-nil (λ (one : Record). one.gate ≡ 0));
+    others = all_passed (λ (one : Record). ltb 0 one.gate) (λ one. 0 < one.gate) (λ one so. ltb-true 0 one.gate so) records is.alone;
+  };
+  legal = record { node_is = sound; sound = fresh_sound starts node sound; taken = are.taken; new = are.new };
+  leads = sym state_is;
 }
 
 -- events that are read from the fresh state on are a legal history, of which the state after them is kept
@@ -122,19 +137,16 @@ read_history starts node state events history sound are is =
 pub found_records : StartsFresh → (node : Node) (bytes : List ℕ) (state : State) (records : List Record) → IsNode node → All IsText (drop 1 records)
     → stands bytes ≡ Ok records → read_journal node records ≡ Ok state
     → IsOfBytes node bytes state
-found_records starts node bytes state [] sound texts stands_for is = record {
-  history = [];
-  stands_for = as_new stands_for refl;
-  legal = legal_empty node sound;
-  keeps = starts node ∙ ok_is (fresh node) state (sym (journal_nil node) ∙ is);
-}
-found_records starts node bytes state (first ∷ events) sound texts stands_for is =
-    let found = unless_ok (first_fault node first events) (read_events node (fresh node) events) state (sym (journal_cons node first events) ∙ is) in
-    let more = read_back node (fresh node) state events texts found.1 in
-    let read = read_history starts node state events more.events sound more.are more.parts in
+found_records starts node bytes state [] sound texts stands_for is =
+    let same = ok_is (fresh node) state (sym (journal_nil node) ∙ is) in
+    record { stands_for = as_new (alone_stands bytes ∙ stands_for) (sym same); history = []; legal = legal_empty node sound; keeps = starts node ∙ same }
+found_records starts node bytes state (first ∷ records) sound texts stands_for is =
+    let found = unless_ok (first_fault node first records) (read_events node (fresh node) records) state (sym (journal_cons node first records) ∙ is) in
+    let more = read_back node (fresh node) state records texts found.1 in
+    let read = read_history starts node state records more.events sound more.are more.parts in
     record {
+      stands_for = as_journal (held starts node bytes state first records more.events sound stands_for (no_fault node first records found.0) more.are more.parts);
       history = more.events;
-      stands_for = as_journal (held node bytes more.events first events stands_for (no_fault node first events found.0) more.are);
       legal = read.0;
       keeps = read.1;
     }
@@ -178,42 +190,54 @@ configuration_shape version node sound keys =
     let both = length-append (flat_map (λ (key : Key). key.0) charter.keys) (stakes_of version charter.stakes) in
     shaped_is version charter node.own (omega (arith, sound.charter.size)) (omega (arith, long, stakes, both))
 
-told_new : StartsFresh → (node : Node) (bytes : List ℕ) (history : History) → stands bytes ≡ Ok [] → history ≡ [] → told node bytes ≡ Ok (kept node history)
-told_new starts node bytes history none empty = told_records node bytes [] none ∙ journal_nil node ∙ ap Ok (sym (starts node) ∙ ap (kept node) (sym empty))
+told_new : (node : Node) (bytes : List ℕ) (state : State) → stands bytes ≡ Ok [] → state ≡ fresh node → told node bytes ≡ Ok state
+told_new node bytes state none is = told_records node bytes [] none ∙ journal_nil node ∙ ap Ok (sym is)
 
-told_held : StartsFresh → (version : Version) (node : Node) (bytes : List ℕ) (history : History) (records : List Record) → AreKeys node → IsLegal node history → stands bytes ≡ Ok records
-    → bytes_of records ≡ journal_of version node history → All (λ (one : Record). 0 < one.gate) (drop 1 records) → CanTell version node.charter → told node bytes ≡ Ok (kept node history)
-told_held starts version node bytes history [] keys legal stands_for are alone can = absurd (omega (arith, ap length are))
-told_held starts version node bytes history (first ∷ events) keys legal stands_for are alone can =
+told_held : (version : Version) (node : Node) (bytes : List ℕ) (records : List Record) (events : History) → AreKeys node → IsLegalAfter node (fresh node) events → stands bytes ≡ Ok records
+    → bytes_of records ≡ own version node ∷ map record_of events → All (λ (one : Record). 0 < one.gate) (drop 1 records) → CanTell version node.charter
+    → told node bytes ≡ Ok (after_all node (fresh node) events)
+told_held version node bytes [] events keys legal stands_for are alone_in can = absurd (omega (arith, ap length are))
+told_held version node bytes (first ∷ records) events keys legal stands_for are alone_in can =
     let own : first.bytes ≡ configuration_of version node.charter node.own = ap (λ (l : List (List ℕ)). get_or l 0 []) are in
-    let from : IsLegalAfter node (fresh node) history = subst (λ (s : State). IsLegalAfter node s history) (starts node) (legal_after node [] history legal) in
-    let behind : AreEvents node (fresh node) events history = record { same = ap (λ (l : List (List ℕ)). drop 1 l) are; taken = from.taken; new = from.new } in
-    let is : HasNoFault node first events = record {
+    let behind : AreEvents node (fresh node) records events = record { same = ap (λ (l : List (List ℕ)). drop 1 l) are; taken = legal.taken; new = legal.new } in
+    let is : HasNoFault node first records = record {
       version = version;
-      shape = ap shaped_version own ∙ configuration_shape version node legal.sound keys;
-      alone = all_pass (λ (one : Record). ltb 0 one.gate) (λ one. 0 < one.gate) (λ one so. lt-ltb 0 one.gate so) events alone;
+      shape = ap shaped_version own ∙ configuration_shape version node legal.node_is keys;
+      alone = all_pass (λ (one : Record). ltb 0 one.gate) (λ one. 0 < one.gate) (λ one so. lt-ltb 0 one.gate so) records alone_in;
       tells = told_of version node.charter can;
       own = own;
     } in
-    told_records node bytes (first ∷ events) stands_for ∙ journal_cons node first events
-    ∙ ok_told (first_fault node first events) (read_events node (fresh node) events) (after_all node (fresh node) history) (free node first events is) (read_whole node (fresh node) events history legal.sound behind)
-    ∙ ap Ok (ap (λ (s : State). after_all node s history) (sym (starts node)) ∙ after_is_kept node [] history legal)
+    told_records node bytes (first ∷ records) stands_for ∙ journal_cons node first records
+    ∙ ok_told (first_fault node first records) (read_events node (fresh node) records) (after_all node (fresh node) events) (free node first records is)
+    (read_whole node (fresh node) records events legal.node_is behind)
 
-pub what_stands_is_told : StartsFresh → WhatStandsIsTold
-what_stands_is_told starts node bytes history keys (as_journal holds) legal =
-    told_held starts holds.version node bytes history holds.records keys legal holds.stands_for holds.are holds.alone holds.can_tell
-what_stands_is_told starts node bytes history keys (as_new none empty) legal = told_new starts node bytes history none empty
+-- a journal on one disk begins with its configuration, and no checkpoint
+told_begun : (node : Node) (bytes : List ℕ) (front : List (List ℕ)) (in_first : ℕ) (base : State) (events : History) → AreKeys node → IsLegalAfter node base events
+    → IsJournal (stands_in (alone bytes)) front in_first events → BeginsAs node (alone bytes) front in_first base → told node bytes ≡ Ok (after_all node base events)
+told_begun node bytes front in_first base events keys legal is (as_fresh version can front_is first base_is) =
+    let behind : All (λ (one : Record). is.first_gate < one.gate) (drop 1 is.records) =
+    subst (λ (n : ℕ). All (λ (one : Record). is.first_gate < one.gate) (drop n is.records)) first is.others in
+    told_held version node bytes is.records events keys (subst (λ (s : State). IsLegalAfter node s events) base_is legal) (sym (alone_stands bytes) ∙ is.stands_for)
+    (is.are ∙ ap (λ (l : List (List ℕ)). l ++ map record_of events) front_is)
+    (All-weaker (λ (one : Record). is.first_gate < one.gate) (λ (one : Record). 0 < one.gate) (λ one less. omega (arith, less)) (drop 1 is.records) behind)
+    can
+    ∙ ap (λ (s : State). Ok (after_all node s events)) (sym base_is)
+told_begun node bytes front in_first base events keys legal is (as_checkpoint version generation kept_data two can written front_is first base_is) = absurd two
+
+pub what_stands_is_told : WhatStandsIsTold
+what_stands_is_told node bytes state keys (as_journal holds) =
+    told_begun node bytes holds.front holds.in_first holds.base holds.events keys holds.legal holds.journal holds.begins ∙ ap Ok holds.leads
+what_stands_is_told node bytes state keys (as_new none is) = told_new node bytes state (sym (alone_stands bytes) ∙ none) is
 
 -- ---- the worlds
 
-pub worlds_are_told : StartsFresh → NothingTakenBack → WorldsAreTold
-worlds_are_told starts kept_all node moves world bytes sound keys run may =
+pub worlds_are_told : NothingTakenBack → WorldsAreTold
+worlds_are_told kept_all node moves world bytes sound keys run may =
     let never = kept_all node moves world sound run in
-    let found = never.stands bytes may in
-    let recovered = never.recovered bytes found.0 may found.1 in
+    let (history, recovered, stands_for) = never.stands (alone bytes) may in
     record {
-      history = found.0;
-      is_told = what_stands_is_told starts node bytes found.0 keys found.1 recovered.legal;
-      stands_for = found.1;
+      history = history;
+      is_told = what_stands_is_told node bytes (kept node history) keys stands_for;
+      stands_for = stands_for;
       recovered = recovered;
     }

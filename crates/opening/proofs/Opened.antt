@@ -1,7 +1,8 @@
 -- What an opening answers where its bytes are told as a state.
-use Rattle.std.proofs.Common.{◌≡◌, ◌≢◌, inl, inr, List, [], ◌∷◌, ℕ, ◌-◌, length, drop, Result, Ok, Err, refl, sym, ap, ◌∙◌, subst}
+use Rattle.std.proofs.Common.{◌≡◌, ◌≢◌, inl, inr, List, [], ◌∷◌, ℕ, ◌-◌, ◌<◌, arith, length, drop, Result, Ok, Err, refl, sym, ap, ◌∙◌, subst}
 use Rattle.std.specs.Prelude.{All}
-use Rattle.std.proofs.lemmas.List.Elements.{All-nil}
+use Rattle.std.proofs.lemmas.List.Elements.{All-nil, All-cons}
+use Rattle.journal.specs.Areas.{alone}
 use Rattle.journal.specs.Format.{stands, kept_at}
 use Rattle.diskmodel.specs.Disk.{AtEachMoment, Device as Disks}
 use Rattle.diskmodel.proofs.Clock.{weaker, joins}
@@ -11,18 +12,17 @@ use Rattle.journal.specs.declared.error.JournalError.{JournalError}
 use Rattle.journal.specs.declared.error.JournalError.TheVariants.{Memory, Device, Damaged, ConfigMismatch, Full}
 use Rattle.journal.specs.declared.record.Record.{Record}
 use Rattle.spec_machine.specs.Laws.{StartsFresh}
-use Rattle.spec_model.specs.Admitting.{IsLegal}
+use Rattle.spec_machine.specs.Machine.{fresh}
+use Rattle.spec_machine.proofs.AfterAll.{after_none, legal_none}
 use Rattle.spec_model.specs.Giving.{kept}
-use Rattle.spec_model.specs.Histories.{History}
 use Rattle.spec_model.specs.Nodes.{Node, IsNode}
 use Rattle.spec_model.specs.States.{State}
 use Rattle.validator.specs.Standing.{AreAtSound}
-use Rattle.spec_records.specs.Records.{configuration_of}
-use Rattle.spec_world.proofs.Recovering.{holds_same}
-use Rattle.spec_world.specs.World.{Holds, StandsFor, as_journal, as_new, bytes_of, journal_of}
-use Rattle.opening.specs.Laws.{StandsForAt, HoldsAt, KeepsHistories, IsNoRefusal}
+use Rattle.spec_world.proofs.Recovering.{holds_same, some_record}
+use Rattle.spec_world.specs.World.{own, as_fresh, Holds, StandsFor, as_journal, as_new}
+use Rattle.opening.specs.Laws.{IsOfBytes, StandsForAt, HoldsAt, KeepsStates, IsNoRefusal}
 use Rattle.opening.specs.Told.{IsText, HasTexts, told, Tells, StandsAt, IsToldAsOneOf, KeepsOrBegins, KeepsRecords}
-use Rattle.opening.proofs.Laws.{found_records}
+use Rattle.opening.proofs.Laws.{alone_stands, fresh_sound, found_records}
 use Rattle.opening.proofs.Telling.{told_records, told_damaged, told_same, as_one_of, keeps_one, keeps_same}
 use Rattle.admission.specs.declared.tables.Tables.{Tables}
 
@@ -31,7 +31,12 @@ pub stands_for_at : StartsFresh → (node : Node) (bytes : List ℕ) (records : 
     → StandsAt node (told node bytes) tables → StandsForAt node bytes tables
 stands_for_at starts node bytes records tables sound is texts at =
     let found = found_records starts node bytes at.state records sound texts is (sym (told_records node bytes records is) ∙ at.is_read) in
-    record { history = found.history; stands_for = found.stands_for; legal = found.legal; at = subst (AreAtSound node tables) (sym found.keeps) at.at }
+    record {
+      history = found.history;
+      stands_for = subst (StandsFor node (alone bytes)) (sym found.keeps) found.stands_for;
+      legal = found.legal;
+      at = subst (AreAtSound node tables) (sym found.keeps) at.at;
+    }
 
 clash : (error : JournalError) (state : State) (read : Result State JournalError) → read ≡ Ok state → read ≡ Err error → ⊥
 clash error state read one other = cc
@@ -59,38 +64,56 @@ pub same_texts : (later : List ℕ) (records : List Record) → stands later ≡
 same_texts later records is texts other found = subst (λ (l : List Record). All IsText (drop 1 l)) (records_are records other (sym is ∙ found)) texts
 
 -- a journal's records are some
-some_records : (node : Node) (bytes : List ℕ) (history : History) → Holds node bytes history → stands bytes ≡ Ok [] → ⊥
-some_records node bytes history held none =
-    let are : bytes_of [] ≡ journal_of held.version node history = ap bytes_of (records_are [] held.records (sym none ∙ held.stands_for)) ∙ held.are in cc
+some_records : (node : Node) (bytes : List ℕ) (state : State) → Holds node (alone bytes) state → stands bytes ≡ Ok [] → ⊥
+some_records node bytes state held none =
+    let same = records_are held.journal.records [] (sym held.journal.stands_for ∙ alone_stands bytes ∙ none) in
+    omega (arith, ap length same, some_record node (alone bytes) state held)
 
--- the configuration alone is a journal of no events
-begun : (node : Node) (bytes : List ℕ) → stands bytes ≡ Ok (kept_at 0 (configuration_of Second node.charter node.own) ∷ []) → Holds node bytes []
-begun node bytes is = record { records = _; stands_for = is; version = Second; are = refl; alone = All-nil _; each_taken = All-nil _; can_tell = tt }
+-- the configuration alone is a journal at the fresh state
+begun : StartsFresh → (node : Node) (bytes : List ℕ) → IsNode node → stands bytes ≡ Ok (kept_at 0 (own Second node) ∷ []) → Holds node (alone bytes) (fresh node)
+begun starts node bytes sound is = record {
+  front = own Second node ∷ [];
+  in_first = 1;
+  base = fresh node;
+  begins = as_fresh Second tt refl refl refl;
+  events = [];
+  journal = record {
+    records = kept_at 0 (own Second node) ∷ [];
+    stands_for = alone_stands bytes ∙ is;
+    are = refl;
+    first_gate = 0;
+    first = All-cons (λ (one : Record). one.gate ≡ 0) (kept_at 0 (own Second node)) [] refl (All-nil (λ (one : Record). one.gate ≡ 0));
+    others = All-nil (λ (one : Record). 0 < one.gate);
+  };
+  legal = legal_none node (fresh node) sound (fresh_sound starts node sound);
+  leads = after_none node (fresh node);
+}
 
--- bytes with a record that have those of other bytes, or begin where these have none, are a journal with each history of these
-pub keeps_histories : (node : Node) (before later : List ℕ) → KeepsOrBegins Second node before later → stands later ≢ Ok [] → KeepsHistories node before later
-keeps_histories node before later (inl (records, first, after)) some history (as_journal held) = holds_same node before later history held (after ∙ sym first)
-keeps_histories node before later (inl (records, first, after)) some history (as_new none empty) = absurd (some (after ∙ sym first ∙ none))
-keeps_histories node before later (inr (none, is)) some history (as_journal held) = absurd (some_records node before history held none)
-keeps_histories node before later (inr (none, is)) some history (as_new also empty) = subst (Holds node later) (sym empty) (begun node later is)
+-- bytes with a record that have those of other bytes, or begin where these have none, are a journal at each state for which these stand
+pub keeps_states : StartsFresh → (node : Node) (before later : List ℕ) → IsNode node → KeepsOrBegins Second node before later → stands later ≢ Ok [] → KeepsStates node before later
+keeps_states starts node before later sound (inl (records, first, after)) some state (as_journal held) =
+    holds_same node (alone before) (alone later) state held (λ none. none) (alone_stands later ∙ after ∙ sym first ∙ sym (alone_stands before))
+keeps_states starts node before later sound (inl (records, first, after)) some state (as_new none is) = absurd (some (after ∙ sym first ∙ sym (alone_stands before) ∙ none))
+keeps_states starts node before later sound (inr (none, is)) some state (as_journal held) = absurd (some_records node before state held none)
+keeps_states starts node before later sound (inr (none, is)) some state (as_new also state_is) = subst (Holds node (alone later)) (sym state_is) (begun starts node later sound is)
 
 -- bytes with a record are a journal of what they are told as
 module _ (starts : StartsFresh) (node : Node) (later : List ℕ) (tables : Tables) (sound : IsNode node) (at : StandsAt node (told node later) tables) (texts : HasTexts later)
     (some : stands later ≢ Ok []) where
-  as_held : (history : History) → IsLegal node history → kept node history ≡ at.state → (found : StandsFor node later history) → HoldsAt node later tables
-  as_held history legal keeps (as_journal held) = record {
-    history = history;
-    told_as = at.is_read ∙ ap Ok (sym keeps);
-    holds = held;
-    legal = legal;
-    at = subst (AreAtSound node tables) (sym keeps) at.at;
+  as_held : (found : IsOfBytes node later at.state) → StandsFor node (alone later) at.state → HoldsAt node later tables
+  as_held found (as_journal held) = record {
+    history = found.history;
+    told_as = at.is_read ∙ ap Ok (sym found.keeps);
+    holds = subst (Holds node (alone later)) (sym found.keeps) held;
+    legal = found.legal;
+    at = subst (AreAtSound node tables) (sym found.keeps) at.at;
   }
-  as_held history legal keeps (as_new none empty) = absurd (some none)
+  as_held found (as_new none is) = absurd (some (sym (alone_stands later) ∙ none))
 
   by_reading : (read : Result (List Record) ℕ) → stands later ≡ read → HoldsAt node later tables
   by_reading (Ok records) is =
       let found = found_records starts node later at.state records sound (texts records is) is (sym (told_records node later records is) ∙ at.is_read) in
-      as_held found.history found.legal found.keeps found.stands_for
+      as_held found found.stands_for
   by_reading (Err place) is = absurd (clash (Damaged place) at.state (told node later) at.is_read (told_damaged node later place is))
 
   pub holds_at : HoldsAt node later tables

@@ -2,6 +2,7 @@
 use Rattle.std.specs.Prelude.{◌≡◌, ◌≢◌, ◌⊎◌, ℕ, List, Result, Ok, IfErr}
 use Rattle.diskmodel.specs.Disk.{AtEachMoment, Device as Disks}
 use Rattle.diskmodel.specs.Outcomes.{AreBytes}
+use Rattle.journal.specs.Areas.{alone}
 use Rattle.journal.specs.Journal.{disk_after, TellsFaultBack}
 use Rattle.journal.specs.declared.error.Failed.{Failed}
 use Rattle.journal.specs.declared.error.JournalError.{JournalError}
@@ -14,17 +15,16 @@ use Rattle.spec_model.specs.States.{State}
 use Rattle.opening.specs.Told.{told, Tells, IsToldAsOneOf, KeepsRecords}
 use Rattle.admission.specs.declared.tables.Tables.{Tables}
 use Rattle.validator.specs.Standing.{AreAtSound}
-use Rattle.spec_world.specs.Promise.{IsRecovered}
 use Rattle.spec_world.specs.Runs.{AreKeys}
-use Rattle.spec_world.specs.Steps.{Move, IsRun}
+use Rattle.spec_world.specs.Steps.{Move, IsRecovered, IsRun}
 use Rattle.spec_world.specs.World.{World, Holds, StandsFor, MayStop}
 
 -- ---- the laws
 
--- a state is what is kept of a legal history for which bytes stand
+-- the bytes of one disk stand for a state, which is what is kept of a legal history
 pub record IsOfBytes (node : Node) (bytes : List ℕ) (state : State) : Type 0 where
+  pub stands_for : StandsFor node (alone bytes) state
   pub history : History
-  pub stands_for : StandsFor node bytes history
   pub legal : IsLegal node history
   pub keeps : kept node history ≡ state
 
@@ -33,50 +33,49 @@ abbrev pub ToldStandsFor : Type 0
 ToldStandsFor = (node : Node) (bytes : List ℕ) (state : State) → IsNode node → AreBytes bytes → told node bytes ≡ Ok state
     → IsOfBytes node bytes state
 
--- and what is kept of each legal history for which bytes stand is what they are told as
+-- and each state for which bytes stand is what they are told as
 abbrev pub WhatStandsIsTold : Type 0
-WhatStandsIsTold = (node : Node) (bytes : List ℕ) (history : History) → AreKeys node → StandsFor node bytes history → IsLegal node history
-    → told node bytes ≡ Ok (kept node history)
+WhatStandsIsTold = (node : Node) (bytes : List ℕ) (state : State) → AreKeys node → StandsFor node (alone bytes) state → told node bytes ≡ Ok state
 
 -- bytes are told as what is kept of a history that the world promises to be found again
 pub record IsFound (node : Node) (world : World) (bytes : List ℕ) : Type 0 where
   pub history : History
   pub is_told : told node bytes ≡ Ok (kept node history)
-  pub stands_for : StandsFor node bytes history
+  pub stands_for : StandsFor node (alone bytes) (kept node history)
   pub recovered : IsRecovered node world history
 
--- whatever a stop leaves in a world of the node is told so
+-- whatever a stop leaves of one disk in a world of the node is told so
 abbrev pub WorldsAreTold : Type 0
 WorldsAreTold = (node : Node) (moves : List Move) (world : World) (bytes : List ℕ) → IsNode node → AreKeys node → IsRun node moves world
-    → MayStop world bytes → IsFound node world bytes
+    → MayStop world (alone bytes) → IsFound node world bytes
 
 -- ---- what an opening answers
 
--- bytes stand for a legal history, and tables stand at what is kept of it
+-- bytes stand for what is kept of a legal history, and tables stand there
 pub record StandsForAt (node : Node) (bytes : List ℕ) (tables : Tables) : Type 0 where
   pub history : History
-  pub stands_for : StandsFor node bytes history
+  pub stands_for : StandsFor node (alone bytes) (kept node history)
   pub legal : IsLegal node history
   pub at : AreAtSound node tables (kept node history)
 
--- bytes are a journal of the node with a legal history, they are told as what is kept of it, and tables stand there
+-- bytes are a journal of the node at what is kept of a legal history, they are told as that, and tables stand there
 pub record HoldsAt (node : Node) (bytes : List ℕ) (tables : Tables) : Type 0 where
   pub history : History
   pub told_as : told node bytes ≡ Ok (kept node history)
-  pub holds : Holds node bytes history
+  pub holds : Holds node (alone bytes) (kept node history)
   pub legal : IsLegal node history
   pub at : AreAtSound node tables (kept node history)
 
--- with each history for which the first bytes stand, the second ones are a journal of the node
-abbrev pub KeepsHistories : Node → List ℕ → List ℕ → Type 0
-KeepsHistories node before later = (history : History) → StandsFor node before history → Holds node later history
+-- at each state for which the first bytes stand, the second ones are a journal of the node
+abbrev pub KeepsStates : Node → List ℕ → List ℕ → Type 0
+KeepsStates node before later = (state : State) → StandsFor node (alone before) state → Holds node (alone later) state
 
--- what a stop may leave in a world of the node
+-- what a stop may leave of one disk in a world of the node
 pub record IsLeft (node : Node) (bytes : List ℕ) : Type 0 where
   pub moves : List Move
   pub world : World
   pub run : IsRun node moves world
-  pub may_stop : MayStop world bytes
+  pub may_stop : MayStop world (alone bytes)
 
 -- all of that is told as a state
 abbrev pub AreLeftTold : Node → Type 0

@@ -9,7 +9,7 @@ ghost use Rattle.journal.specs.Reader.{TakesAll};
 ghost use Rattle.journal.specs.declared.record.Record.{Record};
 ghost use Rattle.spec_records.specs.Records.{configuration_of, CanTell};
 ghost use Rattle.validator.specs.Setting.{node_of};
-ghost use Rattle.opening.specs.Laws.{StandsForAt, HoldsAt, KeepsHistories, AreLeftTold, IsOpening};
+ghost use Rattle.opening.specs.Laws.{StandsForAt, HoldsAt, KeepsStates, AreLeftTold, IsOpening};
 ghost use Rattle.opening.specs.Replays.{HasTaken};
 ghost use Rattle.opening.specs.Told.{HasTexts, first_version as told_version, is_alone as told_alone, is_own as told_own, told, Tells, StandsAt, KeepsOrBegins};
 
@@ -46,8 +46,8 @@ pub fn reopen<'a, S: Sign, D: Disk>(
 
     // It stands at what is kept of a history for which the bytes stand.
     ensures stands_for { IfOk result (λ opened. StandsForAt (node_of S.scheme config.now) (D.device.content disk) opened.0.tables) }
-    // The disk then has a journal of the node with each history for which the bytes stood.
-    ensures kept { IfOk result (λ opened. KeepsHistories (node_of S.scheme config.now) (D.device.content disk) (D.device.content (disk_of opened.1))) }
+    // The disk then has a journal of the node at each state for which the bytes stood.
+    ensures kept { IfOk result (λ opened. KeepsStates (node_of S.scheme config.now) (D.device.content disk) (D.device.content (disk_of opened.1))) }
     // There is one at which the validator stands.
     ensures holds { IfOk result (λ opened. HoldsAt (node_of S.scheme config.now) (D.device.content (disk_of opened.1)) opened.0.tables) }
 

@@ -3,7 +3,7 @@
 
 ghost use Rattle.opening.specs.Laws.{ToldStandsFor, WhatStandsIsTold, WorldsAreTold};
 
-/// What bytes are told as is what is kept of a legal history for which they stand.
+/// What the bytes of one disk are told as is a state for which they stand, and which is kept of a legal history.
 pub fn told_stands_for()
     ensures { ToldStandsFor }
 {
@@ -11,19 +11,15 @@ pub fn told_stands_for()
     journal::groups_stand();
 }
 
-/// What is kept of each legal history for which bytes stand is what they are told as, where the node's keys have 32 bytes
-/// each.
+/// Each state for which the bytes of one disk stand is what they are told as, where the node's keys have 32 bytes each.
 pub fn what_stands_is_told()
     ensures { WhatStandsIsTold }
-{
-    spec_machine::starts_fresh();
-}
+{}
 
-/// Whatever a stop leaves in the world of a node's runs is told as what is kept of a legal history for which it stands, and
-/// which is found again as the world promises. So none of it is told as damaged or as another configuration's.
+/// Whatever a stop leaves of one disk in the world of a node's runs is told as what is kept of a legal history, for which it
+/// stands, and which is found again as the world promises. So none of it is told as damaged or as another configuration's.
 pub fn worlds_are_told()
     ensures { WorldsAreTold }
 {
-    spec_machine::starts_fresh();
     spec_world::never_takes_back();
 }

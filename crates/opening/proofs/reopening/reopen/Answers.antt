@@ -7,7 +7,7 @@ use Rattle.journal.specs.declared.version.Version.TheVariants.{Second}
 use Rattle.validator.specs.Setting.{node_of}
 use Rattle.opening.specs.Told.{told}
 use Rattle.opening.proofs.Telling.{told_same, tells_same, stands_same, keeps_same, opening_fails}
-use Rattle.opening.proofs.Opened.{stands_for_at, holds_at, keeps_histories, no_refusal, first_told, first_kept, told_on, kept_on}
+use Rattle.opening.proofs.Opened.{stands_for_at, holds_at, keeps_states, no_refusal, first_told, first_kept, told_on, kept_on}
 use Rattle.opening.proofs.reopening.reopen.Goals as goal
 
 pub returns-in-Ok-validator_on-clause-stands : goal.returns-in-Ok-validator_on-clause-stands
@@ -52,7 +52,7 @@ returns-in-Ok-validator_on-clause-kept g c =
     let later = disk_of c.validator_on.new.journal in
     let keeps = c.validator_on.ensures.keeps in
     let now = g.met.D.Disk.counts_now later (device.clock middle) (device.content later) keeps.later (g.met.D.Disk.content_is_outcome later) in
-    keeps_histories node (device.content c.args.disk) (device.content later)
+    keeps_states c.starts_fresh.ensures node (device.content c.args.disk) (device.content later) c.limits_hold.ensures
     (keeps_same Second node (device.content c.args.disk) (device.content middle) (device.content later) c.in_ok-journal.ensures.same (keeps.each (device.content later) now))
     c.in-Ok-validator_on.ensures.configured
 

@@ -2,4 +2,4 @@ use Rattle.opening.proofs.Laws.{what_stands_is_told}
 use Rattle.opening.proofs.standing.what_stands_is_told.Goals as goal
 
 pub returns : goal.returns
-returns c = what_stands_is_told c.starts_fresh.ensures
+returns c = what_stands_is_told
