@@ -31,7 +31,7 @@ use Rattle.wire.specs.Fields as fields
 use Rattle.wire.specs.declared.keys.Key.{Key}
 use Rattle.spec_world.specs.Promise.{NothingTakenBack}
 use Rattle.spec_world.specs.Runs.{AreKeys}
-use Rattle.spec_world.specs.World.{bytes_of, IsJournal, own, BeginsAs, as_fresh, as_checkpoint, Holds, as_journal, as_new}
+use Rattle.spec_world.specs.World.{bytes_of, IsJournal, own_configuration, BeginsAs, as_fresh, as_checkpoint, Holds, as_journal, as_empty}
 use Rattle.opening.specs.Laws.{IsOfBytes, ToldStandsFor, WhatStandsIsTold, WorldsAreTold}
 use Rattle.opening.specs.Told.{IsText, is_alone, can_tell, is_own, mismatch, first_fault, unless, read_events, read_journal, told}
 use Rattle.journal.specs.Configuration.{stakes_size, shaped_version}
@@ -108,7 +108,7 @@ alone_stands bytes = refl
 held : StartsFresh → (node : Node) (bytes : List ℕ) (state : State) (first : Record) (records : List Record) (events : History) → IsNode node → stands bytes ≡ Ok (first ∷ records)
     → HasNoFault node first records → AreEvents node (fresh node) records events → state ≡ after_all node (fresh node) events → Holds node (alone bytes) state
 held starts node bytes state first records events sound stands_for is are state_is = record {
-  front = own is.version node ∷ [];
+  front = own_configuration is.version node ∷ [];
   in_first = 1;
   base = fresh node;
   begins = as_fresh is.version (tells_of is.version node.charter is.tells) refl refl refl;
@@ -139,7 +139,7 @@ pub found_records : StartsFresh → (node : Node) (bytes : List ℕ) (state : St
     → IsOfBytes node bytes state
 found_records starts node bytes state [] sound texts stands_for is =
     let same = ok_is (fresh node) state (sym (journal_nil node) ∙ is) in
-    record { stands_for = as_new (alone_stands bytes ∙ stands_for) (sym same); history = []; legal = legal_empty node sound; keeps = starts node ∙ same }
+    record { stands_for = as_empty (alone_stands bytes ∙ stands_for) (sym same); history = []; legal = legal_empty node sound; keeps = starts node ∙ same }
 found_records starts node bytes state (first ∷ records) sound texts stands_for is =
     let found = unless_ok (first_fault node first records) (read_events node (fresh node) records) state (sym (journal_cons node first records) ∙ is) in
     let more = read_back node (fresh node) state records texts found.1 in
@@ -194,7 +194,7 @@ told_new : (node : Node) (bytes : List ℕ) (state : State) → stands bytes ≡
 told_new node bytes state none is = told_records node bytes [] none ∙ journal_nil node ∙ ap Ok (sym is)
 
 told_held : (version : Version) (node : Node) (bytes : List ℕ) (records : List Record) (events : History) → AreKeys node → IsLegalAfter node (fresh node) events → stands bytes ≡ Ok records
-    → bytes_of records ≡ own version node ∷ map record_of events → All (λ (one : Record). 0 < one.gate) (drop 1 records) → CanTell version node.charter
+    → bytes_of records ≡ own_configuration version node ∷ map record_of events → All (λ (one : Record). 0 < one.gate) (drop 1 records) → CanTell version node.charter
     → told node bytes ≡ Ok (after_all node (fresh node) events)
 told_held version node bytes [] events keys legal stands_for are alone_in can = absurd (omega (arith, ap length are))
 told_held version node bytes (first ∷ records) events keys legal stands_for are alone_in can =
@@ -227,7 +227,7 @@ told_begun node bytes front in_first base events keys legal is (as_checkpoint ve
 pub what_stands_is_told : WhatStandsIsTold
 what_stands_is_told node bytes state keys (as_journal holds) =
     told_begun node bytes holds.front holds.in_first holds.base holds.events keys holds.legal holds.journal holds.begins ∙ ap Ok holds.leads
-what_stands_is_told node bytes state keys (as_new none is) = told_new node bytes state (sym (alone_stands bytes) ∙ none) is
+what_stands_is_told node bytes state keys (as_empty none is) = told_new node bytes state (sym (alone_stands bytes) ∙ none) is
 
 -- ---- the worlds
 

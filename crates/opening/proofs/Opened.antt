@@ -19,7 +19,7 @@ use Rattle.spec_model.specs.Nodes.{Node, IsNode}
 use Rattle.spec_model.specs.States.{State}
 use Rattle.validator.specs.Standing.{AreAtSound}
 use Rattle.spec_world.proofs.Recovering.{holds_same, some_record}
-use Rattle.spec_world.specs.World.{own, as_fresh, Holds, StandsFor, as_journal, as_new}
+use Rattle.spec_world.specs.World.{own_configuration, as_fresh, Holds, StandsFor, as_journal, as_empty}
 use Rattle.opening.specs.Laws.{IsOfBytes, StandsForAt, HoldsAt, KeepsStates, IsNoRefusal}
 use Rattle.opening.specs.Told.{IsText, HasTexts, told, Tells, StandsAt, IsToldAsOneOf, KeepsOrBegins, KeepsRecords}
 use Rattle.opening.proofs.Laws.{alone_stands, fresh_sound, found_records}
@@ -70,19 +70,19 @@ some_records node bytes state held none =
     omega (arith, ap length same, some_record node (alone bytes) state held)
 
 -- the configuration alone is a journal at the fresh state
-begun : StartsFresh → (node : Node) (bytes : List ℕ) → IsNode node → stands bytes ≡ Ok (kept_at 0 (own Second node) ∷ []) → Holds node (alone bytes) (fresh node)
+begun : StartsFresh → (node : Node) (bytes : List ℕ) → IsNode node → stands bytes ≡ Ok (kept_at 0 (own_configuration Second node) ∷ []) → Holds node (alone bytes) (fresh node)
 begun starts node bytes sound is = record {
-  front = own Second node ∷ [];
+  front = own_configuration Second node ∷ [];
   in_first = 1;
   base = fresh node;
   begins = as_fresh Second tt refl refl refl;
   events = [];
   journal = record {
-    records = kept_at 0 (own Second node) ∷ [];
+    records = kept_at 0 (own_configuration Second node) ∷ [];
     stands_for = alone_stands bytes ∙ is;
     are = refl;
     first_gate = 0;
-    first = All-cons (λ (one : Record). one.gate ≡ 0) (kept_at 0 (own Second node)) [] refl (All-nil (λ (one : Record). one.gate ≡ 0));
+    first = All-cons (λ (one : Record). one.gate ≡ 0) (kept_at 0 (own_configuration Second node)) [] refl (All-nil (λ (one : Record). one.gate ≡ 0));
     others = All-nil (λ (one : Record). 0 < one.gate);
   };
   legal = legal_none node (fresh node) sound (fresh_sound starts node sound);
@@ -93,9 +93,9 @@ begun starts node bytes sound is = record {
 pub keeps_states : StartsFresh → (node : Node) (before later : List ℕ) → IsNode node → KeepsOrBegins Second node before later → stands later ≢ Ok [] → KeepsStates node before later
 keeps_states starts node before later sound (inl (records, first, after)) some state (as_journal held) =
     holds_same node (alone before) (alone later) state held (λ none. none) (alone_stands later ∙ after ∙ sym first ∙ sym (alone_stands before))
-keeps_states starts node before later sound (inl (records, first, after)) some state (as_new none is) = absurd (some (after ∙ sym first ∙ sym (alone_stands before) ∙ none))
+keeps_states starts node before later sound (inl (records, first, after)) some state (as_empty none is) = absurd (some (after ∙ sym first ∙ sym (alone_stands before) ∙ none))
 keeps_states starts node before later sound (inr (none, is)) some state (as_journal held) = absurd (some_records node before state held none)
-keeps_states starts node before later sound (inr (none, is)) some state (as_new also state_is) = subst (Holds node (alone later)) (sym state_is) (begun starts node later sound is)
+keeps_states starts node before later sound (inr (none, is)) some state (as_empty also state_is) = subst (Holds node (alone later)) (sym state_is) (begun starts node later sound is)
 
 -- bytes with a record are a journal of what they are told as
 module _ (starts : StartsFresh) (node : Node) (later : List ℕ) (tables : Tables) (sound : IsNode node) (at : StandsAt node (told node later) tables) (texts : HasTexts later)
@@ -108,7 +108,7 @@ module _ (starts : StartsFresh) (node : Node) (later : List ℕ) (tables : Table
     legal = found.legal;
     at = subst (AreAtSound node tables) (sym found.keeps) at.at;
   }
-  as_held found (as_new none is) = absurd (some (sym (alone_stands later) ∙ none))
+  as_held found (as_empty none is) = absurd (some (sym (alone_stands later) ∙ none))
 
   by_reading : (read : Result (List Record) ℕ) → stands later ≡ read → HoldsAt node later tables
   by_reading (Ok records) is =
