@@ -92,7 +92,8 @@ impl<'a, S: Sign> OwnBook<'a, S> {
     }
 
     /// Takes the longest beginning of the pending records that fits a group, which is then the last on the way; `None` where
-    /// nothing is pending. `AllocError` where an allocation failed: nothing was taken then.
+    /// nothing is pending. Groups are appended in the order in which they were taken. `AllocError` where an allocation failed:
+    /// nothing was taken then.
     pub fn take(&mut self) -> Result<Option<Group>, AllocError>
         ensures none { IfOk result (λ taken. IsNone taken ↔ (self.old.pending ≡ [])) }
         ensures group { IfOk result (λ taken. IfSome taken (λ group. IsLongestBeginning self.old.pending group self.new.pending)) }
