@@ -25,16 +25,16 @@ use Rattle.spec_model.specs.Words.{Event, Output}
 use Rattle.header.specs.declared.admission.Admission.{Admission}
 use Rattle.header.specs.declared.admission.Admission.TheVariants.{New, Known, Refused}
 use Rattle.spec_records.specs.Records.{record_of}
-use Rattle.spec_world.specs.World.{World, Waiting, events_of, taken_in, content_in, StandsFor, as_journal, run_on}
-use Rattle.spec_world.specs.Steps.{Move, accept, take_to, device_call, settle, release, read_order, restart, group_to, IsAnswered, IsStep, Leads, IsRun}
-use Rattle.spec_world.specs.Runs.{AreKeys, first_bytes}
+use Rattle.spec_world.specs.World.{World, Waiting, taken_in, Opened, alone_on, run_on}
+use Rattle.spec_world.specs.Steps.{Move, accept, take_to, device_call, settle, release, read_order, restart, group_to, IsAnswered, IsStep, IsRun}
+use Rattle.spec_world.specs.Runs.{areas_in, AreKeys, first_bytes}
 use Rattle.spec_world.proofs.Beginning.{runs_begin}
-use Rattle.spec_world.proofs.GoingOn.{stops_are_possible, runs_begin_with_what_stands, groups_settle}
+use Rattle.spec_world.proofs.GoingOn.{stops_are_possible, runs_begin_with_what_stands}
 use Rattle.spec_world.proofs.Groups.{taken_more}
-use Rattle.spec_world.proofs.Histories.{settled_stands}
 use Rattle.spec_world.proofs.Law.{nothing_taken_back}
 use Rattle.desk.specs.Desk.{DeskView, taken_in as taken_state, IsUp, IsLeft, IsOf, IsOpened}
 use Rattle.desk.specs.AtWorld.{HasTaken, IsAt, LeadsTo, IsStop}
+use Rattle.desk.proofs.Found.{none_taken, IsFoundAgain, idle_found, taken_found, calls_four}
 use Rattle.desk.proofs.Runs.{leads_one}
 use Rattle.spec_world.proofs.Scripts.{leads_join, run_more}
 use Rattle.opening.proofs.Telling.{told_records, journal_nil}
@@ -57,10 +57,6 @@ answered_keeps : (world : World) (event : Event) (answer : Admission) (next : Wo
 answered_keeps world event (New outputs) next same = kept_of world _ next same (record { began = refl; settled = refl; groups = refl })
 answered_keeps world event (Known outputs) next same = kept_of world _ next same (record { began = refl; settled = refl; groups = refl })
 answered_keeps world event (Refused refusal) next is = absurd is
-
--- a run that has taken what is settled
-none_taken : (world : World) → world.groups ≡ [] → taken_in world ≡ world.settled
-none_taken world idle = ap (λ (l : List History). world.settled ++ events_of l) idle ∙ append-nil world.settled
 
 module _ {S D : Type 0} (node : Node) (device : Device D) (world : World) (before : DeskView S D) (is : IsAt node device world before) (up : before.book.down ≡ false) where
   abbrev run : book.Run
@@ -206,43 +202,6 @@ module _ {S D : Type 0} (node : Node) (device : Device D) (world : World) (befor
 
 -- ---- a stop
 
--- the four device calls after a group that was taken, and what stands on the disk then
-record CallsFour (node : Node) (world : World) : Type 0 where
-  pub next : World
-  pub leads : Leads node world (device_call ∷ device_call ∷ device_call ∷ device_call ∷ []) next
-  pub given : next.given ≡ world.given
-  pub stands : StandsFor node (content_in next) (world.began ++ taken_in world)
-
-calls_four : (node : Node) (world : World) → IsNode node → HasTaken node world → CallsFour node world
-calls_four node world sound has =
-    let before = has.before in
-    let there = groups_settle node has.moves before has.count sound has.run has.idle has.taken.fits in
-    let last = there.0 in
-    let settled = there.2 in
-    let one = there.1.0 in
-    let rest = there.1.2 in
-    let same : one ≡ world = there.1.1.is ∙ sym has.taken.is in
-    let two = rest.0 in
-    let three = rest.2.0 in
-    let four = rest.2.2.0 in
-    let five = rest.2.2.2.0 in
-    let step = rest.2.2.2.2.1 in
-    let end = rest.2.2.2.2.2 in
-    let last_is = sym end ∙ step.is in
-    let bytes : content_in last ≡ content_in five = ap content_in last_is in
-    let given : last.given ≡ five.given = ap (λ (w : World). w.given) last_is in
-    let law = nothing_taken_back node has.moves before sound has.run in
-    let began : world.began ≡ before.began = ap (λ (w : World). w.began) has.taken.is in
-    let some : 1 ≤ length (group_to before has.count) = omega (arith, has.taken.fits.some, length-map (group_to before has.count) record_of) in
-    let taken : taken_in world ≡ take has.count before.accepted = ap taken_in has.taken.is ∙ taken_more before has.count law.in_order.taken some in
-    let all : last.began ++ last.settled ≡ world.began ++ taken_in world = (λ i. (settled.began ∙ sym began) i ++ (settled.settled ∙ sym taken) i) in
-    record {
-      next = five;
-      leads = (two, subst (λ (w : World). IsStep node w device_call two) same rest.1, (three, rest.2.1, (four, rest.2.2.1, (five, rest.2.2.2.1, refl))));
-      given = sym given ∙ settled.given ∙ sym (ap (λ (w : World). w.given) has.taken.is);
-      stands = subst (λ (b : List ℕ). StandsFor node b (world.began ++ taken_in world)) bytes (subst (StandsFor node (content_in last)) all (as_journal settled.holds));
-    }
-
 ok_is : (one other : State) → ◌≡◌ {A = Result State JournalError} (Ok one) (Ok other) → one ≡ other
 ok_is one other same = cc
 
@@ -268,8 +227,8 @@ begins_trans one two three first second = record {
 module _ {S D : Type 0} (node : Node) (device : Device D) where
   -- a desk that was opened is at a world that begins with a history of which what it was opened on is told as kept
   pub opened_at : (bytes : List ℕ) (desk : DeskView S D) → IsNode node → IsOpened node device bytes desk → (moves : List Move) (world : World) → IsRun node moves world
-      → (history : History) → IsLegal node history → told node bytes ≡ Ok (kept_in node history) → world ≡ run_on world.bytes_at_start history world.given → IsAt node device world desk
-  opened_at bytes desk sound opened moves world run history legal is same =
+      → (on : Opened) (history : History) → IsLegal node history → told node bytes ≡ Ok (kept_in node history) → world ≡ run_on on history world.given → IsAt node device world desk
+  opened_at bytes desk sound opened moves world run on history legal is same =
       let first : opened.state ≡ kept_in node history = ok_is opened.state (kept_in node history) (sym opened.told_first ∙ is) in
       let runs : book.run_on opened.state ≡ steps.run_of node world = ap book.run_on first ∙ sym (ap (steps.run_of node) same) in
       let of : IsOf node device (steps.run_of node world) desk = subst (λ (r : book.Run). IsOf node device r desk) runs opened.is_of in
@@ -289,26 +248,25 @@ module _ {S D : Type 0} (node : Node) (device : Device D) where
 
   -- which is legal, being a run's
   pub opened_at_begun : (bytes : List ℕ) (desk : DeskView S D) → IsNode node → IsOpened node device bytes desk → (moves : List Move) (world : World) → IsRun node moves world
-      → (history : History) → told node bytes ≡ Ok (kept_in node history) → world ≡ run_on world.bytes_at_start history world.given → IsAt node device world desk
-  opened_at_begun bytes desk sound opened moves world run history is same =
+      → (on : Opened) (history : History) → told node bytes ≡ Ok (kept_in node history) → world ≡ run_on on history world.given → IsAt node device world desk
+  opened_at_begun bytes desk sound opened moves world run on history is same =
       let all : world.began ++ world.accepted ≡ history = ap (λ (w : World). w.began ++ w.accepted) same ∙ append-nil history in
-      opened_at bytes desk sound opened moves world run history (subst (IsLegal node) all (nothing_taken_back node moves world sound run).in_order.legal) is same
+      opened_at bytes desk sound opened moves world run on history (subst (IsLegal node) all (nothing_taken_back node moves world sound run).in_order.legal) is same
 
   -- a run that begins on what a stop leaves in a world
   restarts : (bytes : List ℕ) (desk : DeskView S D) → IsNode node → IsOpened node device bytes desk → (moves : List Move) (world : World) → IsRun node moves world
-      → (history : History) → IsLegal node history → told node bytes ≡ Ok (kept_in node history) → StandsFor node (content_in world) history
-      → LeadsTo node device world (restart (content_in world) ∷ []) desk
-  restarts bytes desk sound opened moves world run history legal is stands =
-      let found = content_in world in
-      let there = runs_begin_with_what_stands node moves world found history sound run (stops_are_possible node moves world sound run) stands in
+      → (history : History) → told node bytes ≡ Ok (kept_in node history) → IsFoundAgain node world history → LeadsTo node device world (restart (areas_in world) ∷ []) desk
+  restarts bytes desk sound opened moves world run history is again =
+      let found = areas_in world in
+      let there = runs_begin_with_what_stands node moves world found history sound run (stops_are_possible node moves world sound run) again.recovered again.stands in
       let next = there.0 in
       let step = there.1 in
       let leads = leads_one node world (restart found) next step in
-      let same : next ≡ run_on next.bytes_at_start history next.given = step.is ∙ (λ i. run_on next.bytes_at_start (there.2 i) (sym there.3 i)) in
+      let same : next ≡ run_on step.on history next.given = step.is ∙ (λ i. run_on step.on (there.2 i) (sym there.3 i)) in
       record {
         next = next;
         leads = leads;
-        is_at = opened_at bytes desk sound opened (moves ++ restart found ∷ []) next (run_more node moves (restart found ∷ []) world next run leads) history legal is same;
+        is_at = opened_at bytes desk sound opened (moves ++ restart found ∷ []) next (run_more node moves (restart found ∷ []) world next run leads) step.on history again.recovered.legal is same;
       }
 
   -- the moves of a stop lead to a desk that was opened on what it left
@@ -325,30 +283,30 @@ module _ {S D : Type 0} (node : Node) (device : Device D) where
       taken : IsWithin node world (taken_in world)
       taken = within node world before.book of (taken_in world) of.stands.taken_begins
 
-      at_once : told node bytes ≡ Ok (book.settled_in node (steps.run_of node world)) → StandsFor node (content_in world) (world.began ++ world.settled)
+      at_once : told node bytes ≡ Ok (book.settled_in node (steps.run_of node world)) → IsFoundAgain node world (world.began ++ world.settled)
           → (moves : List Move) × IsStop world moves × LeadsTo node device world moves desk
-      at_once told_as stands = (
-        restart (content_in world) ∷ [],
-        (content_in world, inl refl),
-        restarts bytes desk is.sound opened is.moves world is.run (world.began ++ world.settled) settled.legal (told_as ∙ ap Ok settled.keeps) stands,
+      at_once told_as again = (
+        restart (areas_in world) ∷ [],
+        (areas_in world, inl refl),
+        restarts bytes desk is.sound opened is.moves world is.run (world.began ++ world.settled) (told_as ∙ ap Ok settled.keeps) again,
       )
 
       up : before.book.down ≡ false → (moves : List Move) × IsStop world moves × LeadsTo node device world moves desk
       up off =
           let idle = is.idle off in
-          let stands = settled_stands node is.moves world is.sound is.run idle in
+          let again = idle_found node is.moves world is.sound is.run idle in
           elim (is.is_of.left bytes may) [
-            | inl so ↦ at_once so stands
-            | inr with_it ↦ at_once (with_it ∙ ap (λ (l : History). Ok (after_all node (kept_in node world.began) l)) (none_taken world idle)) stands
+            | inl so ↦ at_once so again
+            | inr with_it ↦ at_once (with_it ∙ ap (λ (l : History). Ok (after_all node (kept_in node world.began) l)) (none_taken world idle)) again
           ]
 
       stopped : HasTaken node world → told node bytes ≡ Ok (taken_state node (steps.run_of node world)) → (moves : List Move) × IsStop world moves × LeadsTo node device world moves desk
       stopped has told_as =
-          let four = calls_four node world is.sound has in
+          let four = calls_four node is.moves world is.sound is.run has in
           let calls = device_call ∷ device_call ∷ device_call ∷ device_call ∷ [] in
-          let found = content_in four.next in
+          let found = areas_in four.next in
           let run = run_more node is.moves calls world four.next is.run four.leads in
-          let to = restarts bytes desk is.sound opened (is.moves ++ calls) four.next run (world.began ++ taken_in world) taken.legal (told_as ∙ ap Ok taken.keeps) four.stands in (
+          let to = restarts bytes desk is.sound opened (is.moves ++ calls) four.next run (world.began ++ taken_in world) (told_as ∙ ap Ok taken.keeps) four.found in (
             device_call ∷ device_call ∷ device_call ∷ device_call ∷ restart found ∷ [],
             (found, inr refl),
             record {
@@ -361,11 +319,8 @@ module _ {S D : Type 0} (node : Node) (device : Device D) where
       down : before.book.down ≡ true → (moves : List Move) × IsStop world moves × LeadsTo node device world moves desk
       down so =
           let has = is.taken so in
-          let stands = settled_stands node has.moves has.before is.sound has.run has.idle in
-          let same : content_in has.before ≡ content_in world = sym (ap content_in has.taken.is) in
-          let all : has.before.began ++ has.before.settled ≡ world.began ++ world.settled = sym (ap (λ (w : World). w.began ++ w.settled) has.taken.is) in
           elim (is.is_of.left bytes may) [
-            | inl found ↦ at_once found (subst (λ (b : List ℕ). StandsFor node b (world.began ++ world.settled)) same (subst (StandsFor node (content_in has.before)) all stands))
+            | inl found ↦ at_once found (taken_found node is.moves world is.sound is.run has)
             | inr with_it ↦ stopped has with_it
           ]
 
@@ -374,7 +329,7 @@ told_nothing starts node = told_records node [] [] (stands_short [] (omega arith
 
 -- a desk that was opened on an empty disk is at the world that begins there
 pub begins : {S D : Type 0} → StartsFresh → (node : Node) (device : Device D) (desk : DeskView S D) → IsNode node → AreKeys node → IsOpened node device [] desk
-    → IsAt node device (run_on (first_bytes node) [] []) desk
+    → IsAt node device (run_on (alone_on (first_bytes node)) [] []) desk
 begins {S} {D} starts node device desk sound keys opened =
-    opened_at node device [] desk sound opened [] (run_on (first_bytes node) [] []) (runs_begin node sound keys) [] (record { sound = sound; taken = All-nil (IsTaken node); new = refl })
-    (told_nothing starts node) refl
+    opened_at node device [] desk sound opened [] (run_on (alone_on (first_bytes node)) [] []) (runs_begin node sound keys) (alone_on (first_bytes node)) []
+    (record { sound = sound; taken = All-nil (IsTaken node); new = refl }) (told_nothing starts node) refl

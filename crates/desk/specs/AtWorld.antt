@@ -1,6 +1,7 @@
 -- A desk in the world of its node's runs.
 use Rattle.std.specs.Prelude.{◌≡◌, ◌⊎◌, ℕ, true, false, List, [], ◌∷◌}
 use Rattle.book.specs.Steps as book
+use Rattle.journal.specs.Areas.{Areas}
 use Rattle.spec_model.specs.Nodes.{Node, IsNode}
 use Rattle.spec_world.specs.World.{World}
 use Rattle.spec_world.specs.Steps.{Move, device_call, restart, IsTakenTo, Leads, IsRun}
@@ -35,4 +36,4 @@ pub record LeadsTo {S D : Type 0} (node : Node) (device : Device D) (world : Wor
 
 -- the moves of a stop: the machine stops and what that left is opened. Where a group was on its way its append may have been done before
 abbrev pub IsStop : World → List Move → Type 0
-IsStop world moves = (found : List ℕ) × (moves ≡ restart found ∷ [] ⊎ moves ≡ device_call ∷ device_call ∷ device_call ∷ device_call ∷ restart found ∷ [])
+IsStop world moves = (found : Areas) × (moves ≡ restart found ∷ [] ⊎ moves ≡ device_call ∷ device_call ∷ device_call ∷ device_call ∷ restart found ∷ [])

@@ -34,7 +34,7 @@ returns-in-Ok-clause-world g c = λ world history begun is.
     let node = node_of g.S.Sign.scheme c.args.config.now in
     let bytes = g.D.Disk.device.content c.args.disk in
     let opened = returns-in-Ok-clause-ok g c in
-    opened_at_begun node g.D.Disk.device bytes _ opened.is_of.stands_at.legal.node_is opened begun.moves world begun.run history is begun.is
+    opened_at_begun node g.D.Disk.device bytes _ opened.is_of.stands_at.legal.node_is opened begun.moves world begun.run begun.on history is begun.is
 
 pub returns-in-Ok-clause-opening : goal.returns-in-Ok-clause-opening
 returns-in-Ok-clause-opening g c =
