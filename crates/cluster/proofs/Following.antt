@@ -12,8 +12,8 @@ use Rattle.spec_cluster.specs.Premises.{FewFaulty, NoTwoTexts, Fair}
 use Rattle.wire.specs.Lists.{Begins}
 use Rattle.spec_model.specs.Nodes.{Node, IsNode}
 use Rattle.spec_model.specs.Words.{Author, Digest}
-use Rattle.spec_world.specs.Steps.{Move, IsRestarted, Leads}
-use Rattle.spec_world.specs.World.{World, run_on}
+use Rattle.spec_world.specs.Steps.{Move, IsFirst, Leads}
+use Rattle.spec_world.specs.World.{World}
 use Rattle.validator.specs.Setting.{ConfigView, node_of}
 use Rattle.cluster.specs.Answers.{Deed, Does, Makes, MakesSome, Became, IsGone}
 use Rattle.cluster.specs.Applying.{MovesLead, IsFairMove, StandsAmong, first_world, BeginsAmong, AreInAccord, GivenOrdersAgree}
@@ -238,9 +238,9 @@ module _ {S D : Type 0} (scheme : Scheme S) (device : Device D) (cluster : Clust
         first = λ number. first_world (cluster.node number);
         begins = λ number honest.
             let begins = begin (record { 0 = number }) honest in
-            let restarted : IsRestarted (node_of scheme begins.member.setting) (run_on [] [] []) [] (first_world (node_of scheme begins.member.setting)) =
-            subst (λ (w : World). IsRestarted (node_of scheme begins.member.setting) (run_on [] [] []) [] w) begins.runs.leads begins.runs.begins in
-            subst (λ (n : Node). IsRestarted n (run_on [] [] []) [] (first_world n)) begins.set_up restarted;
+            let is_first : IsFirst (node_of scheme begins.member.setting) (first_world (node_of scheme begins.member.setting)) =
+            subst (IsFirst (node_of scheme begins.member.setting)) begins.runs.leads begins.runs.begins in
+            subst (λ (n : Node). IsFirst n (first_world n)) begins.set_up is_first;
         leads = refl;
       };
       stand = λ number honest.

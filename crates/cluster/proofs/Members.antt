@@ -10,9 +10,9 @@ use Rattle.journal.specs.declared.error.JournalError.{JournalError}
 use Rattle.journal.specs.declared.error.JournalError.TheVariants as journal
 use Rattle.spec_model.specs.Nodes.{Node}
 use Rattle.spec_world.specs.Steps.{Move}
-use Rattle.spec_world.specs.Runs.{first_bytes}
-use Rattle.spec_world.specs.World.{World, Given, run_on}
+use Rattle.spec_world.specs.World.{World, Given}
 use Rattle.cluster.specs.Answers.{Deed, HasMoved, OrNothing, Does, Makes, MakesSome, Stops, Became, IsDeviceFault, HasFailed, IsLost, CountsMore, events_in}
+use Rattle.cluster.specs.Applying.{first_world}
 use Rattle.cluster.specs.Member.{GivenOutView, MemberView, HasPutOut, StandsAt, HasCollected, HasCollectedSome}
 use Rattle.cluster.specs.Outputs.{outputs_in}
 use Rattle.cluster.specs.declared.error.ClusterError.{ClusterError}
@@ -219,12 +219,12 @@ module _ {S D : Type 0} (scheme : Scheme S) (device : Device D) (accepts : Accep
 
 -- a member that gave nothing out stands where its runs begin
 pub begins_at : {S D : Type 0} (node : Node) (device : Device D) (member : MemberView S D) (desk : DeskView S D) → member.desk ≡ Some desk → member.out.outputs ≡ [] → member.out.order ≡ []
-    → IsAt node device (run_on (first_bytes node) [] []) desk → StandsAt node device (run_on (first_bytes node) [] []) member
+    → IsAt node device (first_world node) desk → StandsAt node device (first_world node) member
 begins_at {S} {D} node device member desk has outputs order at = record {
   sound = at.sound;
   moves = at.moves;
   run = at.run;
-  at = λ one same. subst (IsAt node device (run_on (first_bytes node) [] [])) (some_is desk one (sym has ∙ same)) at;
+  at = λ one same. subst (IsAt node device (first_world node)) (some_is desk one (sym has ∙ same)) at;
   out = record {
     outputs = sym outputs;
     order = record { given = inl order; begins = λ one other there told. absurd (omega (arith, there.1)) };

@@ -20,7 +20,7 @@ use Rattle.spec_model.specs.Admitting.{admit}
 use Rattle.header.specs.declared.admission.Admission.{Admission}
 use Rattle.header.specs.declared.admission.Admission.TheVariants.{New, Known}
 use Rattle.header.specs.declared.admission.Admission.TheVariants as admission
-use Rattle.spec_world.specs.Steps.{Move, accept, take_to, device_call, settle, release, read_order, restart, IsAnswered, IsStep, Leads}
+use Rattle.spec_world.specs.Steps.{Move, accept, take_to, device_call, settle, release, read_order, take_all, spare_call, settle_all, restart, IsAnswered, IsStep, Leads}
 use Rattle.spec_world.specs.World.{World}
 use Rattle.cluster.specs.Answers.{Deed, TakesIn, MakesRound, IsDeviceFault, HasMoved}
 use Rattle.cluster.specs.declared.moves.Applied.TheVariants.{Took, Refused, Unchecked, Settled, Fault}
@@ -46,6 +46,9 @@ step_given node (accept event) world next quiet step = answered_given world even
 step_given node (take_to count) world next quiet step = ap (λ (w : World). w.given) step.is
 step_given node device_call world next quiet step = ap (λ (w : World). w.given) step.is
 step_given node settle world next quiet step = ap (λ (w : World). w.given) step.is
+step_given node (take_all bytes) world next quiet step = ap (λ (w : World). w.given) step.is
+step_given node spare_call world next quiet step = ap (λ (w : World). w.given) step.is
+step_given node settle_all world next quiet step = ap (λ (w : World). w.given) step.is
 step_given node (restart found) world next quiet step = ap (λ (w : World). w.given) step.is
 step_given node (release waiting) world next quiet step = absurd quiet
 step_given node read_order world next quiet step = absurd quiet

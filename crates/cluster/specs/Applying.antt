@@ -13,7 +13,7 @@ use Rattle.spec_model.specs.Slots.{same_digest}
 use Rattle.spec_model.specs.Words.{Author, Digest, Event, Message}
 use Rattle.spec_world.specs.Runs.{first_bytes}
 use Rattle.spec_world.specs.Steps.{IsRun}
-use Rattle.spec_world.specs.World.{World, put_out, run_on}
+use Rattle.spec_world.specs.World.{World, put_out, alone_on, run_on}
 use Rattle.validator.specs.Setting.{node_of}
 use Rattle.wire.specs.declared.message.Message.TheVariants as message
 use Rattle.cluster.specs.Cluster.{at, actor, message_at, IsApplied}
@@ -70,9 +70,9 @@ pub record StandsAmong {S D : Type 0} (scheme : Scheme S) (device : Device D) (m
   pub set_up : node_of scheme member.setting ≡ own
   pub stands : StandsAt own device world member
 
--- the world in which a node's runs begin
+-- the world in which a node's runs begin on one disk
 abbrev pub first_world : Node → World
-first_world own = run_on (first_bytes own) [] []
+first_world own = run_on (alone_on (first_bytes own)) [] []
 
 -- a member of the committee is among these, is set up as the cluster says, and stands where its runs begin: so `new` leaves each one
 pub record BeginsAmong {S D : Type 0} (scheme : Scheme S) (device : Device D) (members : List (MemberView S D)) (cluster : spec.Cluster) (number : Author) : Type 0 where

@@ -49,11 +49,10 @@ impl<'a, S: Sign, D: StopDisk + Drop, V: Verify + Drop> Cluster<'a, S, D, V> {
     ghost use Rattle.std.specs.Prelude.{◌≡◌, ◌≢◌, ◌⊎◌, ◌↔◌, [], length, map, position, Some, None, vec_len, All, Contains, IfOk, IfErr, IfSome, IsNone, IsErrOf, option_copied, slice_get};
     ghost use Rattle.std.specs.List.{AllZip};
     ghost use Rattle.std.specs.Option.{option_and_then, option_map};
-    ghost use Rattle.spec_world.specs.Runs.{first_bytes};
     ghost use Rattle.spec_world.specs.Steps.{IsRun};
-    ghost use Rattle.spec_world.specs.World.{run_on};
     ghost use Rattle.validator.specs.Setting.{node_of};
     ghost use Rattle.cluster.specs.Answers.{Became, IsJournal, IsJournalFault, CountsMore};
+    ghost use Rattle.cluster.specs.Applying.{first_world};
     ghost use Rattle.cluster.specs.Member.{MemberView, StandsAt, IsOn, Proposes};
     ghost use Rattle.cluster.specs.Cluster.{named, at, has_member, message_at, asked_in, actor, IsAsked, IsApplied, IsThere, IsDelivery, LacksNode, LacksOutput, AreOfOne, AreDistinct};
     ghost use Rattle.cluster.specs.Threads.{HasRun};
@@ -76,8 +75,8 @@ impl<'a, S: Sign, D: StopDisk + Drop, V: Verify + Drop> Cluster<'a, S, D, V> {
         ensures settings { IfOk result (λ cluster. map (λ member. member.setting) cluster.members ≡ configs.now) }
         ensures verifier { IfOk result (λ cluster. cluster.verifier ≡ verifier) }
         // Each of them stands where its runs begin, before any move.
-        ensures runs { IfOk result (λ cluster. All (λ member. IsRun (node_of S.scheme member.setting) [] (run_on (first_bytes (node_of S.scheme member.setting)) [] [])) cluster.members) }
-        ensures begins { IfOk result (λ cluster. All (λ member. StandsAt (node_of S.scheme member.setting) D.device (run_on (first_bytes (node_of S.scheme member.setting)) [] []) member) cluster.members) }
+        ensures runs { IfOk result (λ cluster. All (λ member. IsRun (node_of S.scheme member.setting) [] (first_world (node_of S.scheme member.setting))) cluster.members) }
+        ensures begins { IfOk result (λ cluster. All (λ member. StandsAt (node_of S.scheme member.setting) D.device (first_world (node_of S.scheme member.setting)) member) cluster.members) }
         ensures up { IfOk result (λ cluster. All (λ member. member.desk ≢ None) cluster.members) }
         // Each has the disk at its place, as far as its count of failures tells.
         ensures disks { IfOk result (λ cluster. AllZip (IsOn D.device) disks.items cluster.members) }

@@ -48,13 +48,12 @@ impl<'a, S: Sign, D: StopDisk> Model for Member<'a, S, D> {
 
 impl<'a, S: Sign, D: StopDisk> Member<'a, S, D> {
     ghost use Rattle.std.specs.Prelude.{◌≡◌, ◌≢◌, ◌⊎◌, ◌↔◌, [], length, is_some, slice_get, Some, None, IfOk, IfErr, IfSome, IsNone, IsErrOf};
-    ghost use Rattle.spec_world.specs.Runs.{first_bytes};
     ghost use Rattle.spec_world.specs.Steps.{IsRun};
-    ghost use Rattle.spec_world.specs.World.{run_on};
     ghost use Rattle.validator.specs.Setting.{node_of};
     ghost use Rattle.desk.specs.Desk.{DeskView};
     ghost use Rattle.header.specs.Checks.{Accepts};
     ghost use Rattle.cluster.specs.Answers.{Became, IsJournal, IsJournalFault, CountsMore};
+    ghost use Rattle.cluster.specs.Applying.{first_world};
     ghost use Rattle.cluster.specs.Member.{StandsAt, IsOn, Proposes};
     ghost use Rattle.cluster.specs.declared.moves.Request.TheVariants.{Take, Round, Stop};
 
@@ -71,8 +70,8 @@ impl<'a, S: Sign, D: StopDisk> Member<'a, S, D> {
         D: Drop,
         ensures setting { IfOk result (λ member. member.setting ≡ config.now) }
         // On an empty disk it stands where its runs begin.
-        ensures begins { let node = node_of S.scheme config.now in IfOk result (λ member. D.device.content disk ≡ [] → StandsAt node D.device (run_on (first_bytes node) [] []) member) }
-        ensures runs { IfOk result (λ member. IsRun (node_of S.scheme member.setting) [] (run_on (first_bytes (node_of S.scheme member.setting)) [] [])) }
+        ensures begins { let node = node_of S.scheme config.now in IfOk result (λ member. D.device.content disk ≡ [] → StandsAt node D.device (first_world node) member) }
+        ensures runs { IfOk result (λ member. IsRun (node_of S.scheme member.setting) [] (first_world (node_of S.scheme member.setting))) }
         ensures up { IfOk result (λ member. member.desk ≢ None) }
         ensures disk { IfOk result (λ member. IsOn D.device disk member) }
         ensures errors { IfErr result (λ error. D.device.content disk ≡ [] → IsJournalFault error) }

@@ -5,10 +5,9 @@ use Rattle.std.specs.List.{AllZip}
 use Rattle.std.proofs.lemmas.List.{map-append}
 use Rattle.std.proofs.lemmas.List.Elements.{All-push, All-drop}
 use Rattle.std.proofs.lemmas.Result.{err_from_is_err_and}
-use Rattle.spec_world.specs.Runs.{first_bytes}
 use Rattle.spec_world.specs.Steps.{IsRun}
-use Rattle.spec_world.specs.World.{run_on}
 use Rattle.validator.specs.Setting.{ConfigView, node_of}
+use Rattle.cluster.specs.Applying.{first_world}
 use Rattle.cluster.specs.Member.{MemberView, StandsAt, IsOn}
 use Rattle.cluster.proofs.Acting.{zip_more}
 use Rattle.cluster.proofs.cluster.Cluster.new.Goals as goal
@@ -51,7 +50,7 @@ loop-config-preserved g c =
     let some : 0 < length disks = omega (arith, so_far.rest, c.loop-config.disks.ok.0) in
     let empty = ap g.D.Disk.device.content c.remove.ensures.value ∙ so_far.empty 0 c.remove.result some in
     let begins = subst (λ (s : ConfigView g.row.S.Denot). StandsAt (node_of g.S.Sign.scheme s) g.D.Disk.device
-    (run_on (first_bytes (node_of g.S.Sign.scheme s)) [] []) member) (sym c.in_ok-open.ensures.setting) (c.in_ok-open.ensures.begins empty) in
+    (first_world (node_of g.S.Sign.scheme s)) member) (sym c.in_ok-open.ensures.setting) (c.in_ok-open.ensures.begins empty) in
     let all = c.args.disks.items in
     let place = c.loop-config.config-index in
     let within : place < length all = omega (arith, some, ap length so_far.left, length-drop place all) in
@@ -69,13 +68,13 @@ loop-config-preserved g c =
           ∙ map-append (λ (m : MemberView g.row.S.Denot g.row.D.Denot). m.setting) c.loop-config.members.items (member ∷ [])
           ∙ (λ i. so_far.settings i ++ own i ∷ []) ∙ sym more ∙ ap (λ n. take n c.args.configs.now) number;
       runs = subst (All (λ (m : MemberView g.row.S.Denot g.row.D.Denot). IsRun (node_of g.S.Sign.scheme m.setting) []
-          (run_on (first_bytes (node_of g.S.Sign.scheme m.setting)) [] []))) (sym items)
+          (first_world (node_of g.S.Sign.scheme m.setting)))) (sym items)
           (All-push (λ (m : MemberView g.row.S.Denot g.row.D.Denot). IsRun (node_of g.S.Sign.scheme m.setting) []
-          (run_on (first_bytes (node_of g.S.Sign.scheme m.setting)) [] [])) c.loop-config.members.items member so_far.runs c.in_ok-open.ensures.runs);
+          (first_world (node_of g.S.Sign.scheme m.setting))) c.loop-config.members.items member so_far.runs c.in_ok-open.ensures.runs);
       begins = subst (All (λ (m : MemberView g.row.S.Denot g.row.D.Denot). StandsAt (node_of g.S.Sign.scheme m.setting) g.D.Disk.device
-          (run_on (first_bytes (node_of g.S.Sign.scheme m.setting)) [] []) m)) (sym items)
+          (first_world (node_of g.S.Sign.scheme m.setting)) m)) (sym items)
           (All-push (λ (m : MemberView g.row.S.Denot g.row.D.Denot). StandsAt (node_of g.S.Sign.scheme m.setting) g.D.Disk.device
-          (run_on (first_bytes (node_of g.S.Sign.scheme m.setting)) [] []) m) c.loop-config.members.items member so_far.begins begins);
+          (first_world (node_of g.S.Sign.scheme m.setting)) m) c.loop-config.members.items member so_far.begins begins);
       up = subst (All (λ (m : MemberView g.row.S.Denot g.row.D.Denot). m.desk ≢ None)) (sym items)
           (All-push (λ (m : MemberView g.row.S.Denot g.row.D.Denot). m.desk ≢ None) c.loop-config.members.items member so_far.up
           c.in_ok-open.ensures.up);
