@@ -6,26 +6,32 @@ use Rattle.std.specs.Option.{option_and_then, option_map, option_to_list}
 use Rattle.std.proofs.lemmas.List.{append-nil, length-map}
 use Rattle.std.proofs.lemmas.List.Elements.{All-head, All-tail}
 use Rattle.std.proofs.lemmas.Option.{same_Some}
+use Rattle.journal.specs.Areas.{alone, stands_in}
 use Rattle.journal.specs.Format.{stands}
 use Rattle.journal.specs.declared.error.JournalError.{JournalError}
 use Rattle.journal.specs.declared.record.Record.{Record}
 use Rattle.journal.specs.declared.version.Version.{Version}
+use Rattle.spec_machine.specs.After.{after_all, IsLegalAfter}
 use Rattle.spec_machine.specs.Laws.{StartsFresh}
+use Rattle.spec_machine.proofs.AfterAll.{after_is_kept, legal_again}
 use Rattle.spec_model.specs.Admitting.{IsTaken, IsLegal}
 use Rattle.spec_model.specs.Giving.{kept}
 use Rattle.spec_model.specs.Holdings.{order, round, floor}
 use Rattle.spec_model.specs.Histories.{History, headers, as_header}
 use Rattle.spec_model.specs.Nodes.{Node, IsNode}
+use Rattle.spec_model.specs.States.{State}
 use Rattle.spec_model.specs.Words.{Digest, Event, Header}
 use Rattle.spec_records.specs.Records.{record_of}
-use Rattle.spec_world.specs.World.{StandsFor, bytes_of, journal_of, as_journal, as_new}
+use Rattle.spec_world.specs.World as world
+use Rattle.spec_world.specs.World.{bytes_of, IsJournal, own, BeginsAs, as_fresh, as_checkpoint, StandsFor}
+use Rattle.spec_world.proofs.Recovering.{stands_once}
 use Rattle.opening.specs.Told.{IsText, event_in, read_journal, told, Tells, StandsAt}
 use Rattle.opening.proofs.EventRecords.{record_read}
-use Rattle.opening.proofs.Laws.{found_records}
+use Rattle.opening.proofs.Laws.{alone_stands, legal_empty, found_records}
 use Rattle.opening.proofs.Telling.{told_records, tells_same}
 use Rattle.admission.specs.declared.tables.Tables.{Tables}
 use Rattle.validator.specs.Standing.{AreAtSound}
-use Rattle.journal_account.specs.Accounts.{IsReadAt, given_to, given_by, given_in, Sums, AreVotes, AreOrdered}
+use Rattle.journal_account.specs.Accounts.{HasEvents, as_journal, as_new, IsReadAt, given_to, given_by, given_in, Sums, AreVotes, AreOrdered}
 use Rattle.journal_account.specs.declared.summary.Summary.{Summary}
 use Rattle.journal_account.specs.declared.votes.Given.{Given}
 
@@ -49,32 +55,76 @@ same_events node (event ∷ events) (next ∷ more) sound taken too same =
     λ i. first i ∷ others i
 
 -- what stands for no records is no journal
-no_journal : (version : Version) (node : Node) (history : History) (records : List Record) → bytes_of records ≡ journal_of version node history → records ≡ [] → ⊥
-no_journal version node history records are none = omega (arith, ap length (sym (ap bytes_of none) ∙ are))
+no_journal : (node : Node) (bytes : List ℕ) (version : Version) (events : History) → IsJournal (stands bytes) (own version node ∷ []) 1 events → stands bytes ≡ Ok [] → ⊥
+no_journal node bytes version events is none =
+    let same = records_are is.records [] (sym is.stands_for ∙ none) in
+    omega (arith, ap length (sym (ap bytes_of same) ∙ is.are))
 
--- bytes stand for one history
-one_history : (node : Node) (bytes : List ℕ) (history other : History) → IsNode node → StandsFor node bytes history → StandsFor node bytes other → other ≡ history
-one_history node bytes history other sound (as_journal one) (as_journal two) =
+-- bytes are a journal with one list of events
+one_history : (node : Node) (bytes : List ℕ) (history other : History) → IsNode node → HasEvents node bytes history → HasEvents node bytes other → other ≡ history
+one_history node bytes history other sound (as_journal version can one taken) (as_journal version' can' two too) =
     let records = records_are two.records one.records (sym two.stands_for ∙ one.stands_for) in
-    let same : journal_of two.version node other ≡ journal_of one.version node history = sym two.are ∙ ap bytes_of records ∙ one.are in
-    same_events node other history sound two.each_taken one.each_taken (ap (λ (l : List (List ℕ)). drop 1 l) same)
-one_history node bytes history other sound (as_journal one) (as_new none empty) =
-    absurd (no_journal one.version node history one.records one.are (records_are one.records [] (sym one.stands_for ∙ none)))
-one_history node bytes history other sound (as_new none empty) (as_journal two) =
-    absurd (no_journal two.version node other two.records two.are (records_are two.records [] (sym two.stands_for ∙ none)))
+    let same : own version' node ∷ map record_of other ≡ own version node ∷ map record_of history = sym two.are ∙ ap bytes_of records ∙ one.are in
+    same_events node other history sound too taken (ap (λ (l : List (List ℕ)). drop 1 l) same)
+one_history node bytes history other sound (as_journal version can one taken) (as_new none empty) = absurd (no_journal node bytes version history one none)
+one_history node bytes history other sound (as_new none empty) (as_journal version can two taken) = absurd (no_journal node bytes version other two none)
 one_history node bytes history other sound (as_new none empty) (as_new nothing too) = too ∙ sym empty
+
+-- bytes are a journal with the events of a legal history, of which a state is kept
+record IsOfEvents (node : Node) (bytes : List ℕ) (state : State) : Type 0 where
+  pub history : History
+  pub legal : IsLegal node history
+  pub has : HasEvents node bytes history
+  pub keeps : kept node history ≡ state
+
+-- so they are where they are a journal that begins with the configuration alone
+begun_events : StartsFresh → (node : Node) (bytes : List ℕ) (front : List (List ℕ)) (in_first : ℕ) (base state : State) (events : History) → IsLegalAfter node base events
+    → after_all node base events ≡ state → IsJournal (stands_in (alone bytes)) front in_first events → BeginsAs node (alone bytes) front in_first base → IsOfEvents node bytes state
+begun_events starts node bytes front in_first base state events after leads is (as_fresh version can front_is first base_is) =
+    let fresh_is : base ≡ kept node [] = base_is ∙ sym (starts node) in
+    let legal : IsLegal node events = legal_again node [] events (legal_empty node after.node_is) (subst (λ (s : State). IsLegalAfter node s events) fresh_is after) in
+    record {
+      history = events;
+      legal = legal;
+      has = as_journal version can
+          (subst (λ (n : ℕ). IsJournal (stands bytes) (own version node ∷ []) n events) first
+          (subst (λ (l : List (List ℕ)). IsJournal (stands bytes) l in_first events) front_is
+          (subst (λ (read : Result (List Record) ℕ). IsJournal read front in_first events) (alone_stands bytes) is)))
+          after.taken;
+      keeps = sym (after_is_kept node [] events legal) ∙ ap (λ (s : State). after_all node s events) (sym fresh_is) ∙ leads;
+    }
+begun_events starts node bytes front in_first base state events after leads is (as_checkpoint version generation kept_data two can written front_is first base_is) = absurd two
+
+-- and so where they stand for a state
+of_events : StartsFresh → (node : Node) (bytes : List ℕ) (state : State) → IsNode node → StandsFor node (alone bytes) state → IsOfEvents node bytes state
+of_events starts node bytes state sound (world.as_journal held) = begun_events starts node bytes held.front held.in_first held.base state held.events held.legal held.leads held.journal held.begins
+of_events starts node bytes state sound (world.as_new none is) = record {
+  history = [];
+  legal = legal_empty node sound;
+  has = as_new (sym (alone_stands bytes) ∙ none) refl;
+  keeps = starts node ∙ sym is;
+}
+
+-- bytes stand for one state
+one_state : (node : Node) (bytes : List ℕ) (state other : State) → StandsFor node (alone bytes) state → StandsFor node (alone bytes) other → other ≡ state
+one_state node bytes state other (world.as_journal held) also = stands_once node (alone bytes) state other held also
+one_state node bytes state other (world.as_new none is) (world.as_journal held) = sym (stands_once node (alone bytes) other state held (world.as_new none is))
+one_state node bytes state other (world.as_new none is) (world.as_new nothing too) = too ∙ sym is
 
 -- where tables stand at what records are read as, they stand at what is kept of a history that bytes are read as
 read_at : StartsFresh → (node : Node) (bytes : List ℕ) (records : List Record) (tables : Tables) → IsNode node → All IsText (drop 1 records)
     → StandsAt node (read_journal node records) tables → stands bytes ≡ Ok records → IsReadAt node bytes tables
 read_at starts node bytes records tables sound texts found is =
-    let of_bytes = found_records starts node bytes found.state records sound texts is found.is_read in
+    let stands_for = (found_records starts node bytes found.state records sound texts is found.is_read).stands_for in
+    let of_bytes = of_events starts node bytes found.state sound stands_for in
     record {
       history = of_bytes.history;
       read_as = record {
         legal = of_bytes.legal;
-        stands_for = of_bytes.stands_for;
-        only = λ other stands. one_history node bytes of_bytes.history other sound of_bytes.stands_for stands;
+        has = of_bytes.has;
+        only = λ other has. one_history node bytes of_bytes.history other sound of_bytes.has has;
+        stands_for = subst (StandsFor node (alone bytes)) (sym of_bytes.keeps) stands_for;
+        one_state = λ other stands. one_state node bytes found.state other stands_for stands ∙ sym of_bytes.keeps;
         is_told = told_records node bytes records is ∙ found.is_read ∙ ap Ok (sym of_bytes.keeps);
       };
       at = subst (AreAtSound node tables) (sym of_bytes.keeps) found.at;
@@ -117,7 +167,7 @@ pub record IsCounted (node : Node) (records : List Record) (history : History) :
   pub counts : length history ≡ length (drop 1 records)
   pub votes : filter_map (given_in node.charter) (drop 1 records) ≡ map given_to (headers history)
 
-counted_held : (version : Version) (node : Node) (records : List Record) (history : History) → IsLegal node history → bytes_of records ≡ journal_of version node history
+counted_held : (version : Version) (node : Node) (records : List Record) (history : History) → IsLegal node history → bytes_of records ≡ own version node ∷ map record_of history
     → IsCounted node records history
 counted_held version node [] history legal are = absurd (omega (arith, ap length are))
 counted_held version node (first ∷ rest) history legal are =
@@ -127,11 +177,11 @@ counted_held version node (first ∷ rest) history legal are =
       votes = votes_in node rest history legal.sound same legal.taken;
     }
 
-counted : (node : Node) (bytes : List ℕ) (records : List Record) (history : History) → stands bytes ≡ Ok records → IsLegal node history → StandsFor node bytes history
+counted : (node : Node) (bytes : List ℕ) (records : List Record) (history : History) → stands bytes ≡ Ok records → IsLegal node history → HasEvents node bytes history
     → IsCounted node records history
-counted node bytes records history is legal (as_journal held) =
+counted node bytes records history is legal (as_journal version can held taken) =
     subst (λ (l : List Record). IsCounted node l history) (records_are held.records records (sym held.stands_for ∙ is))
-    (counted_held held.version node held.records history legal held.are)
+    (counted_held version node held.records history legal held.are)
 counted node bytes records history is legal (as_new none empty) =
     let new : IsCounted node [] [] = record { counts = refl; votes = refl } in
     subst (λ (l : List Record). IsCounted node l history) (records_are [] records (sym none ∙ is)) (subst (λ (h : History). IsCounted node [] h) (sym empty) new)
@@ -144,7 +194,7 @@ behind_first (first ∷ rest) = omega (arith)
 
 module _ (node : Node) (bytes : List ℕ) (records : List Record) (tables : Tables) (is : stands bytes ≡ Ok records) (found : IsReadAt node bytes tables) where
   are_counted : IsCounted node records found.history
-  are_counted = counted node bytes records found.history is found.read_as.legal found.read_as.stands_for
+  are_counted = counted node bytes records found.history is found.read_as.legal found.read_as.has
 
   pub sums_are : (summary : Summary) → summary.events ≡ length records - 1
       → ((history : History) → AreAtSound node tables (kept node history) → summary.order ≡ length (order node history))
