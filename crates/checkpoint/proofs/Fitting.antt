@@ -1,17 +1,16 @@
 -- Each record of a checkpoint that a node writes fits a group.
-use Rattle.std.proofs.Common.{◌≡◌, ◌≤◌, ◌<◌, ℕ, ◌+◌, ◌*◌, List, [], ◌∷◌, ◌++◌, length, map, take, drop, get_or, Vec, Global, refl, sym, ap, ◌∙◌, subst, arith, length-append}
+use Rattle.std.proofs.Common.{◌≡◌, ◌≤◌, ℕ, ◌+◌, ◌*◌, List, ◌∷◌, ◌++◌, length, map, take, drop, refl, sym, ap, ◌∙◌, subst, arith, length-append}
 use Rattle.std.specs.Prelude.{All}
 use Rattle.std.specs.List.{flat_map, range_with_len}
 use Rattle.std.specs.Int.{w16, w64, to_be_bytes}
-use Rattle.std.proofs.lemmas.List.{length-take, length-map, get_or-map}
-use Rattle.std.proofs.lemmas.List.Elements.{All-append, All-drop, All-get_or, All-map, All-take, All-weaker}
+use Rattle.std.proofs.lemmas.List.{length-take}
+use Rattle.std.proofs.lemmas.List.Elements.{All-append, All-drop, All-map, All-take, All-weaker}
 use Rattle.wire.proofs.Lengths.{same_length, header_length}
 use Rattle.wire.proofs.Transactions.{body_has}
 use Rattle.wire.specs.Batches.{batch_body}
 use Rattle.wire.specs.Fields.{IsDigest}
 use Rattle.wire.specs.References.{AreVotes, IsVoteEntry}
 use Rattle.wire.specs.Spelling.{header_body, vote_entry_bytes, votes_bytes}
-use Rattle.journal.specs.Format.{contents}
 use Rattle.journal.specs.Snapshot.{FitsAlone}
 use Rattle.spec_checkpoint.specs.Data.{Checkpoint, IsCanonical, IsKeptBatch, IsKeptCertificate, IsKeptHeader, IsKeptVote, KeptBatch, KeptHeader, KeptVote}
 use Rattle.spec_checkpoint.specs.Records.{COINS_PIECE, ORDER_PIECE, batch_record, certificate_record, coins_record, cut, header_record, order_record, state_records, vote_record}
@@ -21,12 +20,6 @@ use Rattle.spec_model.specs.Words.{Certificate, Digest, VoteEntry}
 -- a record that leaves room for its length fits a group
 pub short_fits : (bytes : List ℕ) → length bytes ≤ 4194300 → FitsAlone bytes
 short_fits bytes short = record { some = omega arith; not_many = omega arith; not_long = omega (arith, short) }
-
--- one of records that all fit does
-pub alone_at : (records : List (Vec ℕ Global)) (i : ℕ) (one : Vec ℕ Global) → i < length records → one ≡ get_or records i one → All FitsAlone (contents records) → FitsAlone one.items
-alone_at records i one inside is all =
-    let items : Vec ℕ Global → List ℕ = λ row. row.items in
-    subst FitsAlone (get_or-map items records i one [] inside ∙ ap items (sym is)) (All-get_or FitsAlone (contents records) i [] (omega (arith, length-map records items)) all)
 
 -- ---- each kind of record
 
@@ -90,7 +83,8 @@ records_fit node checkpoint is =
     let order = checkpoint.order in
     let coins = checkpoint.coins in
     let order_rows = All-map FitsAlone order_record (cut ORDER_PIECE order) (pieces (λ piece. FitsAlone (order_record piece)) ORDER_PIECE order
-    (λ from. order_fits (take ORDER_PIECE (drop from order)) (All-take IsDigest ORDER_PIECE (drop from order) (All-drop IsDigest from order is.order)) (omega (arith, length-take ORDER_PIECE (drop from order))))) in
+    (λ from. order_fits (take ORDER_PIECE (drop from order)) (All-take IsDigest ORDER_PIECE (drop from order) (All-drop IsDigest from order is.order))
+    (omega (arith, length-take ORDER_PIECE (drop from order))))) in
     let coin_rows = All-map FitsAlone coins_record (cut COINS_PIECE coins) (pieces (λ piece. FitsAlone (coins_record piece)) COINS_PIECE coins
     (λ from. coins_fit (take COINS_PIECE (drop from coins)) (omega (arith, length-take COINS_PIECE (drop from coins))))) in
     let batches = rows batch_record (IsKeptBatch node) checkpoint.batches (batch_fits node) is.batches in

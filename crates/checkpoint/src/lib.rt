@@ -5,6 +5,7 @@ mod configuration;
 mod describing;
 mod parts;
 mod records;
+mod sink;
 mod snapshot;
 
 ghost use Rattle.checkpoint.specs.Kept.{CheckpointIsState};

@@ -4,13 +4,14 @@ mod batch;
 mod messages;
 mod pieces;
 
-ghost use Rattle.std.specs.Prelude.{◌≡◌, ◌++◌, map, IfOk, OnOk};
+ghost use Rattle.std.specs.Prelude.{◌≡◌, ◌++◌, All, map, IfOk, OnOk};
 ghost use Rattle.journal.specs.Format.{contents};
 ghost use Rattle.spec_checkpoint.specs.Records as records;
 ghost use Rattle.checkpoint.specs.Kept.{checkpoint_of, batch_of, vote_of, header_of, certificate_of};
 
+use crate::sink::{RecordSink, put_row};
 use admission::{Kept, VotedHeader};
-use batch::batch_record;
+use batch::put_batch;
 use batchstore::Held;
 use messages::{certificate_record, header_record, vote_record};
 use pieces::{COINS_PIECE, ORDER_PIECE, coins_record, order_record, piece_at};
@@ -30,95 +31,107 @@ pub fn records_of(alloc: Global, kept: &Kept) -> Result<Vec<Vec<u8>>, AllocError
 }
 
 /// Puts the records of what is kept after others.
-pub fn put_records(alloc: Global, rows: &mut Vec<Vec<u8>>, kept: &Kept) -> Result<(), AllocError>
-    ensures { OnOk result (contents rows.new.items ≡ contents rows.old.items ++ records.state_records (checkpoint_of kept.now)) }
+pub fn put_records<S: RecordSink>(
+    alloc: Global,
+    sink: &mut S,
+    kept: &Kept,
+) -> Result<(), AllocError>
+    requires { All S.fits (records.state_records (checkpoint_of kept.now)) }
+    ensures { OnOk result (S.records sink.new ≡ S.records sink.old ++ records.state_records (checkpoint_of kept.now)) }
 {
-    put_order(alloc, rows, &kept.order)?;
-    put_batches(alloc, rows, &kept.batches)?;
-    put_votes(alloc, rows, &kept.votes)?;
-    put_headers(alloc, rows, &kept.headers)?;
-    put_certificates(alloc, rows, &kept.certificates)?;
-    put_coins(alloc, rows, &kept.coins)
+    put_order(alloc, sink, &kept.order)?;
+    put_batches(alloc, sink, &kept.batches)?;
+    put_votes(alloc, sink, &kept.votes)?;
+    put_headers(alloc, sink, &kept.headers)?;
+    put_certificates(alloc, sink, &kept.certificates)?;
+    put_coins(alloc, sink, &kept.coins)
 }
 
 /// Puts the records of pieces of the order after others.
-fn put_order(alloc: Global, rows: &mut Vec<Vec<u8>>, order: &[Digest]) -> Result<(), AllocError>
-    ensures { OnOk result (contents rows.new.items ≡ contents rows.old.items ++ map records.order_record (records.cut ORDER_PIECE order.now)) }
+fn put_order<S: RecordSink>(alloc: Global, sink: &mut S, order: &[Digest]) -> Result<(), AllocError>
+    requires { All S.fits (map records.order_record (records.cut ORDER_PIECE order.now)) }
+    ensures { OnOk result (S.records sink.new ≡ S.records sink.old ++ map records.order_record (records.cut ORDER_PIECE order.now)) }
 {
     let count = (order.len() + (ORDER_PIECE - 1)) / ORDER_PIECE;
     for piece in 0..count {
-        rows.push(order_record(alloc, piece_at(order, ORDER_PIECE, piece))?)?;
+        let row = order_record(alloc, piece_at(order, ORDER_PIECE, piece))?;
+        put_row(alloc, sink, row.as_slice())?;
     }
     Ok(())
 }
 
 /// Puts the records of batches after others.
-#[tactic(auto, using(crate::proofs::RowsMore::row_more))]
-fn put_batches(
+fn put_batches<S: RecordSink>(
     alloc: Global,
-    rows: &mut Vec<Vec<u8>>,
+    sink: &mut S,
     batches: &[(Digest, Held)],
 ) -> Result<(), AllocError>
-    ensures { OnOk result (contents rows.new.items ≡ contents rows.old.items ++ map records.batch_record (map batch_of batches.now)) }
+    requires { All S.fits (map records.batch_record (map batch_of batches.now)) }
+    ensures { OnOk result (S.records sink.new ≡ S.records sink.old ++ map records.batch_record (map batch_of batches.now)) }
 {
     for entry in batches {
-        rows.push(batch_record(alloc, &entry.1)?)?;
+        put_batch(alloc, sink, &entry.1)?;
     }
     Ok(())
 }
 
 /// Puts the records of votes for others after others.
-#[tactic(auto, using(crate::proofs::RowsMore::row_more))]
-fn put_votes(
+fn put_votes<S: RecordSink>(
     alloc: Global,
-    rows: &mut Vec<Vec<u8>>,
+    sink: &mut S,
     votes: &[(Slot, Digest)],
 ) -> Result<(), AllocError>
-    ensures { OnOk result (contents rows.new.items ≡ contents rows.old.items ++ map records.vote_record (map vote_of votes.now)) }
+    requires { All S.fits (map records.vote_record (map vote_of votes.now)) }
+    ensures { OnOk result (S.records sink.new ≡ S.records sink.old ++ map records.vote_record (map vote_of votes.now)) }
 {
     for vote in votes {
-        rows.push(vote_record(alloc, vote)?)?;
+        let row = vote_record(alloc, vote)?;
+        put_row(alloc, sink, row.as_slice())?;
     }
     Ok(())
 }
 
 /// Puts the records of own headers after others.
-#[tactic(auto, using(crate::proofs::RowsMore::row_more))]
-fn put_headers(
+fn put_headers<S: RecordSink>(
     alloc: Global,
-    rows: &mut Vec<Vec<u8>>,
+    sink: &mut S,
     headers: &[VotedHeader],
 ) -> Result<(), AllocError>
-    ensures { OnOk result (contents rows.new.items ≡ contents rows.old.items ++ map records.header_record (map header_of headers.now)) }
+    requires { All S.fits (map records.header_record (map header_of headers.now)) }
+    ensures { OnOk result (S.records sink.new ≡ S.records sink.old ++ map records.header_record (map header_of headers.now)) }
 {
     for voted in headers {
-        rows.push(header_record(alloc, voted)?)?;
+        let row = header_record(alloc, voted)?;
+        put_row(alloc, sink, row.as_slice())?;
     }
     Ok(())
 }
 
 /// Puts the records of certificates after others.
-#[tactic(auto, using(crate::proofs::RowsMore::row_more))]
-fn put_certificates(
+fn put_certificates<S: RecordSink>(
     alloc: Global,
-    rows: &mut Vec<Vec<u8>>,
+    sink: &mut S,
     certificates: &[(Certificate, Digest)],
 ) -> Result<(), AllocError>
-    ensures { OnOk result (contents rows.new.items ≡ contents rows.old.items ++ map records.certificate_record (map certificate_of certificates.now)) }
+    requires { All S.fits (map records.certificate_record (map certificate_of certificates.now)) }
+    ensures { OnOk result (S.records sink.new ≡ S.records sink.old ++ map records.certificate_record (map certificate_of certificates.now)) }
 {
     for entry in certificates {
-        rows.push(certificate_record(alloc, &entry.0)?)?;
+        let row = certificate_record(alloc, &entry.0)?;
+        put_row(alloc, sink, row.as_slice())?;
     }
     Ok(())
 }
 
 /// Puts the records of pieces of the coins after others.
-fn put_coins(alloc: Global, rows: &mut Vec<Vec<u8>>, coins: &Coins) -> Result<(), AllocError>
-    ensures { OnOk result (contents rows.new.items ≡ contents rows.old.items ++ map records.coins_record (records.cut COINS_PIECE coins.now)) }
+fn put_coins<S: RecordSink>(alloc: Global, sink: &mut S, coins: &Coins) -> Result<(), AllocError>
+    requires { All S.fits (map records.coins_record (records.cut COINS_PIECE coins.now)) }
+    ensures { OnOk result (S.records sink.new ≡ S.records sink.old ++ map records.coins_record (records.cut COINS_PIECE coins.now)) }
 {
     let count = (coins.count() + (COINS_PIECE - 1)) / COINS_PIECE;
     for piece in 0..count {
-        rows.push(coins_record(alloc, coins, COINS_PIECE * piece)?)?;
+        let row = coins_record(alloc, coins, COINS_PIECE * piece)?;
+        put_row(alloc, sink, row.as_slice())?;
     }
     Ok(())
 }

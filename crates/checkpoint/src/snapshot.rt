@@ -1,8 +1,6 @@
 //! The checkpoint of a node's tables, as a journal writes it.
 
-ghost use Rattle.std.specs.Prelude.{◌≡◌, ◌++◌, All, IfOk, OnOk};
-ghost use Rattle.journal.specs.Format.{contents};
-ghost use Rattle.journal.specs.Snapshot.{FitsAlone};
+ghost use Rattle.std.specs.Prelude.{◌≡◌, IfOk};
 ghost use Rattle.spec_machine.specs.Sound.{IsSound};
 ghost use Rattle.spec_model.specs.Nodes.{Node, IsNode};
 ghost use Rattle.spec_model.specs.States.{State};
@@ -12,7 +10,7 @@ ghost use Rattle.checkpoint.specs.Describes.{Describes, StandFor};
 use crate::checkpoint_is_state;
 use crate::configuration::configuration_record;
 use crate::parts::parts_of;
-use crate::records::records_of;
+use crate::records::put_records;
 use admission::Tables;
 use journal::{Snapshot, SnapshotDraft, Version};
 use std::alloc::{AllocError, Global};
@@ -30,18 +28,6 @@ pub fn snapshot_of(alloc: Global, own: Author, tables: &Tables) -> Result<Snapsh
     let configuration = configuration_record(alloc, Version::Second, committee, own)?;
     let mut draft = SnapshotDraft::new(alloc, configuration.as_slice())?;
     let kept = parts_of(alloc, tables)?;
-    let rows = records_of(alloc, &kept)?;
-    push_all(&mut draft, rows.as_slice())?;
+    put_records(alloc, &mut draft, &kept)?;
     Ok(draft.close())
-}
-
-/// Puts records after those of a checkpoint.
-fn push_all(draft: &mut SnapshotDraft, rows: &[Vec<u8>]) -> Result<(), AllocError>
-    requires { All FitsAlone (contents rows.now) }
-    ensures { OnOk result (draft.new ≡ draft.old ++ contents rows.now) }
-{
-    for row in rows {
-        draft.push(&[row.as_slice()])?;
-    }
-    Ok(())
 }

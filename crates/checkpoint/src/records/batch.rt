@@ -1,11 +1,13 @@
 //! The record of a batch.
 
-ghost use Rattle.std.specs.Prelude.{◌≡◌, ◌≤◌, ◌++◌, length, flat_map, IfOk, OnOk, if◌then◌else◌};
+ghost use Rattle.std.specs.Prelude.{◌≡◌, ◌≤◌, ◌++◌, ◌∷◌, [], length, flat_map, IfOk, OnOk, if◌then◌else◌};
 ghost use Rattle.std.specs.Int.{w16, to_be_bytes};
+ghost use Rattle.wire.specs.Batches.{batch_body};
 ghost use Rattle.committee.specs.declared.members.TheConstants.{MAX_MEMBERS};
 ghost use Rattle.spec_checkpoint.specs.Records as records;
 ghost use Rattle.checkpoint.specs.Kept.{keep_of, members_in};
 
+use crate::sink::RecordSink;
 use batchstore::Held;
 use committee::{MAX_MEMBERS, MemberSet};
 use std::alloc::{AllocError, Global};
@@ -15,9 +17,19 @@ use wire::numbers::two_bytes;
 /// The kind of a batch's record.
 const BATCH: u8 = 4;
 
-/// A batch: its kind, whether an own header names it, the other members who acknowledged it after their count, and its body.
-pub fn batch_record(alloc: Global, held: &Held) -> Result<Vec<u8>, AllocError>
-    ensures { IfOk result (λ bytes. bytes.items ≡ records.batch_record (keep_of held.now)) }
+/// Puts the record of a batch after others. Its body is a part of its own, so it is copied once.
+pub fn put_batch<S: RecordSink>(alloc: Global, sink: &mut S, held: &Held) -> Result<(), AllocError>
+    requires { S.fits (records.batch_record (keep_of held.now)) }
+    ensures { OnOk result (S.records sink.new ≡ S.records sink.old ++ records.batch_record (keep_of held.now) ∷ []) }
+{
+    let head = batch_head(alloc, held)?;
+    sink.put(alloc, &[head.as_slice(), held.batch().body()])
+}
+
+/// What stands before a batch's body: its kind, whether an own header names it, the other members who acknowledged it
+/// after their count.
+fn batch_head(alloc: Global, held: &Held) -> Result<Vec<u8>, AllocError>
+    ensures { IfOk result (λ bytes. bytes.items ++ batch_body held.now.batch ≡ records.batch_record (keep_of held.now)) }
 {
     let members = held.acknowledged();
     let mut bytes = Vec::new(alloc);
@@ -25,7 +37,6 @@ pub fn batch_record(alloc: Global, held: &Held) -> Result<Vec<u8>, AllocError>
     bytes.push(mark_byte(held.is_named()))?;
     bytes.extend_from_slice(&two_bytes(count_of(&members)))?;
     put_members(&mut bytes, &members)?;
-    bytes.extend_from_slice(held.batch().body())?;
     Ok(bytes)
 }
 

@@ -2,8 +2,6 @@ use Rattle.std.proofs.Common.{◌≡◌, ℕ, List, [], ◌∷◌, ◌++◌, ap,
 use Rattle.std.specs.Prelude.{All}
 use Rattle.committee.specs.Charter.{Charter}
 use Rattle.dag.specs.Graph.{DagView}
-use Rattle.journal.specs.Format.{contents}
-use Rattle.journal.specs.Snapshot.{FitsAlone}
 use Rattle.journal.specs.declared.version.Version.TheVariants.{Second}
 use Rattle.sequencer.specs.Sequence.{SequencerView}
 use Rattle.spec_checkpoint.specs.Records.{state_records}
@@ -15,13 +13,13 @@ use Rattle.checkpoint.specs.Kept.{AreOfOthers, checkpoint_of}
 use Rattle.checkpoint.proofs.Fitting.{records_fit}
 use Rattle.checkpoint.proofs.snapshot.snapshot_of.Goals as goal
 
-pub push_all-requires : goal.push_all-requires
-push_all-requires c =
+pub put_records-requires : goal.put_records-requires
+put_records-requires c =
     let (node, state, stand) = c.requires in
     let kept = c.in_ok-kept.kept in
     let others = subst (λ (member : ℕ). All (AreOfOthers member) kept.headers.items) stand.at.headers.own c.in_ok-kept.ensures.others in
     let same = c.checkpoint_is_state.ensures node state kept (c.in_ok-kept.ensures.kept node state stand.node_is stand.sound stand.at) others in
-    subst (All FitsAlone) (sym (ap contents c.as_slice-2.ensures.value ∙ c.in_ok-rows.ensures)) (records_fit node (checkpoint_of kept) same.0.canonical)
+    records_fit node (checkpoint_of kept) same.0.canonical
 
 pub returns : goal.returns
 returns c = λ node state own node_is sound at.
@@ -40,6 +38,6 @@ returns c = λ node state own node_is sound at.
       written = same.0;
       sound = subst (IsSound node) (sym same.1) sound;
       at = subst (λ (s : State). AreAt node s tables) (sym same.1) at;
-      are = c.close.ensures ∙ c.in_ok-push_all.ensures ∙ ap (λ (l : List (List ℕ)). l ++ contents c.as_slice-2.result.now) (c.in_ok-draft.ensures ∙ ap (λ (text : List ℕ). text ∷ []) (c.as_slice.ensures.value ∙ first))
-          ∙ ap (λ (l : List (List ℕ)). configuration_of Second node.charter node.own ∷ l) (ap contents c.as_slice-2.ensures.value ∙ c.in_ok-rows.ensures);
+      are = c.close.ensures ∙ c.in_ok-put_records.ensures
+          ∙ ap (λ (l : List (List ℕ)). l ++ records) (c.in_ok-draft.ensures ∙ ap (λ (text : List ℕ). text ∷ []) (c.as_slice.ensures.value ∙ first));
     }

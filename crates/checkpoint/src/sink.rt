@@ -1,0 +1,69 @@
+//! What takes the records of a checkpoint.
+
+ghost use Rattle.std.specs.Prelude.{◌≡◌, ◌++◌, ◌∷◌, [], IfOk, OnOk};
+ghost use Rattle.journal.specs.Drafts.{whole};
+
+use journal::SnapshotDraft;
+use std::alloc::{AllocError, Global};
+
+/// What takes the records of a checkpoint, one after the other, each in parts. So they go straight where they are wanted.
+pub trait RecordSink {
+    ghost use Rattle.std.specs.Prelude.{List, ℕ};
+
+    // Its records so far.
+    ghost records: { Self → List (List ℕ) };
+
+    // It takes such a record.
+    ghost fits: { List ℕ → Type 0 };
+
+    /// Puts a record of these parts after the others. `AllocError` where an allocation failed.
+    fn put(&mut self, alloc: Global, parts: &[&[u8]]) -> Result<(), AllocError>
+        requires { fits (whole parts.now) }
+        ensures { OnOk result (records self.new ≡ records self.old ++ whole parts.now ∷ []) };
+}
+
+impl RecordSink for SnapshotDraft {
+    ghost use Rattle.journal.specs.Snapshot.{FitsAlone};
+
+    ghost records = { λ draft. draft };
+
+    ghost fits = { FitsAlone };
+
+    fn put(&mut self, _alloc: Global, parts: &[&[u8]]) -> Result<(), AllocError> {
+        self.push(parts)
+    }
+}
+
+impl RecordSink for Vec<Vec<u8>> {
+    ghost use Rattle.std.specs.Prelude.{⊤};
+    ghost use Rattle.journal.specs.Format.{contents};
+
+    ghost records = { λ rows. contents rows.items };
+
+    ghost fits = { λ bytes. ⊤ };
+
+    fn put(&mut self, alloc: Global, parts: &[&[u8]]) -> Result<(), AllocError> {
+        let row = joined(alloc, parts)?;
+        self.push(row)?;
+        Ok(())
+    }
+}
+
+/// The bytes of the parts of a record, one after the other.
+fn joined(alloc: Global, parts: &[&[u8]]) -> Result<Vec<u8>, AllocError>
+    ensures { IfOk result (λ bytes. bytes.items ≡ whole parts.now) }
+{
+    let mut bytes = Vec::new(alloc);
+    for part in parts {
+        bytes.extend_from_slice(part)?;
+    }
+    Ok(bytes)
+}
+
+/// Puts a record that is one piece after the others.
+pub fn put_row<S: RecordSink>(alloc: Global, sink: &mut S, row: &[u8]) -> Result<(), AllocError>
+    requires { S.fits row.now }
+    ensures { OnOk result (S.records sink.new ≡ S.records sink.old ++ row.now ∷ []) }
+{
+    sink.put(alloc, &[row])
+}
