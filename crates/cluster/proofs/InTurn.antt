@@ -4,7 +4,7 @@ use Rattle.std.specs.Prelude.{◌==◌, ⊤}
 use Rattle.std.proofs.lemmas.Bool.{eq-eqb, ne_eqb, cond-true, cond-false}
 use Rattle.spec_cluster.specs.Cluster.{Cluster, Worlds, Turn, Passes, IsTurn, Leads, IsReached}
 use Rattle.spec_cluster.specs.Premises.{IsFair, Fair}
-use Rattle.spec_world.specs.Steps.{Move, accept, take_to, device_call, settle, release, read_order, take_all, spare_call, settle_all, restart, IsStep}
+use Rattle.spec_world.specs.Steps.{Move, accept, take_to, device_call, settle, release, read_order, take_all, spare_call, restart, IsStep}
 use Rattle.spec_world.specs.Steps as one
 use Rattle.spec_world.specs.World.{World}
 
@@ -58,7 +58,6 @@ module _ (cluster : Cluster) (value : ℕ → ℕ) where
   plain_may worlds (read_order ∷ moves) plain = (tt, tt, plain.1)
   plain_may worlds (take_all bytes ∷ moves) plain = (tt, tt, plain.1)
   plain_may worlds (spare_call ∷ moves) plain = (tt, tt, plain.1)
-  plain_may worlds (settle_all ∷ moves) plain = (tt, tt, plain.1)
   plain_may worlds (restart found ∷ moves) plain = (tt, tt, plain.1)
 
   pub may_join : (worlds : Worlds) (moves more : List Move) → MayLead worlds moves → ArePlain more → MayLead worlds (moves ++ more)

@@ -1,6 +1,6 @@
 -- What a desk does at a move.
 use Rattle.std.proofs.Common.{◌≡◌, ◌≢◌, ◌⊎◌, ℕ, ◌+◌, Bool, true, false, inl, inr, List, [], ◌∷◌, ◌++◌, length, Result, Ok, Err, refl, sym, ap, ◌∙◌, subst}
-use Rattle.std.specs.Prelude.{◌↔◌, Some, None, ⊤}
+use Rattle.std.specs.Prelude.{◌↔◌, ◌==◌, Some, None, ⊤, if◌then◌else◌}
 use Rattle.book.specs.Book.{Run, Stands, TakesNew, TakesKnown, MayRefuse}
 use Rattle.book.specs.OnTheWay.{Flushes, FindsNoRoom, FailsWithRoom}
 use Rattle.book.specs.declared.own.error.FlushError.{FlushError}
@@ -9,6 +9,7 @@ use Rattle.desk.specs.AtWorld.{IsAt, LeadsTo, IsStop}
 use Rattle.desk.specs.Desk.{DeskView, IsOpened}
 use Rattle.header.specs.Checks.{Accepts, fault_of}
 use Rattle.header.specs.declared.error.CheckError.{CheckError}
+use Rattle.journal.specs.Areas.{rewrite_calls}
 use Rattle.journal.specs.Journal.{disk_of}
 use Rattle.opening.specs.Told.{told}
 use Rattle.spec_model.specs.Nodes.{Node}
@@ -20,8 +21,8 @@ use Rattle.spec_model.specs.Admitting.{admit}
 use Rattle.header.specs.declared.admission.Admission.{Admission}
 use Rattle.header.specs.declared.admission.Admission.TheVariants.{New, Known}
 use Rattle.header.specs.declared.admission.Admission.TheVariants as admission
-use Rattle.spec_world.specs.Steps.{Move, accept, take_to, device_call, settle, release, read_order, take_all, spare_call, settle_all, restart, IsAnswered, IsStep, Leads}
-use Rattle.spec_world.specs.World.{World}
+use Rattle.spec_world.specs.Steps.{Move, accept, take_to, device_call, settle, release, read_order, take_all, spare_call, restart, with_spare_call, with_rewritten, IsAnswered, IsStep, Leads}
+use Rattle.spec_world.specs.World.{Given, World}
 use Rattle.cluster.specs.Answers.{Deed, TakesIn, MakesRound, IsDeviceFault, HasMoved}
 use Rattle.cluster.specs.declared.moves.Applied.TheVariants.{Took, Refused, Unchecked, Settled, Fault}
 use Rattle.diskmodel.specs.Disk.{Device}
@@ -41,14 +42,21 @@ answered_given world event (New outputs) next same = ap (λ (w : World). w.given
 answered_given world event (Known outputs) next same = ap (λ (w : World). w.given) same
 answered_given world event (admission.Refused why) next is = absurd is
 
+-- what was given out is the same in both worlds of a choice
+chosen_given : (chosen : Bool) (left right : World) (given : List Given) → left.given ≡ given → right.given ≡ given → (if chosen then left else right).given ≡ given
+chosen_given true left right given first second = first
+chosen_given false left right given first second = second
+
 step_given : (node : Node) (move : Move) (world next : World) → IsQuiet move → IsStep node world move next → next.given ≡ world.given
 step_given node (accept event) world next quiet step = answered_given world event (admit node (world.began ++ world.accepted) event) next step.is
 step_given node (take_to count) world next quiet step = ap (λ (w : World). w.given) step.is
 step_given node device_call world next quiet step = ap (λ (w : World). w.given) step.is
 step_given node settle world next quiet step = ap (λ (w : World). w.given) step.is
 step_given node (take_all bytes) world next quiet step = ap (λ (w : World). w.given) step.is
-step_given node spare_call world next quiet step = ap (λ (w : World). w.given) step.is
-step_given node settle_all world next quiet step = ap (λ (w : World). w.given) step.is
+step_given node spare_call world next quiet step =
+    ap (λ (w : World). w.given) step.is
+    ∙ chosen_given (step.rewriting.made + 1 == length (rewrite_calls step.rewriting.bytes)) (with_rewritten world step.spare step.call)
+    (with_spare_call world step.spare step.rewriting step.call) world.given refl refl
 step_given node (restart found) world next quiet step = ap (λ (w : World). w.given) step.is
 step_given node (release waiting) world next quiet step = absurd quiet
 step_given node read_order world next quiet step = absurd quiet

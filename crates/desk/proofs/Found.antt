@@ -8,7 +8,7 @@ use Rattle.spec_model.specs.Giving.{kept as kept_in}
 use Rattle.spec_model.specs.Histories.{History}
 use Rattle.spec_model.specs.Nodes.{Node, IsNode}
 use Rattle.spec_records.specs.Records.{record_of}
-use Rattle.spec_world.specs.World.{World, events_of, taken_in, written_in, StandsFor, as_journal}
+use Rattle.spec_world.specs.World.{World, events_of, taken_in, durable_in, StandsFor, as_journal}
 use Rattle.spec_world.specs.Steps.{Move, device_call, group_to, IsRecovered, IsStep, Leads, IsRun}
 use Rattle.spec_world.specs.Runs.{areas_in}
 use Rattle.spec_world.proofs.GoingOn.{idle_holds, groups_settle}
@@ -24,9 +24,9 @@ pub none_taken : (world : World) → world.groups ≡ [] → taken_in world ≡ 
 none_taken world idle = ap (λ (l : List History). world.settled ++ events_of l) idle ∙ append-nil world.settled
 
 -- where no group is written to its end, what is settled may be found again
-settled_recovered : (node : Node) (world : World) → Stands node world → world.written ≡ 0 → IsRecovered node world (world.began ++ world.settled)
+settled_recovered : (node : Node) (world : World) → Stands node world → world.durable ≡ 0 → IsRecovered node world (world.began ++ world.settled)
 settled_recovered node world at none =
-    let written : written_in world ≡ world.settled = ap (λ (n : ℕ). world.settled ++ events_of (take n world.groups)) none ∙ append-nil world.settled in
+    let written : durable_in world ≡ world.settled = ap (λ (n : ℕ). world.settled ++ events_of (take n world.groups)) none ∙ append-nil world.settled in
     record {
       legal = settled_legal node world at;
       accepted = begins_join world.began world.settled world.accepted (settled_accepted node world at);
@@ -36,9 +36,9 @@ settled_recovered node world at none =
     }
 
 -- where each group is, all that was taken may
-taken_recovered : (node : Node) (world : World) → Stands node world → length world.groups ≤ world.written → IsRecovered node world (world.began ++ taken_in world)
+taken_recovered : (node : Node) (world : World) → Stands node world → length world.groups ≤ world.durable → IsRecovered node world (world.began ++ taken_in world)
 taken_recovered node world at all =
-    let written : written_in world ≡ taken_in world = ap (λ (l : List History). world.settled ++ events_of l) (take_all world.written world.groups all) in
+    let written : durable_in world ≡ taken_in world = ap (λ (l : List History). world.settled ++ events_of l) (take_all world.durable world.groups all) in
     let begins = begins_join world.began (taken_in world) world.accepted at.taken in
     record {
       legal = legal-begins node (world.began ++ taken_in world) begins.rest (subst (IsLegal node) begins.parts at.legal);
@@ -65,7 +65,7 @@ taken_found node moves world sound run has =
     let before = has.before in
     let at = run_stands node has.moves before sound has.run in
     let same = has.taken.is in
-    let none : world.written ≡ 0 = ap (λ (w : World). w.written) same ∙ (omega (arith, at.within, ap length has.idle)) in
+    let none : world.durable ≡ 0 = ap (λ (w : World). w.durable) same ∙ (omega (arith, at.within, ap length has.idle)) in
     let all : before.began ++ before.settled ≡ world.began ++ world.settled = sym (ap (λ (w : World). w.began ++ w.settled) same) in
     record {
       recovered = settled_recovered node world (run_stands node moves world sound run) none;

@@ -262,11 +262,11 @@ module _ {S D : Type 0} (node : Node) (device : Device D) where
       let next = there.0 in
       let step = there.1 in
       let leads = leads_one node world (restart found) next step in
-      let same : next ≡ run_on step.on history next.given = step.is ∙ (λ i. run_on step.on (there.2 i) (sym there.3 i)) in
+      let same : next ≡ run_on step.disks history next.given = step.is ∙ (λ i. run_on step.disks (there.2 i) (sym there.3 i)) in
       record {
         next = next;
         leads = leads;
-        is_at = opened_at bytes desk sound opened (moves ++ restart found ∷ []) next (run_more node moves (restart found ∷ []) world next run leads) step.on history again.recovered.legal is same;
+        is_at = opened_at bytes desk sound opened (moves ++ restart found ∷ []) next (run_more node moves (restart found ∷ []) world next run leads) step.disks history again.recovered.legal is same;
       }
 
   -- the moves of a stop lead to a desk that was opened on what it left

@@ -23,7 +23,7 @@ use Rattle.spec_model.specs.States.{State}
 use Rattle.spec_model.specs.Words.{Digest, Event, Header}
 use Rattle.spec_records.specs.Records.{record_of}
 use Rattle.spec_world.specs.World as world
-use Rattle.spec_world.specs.World.{bytes_of, IsJournal, own, BeginsAs, as_fresh, as_checkpoint, StandsFor}
+use Rattle.spec_world.specs.World.{bytes_of, IsJournal, own_configuration, BeginsAs, as_fresh, as_checkpoint, StandsFor}
 use Rattle.spec_world.proofs.Recovering.{stands_once}
 use Rattle.opening.specs.Told.{IsText, event_in, read_journal, told, Tells, StandsAt}
 use Rattle.opening.proofs.EventRecords.{record_read}
@@ -55,7 +55,7 @@ same_events node (event ∷ events) (next ∷ more) sound taken too same =
     λ i. first i ∷ others i
 
 -- what stands for no records is no journal
-no_journal : (node : Node) (bytes : List ℕ) (version : Version) (events : History) → IsJournal (stands bytes) (own version node ∷ []) 1 events → stands bytes ≡ Ok [] → ⊥
+no_journal : (node : Node) (bytes : List ℕ) (version : Version) (events : History) → IsJournal (stands bytes) (own_configuration version node ∷ []) 1 events → stands bytes ≡ Ok [] → ⊥
 no_journal node bytes version events is none =
     let same = records_are is.records [] (sym is.stands_for ∙ none) in
     omega (arith, ap length (sym (ap bytes_of same) ∙ is.are))
@@ -64,7 +64,7 @@ no_journal node bytes version events is none =
 one_history : (node : Node) (bytes : List ℕ) (history other : History) → IsNode node → HasEvents node bytes history → HasEvents node bytes other → other ≡ history
 one_history node bytes history other sound (as_journal version can one taken) (as_journal version' can' two too) =
     let records = records_are two.records one.records (sym two.stands_for ∙ one.stands_for) in
-    let same : own version' node ∷ map record_of other ≡ own version node ∷ map record_of history = sym two.are ∙ ap bytes_of records ∙ one.are in
+    let same : own_configuration version' node ∷ map record_of other ≡ own_configuration version node ∷ map record_of history = sym two.are ∙ ap bytes_of records ∙ one.are in
     same_events node other history sound too taken (ap (λ (l : List (List ℕ)). drop 1 l) same)
 one_history node bytes history other sound (as_journal version can one taken) (as_new none empty) = absurd (no_journal node bytes version history one none)
 one_history node bytes history other sound (as_new none empty) (as_journal version can two taken) = absurd (no_journal node bytes version other two none)
@@ -87,7 +87,7 @@ begun_events starts node bytes front in_first base state events after leads is (
       history = events;
       legal = legal;
       has = as_journal version can
-          (subst (λ (n : ℕ). IsJournal (stands bytes) (own version node ∷ []) n events) first
+          (subst (λ (n : ℕ). IsJournal (stands bytes) (own_configuration version node ∷ []) n events) first
           (subst (λ (l : List (List ℕ)). IsJournal (stands bytes) l in_first events) front_is
           (subst (λ (read : Result (List Record) ℕ). IsJournal read front in_first events) (alone_stands bytes) is)))
           after.taken;
@@ -98,7 +98,7 @@ begun_events starts node bytes front in_first base state events after leads is (
 -- and so where they stand for a state
 of_events : StartsFresh → (node : Node) (bytes : List ℕ) (state : State) → IsNode node → StandsFor node (alone bytes) state → IsOfEvents node bytes state
 of_events starts node bytes state sound (world.as_journal held) = begun_events starts node bytes held.front held.in_first held.base state held.events held.legal held.leads held.journal held.begins
-of_events starts node bytes state sound (world.as_new none is) = record {
+of_events starts node bytes state sound (world.as_empty none is) = record {
   history = [];
   legal = legal_empty node sound;
   has = as_new (sym (alone_stands bytes) ∙ none) refl;
@@ -108,8 +108,8 @@ of_events starts node bytes state sound (world.as_new none is) = record {
 -- bytes stand for one state
 one_state : (node : Node) (bytes : List ℕ) (state other : State) → StandsFor node (alone bytes) state → StandsFor node (alone bytes) other → other ≡ state
 one_state node bytes state other (world.as_journal held) also = stands_once node (alone bytes) state other held also
-one_state node bytes state other (world.as_new none is) (world.as_journal held) = sym (stands_once node (alone bytes) other state held (world.as_new none is))
-one_state node bytes state other (world.as_new none is) (world.as_new nothing too) = too ∙ sym is
+one_state node bytes state other (world.as_empty none is) (world.as_journal held) = sym (stands_once node (alone bytes) other state held (world.as_empty none is))
+one_state node bytes state other (world.as_empty none is) (world.as_empty nothing too) = too ∙ sym is
 
 -- where tables stand at what records are read as, they stand at what is kept of a history that bytes are read as
 read_at : StartsFresh → (node : Node) (bytes : List ℕ) (records : List Record) (tables : Tables) → IsNode node → All IsText (drop 1 records)
@@ -167,7 +167,7 @@ pub record IsCounted (node : Node) (records : List Record) (history : History) :
   pub counts : length history ≡ length (drop 1 records)
   pub votes : filter_map (given_in node.charter) (drop 1 records) ≡ map given_to (headers history)
 
-counted_held : (version : Version) (node : Node) (records : List Record) (history : History) → IsLegal node history → bytes_of records ≡ own version node ∷ map record_of history
+counted_held : (version : Version) (node : Node) (records : List Record) (history : History) → IsLegal node history → bytes_of records ≡ own_configuration version node ∷ map record_of history
     → IsCounted node records history
 counted_held version node [] history legal are = absurd (omega (arith, ap length are))
 counted_held version node (first ∷ rest) history legal are =

@@ -15,7 +15,7 @@ use Rattle.spec_model.specs.Slots.{header_digest}
 use Rattle.spec_model.specs.States.{State}
 use Rattle.spec_model.specs.Words.{Digest, Event, Header}
 use Rattle.spec_records.specs.Records.{CanTell}
-use Rattle.spec_world.specs.World.{IsJournal, own, StandsFor}
+use Rattle.spec_world.specs.World.{IsJournal, own_configuration, StandsFor}
 use Rattle.opening.specs.Told.{event_in, told}
 use Rattle.admission.specs.declared.tables.Tables.{Tables}
 use Rattle.validator.specs.Standing.{AreAtSound}
@@ -25,7 +25,8 @@ use Rattle.journal_account.specs.declared.votes.Given.{Given}
 -- bytes are a journal with these events: their records are the node's configuration, alone in the first group, in a version that can tell
 -- its committee, and those of the events, each as the node takes it; or there is no record yet, and no event
 pub data HasEvents (node : Node) (bytes : List ℕ) (events : History) : Type 0 where
-  as_journal : (version : Version) → CanTell version node.charter → IsJournal (stands bytes) (own version node ∷ []) 1 events → All (IsTaken node) events → HasEvents node bytes events
+  as_journal : (version : Version) → CanTell version node.charter → IsJournal (stands bytes) (own_configuration version node ∷ []) 1 events
+      → All (IsTaken node) events → HasEvents node bytes events
   as_new : stands bytes ≡ Ok [] → events ≡ [] → HasEvents node bytes events
 
 -- bytes are read as a history: each of its events is new, they are a journal with these events and no others, they stand for what is kept
