@@ -52,12 +52,12 @@ pub fn parts_of(alloc: Global, tables: &Tables) -> Result<Kept, AllocError>
 fn coins_of(alloc: Global, coins: &Coins) -> Result<Coins, AllocError>
     ensures { IfOk result (λ found. found ≡ coins.now) }
 {
-    let mut values = Vec::new(alloc);
-    for place in 0..usize::MAX {
-        let Some(value) = coins.nth(place) else {
-            return Ok(Coins::restore(values));
-        };
-        values.push(value)?;
+    let mut values = Vec::with_capacity(alloc, coins.count())?;
+    for place in 0..coins.count() {
+        match coins.nth(place) {
+            Some(value) => values.push(value)?,
+            None => unreachable!(),
+        }
     }
-    Err(AllocError)
+    Ok(Coins::restore(values))
 }

@@ -6,6 +6,7 @@ ghost use Rattle.checkpoint.specs.Parts.{AreOf, IsCountedBy, other_votes};
 
 use admission::VotedHeader;
 use certify::Assembly;
+use committee::MAX_MEMBERS;
 use std::alloc::{AllocError, Global};
 use wire::{Author, Signature, Vote, VoteEntry, header_digest};
 
@@ -61,8 +62,9 @@ fn signature_of(voter: Author, assembly: &Assembly) -> Result<Signature, AllocEr
 fn others(alloc: Global, own: Author, assembly: &Assembly) -> Result<Vec<VoteEntry>, AllocError>
     ensures { IfOk result (λ votes. votes.items ≡ other_votes own.0 assembly.now.places) }
 {
+    assembly.limits_hold();
     let mut votes = Vec::new(alloc);
-    for place in 0..usize::MAX {
+    for place in 0..MAX_MEMBERS as usize {
         let Some(entry) = assembly.nth(place) else {
             return Ok(votes);
         };
@@ -70,5 +72,5 @@ fn others(alloc: Global, own: Author, assembly: &Assembly) -> Result<Vec<VoteEnt
             votes.push(entry)?;
         }
     }
-    Err(AllocError)
+    Ok(votes)
 }

@@ -13,14 +13,14 @@ pub fn batches_of(alloc: Global, batches: &BatchStore) -> Result<Vec<(Digest, He
     ensures digested { IfOk result (λ found. All IsUnderItsDigest found.items) }
     ensures held { IfOk result (λ found. values_of found.items ≡ batches.now.held) }
 {
-    let mut found = Vec::new(alloc);
-    for place in 0..usize::MAX {
-        let Some(held) = batches.nth(place) else {
-            return Ok(found);
-        };
-        found.push(again(held)?)?;
+    let mut found = Vec::with_capacity(alloc, batches.len())?;
+    for place in 0..batches.len() {
+        match batches.nth(place) {
+            Some(held) => found.push(again(held)?)?,
+            None => unreachable!(),
+        }
     }
-    Err(AllocError)
+    Ok(found)
 }
 
 /// What is held of a batch once more, with its digest.

@@ -1,7 +1,7 @@
 //! The certificates above the genesis, read one by one.
 
 ghost use Rattle.std.specs.Prelude.{◌≡◌, IfOk};
-ghost use Rattle.checkpoint.specs.Parts.{above_genesis, digested};
+ghost use Rattle.checkpoint.specs.Parts.{above_genesis, digested, is_above};
 
 use dag::Dag;
 use std::alloc::{AllocError, Global};
@@ -11,16 +11,25 @@ use wire::{Certificate, Digest, certificate_digest, header_digest};
 pub fn certificates_of(alloc: Global, dag: &Dag) -> Result<Vec<(Certificate, Digest)>, AllocError>
     ensures { IfOk result (λ found. found.items ≡ above_genesis dag.now) }
 {
+    dag.limits_hold();
     let mut found = Vec::new(alloc);
     for place in 0..usize::MAX {
         let Some(certificate) = dag.nth(place) else {
             return Ok(found);
         };
-        if certificate.header.round.number() > 0 {
+        if is_above_genesis(certificate) {
             found.push(digested(certificate)?)?;
         }
     }
-    Err(AllocError)
+    // There are fewer.
+    Ok(found)
+}
+
+/// Whether a certificate isn't of the genesis.
+fn is_above_genesis(certificate: &Certificate) -> bool
+    ensures { result ≡ is_above certificate.now }
+{
+    certificate.header.round.number() > 0
 }
 
 /// A certificate once more, with its digest.

@@ -9,11 +9,12 @@ use Rattle.checkpoint.proofs.parts.batches.batches_of.Goals as goal
 pub loop-place-preserved : goal.loop-place-preserved
 loop-place-preserved c =
     let before = c.loop-place.found.items in
-    let entry = c.in_ok-again.field-0 in
+    let entry = c.in_ok-again-in-Some.field-0 in
     let held = c.in-Some.held.now in
     record {
-      digested = subst (λ l. All IsUnderItsDigest l) (sym c.in_ok-push.ensures.items) (All-push IsUnderItsDigest before entry c.loop-place.invariant.digested c.in_ok-again.ensures.digested);
-      held = ap values_of c.in_ok-push.ensures.items ∙ values_more before entry ∙ ap (λ h. values_of before ++ h ∷ []) c.in_ok-again.ensures.same
+      digested = subst (λ l. All IsUnderItsDigest l) (sym c.in_ok-push-in-Some.ensures.items)
+          (All-push IsUnderItsDigest before entry c.loop-place.invariant.digested c.in_ok-again-in-Some.ensures.digested);
+      held = ap values_of c.in_ok-push-in-Some.ensures.items ∙ values_more before entry ∙ ap (λ h. values_of before ++ h ∷ []) c.in_ok-again-in-Some.ensures.same
           ∙ ap (λ l. l ++ held ∷ []) c.loop-place.invariant.held
           ∙ sym (one_more c.args.batches.now.held c.loop-place.place held (sym c.in-Some.ensures));
     }
