@@ -2,7 +2,7 @@
 use Rattle.std.specs.Prelude.{take}
 use Rattle.ref_machine.specs.Tables.{state_of}
 use Rattle.ref_script.specs.declared.command.Command.{Command}
-use Rattle.ref_script.specs.declared.command.Command.TheVariants.{Event, Flush, Stop}
+use Rattle.ref_script.specs.declared.command.Command.TheVariants.{Event, Flush, Checkpoint, Stop}
 use Rattle.ref_script.specs.declared.desk.Desk as declared
 use Rattle.spec_world.specs.Text as script
 
@@ -10,6 +10,7 @@ use Rattle.spec_world.specs.Text as script
 abbrev pub said : Command → script.Command
 said (Event event) = script.take_in event
 said Flush = script.flush
+said Checkpoint = script.checkpoint
 said Stop = script.stop
 
 -- a desk: the run began with the state that its tables are, and of the events that it accepted the first are settled

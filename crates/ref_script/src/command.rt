@@ -9,6 +9,8 @@ pub enum Command {
     Event(Event),
     /// What is pending is settled, as far as it fits a group.
     Flush,
+    /// All that is accepted is settled, by a checkpoint.
+    Checkpoint,
     /// The machine stops, and the node is opened again.
     Stop,
 }

@@ -96,6 +96,14 @@ fn flushed(mut desk: Desk) -> Desk
     desk
 }
 
+/// All that is accepted is settled.
+fn settled_all(mut desk: Desk) -> Desk
+    ensures { desk_of result ≡ record (desk_of desk) { settled = desk.accepted.items } }
+{
+    desk.settled = desk.accepted.len();
+    desk
+}
+
 /// A run that has just begun with what was settled.
 fn stopped<S: Sign>(alloc: Global, node: &Node<S>, desk: Desk) -> Result<Desk, AllocError>
     ensures { IfOk result (λ next. desk_of next ≡ script.desk_on (script.settled_in (node_view S.scheme node.now) (desk_of desk))) }
@@ -120,6 +128,7 @@ pub fn after<S: Sign>(
     match command {
         Command::Event(event) => with_event(alloc, node, desk, event),
         Command::Flush => Ok(flushed(desk)),
+        Command::Checkpoint => Ok(settled_all(desk)),
         Command::Stop => stopped(alloc, node, desk),
     }
 }
