@@ -1,13 +1,14 @@
 -- A flusher, and what its rounds do.
-use Rattle.std.specs.Prelude.{◌≡◌, ◌⊎◌, ◌↔◌, ℕ, ◌+◌, ◌<◌, false, Bool, List, length, map, drop, ◌++◌, None, Result, IsErrOf, IsTrue, IfOk, OnOk, OnErr}
+use Rattle.std.specs.Prelude.{◌≡◌, ◌⊎◌, ◌↔◌, ℕ, ◌+◌, ◌<◌, false, Bool, List, length, map, drop, None, Result, IsErrOf, IsTrue, IfOk, OnOk, OnErr}
 use Rattle.diskmodel.specs.Disk.{Device}
+use Rattle.journal.specs.Areas.{Areas, alone}
 use Rattle.journal.specs.Format.{group_bytes}
 use Rattle.journal.specs.Journal.{disk_of, spare_of, IsAlive}
 use Rattle.journal.specs.declared.journal.Journal.{Journal}
 use Rattle.journal.specs.declared.layout.TheConstants.{MAX_JOURNAL_BYTES}
-use Rattle.spec_model.specs.Admitting.{IsLegal}
-use Rattle.spec_model.specs.Giving.{kept}
-use Rattle.spec_model.specs.Histories.{History}
+use Rattle.journal.specs.Pairs.{areas_of}
+use Rattle.spec_machine.specs.After.{after_all, IsLegalAfter}
+use Rattle.spec_model.specs.States.{State}
 use Rattle.wire.specs.Lists.{Begins}
 use Rattle.spec_records.specs.Records.{record_of}
 use Rattle.spec_world.specs.World.{Holds}
@@ -43,21 +44,22 @@ settled_in flusher = (seat_of flusher).seat.view.firm
 abbrev pub taken_in : {D : Type 0} → Flusher D → List Marked
 taken_in flusher = taken_by (seat_of flusher)
 
--- the bytes of a disk are the node's journal with a history that keeps a base of it, and then with these events; all of that is legal
-pub record HoldsAfter {S : Type 0} (scheme : Scheme S) (node : NodeView S) (marked : List Marked) (content : List ℕ) : Type 0 where
-  pub began : History
-  pub base : IsBase scheme node (kept (node_of scheme node.setting) began)
-  pub legal : IsLegal (node_of scheme node.setting) (began ++ events marked)
-  pub holds : Holds (node_of scheme node.setting) content (began ++ events marked)
+-- areas are the node's journal at the state after these events, from a base of the node on; all of them are legal there
+pub record HoldsAfter {S : Type 0} (scheme : Scheme S) (node : NodeView S) (marked : List Marked) (areas : Areas) : Type 0 where
+  pub base : State
+  pub is_base : IsBase scheme node base
+  pub legal : IsLegalAfter (node_of scheme node.setting) base (events marked)
+  pub holds : Holds (node_of scheme node.setting) areas (after_all (node_of scheme node.setting) base (events marked))
 
--- with each history after which a disk had what was settled, it has more of the node's events now
+-- where a disk was the node's journal with what was settled after some state, it has more of the node's events after that state now
 abbrev pub KeepsEarlier : {S : Type 0} → Scheme S → NodeView S → List Marked → List Marked → List ℕ → List ℕ → Type 0
 KeepsEarlier scheme node settled more before left =
-    let member = node_of scheme node.setting in (began : History) → Holds member before (began ++ events settled) → Holds member left (began ++ events more)
+    let member = node_of scheme node.setting in
+    (base : State) → Holds member (alone before) (after_all member base (events settled)) → Holds member (alone left) (after_all member base (events more))
 
--- the bytes of a disk are the node's journal with these events, after the same history as before
+-- the bytes of a disk are the node's journal with these events, after the same state as before
 pub record LeavesAfter {S : Type 0} (scheme : Scheme S) (node : NodeView S) (settled more : List Marked) (before left : List ℕ) : Type 0 where
-  pub holds : HoldsAfter scheme node more left
+  pub holds : HoldsAfter scheme node more (alone left)
   pub earlier : KeepsEarlier scheme node settled more before left
 
 -- A flusher is a node's: its seat is, and unless it took the node down it has taken no more than is settled, and its journal can be
@@ -67,7 +69,7 @@ pub record IsFlusherOf {S D : Type 0} (scheme : Scheme S) (device : Device D) (n
   pub alone : spare_of (journal_of flusher) ≡ None
   pub rests : is_down flusher ≡ false → (seat_of flusher).taken ≡ (seat_of flusher).settled
   pub alive : is_down flusher ≡ false → IsAlive device (journal_of flusher)
-  pub holds : is_down flusher ≡ false → HoldsAfter scheme node (settled_in flusher) (device.content (disk_of (journal_of flusher)))
+  pub holds : is_down flusher ≡ false → HoldsAfter scheme node (settled_in flusher) (areas_of device (journal_of flusher))
 
 -- ---- what a round takes
 

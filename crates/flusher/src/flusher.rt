@@ -4,6 +4,7 @@ ghost use Rattle.std.specs.Prelude.{◌≡◌, ◌⊎◌, ◌↔◌, ◌+◌, �
 ghost use Rattle.diskmodel.specs.Disk.{AtEachMoment, TellsFault};
 ghost use Rattle.journal.specs.Format.{group_bytes};
 ghost use Rattle.journal.specs.Journal.{disk_of, spare_of, IsAlive};
+ghost use Rattle.journal.specs.Pairs.{areas_of};
 ghost use Rattle.journal.specs.declared.layout.TheConstants.{MAX_JOURNAL_BYTES};
 ghost use Rattle.wire.specs.Lists.{Begins};
 ghost use Rattle.spec_machine.specs.After.{IsLegalAfter};
@@ -132,7 +133,7 @@ impl<D: Disk> Flusher<D> {
         requires up { is_down self.old ≡ false }
         requires alive { IsAlive D.device (journal_of self.old) }
         requires alone { spare_of (journal_of self.old) ≡ None }
-        requires holds { HoldsAfter S.scheme node.now (settled_in self.old) (D.device.content (disk_of (journal_of self.old))) }
+        requires holds { HoldsAfter S.scheme node.now (settled_in self.old) (areas_of D.device (journal_of self.old)) }
         requires legal { (base : State) → IsBase S.scheme node.now base → IsLegalAfter (node_of S.scheme node.now.setting) base (events (seat_of self.old).seat.view.seen) }
         requires group { group ≡ group_of (seat_of self.old) }
         requires of { IsOf node.now seat.old }

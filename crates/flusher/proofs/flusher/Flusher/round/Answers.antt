@@ -7,10 +7,11 @@ use Rattle.node_seats.proofs.Same.{same_then}
 use Rattle.node_shared.specs.Home.{IsFlushOf, taken_by}
 use Rattle.flusher.specs.Rounds.{IsFlusherOf, HoldsAfter, HoldsEither, KeepsEarlier}
 use Rattle.flusher.specs.declared.flusher.Flusher.{Flusher}
-use Rattle.flusher.proofs.Adding.{still_holds}
+use Rattle.flusher.proofs.Adding.{areas_alone, still_holds}
 use Rattle.diskmodel.proofs.Clock.{started}
 use Rattle.diskmodel.specs.Disk.{AtEachMoment}
 use Rattle.journal.specs.Journal.{disk_of}
+use Rattle.journal.specs.Pairs.{areas_of}
 use Rattle.node_seats.specs.declared.view.Marked.{Marked}
 use Rattle.node_shared.specs.declared.flush_seat.FlushSeat.{FlushSeat}
 use Rattle.book.proofs.Options.{of_some}
@@ -88,7 +89,7 @@ returns-clause-flusher g c =
             alone = had.alone;
             rests = λ up. (c.in-Ok.ensures.takes.none (is_none _ w.in-None.is)).0 ∙ had.rests up ∙ sym c.in-Ok.ensures.flush_settled;
             alive = had.alive;
-            holds = λ up. subst (λ f. HoldsAfter g.S.Sign.scheme c.args.node.now f (g.D.Disk.device.content c.args.self.now.journal.disk))
+            holds = λ up. subst (λ f. HoldsAfter g.S.Sign.scheme c.args.node.now f (areas_of g.D.Disk.device c.args.self.now.journal))
                 (sym c.in-Ok.ensures.flush_firm) (had.holds up);
           })
     ] in
@@ -136,9 +137,10 @@ returns-in-Err-clause-any_moment g c =
     let disk = disk_of c.args.self.now.journal in
     let settled = c.args.self.now.seat.seat.view.firm in
     let taken = taken_by c.take.new.flush in
+    let held = subst (HoldsAfter g.S.Sign.scheme c.args.node.now settled) (areas_alone device c.args.self.now.journal had.alone) (had.holds (search rules)) in
     inr (started device disk (HoldsEither g.S.Sign.scheme c.args.node.now settled taken (device.content disk))
     (λ left now. still_holds g.S.Sign.scheme c.args.node.now settled taken (device.content disk) left
-    ((had.alive (search rules)).firm left (g.met.D.Disk.only_now disk left now)) (had.holds (search rules))))
+    ((had.alive (search rules)).firm left (g.met.D.Disk.only_now disk left now)) held))
 
 pub returns-clause-any_moment : goal.returns-clause-any_moment
 returns-clause-any_moment g c =
@@ -149,6 +151,7 @@ returns-clause-any_moment g c =
     let disk = disk_of c.args.self.now.journal in
     let settled = c.args.self.now.seat.seat.view.firm in
     let taken = taken_by c.tell_settled.new.flush in
+    let held = subst (HoldsAfter scheme node settled) (areas_alone device c.args.self.now.journal had.alone) (had.holds (search rules)) in
     let leaves = λ (f : Flusher g.row.D.Denot) (s t : List Marked). AtEachMoment device disk (disk_of f.journal) (HoldsEither scheme node s t (device.content disk)) in
     elim c.match-found.branch [
       | in-Some+in_ok-count-in-Some w ↦
@@ -161,7 +164,7 @@ returns-clause-any_moment g c =
           inr (subst (λ (f : Flusher g.row.D.Denot). leaves f settled taken) (sym w.self-is)
           (started device disk (HoldsEither scheme node settled taken (device.content disk))
           (λ left now. still_holds scheme node settled taken (device.content disk) left
-          ((had.alive (search rules)).firm left (g.met.D.Disk.only_now disk left now)) (had.holds (search rules)))))
+          ((had.alive (search rules)).firm left (g.met.D.Disk.only_now disk left now)) held)))
     ]
 
 pub returns-clause-earlier : goal.returns-clause-earlier
@@ -181,5 +184,5 @@ returns-clause-earlier g c =
       | in-None w ↦
           let is = told ∙ ap (λ (f : Flusher g.row.D.Denot). f.seat.seat.view.firm) w.self-is ∙ c.in-Ok.ensures.flush_firm in
           subst (λ (f : Flusher g.row.D.Denot). keeps f settled c.tell_settled.new.flush.seat.view.firm) (sym w.self-is)
-          (subst (λ t. keeps c.args.self.now settled t) (sym is) (λ began held. held))
+          (subst (λ t. keeps c.args.self.now settled t) (sym is) (λ base there. there))
     ]
