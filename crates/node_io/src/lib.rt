@@ -2,6 +2,7 @@
 #![tactic(auto)]
 
 mod arguments;
+mod committee_file;
 mod ending;
 mod faults;
 mod input;
@@ -10,6 +11,7 @@ mod request;
 mod told;
 
 pub use arguments::own_of;
+pub use committee_file::{MAX_COMMITTEE_FILE_BYTES, read_committee_file};
 pub use ending::Ending;
 pub use faults::Faults;
 pub use input::{End, Input};
