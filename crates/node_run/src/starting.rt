@@ -6,11 +6,10 @@ ghost use Rattle.node_run.specs.Members.{IsConfigOf, RefusesConfig, RefusesOpeni
 use committee::{Committee, CommitteeError};
 use disk_file::{FileDisk, OpenError};
 use journal::JournalError;
-use node_io::{Ending, own_of};
+use node_io::{Ending, own_of, read_committee_file};
 use sigface::HashSign;
 use std::alloc::Global;
-use std::fs::{self, File};
-use std::io::ErrorKind;
+use std::fs::File;
 use std::rt::Files;
 use std::str;
 use validator::Config;
@@ -31,11 +30,7 @@ pub(crate) fn open_all<R: Files<File = File> + AllocGlobal>(
     let [file, own, journal] = args else {
         return Err(Ending::Usage);
     };
-    let text = match fs::read(rt, file.as_str()) {
-        Ok(text) => text,
-        Err(error) if error.kind() == ErrorKind::OutOfMemory => return Err(Ending::Memory),
-        Err(_) => return Err(Ending::Usage),
-    };
+    let text = read_committee_file(rt, file.as_str())?;
     let config = config_of(alloc, &text, own.as_str())?;
     match FileDisk::open(rt, alloc, journal.as_str()) {
         Ok(disk) => Ok((config, disk)),
