@@ -2,6 +2,7 @@
 #![tactic(auto)]
 
 mod arguments;
+mod blocking;
 mod committee_file;
 mod ending;
 mod faults;
@@ -11,6 +12,7 @@ mod request;
 mod told;
 
 pub use arguments::own_of;
+pub use blocking::Blocking;
 pub use committee_file::{MAX_COMMITTEE_FILE_BYTES, read_committee_file};
 pub use ending::Ending;
 pub use faults::Faults;

@@ -1,13 +1,14 @@
 //! `narwhal-node`: runs a member of a committee over a journal file, with frames on standard input and output.
 #![tactic(auto)]
 
+use node_io::Blocking;
 use node_run::Ending;
 pub use node_run::run;
 use std::process::ExitCode;
 use std::{env, io};
 
 fn main(rt: HostRuntime) -> ExitCode {
-    let mut errors = rt.stderr();
+    let mut errors = Blocking::new(&rt, rt.stderr());
     let args = match arguments(&rt) {
         Ok(args) => args,
         Err(ending) => {
@@ -15,7 +16,9 @@ fn main(rt: HostRuntime) -> ExitCode {
             return ExitCode::from(ending.status());
         }
     };
-    let status = run(&rt, rt.alloc(), &args, rt.stdin(), rt.stdout(), &mut errors);
+    let reader = Blocking::new(&rt, rt.stdin());
+    let writer = Blocking::new(&rt, rt.stdout());
+    let status = run(&rt, rt.alloc(), &args, reader, writer, &mut errors);
     ExitCode::from(status)
 }
 
