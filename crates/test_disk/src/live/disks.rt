@@ -1,11 +1,10 @@
 //! Commands to the disk that is open.
 
 use crate::live::folder::tell_bytes;
-use crate::live::words::{Told, bad, parted, put_count, tell_fault};
+use crate::live::words::{Told, bad, joined, parted, put_count, tell_fault};
 use disk_file::FileDisk;
 use diskmodel::{Disk, DiskFault};
 use std::alloc::Global;
-use test_cases::bytes_of;
 
 /// Carries out a command, and adds the lines that it answers.
 pub fn obey_disk(
@@ -44,7 +43,7 @@ fn cut(disk: &mut FileDisk, at: u64, answer: &mut String) {
 }
 
 fn write(alloc: Global, disk: &mut FileDisk, at: u64, digits: &str, answer: &mut String) -> Told {
-    if let Some(bytes) = bytes_of(alloc, digits)? {
+    if let Some(bytes) = joined(alloc, digits)? {
         write_at(disk, at, &bytes, answer);
     }
     Ok(())

@@ -3,10 +3,11 @@
 use crate::live::answers::tell_seen;
 use crate::live::file_runs::run_files;
 use crate::live::journals::record_count;
-use crate::live::streams::{Lines, Output, Seen, Step, Steps};
+use crate::live::streams::{Lines, NoClock, Output, Seen, Step, Steps};
 use crate::live::words::{Told, bad, call_of, joined, put_count, put_len};
 use crate::memory::{disk_with, failing_disk};
 use diskmodel::{CallKind, MemDisk};
+use node_io::Blocking;
 use node_run::run_over;
 use std::alloc::{AllocError, Global};
 use std::collections::VecDeque;
@@ -26,6 +27,7 @@ pub struct Runs {
     disk: Vec<u8>,
     failing: Option<(CallKind, u64)>,
     steps: VecDeque<Step>,
+    blocks: u64,
     is_broken: bool,
 }
 
@@ -39,6 +41,7 @@ impl Runs {
             disk: Vec::new(alloc),
             failing: None,
             steps: VecDeque::new(alloc),
+            blocks: 0,
             is_broken: false,
         }
     }
@@ -65,6 +68,7 @@ impl Runs {
             "own" => return self.set_own(words),
             "fail" => self.fail(words, answer),
             "broken" => self.is_broken = true,
+            "busy" => self.blocks = words.parse::<u64>().unwrap_or(0),
             _ => return self.put_step(name, words, answer),
         }
         Ok(())
@@ -73,6 +77,7 @@ impl Runs {
     fn put_step(&mut self, name: &str, words: &str, answer: &mut String) -> Told {
         match (name, words.parse::<usize>()) {
             ("await", Ok(count)) => self.add(Step::Await(count)),
+            ("block", _) => self.add(Step::Block),
             ("error", _) => self.add(Step::Fail),
             _ => self.put_bytes(name, words, answer),
         }
@@ -120,7 +125,7 @@ impl Runs {
     fn run<R: Threads + Wait + Sync>(&mut self, rt: &R, answer: &mut String) -> Told {
         let disk = self.disk_to_run()?;
         let steps = mem::replace(&mut self.steps, VecDeque::new(self.alloc));
-        let seen = Mutex::new(Seen::new(self.alloc, self.is_broken));
+        let seen = Mutex::new(Seen::new(self.alloc, self.blocks, self.is_broken));
         let (status, disk) = run_steps(rt, self.alloc, self.member(), disk, steps, &seen);
         tell_seen(self.alloc, &seen.into_inner(), answer);
         put_count(answer, "status ", status as u64, ", ");
@@ -164,8 +169,8 @@ fn run_steps<R: Threads + Wait + Sync>(
     steps: VecDeque<Step>,
     seen: &Mutex<Seen>,
 ) -> (u8, Option<MemDisk>) {
-    let reader = Steps::new(rt, seen, steps);
-    let writer = Output { rt, seen };
+    let reader = Blocking::new(&NoClock, Steps::new(rt, seen, steps));
+    let writer = Blocking::new(&NoClock, Output { rt, seen });
     let mut lines = Lines { rt, seen };
     let (ending, disk) = run_over(rt, alloc, member, disk, reader, writer, &mut lines);
     (ending.status(), disk)

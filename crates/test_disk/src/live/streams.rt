@@ -7,9 +7,23 @@ use std::collections::VecDeque;
 use std::io::{self, ErrorKind, Read, Write};
 use std::sync::{Mutex, Wait};
 use std::thread::yield_now;
+use std::time::{Clock, Duration};
 
 /// How often a reader looks whether what it waits for is there.
 const TURNS: u64 = 10_000_000;
+
+/// A clock that tells no time, and never sleeps.
+pub struct NoClock;
+
+impl Clock for NoClock {
+    fn monotonic(&self) -> io::Result<Duration> {
+        Err(io::Error::from(ErrorKind::Unsupported))
+    }
+
+    fn since_1970(&self) -> io::Result<Duration> {
+        Err(io::Error::from(ErrorKind::Unsupported))
+    }
+}
 
 /// What a reader does next.
 #[derive(Drop)]
@@ -20,6 +34,8 @@ pub enum Step {
     Await(usize),
     /// It gives these bytes again and again, until a line says that the node is down.
     Repeat(Vec<u8>),
+    /// It would block.
+    Block,
     /// It fails.
     Fail,
 }
@@ -29,16 +45,19 @@ pub enum Step {
 pub struct Seen {
     pub output: Vec<u8>,
     pub errors: Vec<u8>,
+    /// How many writes of output would block first.
+    pub blocks: u64,
     /// Whether a write of output fails.
     pub is_broken: bool,
 }
 
 impl Seen {
     /// Nothing was written yet.
-    pub fn new(alloc: Global, is_broken: bool) -> Seen {
+    pub fn new(alloc: Global, blocks: u64, is_broken: bool) -> Seen {
         Seen {
             output: Vec::new(alloc),
             errors: Vec::new(alloc),
+            blocks,
             is_broken,
         }
     }
@@ -100,6 +119,7 @@ impl<'t, R: Wait> Steps<'t, R> {
         ensures { IfOk result (λ given. IfSome given (λ count. count ≤ length buffer.old)) }
     {
         match step {
+            Step::Block => Err(io::Error::from(ErrorKind::WouldBlock)),
             Step::Fail => Err(io::Error::from(ErrorKind::Other)),
             Step::Await(count) => self.wait(count),
             Step::Give(bytes) => self.give(bytes, buffer),
@@ -152,6 +172,10 @@ pub struct Output<'t, R: Wait> {
 impl<'t, R: Wait> Write for Output<'t, R> {
     fn write(&mut self, bytes: &[u8]) -> io::Result<usize> {
         let mut seen = self.seen.lock(self.rt);
+        if seen.blocks > 0 {
+            seen.blocks -= 1;
+            return Err(io::Error::from(ErrorKind::WouldBlock));
+        }
         if seen.is_broken {
             return Err(io::Error::from(ErrorKind::BrokenPipe));
         }
