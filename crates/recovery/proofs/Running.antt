@@ -39,7 +39,7 @@ module _ (node : Node) (sound : IsNode node) where
       → GivesOutText node moves world (script.desk_on (kept node history)) commands
   goes_on history moves world commands taken begun =
       scripts_are_runs node moves world (script.desk_on (kept node history)) commands sound begun.run
-      (subst (λ (w : World). IsAtDesk node w (script.desk_on (kept node history))) (sym begun.is) (scripts_begin node world.bytes_at_start history world.given)) taken
+      (subst (λ (w : World). IsAtDesk node w (script.desk_on (kept node history))) (sym begun.is) (scripts_begin node begun.on history world.given)) taken
 
   -- and gives out what was written
   pub run_given : (commands : List script.Command) (before later : List ℕ) (outcome : List ℕ → Type 0) (old new : Option (List ℕ))
@@ -89,7 +89,7 @@ nothing_given node commands before old new keeps = λ history moves world is beg
         later = world;
         run = subst (λ (l : List Move). IsRun node l world) (sym (append-nil moves)) begun.run;
         leads = refl;
-        at_desk = subst (IsAtDesk node world) (sym (desk_nil node desk)) (subst (λ (w : World). IsAtDesk node w desk) (sym begun.is) (scripts_begin node world.bytes_at_start history world.given));
+        at_desk = subst (IsAtDesk node world) (sym (desk_nil node desk)) (subst (λ (w : World). IsAtDesk node w desk) (sym begun.is) (scripts_begin node begun.on history world.given));
         outputs = [];
         went_out = record { more = []; given = sym (append-nil world.given); are = refl };
         is_text = sym (text_nil node desk);

@@ -5,7 +5,7 @@ use Rattle.spec_model.specs.Giving.{kept}
 use Rattle.spec_model.specs.Histories.{History}
 use Rattle.wire.specs.Lists.{Begins}
 use Rattle.spec_model.specs.Nodes.{Node}
-use Rattle.spec_world.specs.World.{World, run_on}
+use Rattle.spec_world.specs.World.{World, Opened, run_on}
 use Rattle.spec_world.specs.Steps.{Move, IsRun}
 use Rattle.spec_world.specs.Scripts.{GivesOutText}
 use Rattle.spec_world.specs.Text as script
@@ -19,10 +19,11 @@ abbrev pub IsWithinLimits : Command → Type 0
 IsWithinLimits (Event event) = IsMessage event.message
 IsWithinLimits other = ⊤
 
--- a run of the node has just begun with a history
+-- a run of the node has just begun with a history, on one disk or on two
 pub record HasBegun (node : Node) (history : History) (moves : List Move) (world : World) : Type 0 where
   pub run : IsRun node moves world
-  pub is : world ≡ run_on world.bytes_at_start history world.given
+  pub on : Opened
+  pub is : world ≡ run_on on history world.given
 
 -- each run of the node that has just begun with a history of which what is kept is what bytes are told as
 abbrev pub EachRunOn : Node → List ℕ → (History → List Move → World → Type 0) → Type 0
