@@ -8,7 +8,7 @@ ghost use Rattle.std.specs.Prelude.{◌≡◌, ◌≢◌, ◌⊎◌, ◌<◌, []
 ghost use Rattle.diskmodel.specs.Disk.{AtEachMoment};
 ghost use Rattle.journal.specs.Journal.{disk_of, spare_of, IsAlive, IsClosedUp};
 ghost use Rattle.validator.specs.Setting.{node_of};
-ghost use Rattle.opening.specs.Laws.{HoldsAt, KeepsHistories, IsOpening};
+ghost use Rattle.opening.specs.Laws.{HoldsAt, KeepsStates, IsOpening};
 ghost use Rattle.opening.specs.Told.{told, StandsAt};
 ghost use Rattle.node_shared.specs.Calls.{HasNothing};
 ghost use Rattle.node_shared.specs.Home.{IsOf};
@@ -42,8 +42,8 @@ pub fn start<'a, S: Sign, D: Disk>(
     ensures flusher { IfOk result (λ started. IsFlusherOf S.scheme D.device started.0 started.2) }
     ensures up { IfOk result (λ started. is_down started.2 ≡ false) }
     ensures nothing_settled { IfOk result (λ started. (settled_in started.2 ≡ []) × (taken_in started.2 ≡ [])) }
-    // The disk then has a journal of the node with each history for which the bytes stood.
-    ensures kept { let node = node_of S.scheme config.now in IfOk result (λ started. KeepsHistories node (D.device.content disk) (D.device.content (disk_of (journal_of started.2)))) }
+    // The disk then has a journal of the node at each state for which the bytes stood.
+    ensures kept { let node = node_of S.scheme config.now in IfOk result (λ started. KeepsStates node (D.device.content disk) (D.device.content (disk_of (journal_of started.2)))) }
 
     // Its errors, and what a stop at any moment of it leaves.
     ensures opening { IsOpening (node_of S.scheme config.now) D.device (λ started. disk_of (journal_of started.2)) disk result }
