@@ -58,11 +58,11 @@ module _ {S D : Type 0} (scheme : Scheme S) (device : Device D) where
   SoFar node first now = (now ≡ first) ⊎ (Leaves node first now × Keeps node first now)
 
   pub keeps_so_far : (node : NodeView S) (first now : Flusher D) → SoFar node first now → Keeps node first now
-  keeps_so_far node first now (inl same) = subst (Keeps node first) (sym same) (λ began held. held)
+  keeps_so_far node first now (inl same) = subst (Keeps node first) (sym same) (λ base there. there)
   keeps_so_far node first now (inr (leaves, keeps)) = keeps
 
   pub keeps_on : (node at : NodeView S) (first now later : Flusher D) → at ≡ node → Keeps node first now → Keeps at now later → Keeps node first later
-  keeps_on node at first now later here before more began held = subst (λ n. Keeps n now later) here more began (before began held)
+  keeps_on node at first now later here before more base there = subst (λ n. Keeps n now later) here more base (before base there)
 
   -- a round after others
   pub round_on : (node at : NodeView S) (seen : List Marked) (first now later : Flusher D) (round : Result ℕ FlushError) → at ≡ node → (IsErrOf round flush.Down → ⊥)
@@ -79,7 +79,7 @@ module _ {S D : Type 0} (scheme : Scheme S) (device : Device D) where
       left : (all : List Marked) (c : List ℕ) → LeavesAfter scheme at (settled_in now) all (content now) c → LeavesAfter scheme node (settled_in first) all (content first) c
       left all c it =
           let here_it = subst (λ n. LeavesAfter scheme n (settled_in now) all (content now) c) here it in
-          record { holds = here_it.holds; earlier = λ began held. here_it.earlier began (keeps_so_far node first now so_far began held) }
+          record { holds = here_it.holds; earlier = λ base there. here_it.earlier base (keeps_so_far node first now so_far base there) }
 
       more : (c : List ℕ) → HoldsEither scheme at (settled_in now) (taken_in later) (content now) c → HoldsMore scheme node (settled_in first) (content first) c
       more c (inl it) = record { more = settled_in now; begins = begins; leaves = left (settled_in now) c it }
@@ -108,7 +108,7 @@ module _ {S D : Type 0} (scheme : Scheme S) (device : Device D) where
       by : (one : FlushError) → round ≡ Err one → Keeps node now later
       by flush.Memory same =
           subst (λ (l : List Marked). KeepsEarlier scheme node (settled_in now) l (content now) (content later)) (sym (still flush.Memory same))
-          (subst (λ (j : _). KeepsEarlier scheme node (settled_in now) (settled_in now) (content now) (device.content (disk_of j))) (sym (memory same).0) (λ began held. held))
+          (subst (λ (j : _). KeepsEarlier scheme node (settled_in now) (settled_in now) (content now) (device.content (disk_of j))) (sym (memory same).0) (λ base there. there))
       by flush.Device same = down (goes.device same)
       by flush.Full same = down (goes.full same)
       by flush.Down same = let was = goes.down.0 same in down (ap (λ f. is_down f) (goes.same same) ∙ was)
@@ -129,7 +129,7 @@ module _ {S D : Type 0} (scheme : Scheme S) (device : Device D) where
           record {
             more = it.more;
             begins = begins_trans (settled_in first) (settled_in now) it.more begins it.begins;
-            leaves = record { holds = here_it.holds; earlier = λ began held. here_it.earlier began (before began held) };
+            leaves = record { holds = here_it.holds; earlier = λ base there. here_it.earlier base (before base there) };
           }
 
       goes_on : (down : Bool) → is_down now ≡ down → AllSoFar node first now → Leaves node first later × (is_down later ≡ false → Keeps node first later)
@@ -140,7 +140,7 @@ module _ {S D : Type 0} (scheme : Scheme S) (device : Device D) where
             λ still. absurd (let bad : true ≡ false = sym is ∙ ap (λ f. is_down f) (sym same) ∙ still in cc),
           )
       goes_on false is (inl same) =
-          let before = subst (Keeps node first) (sym same) (λ began held. held) in (
+          let before = subst (Keeps node first) (sym same) (λ base there. there) in (
             subst (λ f. AtEachMoment device (disk f) (disk later) (May node first)) same
                 (weaker device (disk now) (disk later) (May node first) (HoldsMore scheme at (settled_in now) (content now)) (leaves is) (more before)),
             λ still. keeps_on node at first now later here before (keeps still),

@@ -7,6 +7,7 @@ use Rattle.diskmodel.proofs.Clock.{weaker, joins}
 use Rattle.diskmodel.specs.Disk.{AtEachMoment, Device}
 use Rattle.admission.proofs.OneState.{one_state}
 use Rattle.flusher.specs.Rounds.{HoldsAfter}
+use Rattle.journal.specs.Areas.{Areas, alone}
 use Rattle.journal.specs.declared.error.JournalError.{JournalError}
 use Rattle.journal.specs.declared.error.JournalError.TheVariants as journal
 use Rattle.node_io.specs.Endings.{of_journal, ending_of, unless_journal, lacks_memory}
@@ -16,11 +17,10 @@ use Rattle.node_io.specs.declared.faults.Faults.{Faults}
 use Rattle.node_seats.specs.Views.{events}
 use Rattle.node_seats.specs.declared.view.Marked.{Marked}
 use Rattle.node_shared.specs.Home.{NodeView}
-use Rattle.opening.specs.Laws.{IsLeft, IsNoRefusal, KeepsHistories}
+use Rattle.opening.specs.Laws.{IsLeft, IsNoRefusal, KeepsStates}
 use Rattle.opening.specs.Told.{told, StandsAt, Tells, IsToldAsOneOf}
-use Rattle.spec_model.specs.Admitting.{IsLegal}
-use Rattle.spec_model.specs.Giving.{kept}
-use Rattle.spec_model.specs.Histories.{History}
+use Rattle.spec_machine.specs.After.{after_all, IsLegalAfter}
+use Rattle.spec_machine.proofs.AfterAll.{after_none}
 use Rattle.spec_model.specs.Nodes.{Node}
 use Rattle.spec_world.specs.World.{Holds}
 use Rattle.validator.specs.Setting.{ConfigView, node_of}
@@ -141,7 +141,8 @@ module _ {S D : Type 0} (scheme : Scheme S) (device : Device D) where
   has_run : (shared : NodeView S) (node : Node) (disk now later : D) (told_of : Faults) → node_of scheme shared.setting ≡ node
       → StandsAt node (told node (device.content disk)) shared.begun → device.faults now ≡ device.faults disk
       → TellsRounds (device.faults now) (device.faults later) told_of.journal → AtEachMoment device disk now (IsToldAsOneOf node (device.outcome disk))
-      → AtEachMoment device now later (HoldsMore scheme shared [] (device.content now)) → KeepsHistories node (device.content disk) (device.content now) → RunsOver node device disk (ending_of told_of) (Some later)
+      → AtEachMoment device now later (HoldsMore scheme shared [] (device.content now)) → KeepsStates node (device.content disk) (device.content now)
+      → RunsOver node device disk (ending_of told_of) (Some later)
   has_run shared node disk now later told_of of_node begins same tells opening leaves kept_all = record {
     device = λ is. subst (λ n. n < device.faults later) same (tells.disk.device (told_of_journal told_of journal.Device is));
     no_fault = λ other. tells.disk.no_fault (λ is. other (ends_with_device told_of.journal _ is)) ∙ same;
@@ -154,24 +155,24 @@ module _ {S D : Type 0} (scheme : Scheme S) (device : Device D) where
       which : (named : JournalError) → ending_of told_of ≡ ends.Journal named → (named ≡ journal.Device) ⊎ (named ≡ journal.Full)
       which named is = subst (λ (f : Option JournalError). IfSome f (λ error. (error ≡ journal.Device) ⊎ (error ≡ journal.Full))) (told_of_journal told_of named is) tells.which
 
-      -- the disk was told as what is kept of each history that keeps a base
-      is_told : {marked : List Marked} {bytes : List ℕ} → (it : HoldsAfter scheme shared marked bytes) → told node (device.content disk) ≡ Ok (kept node it.began)
+      -- the disk was told as each base
+      is_told : {marked : List Marked} {areas : Areas} → (it : HoldsAfter scheme shared marked areas) → told node (device.content disk) ≡ Ok it.base
       is_told it =
-          let base = subst (λ (n : Node). AreAtSound n shared.begun (kept n it.began)) of_node it.base in
-          begins.is_read ∙ ap Ok (one_state node shared.begun begins.state (kept node it.began) begins.at.sound begins.at.at base.sound base.at)
+          let at = subst (λ (n : Node). AreAtSound n shared.begun it.base) of_node it.is_base in
+          begins.is_read ∙ ap Ok (one_state node shared.begun begins.state it.base begins.at.sound begins.at.at at.sound at.at)
 
       more : (bytes : List ℕ) → HoldsMore scheme shared [] (device.content now) bytes → May node disk bytes
       more bytes it =
           let holds = it.leaves.holds in
           inr (record {
-            history = holds.began;
+            base = holds.base;
             is_told = is_told holds;
             more = events it.more;
-            legal = subst (λ (n : Node). IsLegal n (holds.began ++ events it.more)) of_node holds.legal;
-            holds = subst (λ (n : Node). Holds n bytes (holds.began ++ events it.more)) of_node holds.holds;
-            earlier = λ began stands. subst (λ (n : Node). Holds n bytes (began ++ events it.more)) of_node
-                (it.leaves.earlier began (subst (λ (l : History). Holds (node_of scheme shared.setting) (device.content now) l) (sym (append-nil began))
-                (subst (λ (n : Node). Holds n (device.content now) began) (sym of_node) (kept_all began stands))));
+            legal = subst (λ (n : Node). IsLegalAfter n holds.base (events it.more)) of_node holds.legal;
+            holds = subst (λ (n : Node). Holds n (alone bytes) (after_all n holds.base (events it.more))) of_node holds.holds;
+            earlier = λ began stands. subst (λ (n : Node). Holds n (alone bytes) (after_all n began (events it.more))) of_node
+                (it.leaves.earlier began (subst (Holds (node_of scheme shared.setting) (alone (device.content now))) (sym (after_none (node_of scheme shared.setting) began))
+                (subst (λ (n : Node). Holds n (alone (device.content now)) began) (sym of_node) (kept_all began stands))));
           })
 
   -- its threads have ended
@@ -179,7 +180,8 @@ module _ {S D : Type 0} (scheme : Scheme S) (device : Device D) where
       → StandsAt node (told node (device.content disk)) shared.begun → device.faults now ≡ device.faults disk
       → IfSome left (λ later. TellsRounds (device.faults now) (device.faults later) told_of.journal) → (left ≡ None → told_of ≡ no_memory)
       → AtEachMoment device disk now (IsToldAsOneOf node (device.outcome disk))
-      → IfSome left (λ later. AtEachMoment device now later (HoldsMore scheme shared [] (device.content now))) → KeepsHistories node (device.content disk) (device.content now) → RunsOver node device disk (ending_of told_of) left
+      → IfSome left (λ later. AtEachMoment device now later (HoldsMore scheme shared [] (device.content now))) → KeepsStates node (device.content disk) (device.content now)
+      → RunsOver node device disk (ending_of told_of) left
   ended shared node disk now told_of None of_node begins same tells lost opening leaves kept_all = run_lost node disk told_of (lost refl)
   ended shared node disk now told_of (Some later) of_node begins same tells lost opening leaves kept_all =
       has_run shared node disk now later told_of of_node begins same tells opening leaves kept_all

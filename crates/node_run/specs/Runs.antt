@@ -3,6 +3,7 @@ use Rattle.std.specs.Prelude.{◌≡◌, ◌≢◌, ◌⊎◌, ◌<◌, ℕ, fal
 use Rattle.diskmodel.specs.Disk.{Device, AtEachMoment}
 use Rattle.flusher.specs.Rounds.{journal_of, is_down, settled_in, LeavesAfter}
 use Rattle.flusher.specs.declared.flusher.Flusher.{Flusher}
+use Rattle.journal.specs.Areas.{alone}
 use Rattle.journal.specs.Journal.{disk_of}
 use Rattle.journal.specs.declared.error.JournalError.{JournalError}
 use Rattle.journal.specs.declared.error.JournalError.TheVariants as errors
@@ -14,11 +15,11 @@ use Rattle.node_seats.specs.declared.view.Marked.{Marked}
 use Rattle.node_shared.specs.Home.{NodeView}
 use Rattle.opening.specs.Laws.{IsLeft}
 use Rattle.opening.specs.Told.{told, Tells, IsToldAsOneOf}
-use Rattle.spec_model.specs.Admitting.{IsLegal}
-use Rattle.spec_model.specs.Giving.{kept}
+use Rattle.spec_machine.specs.After.{after_all, IsLegalAfter}
 use Rattle.spec_model.specs.Histories.{History}
 use Rattle.wire.specs.Lists.{Begins}
 use Rattle.spec_model.specs.Nodes.{Node}
+use Rattle.spec_model.specs.States.{State}
 use Rattle.spec_world.specs.World.{Holds, StandsFor}
 use Rattle.validator.specs.Setting.{ConfigView, node_of}
 use Rattle.wire.specs.declared.keys.Key.{Key}
@@ -26,7 +27,7 @@ use Rattle.node_run.specs.Ends.{TellsRounds}
 use Rattle.node_run.specs.Members.{IsConfigOf}
 use Rattle.sigface.specs.Scheme.{Scheme}
 
--- bytes are a node's journal with what was settled, and perhaps more after it, after the same history as before
+-- bytes are a node's journal with what was settled, and perhaps more after it, after the same state as before
 pub record HoldsMore {S : Type 0} (scheme : Scheme S) (node : NodeView S) (settled : List Marked) (before left : List ℕ) : Type 0 where
   pub more : List Marked
   pub begins : Begins settled more
@@ -39,15 +40,15 @@ pub record HasFlushed {S D : Type 0} (scheme : Scheme S) (device : Device D) (no
   pub others : (tells.output ≡ false) × (tells.input ≡ false)
   pub any_moment : is_down flusher ≡ false → AtEachMoment device (disk_of (journal_of flusher)) left (HoldsMore scheme node (settled_in flusher) (device.content (disk_of (journal_of flusher))))
 
--- A disk was told as what is kept of a history, and bytes are the node's journal with that history, and perhaps more after it; all of that
--- is legal. With each history for which the disk stood they are its journal, and with the same after it.
+-- A disk was told as a state, and bytes are the node's journal at it, or at the state after more events, which are legal there. From each
+-- state on for which the disk stood they are its journal with the same events.
 pub record GoesOn (node : Node) (before left : List ℕ) : Type 0 where
-  pub history : History
-  pub is_told : told node before ≡ Ok (kept node history)
+  pub base : State
+  pub is_told : told node before ≡ Ok base
   pub more : History
-  pub legal : IsLegal node (history ++ more)
-  pub holds : Holds node left (history ++ more)
-  pub earlier : (began : History) → StandsFor node before began → Holds node left (began ++ more)
+  pub legal : IsLegalAfter node base more
+  pub holds : Holds node (alone left) (after_all node base more)
+  pub earlier : (began : State) → StandsFor node (alone before) began → Holds node (alone left) (after_all node began more)
 
 -- A node was opened on a disk, if it could be, and ran until this ending; this is left of the disk. A fault of the disk is told exactly
 -- where it counted one. Of the journal's other faults a full one is told after the opening, and what the opening refused. That is what

@@ -7,7 +7,7 @@ use Rattle.journal.specs.Journal.{disk_of}
 use Rattle.node_io.specs.declared.ending.Ending.{Ending}
 use Rattle.node_seats.specs.declared.view.Marked.{Marked}
 use Rattle.node_shared.specs.Home.{NodeView}
-use Rattle.opening.specs.Laws.{KeepsHistories}
+use Rattle.opening.specs.Laws.{KeepsStates}
 use Rattle.opening.specs.Told.{told, IsToldAsOneOf, StandsAt}
 use Rattle.validator.specs.Setting.{node_of}
 use Rattle.node_run.proofs.Runs.{ended, not_run}
@@ -35,7 +35,7 @@ returns-in-Ok-new g c =
     (subst (λ (s : NodeView g.row.S.Denot). StandsAt node (told node (g.D.Disk.device.content c.args.disk)) s.begun) (sym shared) started.begins)
     (ap g.D.Disk.device.faults disk ∙ started.opening.cause.0)
     c.run_threads-disk.ensures.told c.run_threads-disk.ensures.lost opening leaves
-    (subst (λ (d : g.row.D.Denot). KeepsHistories node (g.D.Disk.device.content c.args.disk) (g.D.Disk.device.content d)) (sym disk) started.kept))
+    (subst (λ (d : g.row.D.Denot). KeepsStates node (g.D.Disk.device.content c.args.disk) (g.D.Disk.device.content d)) (sym disk) started.kept))
 
 pub returns : goal.returns
 returns g c =
