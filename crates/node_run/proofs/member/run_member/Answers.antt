@@ -1,5 +1,5 @@
 use Rattle.std.proofs.Common.{◌≡◌, false, [], List, sym, ap, subst, ◌∙◌}
-use Rattle.std.specs.Prelude.{IfSome}
+use Rattle.std.specs.Prelude.{IfSome, Some}
 use Rattle.diskmodel.specs.Disk.{AtEachMoment}
 use Rattle.flusher.specs.Rounds.{journal_of, is_down, settled_in}
 use Rattle.flusher.specs.declared.flusher.Flusher.{Flusher}
@@ -10,7 +10,7 @@ use Rattle.node_shared.specs.Home.{NodeView}
 use Rattle.opening.specs.Laws.{KeepsStates}
 use Rattle.opening.specs.Told.{told, IsToldAsOneOf, StandsAt}
 use Rattle.validator.specs.Setting.{node_of}
-use Rattle.node_run.proofs.Runs.{ended, not_run}
+use Rattle.node_run.proofs.Runs.{ended, not_opened, not_run}
 use Rattle.node_run.proofs.member.run_member.Goals as goal
 use Rattle.node_run.specs.Runs.{HoldsMore, RunsOver}
 
@@ -46,3 +46,11 @@ returns g c =
     let disk : c.into_disk.result ≡ disk_of (journal_of c.in-Ok.started.2) = c.into_disk.ensures ∙ ap (λ (f : Flusher g.row.D.Denot). disk_of (journal_of f)) flusher in
     not_run g.S.Sign.scheme g.D.Disk.device node c.args.disk c.into_disk.result (ap g.D.Disk.device.faults disk ∙ started.opening.cause.0)
     (subst (λ (d : g.row.D.Denot). AtEachMoment g.D.Disk.device c.args.disk d (IsToldAsOneOf node (g.D.Disk.device.outcome c.args.disk))) (sym disk) started.opening.any_moment)
+
+pub returns-in-Err : goal.returns-in-Err
+returns-in-Err g c =
+    let node = node_of g.S.Sign.scheme c.args.config.now in
+    let opening = c.in-Err.ensures.opening in
+    let later = c.in-Err.field-0.disk in
+    subst (λ (ending : Ending). RunsOver node g.D.Disk.device c.args.disk ending (Some later)) (sym c.from.ensures)
+    (not_opened g.S.Sign.scheme g.D.Disk.device node c.args.disk later c.in-Err.field-0.error opening.tells opening.cause.1 opening.any_moment opening.never_refused)
