@@ -1,5 +1,5 @@
 -- How a node's run over a disk ends, and what a stop at any moment of it leaves.
-use Rattle.std.specs.Prelude.{◌≡◌, ◌≢◌, ◌⊎◌, ◌<◌, ℕ, false, List, ◌++◌, Option, None, Ok, IfSome}
+use Rattle.std.specs.Prelude.{◌≡◌, ◌≢◌, ◌⊎◌, ◌<◌, ℕ, false, List, Option, None, Ok, IfSome}
 use Rattle.diskmodel.specs.Disk.{Device, AtEachMoment}
 use Rattle.flusher.specs.Rounds.{journal_of, is_down, settled_in, LeavesAfter}
 use Rattle.flusher.specs.declared.flusher.Flusher.{Flusher}

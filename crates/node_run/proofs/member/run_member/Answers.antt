@@ -1,5 +1,5 @@
-use Rattle.std.proofs.Common.{◌≡◌, false, [], List, sym, ap, subst, ◌∙◌}
-use Rattle.std.specs.Prelude.{IfSome, Some}
+use Rattle.std.proofs.Common.{◌≡◌, false, [], List, Some, sym, ap, subst, ◌∙◌}
+use Rattle.std.specs.Prelude.{IfSome}
 use Rattle.diskmodel.specs.Disk.{AtEachMoment}
 use Rattle.flusher.specs.Rounds.{journal_of, is_down, settled_in}
 use Rattle.flusher.specs.declared.flusher.Flusher.{Flusher}
@@ -13,6 +13,14 @@ use Rattle.validator.specs.Setting.{node_of}
 use Rattle.node_run.proofs.Runs.{ended, not_opened, not_run}
 use Rattle.node_run.proofs.member.run_member.Goals as goal
 use Rattle.node_run.specs.Runs.{HoldsMore, RunsOver}
+
+pub returns-in-Err : goal.returns-in-Err
+returns-in-Err g c =
+    let node = node_of g.S.Sign.scheme c.args.config.now in
+    let opening = c.in-Err.ensures.opening in
+    let failed = c.in-Err.field-0 in
+    subst (λ (ending : Ending). RunsOver node g.D.Disk.device c.args.disk ending (Some failed.disk)) (sym c.from.ensures)
+    (not_opened g.S.Sign.scheme g.D.Disk.device node c.args.disk failed.disk failed.error opening.tells opening.cause.1 opening.any_moment opening.never_refused)
 
 pub returns-in-Ok-new : goal.returns-in-Ok-new
 returns-in-Ok-new g c =
@@ -46,11 +54,3 @@ returns g c =
     let disk : c.into_disk.result ≡ disk_of (journal_of c.in-Ok.started.2) = c.into_disk.ensures ∙ ap (λ (f : Flusher g.row.D.Denot). disk_of (journal_of f)) flusher in
     not_run g.S.Sign.scheme g.D.Disk.device node c.args.disk c.into_disk.result (ap g.D.Disk.device.faults disk ∙ started.opening.cause.0)
     (subst (λ (d : g.row.D.Denot). AtEachMoment g.D.Disk.device c.args.disk d (IsToldAsOneOf node (g.D.Disk.device.outcome c.args.disk))) (sym disk) started.opening.any_moment)
-
-pub returns-in-Err : goal.returns-in-Err
-returns-in-Err g c =
-    let node = node_of g.S.Sign.scheme c.args.config.now in
-    let opening = c.in-Err.ensures.opening in
-    let later = c.in-Err.field-0.disk in
-    subst (λ (ending : Ending). RunsOver node g.D.Disk.device c.args.disk ending (Some later)) (sym c.from.ensures)
-    (not_opened g.S.Sign.scheme g.D.Disk.device node c.args.disk later c.in-Err.field-0.error opening.tells opening.cause.1 opening.any_moment opening.never_refused)
