@@ -27,7 +27,7 @@ use Rattle.checkpoint.proofs.Rising.{all_by, all_mapped, few_between, find-map, 
 -- ---- the places of votes
 
 -- what stands in a member's place after votes that rise by voter
-placed : (places : Places) (votes : List VoteEntry) (member : ℕ) → AllPairs (Before vote_before) votes → All (λ entry. entry.voter.0 < length places) votes
+pub placed : (places : Places) (votes : List VoteEntry) (member : ℕ) → AllPairs (Before vote_before) votes → All (λ entry. entry.voter.0 < length places) votes
     → get_or (with_entries places votes) member None ≡ option_or (option_map (λ (e : VoteEntry). e.signature) (find (λ (e : VoteEntry). e.voter.0 == member) votes)) (get_or places member None)
 placed places [] member pairs within = refl
 placed places (e ∷ votes) member pairs within =
@@ -63,11 +63,11 @@ module _ (node : Node) (voted : VotedHeader) (by : IsVotedBy node.charter node.o
   abbrev votes : List VoteEntry
   votes = voted.votes.items
 
-  votes_pairs : AllPairs (Before vote_before) votes
+  pub votes_pairs : AllPairs (Before vote_before) votes
   votes_pairs = rise_pairs vote_before (λ x y z one two. numbers_through x.voter.0 y.voter.0 z.voter.0 one two) votes listed.rise
 
   -- another member's vote is that of its entry
-  others_vote : (voter : ℕ) → voter ≢ node.own.0 → option_map (vote_of voted.header) (find (λ (e : VoteEntry). e.voter.0 == voter) votes)
+  pub others_vote : (voter : ℕ) → voter ≢ node.own.0 → option_map (vote_of voted.header) (find (λ (e : VoteEntry). e.voter.0 == voter) votes)
       ≡ vote_in (restored node.charter voted.header voted.vote votes) voter
   others_vote voter other =
       let empty : Places = replicate (length node.charter.keys) None in

@@ -64,7 +64,7 @@ tied slot other = elim (cases_Bool ((other.round == slot.round) && (other.author
 abbrev at : ℕ → ℕ → KeptVote → Bool
 at round author vote = (vote.round == round) && (vote.author == author)
 
-vote_found : (items : List (Slot × Digest)) (slot : Slot) → option_map (λ (vote : KeptVote). vote.header) (find (at slot.round slot.author) (map vote_of items)) ≡ find_in slot_cmp slot items
+pub vote_found : (items : List (Slot × Digest)) (slot : Slot) → option_map (λ (vote : KeptVote). vote.header) (find (at slot.round slot.author) (map vote_of items)) ≡ find_in slot_cmp slot items
 vote_found [] slot = refl
 vote_found (one ∷ items) slot = elim (cases_Bool (at slot.round slot.author (vote_of one))) [
   | inl so ↦ (let also = tied slot one.0 ∙ so in rw (so, also) refl)

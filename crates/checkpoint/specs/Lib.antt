@@ -1,3 +1,6 @@
 pub mod Parts
 pub mod Kept
 pub mod Describes
+pub mod Reading
+pub mod Reader
+pub mod Judging

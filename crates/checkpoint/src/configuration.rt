@@ -1,10 +1,13 @@
 //! The record of a member's configuration.
 
-ghost use Rattle.std.specs.Prelude.{◌≡◌, ◌+◌, ◌*◌, ◌++◌, ◌∷◌, [], length, flat_map, IfOk, OnOk, Some};
+ghost use Rattle.std.specs.Prelude.{◌≡◌, ◌==◌, ◌+◌, ◌*◌, ◌++◌, ◌∷◌, [], length, flat_map, is_some, IfOk, IfSome, OnOk, Some};
+ghost use Rattle.std.specs.List.{list_all};
 ghost use Rattle.std.specs.Int.{w32, to_be_bytes};
 ghost use Rattle.journal.specs.Configuration.{stakes_size, size_in, shaped_version};
 ghost use Rattle.journal.specs.Snapshot.{CanPack};
 ghost use Rattle.journal.specs.declared.configuration.TheConstants.{KEY_BYTES, STAKE_BYTES};
+ghost use Rattle.spec_checkpoint.specs.Loading.{is_configuration};
+ghost use Rattle.spec_model.specs.Nodes.{Node};
 ghost use Rattle.spec_records.specs.Records.{stakes_of, configuration_of};
 
 use committee::Committee;
@@ -12,6 +15,50 @@ use journal::{CONFIGURATION, Version, number_of};
 use std::alloc::{AllocError, Global};
 use wire::Author;
 use wire::numbers::two_bytes;
+
+/// The version in which bytes are the record of a member's configuration, if they are one. The second version can tell each
+/// committee, the first one those with stakes of 1. `AllocError` where an allocation failed.
+pub fn version_of(
+    alloc: Global,
+    committee: &Committee,
+    own: Author,
+    bytes: &[u8],
+) -> Result<Option<Version>, AllocError>
+    ensures found { IfOk result (λ found. IfSome found (λ version. bytes.now ≡ configuration_of version committee.now own)) }
+    ensures is { IfOk result (λ found. (node : Node) → node.charter ≡ committee.now → node.own ≡ own → is_configuration node bytes.now ≡ is_some found) }
+{
+    let second = configuration_record(alloc, Version::Second, committee, own)?;
+    if bytes == second.as_slice() {
+        return Ok(Some(Version::Second));
+    }
+    if !are_stakes_one(committee) {
+        return Ok(None);
+    }
+    let first = configuration_record(alloc, Version::First, committee, own)?;
+    if bytes == first.as_slice() {
+        return Ok(Some(Version::First));
+    }
+    Ok(None)
+}
+
+/// Whether each member's stake is 1.
+#[tactic(auto, using(crate::proofs::Stakes::one_off, crate::proofs::Stakes::ones_more))]
+fn are_stakes_one(committee: &Committee) -> bool
+    ensures { result ≡ list_all (λ stake. stake == 1) committee.now.stakes }
+{
+    committee.limits_hold();
+    for member in 0..committee.size() {
+        match committee.stake(Author(member)) {
+            Some(stake) => {
+                if stake != 1 {
+                    return false;
+                }
+            }
+            None => unreachable!(),
+        }
+    }
+    true
+}
 
 /// The record of a member's configuration: kind, version, own number, depth, workers, batches, members, their keys, and
 /// their stakes where the version has them.

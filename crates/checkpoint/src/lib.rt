@@ -1,9 +1,14 @@
-//! What a checkpoint is written of: a validator's tables are taken apart to what they keep, and that is written as records.
+//! Checkpoints. A validator's tables are taken apart to what they keep, and that is written as records; and records are read back to
+//! what tables are restored from.
 #![tactic(auto)]
 
 mod configuration;
 mod describing;
+mod error;
+mod judging;
 mod parts;
+mod reader;
+mod reading;
 mod records;
 mod sink;
 mod snapshot;
@@ -12,7 +17,9 @@ ghost use Rattle.checkpoint.specs.Kept.{CheckpointIsState};
 
 pub use configuration::configuration_record;
 pub use describing::kept_records;
+pub use error::LoadError;
 pub use parts::parts_of;
+pub use reader::CheckpointReader;
 pub use records::records_of;
 pub use snapshot::snapshot_of;
 

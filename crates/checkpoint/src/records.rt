@@ -1,8 +1,8 @@
 //! The records of what is kept, in the order of a checkpoint.
 
-mod batch;
-mod messages;
-mod pieces;
+pub(crate) mod batch;
+pub(crate) mod messages;
+pub(crate) mod pieces;
 
 ghost use Rattle.std.specs.Prelude.{◌≡◌, ◌++◌, All, map, IfOk, OnOk};
 ghost use Rattle.journal.specs.Format.{contents};

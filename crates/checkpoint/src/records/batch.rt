@@ -15,7 +15,7 @@ use wire::Author;
 use wire::numbers::two_bytes;
 
 /// The kind of a batch's record.
-const BATCH: u8 = 4;
+pub const BATCH: u8 = 4;
 
 /// Puts the record of a batch after others. Its body is a part of its own, so it is copied once.
 pub fn put_batch<S: RecordSink>(alloc: Global, sink: &mut S, held: &Held) -> Result<(), AllocError>

@@ -13,13 +13,13 @@ use wire::numbers::two_bytes;
 use wire::{Certificate, Digest, Message, VoteEntry, encode};
 
 /// The kind of a vote's record.
-const VOTE: u8 = 5;
+pub const VOTE: u8 = 5;
 
 /// The kind of an own header's record.
-const HEADER: u8 = 6;
+pub const HEADER: u8 = 6;
 
 /// The kind of a certificate's record.
-const CERTIFICATE: u8 = 7;
+pub const CERTIFICATE: u8 = 7;
 
 /// A vote for another member's header: its kind, author, round, header digest.
 pub fn vote_record(alloc: Global, vote: &(Slot, Digest)) -> Result<Vec<u8>, AllocError>

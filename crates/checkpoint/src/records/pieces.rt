@@ -9,10 +9,10 @@ use std::alloc::{AllocError, Global};
 use wire::Digest;
 
 /// The kind of the record of a piece of the order.
-const ORDER: u8 = 3;
+pub const ORDER: u8 = 3;
 
 /// The kind of the record of a piece of the coins.
-const COINS: u8 = 8;
+pub const COINS: u8 = 8;
 
 /// How many digests a piece of the order has, but for the last: 2 MiB.
 pub const ORDER_PIECE: usize = 65_536;

@@ -1,0 +1,37 @@
+//! Why records can't be loaded.
+
+ghost use Rattle.std.specs.Prelude.{◌≡◌};
+ghost use Rattle.checkpoint.specs.declared.error.LoadError.TheVariants.{Memory};
+
+use std::alloc::{AllocError, AllocFailed};
+use thiserror::Error;
+
+/// Why records can't be loaded. Printed as its number and its name.
+#[derive(Clone, Copy, Debug, PartialEq, Eq, Error)]
+pub enum LoadError {
+    /// An allocation failed.
+    #[error("1 Memory")]
+    Memory,
+    /// The record at this place in the list, from 0 on, is the first at fault.
+    #[error("2 Unsound")]
+    Unsound(u64),
+    /// Each record by itself is sound, and the whole isn't.
+    #[error("3 UnsoundWhole")]
+    UnsoundWhole,
+}
+
+impl<T: Drop> From<AllocFailed<T>> for LoadError {
+    ghost from_gives = { λ _ e. e ≡ Memory };
+
+    fn from(_: AllocFailed<T>) -> LoadError {
+        LoadError::Memory
+    }
+}
+
+impl From<AllocError> for LoadError {
+    ghost from_gives = { λ _ e. e ≡ Memory };
+
+    fn from(_: AllocError) -> LoadError {
+        LoadError::Memory
+    }
+}
