@@ -83,12 +83,14 @@ slice_fault test k xs i x place within at none off is =
 pub slice_end : {X : Type 0} (test : X → Bool) (k : ℕ) (xs : List X) (i : ℕ) → length xs ≤ i → NoneFails k (map test (take i xs)) → NoneFails k (map test xs)
 slice_end test k xs i past none = ap (λ l. position_from not k (map test l)) (sym (take_all i xs past)) ∙ none
 
-pub slice_fine_by : {X : Type 0} (test : X → Bool) (k : ℕ) (xs : List X) (i : ℕ) (d : X) (sound : Bool) → i < length xs → NoneFails k (map test (take i xs)) → sound ≡ test (get_or xs i d) → sound ≡ true
+pub slice_fine_by : {X : Type 0} (test : X → Bool) (k : ℕ) (xs : List X) (i : ℕ) (d : X) (sound : Bool) → i < length xs → NoneFails k (map test (take i xs)) → sound ≡ test (get_or xs i d)
+    → sound ≡ true
     → NoneFails k (map test (take (i + 1) xs))
 slice_fine_by test k xs i d sound within none same is =
     ap (λ l. position_from not k (map test l)) (take_more xs i d within) ∙ fine_more test k (take i xs) (get_or xs i d) none (sym same ∙ is)
 
-pub slice_fault_by : {X : Type 0} (test : X → Bool) (k : ℕ) (xs : List X) (i : ℕ) (d : X) (sound : Bool) (place : ℕ) → i < length xs → NoneFails k (map test (take i xs)) → sound ≡ test (get_or xs i d) → sound ≡ false
+pub slice_fault_by : {X : Type 0} (test : X → Bool) (k : ℕ) (xs : List X) (i : ℕ) (d : X) (sound : Bool) (place : ℕ) → i < length xs → NoneFails k (map test (take i xs)) → sound ≡ test
+    (get_or xs i d) → sound ≡ false
     → place ≡ k + i → position_from not k (map test xs) ≡ Some place
 slice_fault_by test k xs i d sound place within none same off is =
     let long = length-take i xs in
@@ -130,7 +132,8 @@ tests_long node before (x ∷ xs) =
 pub batch_fine : (node : Node) (k : ℕ) (done : List KeptBatch) (next : KeptBatch) → NoneFails k (batch_tests node [] done) → is_batch_sound node done next ≡ true
     → NoneFails k (batch_tests node [] (done ++ next ∷ []))
 batch_fine node k done next none is =
-    ap (position_from not k) (batches_on node [] done (next ∷ []) ∙ ap (λ l. batch_tests node [] done ++ l) (batch_step node done [] next ∙ ap (λ l. is_batch_sound node done next ∷ l) (batch_none node (done ++ next ∷ []))))
+    ap (position_from not k) (batches_on node [] done (next ∷ []) ∙ ap (λ l. batch_tests node [] done ++ l) (batch_step node done [] next ∙ ap (λ l. is_batch_sound node done next ∷ l)
+    (batch_none node (done ++ next ∷ []))))
     ∙ none_more k (batch_tests node [] done) (is_batch_sound node done next) none is
 
 pub batch_fault : (node : Node) (k : ℕ) (all done rest : List KeptBatch) (next : KeptBatch) → all ≡ done ++ next ∷ rest → NoneFails k (batch_tests node [] done) → is_batch_sound node done next ≡ false
@@ -141,7 +144,8 @@ batch_fault node k all done rest next is none off =
     ∙ first_here k (batch_tests node [] done) (batch_tests node (done ++ next ∷ []) rest) (is_batch_sound node done next) none off
     ∙ ap (λ n. Some (k + n)) (tests_long node [] done)
 
-pub batch_turn : (node : Node) (k : ℕ) (all done : List KeptBatch) (next : KeptBatch) (place : ℕ) → IsTurn all done next → NoneFails k (batch_tests node [] done) → is_batch_sound node done next ≡ false
+pub batch_turn : (node : Node) (k : ℕ) (all done : List KeptBatch) (next : KeptBatch) (place : ℕ) → IsTurn all done next → NoneFails k (batch_tests node [] done) → is_batch_sound node done next
+    ≡ false
     → place ≡ k + length done → TellsFirst k (batch_tests node [] all) (Unsound place)
 batch_turn node k all done next place turn none off is =
     λ apart. ap (option_map at_record) (batch_fault node k all done (drop (length done + 1) all) next (split_at all done next turn) none off ∙ ap (λ n. Some n) (sym is))

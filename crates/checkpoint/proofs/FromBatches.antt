@@ -75,7 +75,8 @@ has_batches node checkpoint helds are = record {
   charter = refl;
   own = refl;
   batches = same_batches checkpoint.batches helds are;
-  acked = λ digest member. same_acked member (find (λ (kept : KeptBatch). same_digest (batch_digest kept.batch) digest) checkpoint.batches) (found digest helds) (found_as digest checkpoint.batches helds are);
+  acked = λ digest member. same_acked member (find (λ (kept : KeptBatch). same_digest (batch_digest kept.batch) digest) checkpoint.batches) (found digest helds)
+      (found_as digest checkpoint.batches helds are);
   named = λ digest. same_named (find (λ (kept : KeptBatch). same_digest (batch_digest kept.batch) digest) checkpoint.batches) (found digest helds) (found_as digest checkpoint.batches helds are);
 }
 

@@ -73,7 +73,8 @@ module _ (node : Node) (member : node.own.0 < length node.charter.keys) (voted :
       let here : get_or first node.own.0 None ≡ Some voted.vote.signature =
       get_or-set_at empty voted.vote.voter.0 node.own.0 (Some voted.vote.signature) None (sym voter) (omega (arith, voter, member, size)) in
       placed first votes node.own.0 (votes_pairs node voted by listed)
-      (all_by (λ (e : VoteEntry). e.voter.0 < length first) votes (λ e inside. let below = All-contains (λ (x : VoteEntry). x.voter.0 < length node.charter.keys) votes e by.members inside in omega (arith, below, long)))
+      (all_by (λ (e : VoteEntry). e.voter.0 < length first) votes (λ e inside. let below = All-contains
+      (λ (x : VoteEntry). x.voter.0 < length node.charter.keys) votes e by.members inside in omega (arith, below, long)))
       ∙ ap (λ o. option_or (option_map (λ (e : VoteEntry). e.signature) o) (get_or first node.own.0 None)) (none_of_own node.own.0 votes listed.others)
       ∙ here
 
@@ -125,7 +126,8 @@ module _ (node : Node) (checkpoint : Checkpoint) (items : List VotedHeader) (nod
   found_there : (v : VotedHeader) → Contains items v → kept_header checkpoint v.header.body.round ≡ Some (header_of v)
   found_there v inside =
       kept_is v.header.body.round
-      ∙ ap (option_map header_of) (found_itself (λ (one other : VotedHeader). nat_lt one.header.body.round other.header.body.round) (λ (x : VotedHeader). x.header.body.round == v.header.body.round) items v pairs inside
+      ∙ ap (option_map header_of) (found_itself (λ (one other : VotedHeader). nat_lt one.header.body.round other.header.body.round)
+      (λ (x : VotedHeader). x.header.body.round == v.header.body.round) items v pairs inside
       (eq-eqb v.header.body.round v.header.body.round refl) (λ y before. numbers_apart y.header.body.round v.header.body.round before))
 
   -- who voted on one are members
@@ -134,7 +136,8 @@ module _ (node : Node) (checkpoint : Checkpoint) (items : List VotedHeader) (nod
       let listed = others v inside in
       let off = ne_eqb e.voter.0 node.own.0 (All-contains (λ (x : VoteEntry). x.voter.0 ≢ node.own.0) v.votes.items e listed.others there) in
       let all = rise_pairs vote_before (λ x y z one two. numbers_through x.voter.0 y.voter.0 z.voter.0 one two) v.votes.items listed.rise in
-      let itself = found_itself vote_before (λ (x : VoteEntry). x.voter.0 == e.voter.0) v.votes.items e all there (eq-eqb e.voter.0 e.voter.0 refl) (λ y before. numbers_apart y.voter.0 e.voter.0 before) in
+      let itself = found_itself vote_before (λ (x : VoteEntry). x.voter.0 == e.voter.0) v.votes.items e all there (eq-eqb e.voter.0 e.voter.0 refl)
+      (λ y before. numbers_apart y.voter.0 e.voter.0 before) in
       let voted_so : kept_vote node (header_of v) e.voter.0 ≡ Some (vote_of v.header e) = rw (off, itself) refl in
       let counts : (state_in node checkpoint).counted v.header.body.round e.voter.0 ≡ Some (vote_of v.header e) =
       ap (option_and_then (λ (kept : KeptHeader). kept_vote node kept e.voter.0)) (found_there v inside) ∙ voted_so in
@@ -159,7 +162,8 @@ module _ (node : Node) (checkpoint : Checkpoint) (items : List VotedHeader) (nod
   }
 
   same_held : (o : Option VotedHeader)
-      → option_map (λ (a : AssemblyView). a.header) (option_map (λ (e : ℕ × AssemblyView). e.1) (option_map (entry_of node.charter) o)) ≡ option_map (λ (kept : KeptHeader). kept.header) (option_map header_of o)
+      → option_map (λ (a : AssemblyView). a.header) (option_map (λ (e : ℕ × AssemblyView). e.1) (option_map (entry_of node.charter) o)) ≡ option_map (λ (kept : KeptHeader). kept.header)
+      (option_map header_of o)
   same_held None = refl
   same_held (Some v) = refl
 

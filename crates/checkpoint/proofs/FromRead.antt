@@ -65,7 +65,8 @@ pub record IsMadeOf (node : Node) (checkpoint : Checkpoint) (kept : Kept) : Type
   pub coins : checkpoint.coins ≡ kept.coins
   pub order : checkpoint.order ≡ kept.order.items
 
-pub kept_of_state : NoFaultIsSound → (node : Node) (checkpoint : Checkpoint) (kept : Kept) → IsNode node → IsCanonical node checkpoint → has_no_fault node checkpoint ≡ true → IsMadeOf node checkpoint kept
+pub kept_of_state : NoFaultIsSound → (node : Node) (checkpoint : Checkpoint) (kept : Kept) → IsNode node → IsCanonical node checkpoint → has_no_fault node checkpoint ≡ true → IsMadeOf
+    node checkpoint kept
     → IsKeptOf node (state_in node checkpoint) kept
 kept_of_state law node checkpoint kept node_is canonical none made =
     let sound = law node checkpoint node_is canonical none in

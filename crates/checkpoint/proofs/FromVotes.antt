@@ -42,8 +42,11 @@ above slot vote (e ∷ items) round author all =
 sorted : (items : List (Slot × Digest)) → AllPairs (Before vote_before) (map vote_of items) → IsStrictlySortedBy slot_cmp (keys_of items)
 unfolding IsStrictlySortedBy
 sorted [] pairs = tt
-sorted (e ∷ items) pairs =
-    (above e.0 (vote_of e) items refl refl (pairs_first (Before vote_before) (vote_of e) (map vote_of items) pairs), sorted items (pairs_rest (Before vote_before) (vote_of e) (map vote_of items) pairs))
+sorted (e ∷ items) pairs = (
+  above e.0 (vote_of e) items refl refl (pairs_first (Before vote_before) (vote_of e) (map vote_of items) pairs),
+  sorted items (pairs_rest (Before vote_before) (vote_of e)
+      (map vote_of items) pairs),
+)
 
 pub votes_sorted : (items : List (Slot × Digest)) → rises vote_before (map vote_of items) ≡ true → IsStrictlySortedBy slot_cmp (keys_of items)
 votes_sorted items rise = sorted items (rise_pairs vote_before (λ x y z one two. places_through x.round x.author y.round y.author z.round z.author one two) (map vote_of items) rise)

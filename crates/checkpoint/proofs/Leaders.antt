@@ -21,7 +21,8 @@ pub record IsLed (charter : Charter) (list : List Digested) (coins : List ℕ) (
   pub held : listed list (2 * wave - 1) (coin % length charter.keys) ≡ Some certificate
   pub within : wave ≤ length coins
 
-led_by : (charter : Charter) (list : List Digested) (coins : List ℕ) (wave : ℕ) (c : Certificate) → wave ≤ length coins → leader (ledger_of charter list coins) wave ≡ Some c → IsLed charter list coins wave
+led_by : (charter : Charter) (list : List Digested) (coins : List ℕ) (wave : ℕ) (c : Certificate) → wave ≤ length coins → leader (ledger_of charter list coins) wave ≡ Some c → IsLed charter
+    list coins wave
 led_by charter list coins zero c within is = absurd (none-some c is)
 led_by charter list coins (suc wave) c within is = by (slice_get coins wave) refl
   where

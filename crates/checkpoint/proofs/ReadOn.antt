@@ -1,5 +1,6 @@
 -- The records that came so far, and one more.
-use Rattle.std.proofs.Common.{◌≡◌, ℕ, ◌+◌, ◌-◌, Bool, true, false, inl, inr, List, [], ◌∷◌, ◌++◌, length, map, slice_get, Result, Ok, Err, Option, Some, None, length-append, refl, sym, ap, subst, ◌∙◌, arith}
+use Rattle.std.proofs.Common.{◌≡◌, ℕ, ◌+◌, ◌-◌, Bool, true, false, inl, inr, List, [], ◌∷◌, ◌++◌, length}
+use Rattle.std.proofs.Common.{map, slice_get, Result, Ok, Err, Option, Some, None, length-append, refl, sym, ap, subst, ◌∙◌, arith}
 use Rattle.std.specs.Prelude.{All, IfOk, IfSome, drop, is_some}
 use Rattle.std.proofs.lemmas.Bool.{cases_Bool}
 use Rattle.std.proofs.lemmas.List.Elements.{All-push}
@@ -102,7 +103,8 @@ module _ (law : ReadAsWritten) (node : Node) (version : Version) (count : ℕ) (
   loaded more = rw reading.begun (ap (fault_of_read node) (so_far_read (bytes ∷ more)))
 
   -- it is at fault, or the one before it is
-  pub cut_fault : (more : List (List ℕ)) → is_cut_short so_far (kind_of bytes) ≡ true → load_fault node (records_so_far node (Some version) so_far ++ bytes ∷ more) ≡ Some (at_record (count - 1 - 1 + 1))
+  pub cut_fault : (more : List (List ℕ)) → is_cut_short so_far (kind_of bytes) ≡ true → load_fault node (records_so_far node (Some version) so_far ++ bytes ∷ more) ≡ Some (at_record
+      (count - 1 - 1 + 1))
   cut_fault more short = loaded more ∙ ap (fault_of_read node) (read_cut node (count - 1) so_far bytes more short)
 
   pub next_fault : (more : List (List ℕ)) → is_cut_short so_far (kind_of bytes) ≡ false → with_record node so_far bytes ≡ None
@@ -116,7 +118,8 @@ no_records = refl
 
 -- it came first
 pub begun_reading : (node : Node) (version found : Option Version) (count : ℕ) (so_far : Checkpoint) (bytes : List ℕ) → version ≡ None → IsReading node version count so_far → is_some found ≡ true
-    → IfSome found (λ v. bytes ≡ configuration_of v node.charter node.own) → is_configuration node bytes ≡ is_some found → IsReading node found 1 so_far × (records_so_far node found so_far ≡ bytes ∷ [])
+    → IfSome found (λ v. bytes ≡ configuration_of v node.charter node.own) → is_configuration node bytes ≡ is_some found → IsReading node found 1 so_far × (records_so_far node found so_far
+    ≡ bytes ∷ [])
 begun_reading node version None count so_far bytes none reading some is same = absurd (cc)
 begun_reading node version (Some v) count so_far bytes none reading some is same =
     let nothing : state_records so_far ≡ [] = ap state_records (reading.blank none) ∙ no_records in

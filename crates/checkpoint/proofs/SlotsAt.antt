@@ -33,7 +33,8 @@ of_stranger node parent stranger =
 
 -- in round 0 there is the genesis, where the floor is 0
 pub in_first : (node : Node) (floor : ℕ) (held : List Digested) (round : ℕ) (parent : ParentReference) → round ≡ 0
-    → ((floor == 0) && is_of_genesis node parent) ≡ option_map_or (λ (c : Certificate). same_digest (certificate_digest c.header) parent.certificate) (slots_at node floor held round parent.author.0) false
+    → ((floor == 0) && is_of_genesis node parent) ≡ option_map_or (λ (c : Certificate). same_digest (certificate_digest c.header) parent.certificate) (slots_at
+    node floor held round parent.author.0) false
 in_first node floor held round parent zeroth =
     elim (cases_Bool (floor == 0)) [
       | inl lowest ↦ rw (zeroth, lowest) refl

@@ -102,7 +102,8 @@ module _ (node : Node) (checkpoint : Checkpoint) (list : List Digested) (same : 
 
   tests_same : record_tests node checkpoint ≡ pieces ++ (batches ++ (votes ++ (headers ++ (certificates ++ coins))))
   tests_same =
-      ap (λ (l : List Bool). pieces ++ (batches ++ (l ++ (map (is_header_sound node checkpoint) checkpoint.headers ++ (map (is_certificate_sound node checkpoint) checkpoint.certificates ++ coins))))) (sym votes_same)
+      ap (λ (l : List Bool). pieces ++ (batches ++ (l ++ (map (is_header_sound node checkpoint) checkpoint.headers ++ (map (is_certificate_sound
+      node checkpoint) checkpoint.certificates ++ coins))))) (sym votes_same)
       ∙ ap (λ (l : List Bool). pieces ++ (batches ++ (votes ++ (l ++ (map (is_certificate_sound node checkpoint) checkpoint.certificates ++ coins))))) (sym headers_same)
       ∙ ap (λ (l : List Bool). pieces ++ (batches ++ (votes ++ (headers ++ (l ++ coins))))) (sym certificates_same)
 
@@ -111,7 +112,8 @@ module _ (node : Node) (checkpoint : Checkpoint) (list : List Digested) (same : 
   first_at from next tests more is = first_of_two tests more from ∙ ap (λ n. option_or (position_from not from tests) (position_from not n more)) (sym is)
 
   parted : position_from not 1 (record_tests node checkpoint)
-      ≡ option_or (position_from not of_batches batches) (option_or (position_from not of_votes votes) (option_or (position_from not of_headers headers) (option_or (position_from not of_certificates certificates) None)))
+      ≡ option_or (position_from not of_batches batches) (option_or (position_from not of_votes votes) (option_or (position_from not of_headers headers) (option_or
+      (position_from not of_certificates certificates) None)))
   parted =
       ap (position_from not 1) tests_same
       ∙ first_at 1 of_batches pieces (batches ++ (votes ++ (headers ++ (certificates ++ coins)))) batches_at
@@ -129,7 +131,8 @@ module _ (node : Node) (checkpoint : Checkpoint) (list : List Digested) (same : 
   whole = if is_whole_sound node checkpoint then None else Some of_whole
 
   found : unsound node checkpoint ≡ option_or (option_map at_record
-      (option_or (position_from not of_batches batches) (option_or (position_from not of_votes votes) (option_or (position_from not of_headers headers) (option_or (position_from not of_certificates certificates) None))))) whole
+      (option_or (position_from not of_batches batches) (option_or (position_from not of_votes votes) (option_or (position_from not of_headers headers) (option_or
+      (position_from not of_certificates certificates) None))))) whole
   found = ap (λ o. option_or (option_map at_record o) whole) parted
 
   module _ (error : LoadError) (apart : error ≢ Memory) where
@@ -139,20 +142,24 @@ module _ (node : Node) (checkpoint : Checkpoint) (list : List Digested) (same : 
     pub votes_fault : NoneFails of_batches batches → TellsFirst of_votes votes error → unsound node checkpoint ≡ fault_of error
     votes_fault one is =
         found
-        ∙ ap (λ o. option_or (option_map at_record (option_or o (option_or (position_from not of_votes votes) (option_or (position_from not of_headers headers) (option_or (position_from not of_certificates certificates) None))))) whole) one
+        ∙ ap (λ o. option_or (option_map at_record (option_or o (option_or (position_from not of_votes votes) (option_or (position_from not of_headers headers) (option_or
+        (position_from not of_certificates certificates) None))))) whole) one
         ∙ tells (position_from not of_votes votes) _ whole error apart (is apart)
 
     pub headers_fault : NoneFails of_batches batches → NoneFails of_votes votes → TellsFirst of_headers headers error → unsound node checkpoint ≡ fault_of error
     headers_fault one two is =
         found
-        ∙ ap (λ o. option_or (option_map at_record (option_or o (option_or (position_from not of_votes votes) (option_or (position_from not of_headers headers) (option_or (position_from not of_certificates certificates) None))))) whole) one
+        ∙ ap (λ o. option_or (option_map at_record (option_or o (option_or (position_from not of_votes votes) (option_or (position_from not of_headers headers) (option_or
+        (position_from not of_certificates certificates) None))))) whole) one
         ∙ ap (λ o. option_or (option_map at_record (option_or o (option_or (position_from not of_headers headers) (option_or (position_from not of_certificates certificates) None)))) whole) two
         ∙ tells (position_from not of_headers headers) _ whole error apart (is apart)
 
-    pub certificates_fault : NoneFails of_batches batches → NoneFails of_votes votes → NoneFails of_headers headers → TellsFirst of_certificates certificates error → unsound node checkpoint ≡ fault_of error
+    pub certificates_fault : NoneFails of_batches batches → NoneFails of_votes votes → NoneFails of_headers headers → TellsFirst of_certificates certificates error → unsound node checkpoint
+        ≡ fault_of error
     certificates_fault one two three is =
         found
-        ∙ ap (λ o. option_or (option_map at_record (option_or o (option_or (position_from not of_votes votes) (option_or (position_from not of_headers headers) (option_or (position_from not of_certificates certificates) None))))) whole) one
+        ∙ ap (λ o. option_or (option_map at_record (option_or o (option_or (position_from not of_votes votes) (option_or (position_from not of_headers headers) (option_or
+        (position_from not of_certificates certificates) None))))) whole) one
         ∙ ap (λ o. option_or (option_map at_record (option_or o (option_or (position_from not of_headers headers) (option_or (position_from not of_certificates certificates) None)))) whole) two
         ∙ ap (λ o. option_or (option_map at_record (option_or o (option_or (position_from not of_certificates certificates) None))) whole) three
         ∙ tells (position_from not of_certificates certificates) _ whole error apart (is apart)

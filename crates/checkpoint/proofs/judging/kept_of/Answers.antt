@@ -36,7 +36,8 @@ last_leader-last-requires g c =
     let list = c.in_ok-list.field-0.list.items in
     let same : map certificate_of list ≡ seen.certificates = c.in_ok-list.ensures.list in
     let canonical : IsCanonical node seen = subst (IsCanonical node) (sym c.read.view_is) c.requires.canonical in
-    let are : AreListed list = are_listed list (subst (λ l. All IsKeptCertificate l) (sym same) canonical.certificates) (ap (rises certificate_before) same ∙ canonical.certificates_rise) c.in_ok-list.ensures.digested in
+    let are : AreListed list = are_listed list (subst (λ l. All IsKeptCertificate l) (sym same) canonical.certificates) (ap (rises certificate_before) same ∙ canonical.certificates_rise)
+    c.in_ok-list.ensures.digested in
     subst AreListed (sym c.deref.ensures.value) are
 
 pub sound_headers-requires-clause-listed : goal.sound_headers-requires-clause-listed
@@ -54,7 +55,8 @@ sound_headers-requires-clause-listed g c =
     let list = c.in_ok-list.field-0.list.items in
     let same : map certificate_of list ≡ seen.certificates = c.in_ok-list.ensures.list in
     let canonical : IsCanonical node seen = subst (IsCanonical node) (sym c.read.view_is) c.requires.canonical in
-    let are : AreListed list = are_listed list (subst (λ l. All IsKeptCertificate l) (sym same) canonical.certificates) (ap (rises certificate_before) same ∙ canonical.certificates_rise) c.in_ok-list.ensures.digested in
+    let are : AreListed list = are_listed list (subst (λ l. All IsKeptCertificate l) (sym same) canonical.certificates) (ap (rises certificate_before) same ∙ canonical.certificates_rise)
+    c.in_ok-list.ensures.digested in
     subst AreListed (sym c.deref-3.ensures.value) are
 
 pub test_certificates-requires-clause-listed : goal.test_certificates-requires-clause-listed
@@ -72,7 +74,8 @@ test_certificates-requires-clause-listed g c =
     let list = c.in_ok-list.field-0.list.items in
     let same : map certificate_of list ≡ seen.certificates = c.in_ok-list.ensures.list in
     let canonical : IsCanonical node seen = subst (IsCanonical node) (sym c.read.view_is) c.requires.canonical in
-    let are : AreListed list = are_listed list (subst (λ l. All IsKeptCertificate l) (sym same) canonical.certificates) (ap (rises certificate_before) same ∙ canonical.certificates_rise) c.in_ok-list.ensures.digested in
+    let are : AreListed list = are_listed list (subst (λ l. All IsKeptCertificate l) (sym same) canonical.certificates) (ap (rises certificate_before) same ∙ canonical.certificates_rise)
+    c.in_ok-list.ensures.digested in
     subst AreListed (sym c.deref-4.ensures.value) are
 
 pub returns-in_err-batches-clause-err : goal.returns-in_err-batches-clause-err
@@ -108,7 +111,8 @@ returns-in_err-batches-clause-err g c =
     let certificates_at : of_certificates ≡ of_headers + length seen.headers = ap (λ (n : ℕ). of_headers + n) headers_long in
     let error = c.in_err-batches.field-0.0 in
     let p = err_from_is_err_and c.from_residual-in_err-batches.result c.from_residual-in_err-batches.ensures.1 in
-    rw (p.1, p.2) (λ apart. subst (λ r. unsound node r ≡ fault_of error) c.read.view_is (batches_fault node seen list same floor floor_is of_batches of_votes of_headers of_certificates batches_at votes_at headers_at certificates_at error apart c.in_err-batches.ensures.err))
+    rw (p.1, p.2) (λ apart. subst (λ r. unsound node r ≡ fault_of error) c.read.view_is (batches_fault node seen list
+    same floor floor_is of_batches of_votes of_headers of_certificates batches_at votes_at headers_at certificates_at error apart c.in_err-batches.ensures.err))
 
 pub returns-in_err-test_votes-clause-err : goal.returns-in_err-test_votes-clause-err
 returns-in_err-test_votes-clause-err g c =
@@ -144,7 +148,9 @@ returns-in_err-test_votes-clause-err g c =
     let one : NoneFails of_batches (batch_tests node [] seen.batches) = c.in_ok-batches.ensures.ok in
     let error = c.in_err-test_votes.field-0.0 in
     let p = err_from_is_err_and c.from_residual-in_err-test_votes.result c.from_residual-in_err-test_votes.ensures.1 in
-    rw (p.1, p.2) (λ apart. subst (λ r. unsound node r ≡ fault_of error) c.read.view_is (votes_fault node seen list same floor floor_is of_batches of_votes of_headers of_certificates batches_at votes_at headers_at certificates_at error apart one (subst (λ t. TellsFirst of_votes t error) (same_votes node c.number.result floor c.deref-2.result.now inside.votes.items c.number.ensures.value c.deref-2.ensures.value) c.in_err-test_votes.ensures.err)))
+    rw (p.1, p.2) (λ apart. subst (λ r. unsound node r ≡ fault_of error) c.read.view_is (votes_fault node seen list
+    same floor floor_is of_batches of_votes of_headers of_certificates batches_at votes_at headers_at certificates_at error apart one (subst (λ t. TellsFirst of_votes t error) (same_votes node
+    c.number.result floor c.deref-2.result.now inside.votes.items c.number.ensures.value c.deref-2.ensures.value) c.in_err-test_votes.ensures.err)))
 
 pub returns-in_err-headers-clause-err : goal.returns-in_err-headers-clause-err
 returns-in_err-headers-clause-err g c =
@@ -182,7 +188,9 @@ returns-in_err-headers-clause-err g c =
     subst (NoneFails of_votes) (same_votes node c.number.result floor c.deref-2.result.now inside.votes.items c.number.ensures.value c.deref-2.ensures.value) c.in_ok-test_votes.ensures.ok in
     let error = c.in_err-headers.field-0.0 in
     let p = err_from_is_err_and c.from_residual-in_err-headers.result c.from_residual-in_err-headers.ensures.1 in
-    rw (p.1, p.2) (λ apart. subst (λ r. unsound node r ≡ fault_of error) c.read.view_is (headers_fault node seen list same floor floor_is of_batches of_votes of_headers of_certificates batches_at votes_at headers_at certificates_at error apart one two (subst (λ t. TellsFirst of_headers t error) (same_headers node c.number-2.result floor c.deref-3.result.now list seen.headers c.number-2.ensures.value c.deref-3.ensures.value) c.in_err-headers.ensures.err)))
+    rw (p.1, p.2) (λ apart. subst (λ r. unsound node r ≡ fault_of error) c.read.view_is (headers_fault node seen list
+    same floor floor_is of_batches of_votes of_headers of_certificates batches_at votes_at headers_at certificates_at error apart one two (subst (λ t. TellsFirst of_headers t error)
+    (same_headers node c.number-2.result floor c.deref-3.result.now list seen.headers c.number-2.ensures.value c.deref-3.ensures.value) c.in_err-headers.ensures.err)))
 
 pub returns-in_err-test_certificates-clause-err : goal.returns-in_err-test_certificates-clause-err
 returns-in_err-test_certificates-clause-err g c =
@@ -222,7 +230,9 @@ returns-in_err-test_certificates-clause-err g c =
     subst (NoneFails of_headers) (same_headers node c.number-2.result floor c.deref-3.result.now list seen.headers c.number-2.ensures.value c.deref-3.ensures.value) c.in_ok-headers.ensures.ok in
     let error = c.in_err-test_certificates.field-0.0 in
     let p = err_from_is_err_and c.from_residual-in_err-test_certificates.result c.from_residual-in_err-test_certificates.ensures.1 in
-    rw (p.1, p.2) (λ apart. subst (λ r. unsound node r ≡ fault_of error) c.read.view_is (certificates_fault node seen list same floor floor_is of_batches of_votes of_headers of_certificates batches_at votes_at headers_at certificates_at error apart one two three (subst (λ t. TellsFirst of_certificates t error) (same_certificates node c.number-3.result floor c.deref-4.result.now list seen.certificates c.number-3.ensures.value c.deref-4.ensures.value same) c.in_err-test_certificates.ensures.err)))
+    rw (p.1, p.2) (λ apart. subst (λ r. unsound node r ≡ fault_of error) c.read.view_is (certificates_fault node seen list
+    same floor floor_is of_batches of_votes of_headers of_certificates batches_at votes_at headers_at certificates_at error apart one two three (subst (λ t. TellsFirst of_certificates t error)
+    (same_certificates node c.number-3.result floor c.deref-4.result.now list seen.certificates c.number-3.ensures.value c.deref-4.ensures.value same) c.in_err-test_certificates.ensures.err)))
 
 pub returns-then-not-is_whole_sound-clause-err : goal.returns-then-not-is_whole_sound-clause-err
 returns-then-not-is_whole_sound-clause-err g c apart =
@@ -261,10 +271,13 @@ returns-then-not-is_whole_sound-clause-err g c apart =
     let three : NoneFails of_headers (map (is_header_sound_at node floor (slots_at node floor list)) seen.headers) =
     subst (NoneFails of_headers) (same_headers node c.number-2.result floor c.deref-3.result.now list seen.headers c.number-2.ensures.value c.deref-3.ensures.value) c.in_ok-headers.ensures.ok in
     let four : NoneFails of_certificates (map (is_certificate_sound_at node floor (slots_at node floor list)) seen.certificates) =
-    subst (NoneFails of_certificates) (same_certificates node c.number-3.result floor c.deref-4.result.now list seen.certificates c.number-3.ensures.value c.deref-4.ensures.value same) c.in_ok-test_certificates.ensures.ok in
+    subst (NoneFails of_certificates) (same_certificates node c.number-3.result floor c.deref-4.result.now list seen.certificates c.number-3.ensures.value c.deref-4.ensures.value same)
+    c.in_ok-test_certificates.ensures.ok in
     let tested : c.is_whole_sound.result ≡ is_whole_sound node seen =
-    c.is_whole_sound.ensures ∙ ap (λ (l : List Digest). if length l == 0 then not (is_some last) else is_some last) c.deref-6.ensures.value ∙ whole_is node seen list same floor floor_is of_batches of_votes of_headers of_certificates batches_at votes_at headers_at certificates_at last round in
-    subst (λ r. unsound node r ≡ Some of_whole) c.read.view_is (whole_fault node seen list same floor floor_is of_batches of_votes of_headers of_certificates batches_at votes_at headers_at certificates_at one two three four (sym tested ∙ c.if-not-is_whole_sound.true))
+    c.is_whole_sound.ensures ∙ ap (λ (l : List Digest). if length l == 0 then not (is_some last) else is_some last) c.deref-6.ensures.value ∙ whole_is node seen list
+    same floor floor_is of_batches of_votes of_headers of_certificates batches_at votes_at headers_at certificates_at last round in
+    subst (λ r. unsound node r ≡ Some of_whole) c.read.view_is (whole_fault
+    node seen list same floor floor_is of_batches of_votes of_headers of_certificates batches_at votes_at headers_at certificates_at one two three four (sym tested ∙ c.if-not-is_whole_sound.true))
 
 pub returns-clause-ok : goal.returns-clause-ok
 returns-clause-ok g c =
@@ -303,10 +316,13 @@ returns-clause-ok g c =
     let three : NoneFails of_headers (map (is_header_sound_at node floor (slots_at node floor list)) seen.headers) =
     subst (NoneFails of_headers) (same_headers node c.number-2.result floor c.deref-3.result.now list seen.headers c.number-2.ensures.value c.deref-3.ensures.value) c.in_ok-headers.ensures.ok in
     let four : NoneFails of_certificates (map (is_certificate_sound_at node floor (slots_at node floor list)) seen.certificates) =
-    subst (NoneFails of_certificates) (same_certificates node c.number-3.result floor c.deref-4.result.now list seen.certificates c.number-3.ensures.value c.deref-4.ensures.value same) c.in_ok-test_certificates.ensures.ok in
+    subst (NoneFails of_certificates) (same_certificates node c.number-3.result floor c.deref-4.result.now list seen.certificates c.number-3.ensures.value c.deref-4.ensures.value same)
+    c.in_ok-test_certificates.ensures.ok in
     let tested : c.is_whole_sound.result ≡ is_whole_sound node seen =
-    c.is_whole_sound.ensures ∙ ap (λ (l : List Digest). if length l == 0 then not (is_some last) else is_some last) c.deref-6.ensures.value ∙ whole_is node seen list same floor floor_is of_batches of_votes of_headers of_certificates batches_at votes_at headers_at certificates_at last round in
-    subst (λ r. unsound node r ≡ None) c.read.view_is (no_fault node seen list same floor floor_is of_batches of_votes of_headers of_certificates batches_at votes_at headers_at certificates_at one two three four (sym tested ∙ c.if-not-is_whole_sound.false)).0
+    c.is_whole_sound.ensures ∙ ap (λ (l : List Digest). if length l == 0 then not (is_some last) else is_some last) c.deref-6.ensures.value ∙ whole_is node seen list
+    same floor floor_is of_batches of_votes of_headers of_certificates batches_at votes_at headers_at certificates_at last round in
+    subst (λ r. unsound node r ≡ None) c.read.view_is (no_fault
+    node seen list same floor floor_is of_batches of_votes of_headers of_certificates batches_at votes_at headers_at certificates_at one two three four (sym tested ∙ c.if-not-is_whole_sound.false)).0
 
 pub returns-clause-kept : goal.returns-clause-kept
 returns-clause-kept g c =
@@ -323,7 +339,8 @@ returns-clause-kept g c =
     let list = c.in_ok-list.field-0.list.items in
     let same : map certificate_of list ≡ seen.certificates = c.in_ok-list.ensures.list in
     let canonical : IsCanonical node seen = subst (IsCanonical node) (sym c.read.view_is) c.requires.canonical in
-    let are : AreListed list = are_listed list (subst (λ l. All IsKeptCertificate l) (sym same) canonical.certificates) (ap (rises certificate_before) same ∙ canonical.certificates_rise) c.in_ok-list.ensures.digested in
+    let are : AreListed list = are_listed list (subst (λ l. All IsKeptCertificate l) (sym same) canonical.certificates) (ap (rises certificate_before) same ∙ canonical.certificates_rise)
+    c.in_ok-list.ensures.digested in
     let last = c.last_leader-last.result in
     let coins : c.restore-coins.result ≡ seen.coins = c.restore-coins.ensures in
     let round = same_round node.charter c.deref.result.now list c.restore-coins.result seen.coins last c.deref.ensures.value coins c.last_leader-last.ensures.round in
@@ -347,9 +364,11 @@ returns-clause-kept g c =
     let three : NoneFails of_headers (map (is_header_sound_at node floor (slots_at node floor list)) seen.headers) =
     subst (NoneFails of_headers) (same_headers node c.number-2.result floor c.deref-3.result.now list seen.headers c.number-2.ensures.value c.deref-3.ensures.value) c.in_ok-headers.ensures.ok in
     let four : NoneFails of_certificates (map (is_certificate_sound_at node floor (slots_at node floor list)) seen.certificates) =
-    subst (NoneFails of_certificates) (same_certificates node c.number-3.result floor c.deref-4.result.now list seen.certificates c.number-3.ensures.value c.deref-4.ensures.value same) c.in_ok-test_certificates.ensures.ok in
+    subst (NoneFails of_certificates) (same_certificates node c.number-3.result floor c.deref-4.result.now list seen.certificates c.number-3.ensures.value c.deref-4.ensures.value same)
+    c.in_ok-test_certificates.ensures.ok in
     let tested : c.is_whole_sound.result ≡ is_whole_sound node seen =
-    c.is_whole_sound.ensures ∙ ap (λ (l : List Digest). if length l == 0 then not (is_some last) else is_some last) c.deref-6.ensures.value ∙ whole_is node seen list same floor floor_is of_batches of_votes of_headers of_certificates batches_at votes_at headers_at certificates_at last round in
+    c.is_whole_sound.ensures ∙ ap (λ (l : List Digest). if length l == 0 then not (is_some last) else is_some last) c.deref-6.ensures.value ∙ whole_is node seen list
+    same floor floor_is of_batches of_votes of_headers of_certificates batches_at votes_at headers_at certificates_at last round in
     let kept : Kept = record {
       batches = c.in_ok-batches.batches;
       votes = inside.votes;
@@ -375,5 +394,6 @@ returns-clause-kept g c =
       coins = sym coins;
       order = refl;
     } in
-    let none = (no_fault node seen list same floor floor_is of_batches of_votes of_headers of_certificates batches_at votes_at headers_at certificates_at one two three four (sym tested ∙ c.if-not-is_whole_sound.false)).1 in
+    let none = (no_fault node seen list same floor floor_is of_batches of_votes of_headers of_certificates batches_at votes_at headers_at certificates_at one two three four (sym tested
+    ∙ c.if-not-is_whole_sound.false)).1 in
     subst (λ r. IsKeptOf node (state_in node r) kept) c.read.view_is (kept_of_state c.no_fault_is_sound.ensures node seen kept c.requires.node canonical none made)

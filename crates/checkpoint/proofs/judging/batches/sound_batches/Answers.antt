@@ -55,7 +55,8 @@ returns-in_default-clause-err g c =
     let before : c.len-in-loop-batch.result ≡ length c.loop-batch.found.items = search rules in
     let many = so_many done c.loop-batch.found.items c.len-in-loop-batch.result c.loop-batch.invariant.held before in
     batch_turn node c.args.first all done next c.loop-batch.place (record { front = front; within = turn.0; is = turn.1 }) c.loop-batch.invariant.none
-    (unsound_none (is_batch_sound node done next) (has_digest done (batch_digest next.batch)) c.in_ok-entry.field-0 (c.in_ok-entry.ensures.sound done many) (none_is c.in_ok-entry.field-0 c.in_default.not-Some))
+    (unsound_none (is_batch_sound node done next) (has_digest done (batch_digest next.batch)) c.in_ok-entry.field-0 (c.in_ok-entry.ensures.sound done many) (none_is c.in_ok-entry.field-0
+    c.in_default.not-Some))
     c.loop-batch.invariant.place
 
 pub returns-then-not-branch-clause-err : goal.returns-then-not-branch-clause-err

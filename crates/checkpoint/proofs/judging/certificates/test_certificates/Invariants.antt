@@ -8,5 +8,6 @@ use Rattle.checkpoint.proofs.judging.certificates.test_certificates.Given as goa
 abbrev pub invariant-loop-index : goal.invariant-loop-index
 invariant-loop-index g l = record {
   place : l.place ≡ l.first + l.index;
-  none : NoneFails l.first (map (λ one. is_certificate_sound_at (node_view g.S.Sign.scheme l.node) l.floor (slots_at (node_view g.S.Sign.scheme l.node) l.floor l.list) (certificate_of one)) (take l.index l.list));
+  none : NoneFails l.first (map (λ one. is_certificate_sound_at (node_view g.S.Sign.scheme l.node) l.floor (slots_at (node_view g.S.Sign.scheme l.node) l.floor l.list) (certificate_of one))
+      (take l.index l.list));
 }
