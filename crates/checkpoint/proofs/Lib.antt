@@ -34,3 +34,4 @@ mod SameTests
 mod OwnOrFound
 mod Sets
 mod SameBodies
+mod Loaded

@@ -1,5 +1,5 @@
 -- When records describe tables.
-use Rattle.std.specs.Prelude.{◌≡◌, ℕ, List, ◌∷◌}
+use Rattle.std.specs.Prelude.{◌≡◌, ℕ, List, ◌∷◌, drop, All, Ok, None}
 use Rattle.journal.specs.declared.version.Version.TheVariants.{Second}
 use Rattle.spec_machine.specs.Sound.{IsSound}
 use Rattle.spec_model.specs.Nodes.{Node, IsNode}
@@ -7,8 +7,11 @@ use Rattle.spec_model.specs.States.{State}
 use Rattle.spec_model.specs.Words.{Author}
 use Rattle.spec_records.specs.Records.{configuration_of}
 use Rattle.spec_checkpoint.specs.Data.{Checkpoint, IsWritten}
+use Rattle.spec_checkpoint.specs.Loading.{load_fault}
 use Rattle.spec_checkpoint.specs.Meaning.{state_in}
+use Rattle.spec_checkpoint.specs.Reading.{checkpoint_read}
 use Rattle.spec_checkpoint.specs.Records.{state_records}
+use Rattle.wire.specs.Fields.{AreBytes}
 use Rattle.admission.specs.Standing.{AreAt}
 use Rattle.admission.specs.declared.tables.Tables.{Tables}
 
@@ -27,3 +30,12 @@ pub record StandFor (own : Author) (tables : Tables) (node : Node) (state : Stat
   pub node_is : IsNode node
   pub sound : IsSound node state
   pub at : AreAt node state tables
+
+-- ---- laws
+
+-- Records of bytes that describe tables have no fault, and what they are read as is the sound state that the tables are at: so tables that
+-- are loaded from them are at the same state.
+abbrev pub KeptIsLoaded : Type 0
+KeptIsLoaded = (node : Node) (tables : Tables) (records : List (List ℕ)) → IsNode node → All AreBytes records → Describes node tables records
+    → (load_fault node records ≡ None)
+    × ((checkpoint : Checkpoint) → checkpoint_read node (drop 1 records) ≡ Ok checkpoint → IsSound node (state_in node checkpoint) × AreAt node (state_in node checkpoint) tables)

@@ -13,6 +13,7 @@ mod records;
 mod sink;
 mod snapshot;
 
+ghost use Rattle.checkpoint.specs.Describes.{KeptIsLoaded};
 ghost use Rattle.checkpoint.specs.Kept.{CheckpointIsState};
 
 pub use configuration::configuration_record;
@@ -27,3 +28,11 @@ pub use snapshot::snapshot_of;
 pub fn checkpoint_is_state()
     ensures { CheckpointIsState }
 {}
+
+/// Records that describe tables have no fault, and tables that are loaded from them are at the same state.
+pub fn kept_is_loaded()
+    ensures { KeptIsLoaded }
+{
+    spec_checkpoint::read_as_written();
+    spec_checkpoint::loads_the_sound();
+}
