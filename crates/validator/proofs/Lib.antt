@@ -3,3 +3,4 @@ mod Fitting
 mod Keys
 mod Meeting
 mod NeverDown
+mod Rows

@@ -1,3 +1,4 @@
+pub mod Loading
 pub mod Proposing
 pub mod Setting
 pub mod Standing

@@ -55,6 +55,13 @@ impl<S: Sign> Config<S> {
         })
     }
 
+    // The member as a node.
+    pub(crate) fn node(&self) -> &Node<S>
+        ensures { self.now ≡ record { own = result.now.own; charter = result.now.committee; signer = result.now.signer } }
+    {
+        &self.node
+    }
+
     /// The committee.
     pub fn committee(&self) -> &Committee
         ensures { result.now ≡ self.now.charter }

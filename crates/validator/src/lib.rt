@@ -2,6 +2,7 @@
 #![tactic(auto)]
 
 mod config;
+mod loading;
 mod making;
 mod newness;
 mod parents;
@@ -11,5 +12,7 @@ mod taking;
 mod validator;
 
 pub use admission::{Refusal, Step};
+pub use checkpoint::LoadError;
 pub use config::Config;
+pub use loading::Loading;
 pub use validator::Validator;

@@ -1,6 +1,6 @@
 //! The validator.
 
-ghost use Rattle.std.specs.Prelude.{◌≡◌, ◌≢◌, ◌+◌, ◌≤◌, true, false, not, None, IfOk, IfErr, IfSome};
+ghost use Rattle.std.specs.Prelude.{◌≡◌, ◌≢◌, ◌+◌, ◌≤◌, true, false, not, drop, None, Ok, IfOk, IfErr, IfSome, OnOk};
 ghost use Rattle.header.specs.Checks.{fault_of, accepts_all};
 ghost use Rattle.checkpoint.specs.Describes.{Describes};
 ghost use Rattle.journal.specs.Format.{contents};
@@ -14,16 +14,25 @@ ghost use Rattle.spec_model.specs.States.{State, floor_in};
 ghost use Rattle.spec_machine.specs.Machine.{answered, after, fresh, is_missing_parents, is_ready, proposed, round_in};
 ghost use Rattle.admission.specs.Answers.{IsAnswer, RefusesAs, is_new_step};
 ghost use Rattle.admission.specs.Kept.{IsKeptOf};
+ghost use Rattle.checkpoint.specs.Describes.{Describes};
+ghost use Rattle.checkpoint.specs.Reader as reader;
+ghost use Rattle.journal.specs.Format.{contents};
+ghost use Rattle.spec_checkpoint.specs.Data.{Checkpoint};
+ghost use Rattle.spec_checkpoint.specs.Loading.{load_fault};
+ghost use Rattle.spec_checkpoint.specs.Meaning.{state_in};
+ghost use Rattle.spec_checkpoint.specs.Reading.{checkpoint_read};
 ghost use Rattle.validator.specs.Setting.{node_of};
 ghost use Rattle.validator.specs.Standing.{AreAtSound, GoesOn, IsNewThere, StandSomewhere};
 ghost use Rattle.wire.specs.declared.round.TheConstants.Round.{MAX};
 
 use crate::config::Config;
+use crate::loading::Loading;
 use crate::newness::is_new;
 use crate::proposing::propose;
 use crate::ready::is_ready;
 use crate::taking::take;
 use admission::{Kept, Refusal, Step, Tables, votes_agree};
+use checkpoint::LoadError;
 use committee::Committee;
 use header::Checked;
 use journal::Snapshot;
@@ -99,6 +108,36 @@ impl<'a, S: Sign> Validator<'a, S> {
             config,
             tables,
         })
+    }
+
+    /// The validator of these records of a checkpoint: its configuration, and those of its state.
+    ///
+    /// # Errors
+    /// `Unsound` of the first record at fault, `UnsoundWhole` where none is and all together are; `Memory` where an allocation failed.
+    pub fn load(
+        alloc: Global,
+        config: &'a Config<S>,
+        records: Vec<Vec<u8>>,
+    ) -> Result<Validator<'a, S>, LoadError>
+        ensures setting { IfOk result (λ made. made.setting ≡ config.now) }
+        ensures ok { OnOk result (load_fault (node_of S.scheme config.now) (contents records.items) ≡ None) }
+        ensures at { let node = node_of S.scheme config.now in IfOk result (λ made. (checkpoint : Checkpoint) × (checkpoint_read node (drop 1 (contents records.items)) ≡ Ok checkpoint) × AreAtSound node made.tables (state_in node checkpoint)) }
+        ensures err { IfErr result (λ error. error ≢ LoadError.Memory → load_fault (node_of S.scheme config.now) (contents records.items) ≡ reader.fault_of error) }
+    {
+        let mut loading = Loading::begin(alloc, config);
+        for record in &records {
+            loading.put(record)?;
+        }
+        loading.finish()
+    }
+
+    /// The records of a checkpoint of it: its configuration in the second version, and what it keeps. `AllocError` where an
+    /// allocation failed.
+    pub fn kept_records(&self) -> Result<Vec<Vec<u8>>, AllocError>
+        ensures { IfOk result (λ rows. Describes (node_of S.scheme self.now.setting) self.now.tables (contents rows.items)) }
+    {
+        self.config.limits_hold();
+        checkpoint::kept_records(self.alloc, self.config.own(), &self.tables)
     }
 
     /// The tables.
