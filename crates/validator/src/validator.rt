@@ -2,8 +2,6 @@
 
 ghost use Rattle.std.specs.Prelude.{◌≡◌, ◌≢◌, ◌+◌, ◌≤◌, true, false, not, drop, None, Ok, IfOk, IfErr, IfSome, OnOk};
 ghost use Rattle.header.specs.Checks.{fault_of, accepts_all};
-ghost use Rattle.checkpoint.specs.Describes.{Describes};
-ghost use Rattle.journal.specs.Format.{contents};
 ghost use Rattle.spec_model.specs.Admitting.{admit, is_new, IsLegal};
 ghost use Rattle.spec_model.specs.Giving.{kept, unless_low};
 ghost use Rattle.spec_model.specs.Histories.{History};
@@ -129,15 +127,6 @@ impl<'a, S: Sign> Validator<'a, S> {
             loading.put(record)?;
         }
         loading.finish()
-    }
-
-    /// The records of a checkpoint of it: its configuration in the second version, and what it keeps. `AllocError` where an
-    /// allocation failed.
-    pub fn kept_records(&self) -> Result<Vec<Vec<u8>>, AllocError>
-        ensures { IfOk result (λ rows. Describes (node_of S.scheme self.now.setting) self.now.tables (contents rows.items)) }
-    {
-        self.config.limits_hold();
-        checkpoint::kept_records(self.alloc, self.config.own(), &self.tables)
     }
 
     /// The tables.
