@@ -40,8 +40,8 @@ pub record HasFlushed {S D : Type 0} (scheme : Scheme S) (device : Device D) (no
   pub others : (tells.output ≡ false) × (tells.input ≡ false)
   pub any_moment : is_down flusher ≡ false → AtEachMoment device (disk_of (journal_of flusher)) left (HoldsMore scheme node (settled_in flusher) (device.content (disk_of (journal_of flusher))))
 
--- A disk was told as a state, and bytes are the node's journal at it, or at the state after more events, which are legal there. From each
--- state on for which the disk stood they are its journal with the same events.
+-- A disk was told as a state, and bytes are the node's journal at it, or at the state after more events, which are legal there. For each
+-- state for which the disk stood, they are its journal at the state after the same events.
 pub record GoesOn (node : Node) (before left : List ℕ) : Type 0 where
   pub base : State
   pub is_told : told node before ≡ Ok base
