@@ -8,7 +8,15 @@ expected of it. The draws, the kinds of
 event and the order of steps are those of crates/test_disk; bytes are counted and not made, but for the gate of a group on its way.
 """
 import collections
+import random
 import sys
+import types
+
+sys.dont_write_bytecode = True
+import areas
+import checkpoints
+import histories
+import recoveries
 
 SENDERS = 6
 FIRST, SECOND, ORPHAN, BATCHED, LOW, VOTE = range(6)
@@ -209,6 +217,297 @@ class World:
         return False
 
 
+# ---- two areas
+
+class Torn:
+    """A stop that leaves a length, and this byte at each place below it that may hold any and that so many divide; else what a read or the
+    last sync gives there."""
+
+    def __init__(self, byte, every, length):
+        self.byte, self.every, self.length = byte, every, length
+
+    def word(self):
+        return '%d.%d.%d' % (self.byte, self.every, self.length)
+
+    def left(self, disk):
+        return bytes(self.byte_at(disk, place) for place in range(self.length))
+
+    def byte_at(self, disk, place):
+        if place < disk.smallest and place not in disk.written:
+            return disk.firm[place]
+        if place % self.every == 0:
+            return self.byte
+        given = disk.content if place < len(disk.content) else disk.firm
+        return given[place] if place < len(given) else self.byte
+
+
+class Kept:
+    def __init__(self, word):
+        self.name = word
+
+    def word(self):
+        return self.name
+
+    def left(self, disk):
+        return disk.content if self.name == 'k' else disk.firm
+
+
+def catalogue():
+    """Events that come in, each its sender and its message, those that others need before them."""
+    genesis, batches = recoveries.GENESIS, [histories.Batch('b%d' % a, a, bytes([a]) * (a + 3)) for a in range(4)]
+
+    def header(author, round_, parents, named=()):
+        return histories.Header('-', author, round_, parents, named)
+    first = [header(a, 1, genesis[:3]) for a in range(4)]
+    second = [header(a, 1, genesis[1:], batches[:1] if a == 0 else ()) for a in range(4)]
+    naming = [header(a, 1, genesis, batches[a:a + 1]) for a in range(4)]
+    rounds = [first]
+    for round_ in (2, 3):
+        rounds.append([header(a, round_, rounds[-1][:3]) for a in range(4)])
+    events = [(a, recoveries.batch_message(batches[a])) for a in range(4)]
+    events += [(a, recoveries.ack_message(batches[0], a)) for a in (1, 2, 3)]
+    for headers in (first, second, naming):
+        events += [(one.author, recoveries.header_message(one)) for one in headers]
+    events += [(a, recoveries.vote_message(first[0], a)) for a in (1, 2, 3)]
+    events += [(2, recoveries.vote_message(second[0], 2)), (3, recoveries.vote_message(first[1], 3))]
+    events += [(1, recoveries.header_message(header(1, 0, genesis[:3])))]
+    ordering = len(events)
+    events += [(one.author, recoveries.header_message(one)) for one in rounds[1]]
+    events += [(3, recoveries.certificate_message(second[1], (0, 1, 2)))]
+    for headers in rounds:
+        events += [(one.author, recoveries.certificate_message(one, (0, 1, 2) if one.author < 2 else (1, 2, 3))) for one in headers]
+    events += [(0, recoveries.coin_message(1, 5)), (0, recoveries.coin_message(1, 6)), (1, recoveries.coin_message(1, 5))]
+    return events, ordering
+
+
+EVENTS, ORDERING = catalogue()
+RECORDS = [recoveries.record(*event) for event in EVENTS]
+COMMITTEE = checkpoints.Committee()
+CALLED = {'write': 'w', 'sync': 's', 'cut': 'c'}
+
+
+def state_records(node):
+    """The records of a checkpoint of what a node holds, behind the head."""
+    ordered, own = [one.certificate for one in node.order()], recoveries.OWN
+    records = [checkpoints.order_piece(ordered)] if ordered else []
+    for one in node.batches.values():
+        records.append(checkpoints.batch_record(one.text, sorted(node.acked.get(one.digest, ())), one.digest in node.named()))
+    headers = sorted(node.headers.items())
+    records += [checkpoints.vote_record(author, round_, one.digest) for (round_, author), one in headers if author != own]
+    records += [checkpoints.header_record(one, sorted(node.counted[one.digest] - {own})) for (_, author), one in headers if author == own]
+    records += [checkpoints.certificate_record(one, node.voters[slot]) for slot, one in sorted(node.certificates.items()) if slot[0]]
+    return records + ([checkpoints.coins_piece(node.coins)] if node.coins else [])
+
+
+def sum_of(records):
+    """FNV-1a of 32 bits."""
+    total = 2166136261
+    for byte in b''.join(records):
+        total = (total ^ byte) * 16777619 % 2 ** 32
+    return total
+
+
+class Stopped(Exception):
+    """A device call failed, and the machine stops."""
+
+
+class TwoAreas:
+    """A node on two disks, all that it accepted in one list, and the steps that are drawn for it with what each comes to."""
+
+    def __init__(self, drawn):
+        self.random = drawn
+        self.steps, self.lines, self.tokens = [], [], []
+        self.disks = [areas.Disk(b''), areas.Disk(b'')]
+        self.history, self.bases, self.is_ordering = [], [0], drawn.randrange(4) == 0
+        self.settled, self.groups, self.written, self.rewriting = 0, [], 0, None
+        self.open()
+
+    def step(self, word, token=None):
+        self.steps.append(word)
+        self.tokens += [] if token is None else [token]
+
+    def node_of(self, history):
+        node = histories.Node(recoveries.DEPTH, histories.Committee(recoveries.EQUAL))
+        for number in history:
+            recoveries.take(node, RECORDS[number])
+        return node
+
+    def taken(self):
+        return self.settled + sum(self.groups)
+
+    def firm(self):
+        """How much is written to its end."""
+        return self.settled + sum(self.groups[:self.written])
+
+    def make(self, side, calls, failing):
+        """Makes these calls of a disk, of which this one fails, counted from 1."""
+        for place, call in enumerate(calls, 1):
+            if place == failing:
+                raise Stopped
+            self.disks[side].make(*call)
+
+    # ---- steps
+
+    def draw(self):
+        """One step, or two where a call fails: the machine then stops."""
+        can = [(self.accept, 30 if self.is_ordering else 14)]
+        if self.taken() < len(self.history) and len(self.groups) < 4:
+            can.append((self.take, 6))
+        if self.rewriting is None:
+            can += [(self.append, 7)] if self.written < len(self.groups) else []
+            can += [(self.settle, 3)] if self.written else []
+            can += [(self.take_all, 4)] if not self.groups else []
+        else:
+            can.append((self.settle_all, 9) if self.rewriting.done else (self.rewrite, 7))
+        can.append((self.stop, 1))
+        move, = self.random.choices([one for one, _ in can], [weight for _, weight in can])
+        try:
+            move()
+        except Stopped:
+            self.stop()
+
+    def accept(self):
+        number = self.random.randrange(len(EVENTS) if self.random.randrange(3) else ORDERING)
+        if self.is_ordering and self.random.randrange(5):
+            number = next((one for one in range(ORDERING + 5, len(EVENTS)) if one not in self.history), number)
+        word, *refusal = recoveries.answer(self.node, RECORDS[number])[0].split()
+        if word == 'new':
+            self.history.append(number)
+        self.step(str(number), {'new': 'n', 'known': 'k'}.get(word) or '-' + refusal[0])
+
+    def take(self):
+        count = self.random.randint(1, len(self.history) - self.taken())
+        self.groups.append(count)
+        self.step('t%d' % count)
+
+    def append(self):
+        records = [RECORDS[number] for number in self.history[self.firm():self.firm() + self.groups[self.written]]]
+        failing = self.random.choice((1, 2, 3, 4)) if self.random.randrange(5) == 0 else 0
+        self.step('w%d' % failing if failing else 'w', '!' if failing else '+%d' % len(records))
+        self.make(self.side, self.append_calls(records), failing)
+        self.written += 1
+
+    def append_calls(self, records):
+        length = len(self.disks[self.side].content)
+        return [('write', length, areas.sized(records) + areas.CLOSED), ('sync',), ('write', length - 1, areas.OPEN), ('sync',)]
+
+    def settle(self):
+        self.settled += self.groups.pop(0)
+        self.written -= 1
+        self.step('s')
+
+    def take_all(self):
+        records = state_records(self.node)
+        file = areas.checkpoint([COMMITTEE.configuration()] + records, self.generation + 1)
+        self.groups.append(len(self.history) - self.settled)
+        self.bases.append(len(self.history))
+        self.rewriting = types.SimpleNamespace(file=file, done=False)
+        self.step('all', 'c%d' % (1 + len(records)))
+
+    def rewrite(self):
+        failing = self.random.randint(1, 8) if self.random.randrange(2) == 0 else 0
+        self.step('r%d' % failing if failing else 'r', '!' if failing else 'g%d' % (self.generation + 1))
+        file = self.rewriting.file
+        self.make(1 - self.side, [('write', 0, areas.CLOSED), ('sync',), ('cut', 1), ('sync',), ('write', 1, file[1:]), ('sync',),
+                                  ('write', 0, areas.OPEN), ('sync',)], failing)
+        self.rewriting.done = True
+        self.side, self.generation = 1 - self.side, self.generation + 1
+
+    def settle_all(self):
+        self.settled += self.groups.pop(0)
+        self.rewriting = None
+        self.step('done')
+
+    # ---- stops
+
+    def stop(self):
+        """A stop that leaves any state of both areas, and an opening, which may be stopped itself, and then leaves any again."""
+        self.leave()
+        while self.random.randrange(4) == 0:
+            try:
+                self.open(self.random.randint(1, 6))
+            except Stopped:
+                self.leave()
+            else:
+                return
+        self.open()
+
+    def leave(self):
+        fills = [self.fill(disk) for disk in self.disks]
+        for disk, fill in zip(self.disks, fills):
+            disk.content = fill.left(disk)
+        self.step('x%s:%s' % tuple(fill.word() for fill in fills))
+
+    def fill(self, disk):
+        if self.random.randrange(3) or (not disk.written and disk.smallest == disk.greatest):
+            return Kept(self.random.choice('kl'))
+        byte = self.random.choice((0, 1, self.random.randrange(256)))
+        return Torn(byte, self.random.choice((1, 1, 2, 3)), self.random.randint(disk.smallest, disk.greatest))
+
+    def open(self, failing=0):
+        """Opens both, and begins a journal that has no record; or this call of that fails, counted from 1."""
+        opening = areas.Opening(*(disk.content for disk in self.disks))
+        assert not opening.is_damaged(), opening.answer
+        calls = [(side, call) for side, *call in opening.calls()]
+        if not opening.records:
+            text = areas.sized([COMMITTEE.configuration()]) + areas.CLOSED
+            calls += [(0, call) for call in (('write', 1, text), ('sync',), ('write', 0, areas.OPEN), ('sync',))]
+        if failing > len(calls):
+            failing = 0
+        kinds = [call[0] for _, call in calls[:failing]]
+        self.steps.append('o' + ('%s%d' % (CALLED[kinds[-1]], kinds.count(kinds[-1])) if failing else ''))
+        for place, (side, call) in enumerate(calls, 1):
+            if place == failing:
+                self.tokens.append('!')
+                raise Stopped
+            self.disks[side].make(*call)
+        self.begin()
+
+    def begin(self):
+        """A new run, after what is read, which is what the plain world says is found again."""
+        opening = areas.Opening(*(disk.content for disk in self.disks))
+        records = [record for _, record in opening.records]
+        front = [record for record in records if record[0] != 1]
+        events = [RECORDS.index(record) for record in records[len(front):]]
+        self.side, self.generation = opening.live, opening.generation
+        base = self.bases[self.generation]
+        self.check(base, front, events)
+        self.history, self.bases = self.history[:base] + events, self.bases[:self.generation + 1]
+        self.settled, self.groups, self.written, self.rewriting = len(self.history), [], 0, None
+        self.node = self.node_of(self.history)
+        if self.tokens:
+            self.lines.append(' '.join(self.tokens))
+        self.tokens = []
+        self.lines.append(' '.join(map(str, ['opened', self.generation, len(front), sum_of(front)] + events)))
+
+    def check(self, base, front, events):
+        """What is found is a prefix of all that was accepted: what is written to its end, and of the next group all or nothing."""
+        found, firm = self.history[:base] + events, self.firm()
+        assert found == self.history[:len(found)]
+        is_written = self.rewriting is not None and self.rewriting.done
+        follows = [firm + count for count in self.groups[self.written:self.written + 1]]
+        assert len(found) in (follows if is_written else [firm] + follows), (len(found), firm, follows)
+        head = [checkpoints.head(self.generation)] + state_records(self.node_of(self.history[:base])) if self.generation else []
+        assert front == [COMMITTEE.configuration()] + head
+
+
+def two_areas(count, steps, start):
+    print("""
+== lists of steps over two areas
+store""")
+    for sender, message in EVENTS:
+        print('event %d x%s' % (sender, message.hex()))
+    drawn = random.Random(start)
+    for _ in range(count):
+        world = TwoAreas(drawn)
+        for _ in range(steps):
+            world.draw()
+        world.stop()
+        print('areas ' + ' '.join(world.steps))
+        for line in world.lines:
+            print('> ' + line)
+
+
 def main(count, steps, start):
     counts = collections.Counter()
     draws = Draws(start)
@@ -242,6 +541,7 @@ store""")
     print('> left ' + told(['as read', 'as synced', 'torn']) + f", the gate open {counts['gate open']}, closed {counts['gate closed']}")
     print(f"> opened {counts['opened times']}, failed at the " + ', '.join(f"{call} {counts['fault ' + call]}" for call in CALLS))
     print('> wrong 0')
+    two_areas(count, steps, start)
 
 
 if __name__ == '__main__':

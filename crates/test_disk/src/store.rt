@@ -1,6 +1,10 @@
 //! The tests of the disk in memory, of the journal and the book, of openings and scripts of a node, and of lists of random
 //! steps.
 
+mod area_disks;
+mod area_runs;
+mod area_steps;
+mod areas;
 mod batches;
 mod books;
 mod damages;
@@ -27,6 +31,7 @@ mod texts;
 mod words;
 mod worlds;
 
+use areas::AreaLists;
 pub use headers::{SHORTEST, batch};
 use nodes::Node;
 use sigface::HashSign;
@@ -43,6 +48,7 @@ pub struct StoreCases<'a> {
     store: Store<'a>,
     node: Node,
     worlds: Worlds,
+    areas: AreaLists<'a>,
     /// The case is one of the node, and not of the store.
     has_node: bool,
 }
@@ -55,6 +61,7 @@ impl<'a> StoreCases<'a> {
             store: Store::new(alloc, config)?,
             node: Node::new(alloc)?,
             worlds: Worlds::new(alloc),
+            areas: AreaLists::new(alloc, config),
             has_node: false,
         })
     }
@@ -62,6 +69,7 @@ impl<'a> StoreCases<'a> {
     /// Begins a case.
     pub fn begin(&mut self) -> Told {
         self.has_node = false;
+        self.areas.begin();
         self.store.begin()?;
         self.node.begin()
     }
@@ -69,6 +77,9 @@ impl<'a> StoreCases<'a> {
     /// Carries out a command, and adds the lines that it answers.
     pub fn obey(&mut self, command: &str, answer: &mut String) -> Told {
         let (name, rest) = parted(command);
+        if name == "areas" {
+            return self.areas.play(rest, answer);
+        }
         let words = words_of(self.alloc, rest)?;
         self.obey_words(name, words.as_slice(), answer)
     }
@@ -87,7 +98,16 @@ impl<'a> StoreCases<'a> {
         }
         match self.has_node {
             true => self.node.obey(name, words, answer),
-            false => self.store.obey(name, words, answer),
+            false => self.obey_store(name, words, answer),
+        }
+    }
+
+    fn obey_store(&mut self, name: &str, words: &[Word], answer: &mut String) -> Told {
+        match (name, words) {
+            ("event", [Word::Number(sender), Word::Bytes(message)]) => {
+                self.areas.add(*sender, message)
+            }
+            _ => self.store.obey(name, words, answer),
         }
     }
 }
@@ -100,10 +120,15 @@ pub fn laws_hold() {
     spec_records::one_configuration();
     spec_world::never_takes_back();
     spec_world::runs_begin();
+    spec_world::runs_begin_on_two();
     spec_world::runs_go_on();
     spec_world::runs_begin_with_what_stands();
     spec_world::groups_settle();
+    spec_world::two_groups_settle();
     spec_world::appends_make_calls();
+    spec_world::checkpoints_settle();
+    spec_world::snapshots_are_checkpoints();
+    spec_world::rewritings_make_calls();
     spec_world::stops_are_possible();
     spec_world::settled_grows();
     spec_world::given_stays();

@@ -1,0 +1,69 @@
+//! Both disks of a journal, and what a stop leaves of them.
+
+use crate::memory::stop_with;
+use crate::store::area_steps::Left;
+use diskmodel::{MemDisk, Switch};
+use std::alloc::{AllocError, Global};
+
+/// Both disks of a journal, whose calls one switch counts and fails.
+#[derive(Drop)]
+pub struct Disks {
+    pub first: MemDisk,
+    pub second: MemDisk,
+}
+
+impl Disks {
+    /// Two empty disks.
+    pub fn new(alloc: Global, switch: &Switch) -> Result<Disks, AllocError> {
+        Ok(Disks {
+            first: MemDisk::with_switch(alloc, Vec::new(alloc), switch)?,
+            second: MemDisk::with_switch(alloc, Vec::new(alloc), switch)?,
+        })
+    }
+
+    /// The machine stops, and leaves these. Says whether it may.
+    pub fn stop(&mut self, alloc: Global, first: Left, second: Left) -> Result<bool, AllocError> {
+        let can = stop(alloc, &mut self.first, first)?;
+        Ok(stop(alloc, &mut self.second, second)? && can)
+    }
+}
+
+fn stop(alloc: Global, disk: &mut MemDisk, left: Left) -> Result<bool, AllocError> {
+    let bytes = match left {
+        Left::Read => disk.bytes().to_vec(alloc)?,
+        Left::Synced => disk.firm().to_vec(alloc)?,
+        Left::Torn { byte, every, len } => torn(alloc, disk, byte, every, len)?,
+    };
+    let can = disk.can_leave(&bytes);
+    stop_with(alloc, disk, &bytes)?;
+    Ok(can)
+}
+
+fn torn(
+    alloc: Global,
+    disk: &MemDisk,
+    byte: u8,
+    every: u64,
+    len: u64,
+) -> Result<Vec<u8>, AllocError> {
+    let mut bytes = Vec::new(alloc);
+    for place in 0..len {
+        bytes.push(left_at(disk, byte, every, place))?;
+    }
+    Ok(bytes)
+}
+
+/// A byte that has to stay; or this one, where so many divide its place; or what a read gives there, or the last sync.
+fn left_at(disk: &MemDisk, byte: u8, every: u64, place: u64) -> u8 {
+    let (read, firm) = (
+        disk.bytes().get(place as usize),
+        disk.firm().get(place as usize),
+    );
+    if read.is_some() && !disk.is_written(place) {
+        return firm.copied().unwrap_or(byte);
+    }
+    if every > 0 && place % every == 0 {
+        return byte;
+    }
+    read.or(firm).copied().unwrap_or(byte)
+}

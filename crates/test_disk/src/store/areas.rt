@@ -1,0 +1,66 @@
+//! Lists of steps over a journal on two areas. `oracles/worlds.py` draws them, and says what each comes to in a world of
+//! plain lists.
+
+use crate::store::area_runs::Run;
+use crate::store::area_steps::steps_of;
+use crate::store::words::Told;
+use book::EVENT_RECORD;
+use sigface::HashSign;
+use std::alloc::Global;
+use validator::Config;
+use wire::Author;
+
+/// An event of the lists.
+#[derive(Drop)]
+pub struct Listed {
+    pub sender: Author,
+    pub message: Vec<u8>,
+    /// Its record.
+    pub record: Vec<u8>,
+}
+
+/// The events that may come in, each by its number.
+#[derive(Drop)]
+pub struct AreaLists<'a> {
+    alloc: Global,
+    config: &'a Config<HashSign>,
+    events: Vec<Listed>,
+}
+
+impl<'a> AreaLists<'a> {
+    /// Before the first case.
+    pub fn new(alloc: Global, config: &'a Config<HashSign>) -> AreaLists<'a> {
+        let events = Vec::new(alloc);
+        AreaLists {
+            alloc,
+            config,
+            events,
+        }
+    }
+
+    /// Begins a case.
+    pub fn begin(&mut self) {
+        self.events = Vec::new(self.alloc);
+    }
+
+    /// `event SENDER MESSAGE` is one more event.
+    pub fn add(&mut self, sender: u64, message: &[u8]) -> Told {
+        let sender = Author(u16::try_from(sender).unwrap_or(u16::MAX));
+        let [high, low] = sender.0.to_be_bytes();
+        let mut record = vec![in self.alloc; EVENT_RECORD, high, low]?;
+        record.extend_from_slice(message)?;
+        let message = message.to_vec(self.alloc)?;
+        self.events.push(Listed {
+            sender,
+            message,
+            record,
+        })?;
+        Ok(())
+    }
+
+    /// `areas STEP ..` makes these steps from two empty areas on.
+    pub fn play(&self, steps: &str, answer: &mut String) -> Told {
+        let steps = steps_of(self.alloc, steps)?;
+        Run::new(self.alloc, self.config, &self.events)?.play(&steps, answer)
+    }
+}
