@@ -26,12 +26,12 @@ module _ {S : Type 0} (node : Node) (before later : BookView S) (event : Event) 
   pub takes_new : IsTaken node event → Answers node before event (λ answer. answer ≡ New outputs)
       → ((state : State) → AreAtSound node before.validator.tables state → AreAtSound node later.validator.tables (after node state event))
       → later.pending ≡ before.pending ++ record_of event ∷ [] → later.queue ≡ before.queue ++ ticketed (before.accepted + 1) outputs
-      → later.accepted ≡ before.accepted + 1 → later.taken ≡ before.taken → later.settled ≡ before.settled → later.ordered ≡ before.ordered → later.down ≡ before.down
+      → later.accepted ≡ before.accepted + 1 → later.taken ≡ before.taken → later.settled ≡ before.settled → later.rewriting ≡ before.rewriting → later.ordered ≡ before.ordered → later.down ≡ before.down
       → (from to : ℕ) → IsNoted before.reached later.reached (before.accepted + 1) from to
       → ((state : State) → AreAtSound node before.validator.tables state → from ≡ length state.order)
       → ((state : State) → AreAtSound node later.validator.tables state → to ≡ length state.order)
       → TakesNew node before later event
-  takes_new taken_by answers goes pending queue accepted taken settled ordered down from to noted froms tos = record {
+  takes_new taken_by answers goes pending queue accepted taken settled rewriting ordered down from to noted froms tos = record {
     taken_by = taken_by;
     outputs = outputs;
     answer = λ run at. answers (state_in node run) at.at;
@@ -39,12 +39,13 @@ module _ {S : Type 0} (node : Node) (before later : BookView S) (event : Event) 
         let on = goes (state_in node run) at.at in
         let noted' = subst (λ n. IsNoted before.reached later.reached (before.accepted + 1) n (length (after node (state_in node run) event).order)) (froms (state_in node run) at.at)
         (subst (λ n. IsNoted before.reached later.reached (before.accepted + 1) from n) (tos (after node (state_in node run) event) on) noted) in
-        stands_new node run before later event outputs taken_by at (answers (state_in node run) at.at) on pending queue accepted taken settled ordered noted';
+        stands_new node run before later event outputs taken_by at (answers (state_in node run) at.at) on pending queue accepted taken settled rewriting ordered noted';
     queue = queue;
     pending = pending;
     accepted = accepted;
     taken = taken;
     settled = settled;
+    rewriting = rewriting;
     down = down;
   }
 
@@ -62,17 +63,17 @@ module _ {S : Type 0} (node : Node) (before later : BookView S) (event : Event) 
 -- a known event leaves all but the queue
 pub queue_alone : {S : Type 0} (before later : BookView S) (queue : List Waiting) → later.validator ≡ before.validator → later.pending
     ≡ before.pending → later.queue ≡ queue → later.reached ≡ before.reached
-    → later.accepted ≡ before.accepted → later.taken ≡ before.taken → later.settled ≡ before.settled → later.ordered ≡ before.ordered → later.down
+    → later.accepted ≡ before.accepted → later.taken ≡ before.taken → later.settled ≡ before.settled → later.rewriting ≡ before.rewriting → later.ordered ≡ before.ordered → later.down
     ≡ before.down → later ≡ record before { queue = queue }
-queue_alone before later queue validator pending queue_is reached accepted taken settled ordered down =
+queue_alone before later queue validator pending queue_is reached accepted taken settled rewriting ordered down =
     λ i. record {
       validator = validator i;
       pending = pending i;
       queue = queue_is i;
       accepted = accepted i;
       taken = taken i;
-      settled =
-          settled i;
+      settled = settled i;
+      rewriting = rewriting i;
       ordered = ordered i;
       reached = reached i;
       down = down i;

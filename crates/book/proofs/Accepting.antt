@@ -1,6 +1,6 @@
 -- A book goes on standing when it takes an event.
 use Rattle.std.proofs.Common.{◌≡◌, ◌≢◌, ℕ, ◌+◌, ◌≤◌, ◌<◌, List, [], ◌∷◌, ◌++◌, length, drop, map, inl, inr, sym, ap, ◌∙◌, subst, arith, append_assoc}
-use Rattle.std.specs.Prelude.{All}
+use Rattle.std.specs.Prelude.{All, Option, IfSome}
 use Rattle.std.proofs.lemmas.List.{length_push, drop-append-le, map-append}
 use Rattle.std.proofs.lemmas.List.Elements.{All-weaker, All-append, All-cons, All-nil}
 use Rattle.spec_machine.specs.Machine.{answered, after}
@@ -56,10 +56,10 @@ module _ {S : Type 0} (node : Node) (run : Run) (before later : BookView S) (eve
   -- after a new event
   pub stands_new : answered node (state_in node run) event ≡ New outputs → AreAtSound node later.validator.tables (after node (state_in node run) event)
       → later.pending ≡ before.pending ++ record_of event ∷ [] → later.queue ≡ before.queue ++ ticketed (before.accepted + 1) outputs
-      → later.accepted ≡ before.accepted + 1 → later.taken ≡ before.taken → later.settled ≡ before.settled → later.ordered ≡ before.ordered
+      → later.accepted ≡ before.accepted + 1 → later.taken ≡ before.taken → later.settled ≡ before.settled → later.rewriting ≡ before.rewriting → later.ordered ≡ before.ordered
       → IsNoted before.reached later.reached (before.accepted + 1) (length (state_in node run).order) (length (after node (state_in node run) event).order)
       → Stands node (with_accepted run event) later
-  stands_new is goes pending queue accepted taken settled ordered noted =
+  stands_new is goes pending queue accepted taken settled rewriting ordered noted =
       let legal = legal_push_after node run.base run.accepted event at.legal taken_by (ap is_new is) in
       let long : length (run.accepted ++ event ∷ []) ≡ length run.accepted + 1 = length_push run.accepted event in
       let within : length run.taken ≤ length run.accepted = begins_length run.taken run.accepted at.taken_begins in
@@ -76,6 +76,7 @@ module _ {S : Type 0} (node : Node) (run : Run) (before later : BookView S) (eve
         accepted = omega (arith, accepted, at.accepted, long);
         taken = taken ∙ at.taken;
         settled = settled ∙ at.settled;
+        rewriting = subst (λ (r : Option ℕ). IfSome r (λ count. (length run.settled ≤ count) × (count ≤ length run.taken))) (sym rewriting) at.rewriting;
         due = subst (All (IsDue node (with_accepted run event))) (sym (queue ∙ ap (λ n. before.queue ++ ticketed (n + 1) outputs) at.accepted))
             (due_new node run event outputs before.queue legal is at.due);
         rising = subst TicketsRise (sym (queue ∙ ap (λ n. before.queue ++ ticketed (n + 1) outputs) at.accepted))
@@ -112,6 +113,7 @@ module _ {S : Type 0} (node : Node) (run : Run) (before later : BookView S) (eve
     accepted = at.accepted;
     taken = at.taken;
     settled = at.settled;
+    rewriting = at.rewriting;
     due = subst (All (IsDue node run)) (sym (ap (λ n. before.queue ++ ticketed n outputs) at.accepted)) (due_known node run event outputs before.queue at.legal taken_by is at.due);
     rising = subst TicketsRise (sym (ap (λ n. before.queue ++ ticketed n outputs) at.accepted)) (rise_new node run (length run.accepted) outputs before.queue (omega arith) at.due at.rising);
     ordered = at.ordered;

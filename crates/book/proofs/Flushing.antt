@@ -1,7 +1,7 @@
 -- A book goes on standing when records are taken and settled.
 use Rattle.std.proofs.Common.{◌≡◌, ℕ, zero, suc, ◌+◌, ◌≤◌, List, [], ◌∷◌, ◌++◌, length, take, drop, map, true, refl, sym, ap, ◌∙◌, subst, arith, append_assoc, append-nil, drop-drop}
-use Rattle.std.specs.Prelude.{All}
-use Rattle.std.proofs.lemmas.List.{take_all, drop_at, take_at, take-map, drop-take, take-append-le, take-append-drop, length-take-le, length-append, drop-map, length-map, length-drop}
+use Rattle.std.specs.Prelude.{All, Option, Some, None, IfSome}
+use Rattle.std.proofs.lemmas.List.{take_all, nil_from_length, drop_at, take_at, take-map, drop-take, take-append-le, take-append-drop, length-take-le, length-append, drop-map, length-map, length-drop}
 use Rattle.std.proofs.lemmas.List.Elements.{All-nil, All-weaker, All-tail}
 use Rattle.spec_machine.specs.After.{after_all}
 use Rattle.spec_machine.proofs.AfterAll.{after_none, legal_none}
@@ -14,9 +14,14 @@ use Rattle.spec_world.specs.World.{Waiting}
 use Rattle.validator.specs.Standing.{AreAtSound}
 use Rattle.book.specs.Queue.{length_at, TicketsRise}
 use Rattle.book.specs.Pending.{IsLongestBeginning}
-use Rattle.book.specs.Book.{BookView, Run, GoesOutAfter, IsDue, Stands, run_on, with_taken, with_settled}
+use Rattle.book.specs.Book.{BookView, Run, GoesOutAfter, IsDue, Stands, Settles, run_on, with_taken, with_all_taken, settled_by, settled_to}
 use Rattle.book.proofs.Due.{begins_length}
 use Rattle.book.proofs.Lengths.{UpTo}
+
+-- what is told of one that is some, more weakly
+pub if_some : {X : Type 0} {P Q : X → Type 0} → ((x : X) → P x → Q x) → (o : Option X) → IfSome o P → IfSome o Q
+if_some weaker None is = tt
+if_some weaker (Some x) is = weaker x is
 
 -- a beginning of a list, as so many of its first elements
 begins_take : {X : Type 0} (one other : List X) → Begins one other → take (length one) other ≡ one
@@ -84,6 +89,7 @@ module _ {S : Type 0} (node : Node) (run : Run) (before later : BookView S) (at 
         accepted = at.accepted;
         taken = omega (arith, at.taken, taken);
         settled = at.settled;
+        rewriting = if_some (λ c is. (is.0, omega (arith, is.1, taken))) before.rewriting at.rewriting;
         due = due_same node run (with_taken run (length group)) before.queue refl refl at.due;
         rising = at.rising;
         ordered = at.ordered;
@@ -104,34 +110,80 @@ module _ {S : Type 0} (node : Node) (run : Run) (before later : BookView S) (at 
       let rest = drop (length run.settled) run.taken in
       omega (arith, begins_length group (map record_of rest) begins, length-map rest record_of, length-drop (length run.settled) run.taken, begins_length run.settled run.taken at.settled_begins)
 
-  -- after a group that is settled
-  pub stands_settled : (group : List (List ℕ)) → length run.settled + length group ≤ length run.taken
-      → later.settled ≡ before.settled + length group → later ≡ record before { settled = later.settled; ordered = later.ordered; reached = later.reached }
+  -- after the first of the taken events are settled, where no rewriting is in flight then
+  module _ (count : ℕ) (low : length run.settled ≤ count) (within : count ≤ length run.taken) where
+    pub stands_settled : later.settled ≡ count → later ≡ record before { settled = later.settled; ordered = later.ordered; reached = later.reached; rewriting = None }
+        → later.ordered ≡ length_at later.settled before.ordered before.reached
+        → ((number : ℕ) → later.settled ≤ number → length_at number later.ordered later.reached ≡ length_at number before.ordered before.reached)
+        → ((limit : ℕ) → UpTo limit before.reached → UpTo limit later.reached)
+        → Stands node (record run { settled = take count run.taken }) later
+    stands_settled is same ordered lengths tickets =
+        let after : Run = record run { settled = take count run.taken } in
+        let high : length run.taken ≤ length run.accepted = begins_length run.taken run.accepted at.taken_begins in
+        let number : length (take count run.taken) ≡ count = length-take-le count run.taken within in
+        let first : take count run.accepted ≡ take count run.taken = ap (take count) at.taken_begins.parts ∙ take-append-le count run.taken at.taken_begins.rest within in
+        subst (Stands node after) (sym same) (record {
+          legal = at.legal;
+          at = at.at;
+          taken_begins = at.taken_begins;
+          settled_begins = take_begins count run.taken;
+          pending = at.pending;
+          accepted = at.accepted;
+          taken = at.taken;
+          settled = omega (arith, is, number);
+          rewriting = tt;
+          due = due_same node run after before.queue refl refl at.due;
+          rising = at.rising;
+          ordered = ordered ∙ ap (λ n. length_at n before.ordered before.reached) is ∙ at.lengths count low (omega (arith, within, high))
+              ∙ ap (λ (l : History). length (after_all node run.base l).order) first;
+          lengths = λ c less top. lengths c (omega (arith, less, number, is)) ∙ at.lengths c (omega (arith, less, number, low)) top;
+          tickets = tickets (length run.accepted) at.tickets;
+        })
+
+  -- what is settled next ends no lower than what is settled, and within what is taken
+  pub next_within : (r : Option ℕ) (records : List (List ℕ)) → before.rewriting ≡ r → Settles node run r records
+      → (length run.settled ≤ settled_to r (length run.settled + length records)) × (settled_to r (length run.settled + length records) ≤ length run.taken)
+  next_within None records same begins = (omega arith, settles_within records begins)
+  next_within (Some all) records same checkpoint = subst (λ (r : Option ℕ). IfSome r (λ count. (length run.settled ≤ count) × (count ≤ length run.taken))) same at.rewriting
+
+  -- the run after that
+  run_settled : (r : Option ℕ) (count : ℕ) → record run { settled = take (settled_to r (length run.settled + count)) run.taken } ≡ settled_by run r count
+  run_settled None count = refl
+  run_settled (Some all) count = refl
+
+  -- after what is settled next
+  pub stands_next : (records : List (List ℕ)) → Settles node run before.rewriting records → later.settled ≡ settled_to before.rewriting (before.settled + length records)
+      → later ≡ record before { settled = later.settled; ordered = later.ordered; reached = later.reached; rewriting = None }
       → later.ordered ≡ length_at later.settled before.ordered before.reached
-      → ((count : ℕ) → later.settled ≤ count → length_at count later.ordered later.reached ≡ length_at count before.ordered before.reached)
+      → ((number : ℕ) → later.settled ≤ number → length_at number later.ordered later.reached ≡ length_at number before.ordered before.reached)
       → ((limit : ℕ) → UpTo limit before.reached → UpTo limit later.reached)
-      → Stands node (with_settled run (length group)) later
-  stands_settled group within settled same ordered lengths tickets =
-      let count = length run.settled + length group in
+      → Stands node (settled_by run before.rewriting (length records)) later
+  stands_next records settles is same ordered lengths tickets =
+      let within = next_within before.rewriting records refl settles in
+      subst (λ (r : Run). Stands node r later) (run_settled before.rewriting (length records))
+      (stands_settled (settled_to before.rewriting (length run.settled + length records)) within.0 within.1
+      (is ∙ ap (λ (n : ℕ). settled_to before.rewriting (n + length records)) at.settled) same ordered lengths tickets)
+
+  -- after all that was accepted is taken
+  pub stands_all : later ≡ record before { pending = []; taken = before.accepted; rewriting = Some before.accepted; down = later.down } → Stands node (with_all_taken run) later
+  stands_all same =
       let high : length run.taken ≤ length run.accepted = begins_length run.taken run.accepted at.taken_begins in
-      let number : length (take count run.taken) ≡ count = length-take-le count run.taken within in
-      let is : later.settled ≡ count = omega (arith, settled, at.settled) in
-      let first : take count run.accepted ≡ take count run.taken = ap (take count) at.taken_begins.parts ∙ take-append-le count run.taken at.taken_begins.rest within in
-      subst (Stands node (with_settled run (length group))) (sym same) (record {
+      let low : length run.settled ≤ length run.taken = begins_length run.settled run.taken at.settled_begins in
+      subst (Stands node (with_all_taken run)) (sym same) (record {
         legal = at.legal;
         at = at.at;
-        taken_begins = at.taken_begins;
-        settled_begins = take_begins count run.taken;
-        pending = at.pending;
+        taken_begins = record { rest = []; parts = sym (append-nil run.accepted) };
+        settled_begins = begins_trans run.settled run.taken run.accepted at.settled_begins at.taken_begins;
+        pending = ap (map record_of) (sym (nil_from_length (drop (length run.accepted) run.accepted) (omega (arith, length-drop (length run.accepted) run.accepted))));
         accepted = at.accepted;
-        taken = at.taken;
-        settled = omega (arith, is, number);
-        due = due_same node run (with_settled run (length group)) before.queue refl refl at.due;
+        taken = at.accepted;
+        settled = at.settled;
+        rewriting = (omega (arith, high, low, at.accepted), omega (arith, at.accepted));
+        due = due_same node run (with_all_taken run) before.queue refl refl at.due;
         rising = at.rising;
-        ordered = ordered ∙ ap (λ n. length_at n before.ordered before.reached) is ∙ at.lengths count (omega arith) (omega (arith, within, high))
-            ∙ ap (λ (l : History). length (after_all node run.base l).order) first;
-        lengths = λ c low top. lengths c (omega (arith, low, number, is)) ∙ at.lengths c (omega (arith, low, number)) top;
-        tickets = tickets (length run.accepted) at.tickets;
+        ordered = at.ordered;
+        lengths = at.lengths;
+        tickets = at.tickets;
       })
 
 -- a book that is taken down stands where it stood
@@ -145,6 +197,7 @@ stands_down {S} node run before later same at = subst (Stands node run) (sym sam
   accepted = at.accepted;
   taken = at.taken;
   settled = at.settled;
+  rewriting = at.rewriting;
   due = at.due;
   rising = at.rising;
   ordered = at.ordered;
@@ -167,6 +220,7 @@ stands_released {S} node run before later first rest parts same at =
       accepted = at.accepted;
       taken = at.taken;
       settled = at.settled;
+      rewriting = at.rewriting;
       due = All-tail (IsDue node run) first rest due;
       rising = rising.1;
       ordered = at.ordered;
@@ -176,8 +230,8 @@ stands_released {S} node run before later first rest parts same at =
 
 -- at first
 pub stands_first : {S : Type 0} (node : Node) (base : State) (book : BookView S) → IsNode node → AreAtSound node book.validator.tables base
-    → book.pending ≡ [] → book.queue ≡ [] → book.accepted ≡ 0 → book.taken ≡ 0 → book.settled ≡ 0 → book.reached ≡ [] → book.ordered ≡ length base.order → Stands node (run_on base) book
-stands_first node base book node_is at pending queue accepted taken settled reached ordered =
+    → book.pending ≡ [] → book.queue ≡ [] → book.accepted ≡ 0 → book.taken ≡ 0 → book.settled ≡ 0 → book.rewriting ≡ None → book.reached ≡ [] → book.ordered ≡ length base.order → Stands node (run_on base) book
+stands_first node base book node_is at pending queue accepted taken settled rewriting reached ordered =
     let same : after_all node base [] ≡ base = after_none node base in
     record {
       legal = legal_none node base node_is at.sound;
@@ -188,6 +242,7 @@ stands_first node base book node_is at pending queue accepted taken settled reac
       accepted = accepted;
       taken = taken;
       settled = settled;
+      rewriting = subst (λ (r : Option ℕ). IfSome r (λ count. (0 ≤ count) × (count ≤ 0))) (sym rewriting) tt;
       due = subst (All (IsDue node (run_on base))) (sym queue) (All-nil (IsDue node (run_on base)));
       rising = subst TicketsRise (sym queue) tt;
       ordered = ordered ∙ ap (λ (s : State). length s.order) (sym same);

@@ -10,4 +10,6 @@ mod Stepping
 mod Queueing
 mod Recording
 mod Releasing
+pub mod Rewriting
+mod Checkpointing
 mod Accepted

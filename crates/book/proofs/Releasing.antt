@@ -9,7 +9,7 @@ use Rattle.wire.specs.Lists.{Begins}
 use Rattle.spec_machine.specs.After.{after_all, IsLegalAfter}
 use Rattle.spec_machine.proofs.AfterAll.{after_append, after_joins, legal_again, order_grows_after}
 use Rattle.spec_model.specs.Admitting.{IsLegal}
-use Rattle.spec_model.specs.Giving.{kept, MayGive}
+use Rattle.spec_model.specs.Giving.{MayGive}
 use Rattle.spec_model.specs.Histories.{History}
 use Rattle.spec_model.specs.Nodes.{Node}
 use Rattle.spec_model.specs.States.{State}

@@ -1,5 +1,5 @@
 -- The book: the state that a run began with, what it accepted, what of that was taken and settled, and what may go out.
-use Rattle.std.specs.Prelude.{◌≡◌, ◌⊎◌, ⊤, ℕ, ◌+◌, ◌≤◌, List, [], ◌∷◌, ◌++◌, length, map, take, drop, Option, None, Bool, true, false, IsTrue, ◌<◌, All, if◌then◌else◌}
+use Rattle.std.specs.Prelude.{◌≡◌, ◌⊎◌, ⊤, ℕ, ◌+◌, ◌≤◌, List, [], ◌∷◌, ◌++◌, length, map, take, drop, Option, Some, None, IfSome, Bool, true, false, IsTrue, ◌<◌, All, if◌then◌else◌}
 use Rattle.spec_model.specs.Admitting.{is_new, IsLegal, IsTaken}
 use Rattle.spec_model.specs.Giving.{kept, MayGive}
 use Rattle.spec_model.specs.Histories.{History}
@@ -12,7 +12,11 @@ use Rattle.spec_model.specs.Words.{Event, Output}
 use Rattle.header.specs.declared.admission.Admission.TheVariants.{New, Known, Refused}
 use Rattle.header.specs.declared.refusal.Refusal.{Refusal}
 use Rattle.header.specs.declared.refusal.Refusal.TheVariants.{Memory, Down, StoreFull}
-use Rattle.spec_records.specs.Records.{record_of}
+use Rattle.spec_records.specs.Records.{record_of, configuration_of}
+use Rattle.spec_checkpoint.specs.Data.{Checkpoint, IsWritten}
+use Rattle.spec_checkpoint.specs.Meaning as checkpoint
+use Rattle.spec_checkpoint.specs.Records.{state_records}
+use Rattle.journal.specs.declared.version.Version.TheVariants.{Second}
 use Rattle.spec_world.specs.World.{Waiting}
 use Rattle.spec_world.specs.Steps.{ticketed}
 use Rattle.validator.specs.Standing as validator
@@ -32,6 +36,8 @@ pub record BookView (S : Type 0) : Type 0 where
   pub accepted : ℕ
   pub taken : ℕ
   pub settled : ℕ
+  -- where a rewriting is in flight: it settles so many of the accepted records
+  pub rewriting : Option ℕ
   -- how long the order is after the settled records, and how long it is from which ticket on
   pub ordered : ℕ
   pub reached : List Reached
@@ -71,6 +77,14 @@ with_taken run count = record run { taken = take (length run.taken + count) run.
 abbrev pub with_settled : Run → ℕ → Run
 with_settled run count = record run { settled = take (length run.settled + count) run.taken }
 
+-- with all that it accepted taken
+abbrev pub with_all_taken : Run → Run
+with_all_taken run = record run { taken = run.accepted }
+
+-- and settled
+abbrev pub with_all_settled : Run → Run
+with_all_settled run = record run { taken = run.accepted; settled = run.accepted }
+
 -- an output goes out after events from a state on, which are legal: they put it out, and it may be given out at each legal history
 -- that keeps the state, with these events
 pub record GoesOutAfter (node : Node) (base : State) (events : History) (output : Output) : Type 0 where
@@ -85,8 +99,8 @@ pub record IsDue (node : Node) (run : Run) (waiting : Waiting) : Type 0 where
 
 -- A book stands at a run. What is settled was taken, and what was taken was accepted, in that order, and all of it is legal after the
 -- base; the validator stands at the state after it; the pending records are those of what was accepted and not taken; the numbers are
--- the lengths; each output goes out after what its ticket counts, and tickets don't fall; and the lengths of the order are those after
--- so many events.
+-- the lengths; a rewriting settles no fewer than are settled, and no more than are taken; each output goes out after what its ticket counts,
+-- and tickets don't fall; and the lengths of the order are those after so many events.
 pub record Stands {S : Type 0} (node : Node) (run : Run) (book : BookView S) : Type 0 where
   pub legal : IsLegalAfter node run.base run.accepted
   pub at : validator.AreAtSound node book.validator.tables (state_in node run)
@@ -96,6 +110,7 @@ pub record Stands {S : Type 0} (node : Node) (run : Run) (book : BookView S) : T
   pub accepted : book.accepted ≡ length run.accepted
   pub taken : book.taken ≡ length run.taken
   pub settled : book.settled ≡ length run.settled
+  pub rewriting : IfSome book.rewriting (λ count. (length run.settled ≤ count) × (count ≤ length run.taken))
   pub due : All (IsDue node run) book.queue
   pub rising : TicketsRise book.queue
   pub ordered : book.ordered ≡ length (settled_in node run).order
@@ -115,6 +130,7 @@ pub record TakesNew {S : Type 0} (node : Node) (before later : BookView S) (even
   pub accepted : later.accepted ≡ before.accepted + 1
   pub taken : later.taken ≡ before.taken
   pub settled : later.settled ≡ before.settled
+  pub rewriting : later.rewriting ≡ before.rewriting
   pub down : later.down ≡ before.down
 
 -- a known one changes nothing but that its outputs wait for all that was accepted
@@ -149,9 +165,37 @@ MayRefuse node run book event refusal = answered node (state_in node run) event 
 abbrev pub releasable : {S : Type 0} → BookView S → Option Output
 releasable book = if book.down then None else settled_head book.settled book.queue
 
--- at a run at which the book stands a group has the records that were taken first of what isn't settled
+-- These records are a checkpoint of a state: the node's configuration in the second version, and the records of the state, as a node
+-- writes them.
+pub record IsCheckpoint (node : Node) (state : State) (records : List (List ℕ)) : Type 0 where
+  pub kept : Checkpoint
+  pub written : IsWritten node kept
+  pub is : checkpoint.state_in node kept ≡ state
+  pub are : records ≡ configuration_of Second node.charter node.own ∷ state_records kept
+
+-- at each run at which the book stands they are one of the state after all that was accepted
+abbrev pub IsCheckpointOfAll : {S : Type 0} → Node → BookView S → List (List ℕ) → Type 0
+IsCheckpointOfAll node book records = (run : Run) → Stands node run book → IsCheckpoint node (state_in node run) records
+
+-- what these records settle at a run: a group has those that were taken first of what isn't settled, and what a rewriting wrote is a
+-- checkpoint of the state after so many events
+abbrev pub Settles : Node → Run → Option ℕ → List (List ℕ) → Type 0
+Settles node run None records = Begins records (map record_of (drop (length run.settled) run.taken))
+Settles node run (Some count) records = IsCheckpoint node (state_to node count run) records
+
+-- a run after a group of so many records is settled, or a rewriting, which settles what was taken when it began
+abbrev pub settled_by : Run → Option ℕ → ℕ → Run
+settled_by run None count = with_settled run count
+settled_by run (Some all) count = record run { settled = take all run.taken }
+
+-- how many are settled then: a rewriting settles up to its number
+abbrev pub settled_to : Option ℕ → ℕ → ℕ
+settled_to None count = count
+settled_to (Some all) count = all
+
+-- at a run at which the book stands these records are what is settled next: a rewriting in flight comes before all groups
 abbrev pub SettlesNext : {S : Type 0} → Node → BookView S → List (List ℕ) → Type 0
-SettlesNext node book group = (run : Run) × Stands node run book × Begins group (map record_of (drop (length run.settled) run.taken))
+SettlesNext node book records = (run : Run) × Stands node run book × Settles node run book.rewriting records
 
 -- an output goes out after the settled events that its ticket counts, and may be given out at each legal history that keeps the base,
 -- with all that is settled

@@ -4,4 +4,5 @@ pub mod Queue
 pub mod Book
 pub mod Steps
 pub mod OnTheWay
+pub mod Checkpoints
 pub mod Showing

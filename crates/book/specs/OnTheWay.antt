@@ -1,5 +1,5 @@
 -- The groups that a book handed over and that aren't settled yet.
-use Rattle.std.specs.Prelude.{◌≡◌, ◌⊎◌, ℕ, ◌+◌, ◌≤◌, true, List, [], ◌∷◌, length, map, drop}
+use Rattle.std.specs.Prelude.{◌≡◌, ◌⊎◌, ℕ, ◌+◌, ◌≤◌, true, None, List, [], ◌∷◌, length, map, drop}
 use Rattle.spec_model.specs.Nodes.{Node}
 use Rattle.spec_records.specs.Records.{record_of}
 use Rattle.journal.specs.Format.{file_with, group_bytes, stands}
@@ -8,8 +8,10 @@ use Rattle.journal.specs.declared.layout.TheConstants.{MAX_JOURNAL_BYTES}
 use Rattle.book.specs.Book.{BookView, Run, Stands, with_taken, with_settled}
 use Rattle.book.specs.Pending.{IsLongestBeginning, all_records}
 
--- at a run at which the book stands these groups, oldest first, have the records that were taken and aren't settled
+-- no rewriting is in flight, and at a run at which the book stands these groups, oldest first, have the records that were taken and aren't
+-- settled
 pub record AreOnTheWay {S : Type 0} (node : Node) (book : BookView S) (groups : List (List (List ℕ))) : Type 0 where
+  pub alone : book.rewriting ≡ None
   pub run : Run
   pub stands : Stands node run book
   pub are : map record_of (drop (length run.settled) run.taken) ≡ all_records groups
@@ -17,6 +19,10 @@ pub record AreOnTheWay {S : Type 0} (node : Node) (book : BookView S) (groups : 
 -- a book stands at a run, whatever that is
 abbrev pub StandsSomewhere : {S : Type 0} → Node → BookView S → Type 0
 StandsSomewhere node book = (run : Run) × Stands node run book
+
+-- a rewriting is in flight only where the book is down
+abbrev pub RewritesOnlyDown : {S : Type 0} → BookView S → Type 0
+RewritesOnlyDown book = (book.rewriting ≡ None) ⊎ (book.down ≡ true)
 
 -- a group has room after these bytes of a disk
 abbrev pub HasRoomFor : List (List ℕ) → List ℕ → Type 0

@@ -12,6 +12,7 @@ shown_of book = record {
   accepted = book.accepted;
   taken = book.taken;
   settled = book.settled;
+  rewriting = book.rewriting;
   ordered = book.ordered;
   reached = book.reached.items;
   down = book.down;

@@ -1,15 +1,18 @@
 -- What a book does is a step of its world.
-use Rattle.std.specs.Prelude.{◌≡◌, ◌⊎◌, ℕ, ◌+◌, ◌≤◌, List, [], ◌∷◌, ◌++◌, length, map, drop, Some, All, Contains}
+use Rattle.std.specs.Prelude.{◌≡◌, ◌⊎◌, ◌↔◌, ℕ, ◌+◌, ◌≤◌, ◌<◌, ◌^◌, List, [], ◌∷◌, ◌++◌, length, map, drop, Option, Some, None, All, Contains}
 use Rattle.spec_model.specs.Admitting.{IsLegal}
 use Rattle.spec_model.specs.Giving.{kept}
 use Rattle.spec_model.specs.Histories.{History}
 use Rattle.spec_model.specs.Nodes.{Node, IsNode}
 use Rattle.spec_model.specs.Words.{Event, Output}
 use Rattle.spec_records.specs.Records.{record_of}
-use Rattle.spec_world.specs.World.{World, taken_in, first_of, content_in}
-use Rattle.spec_world.specs.Runs.{HasSettledGroup}
-use Rattle.spec_world.specs.Steps.{Move, accept, take_to, device_call, settle, release, IsStep, Leads, IsRun}
-use Rattle.book.specs.Book.{BookView, Run, Stands, with_settled, TakesNew, TakesKnown, releasable}
+use Rattle.diskmodel.specs.Outcomes.{AreBytes}
+use Rattle.journal.specs.Snapshot.{bytes_for, CanPack}
+use Rattle.spec_world.specs.World.{World, Spare, IsCheckpointOf, taken_in, first_of, content_in}
+use Rattle.spec_world.specs.Runs.{AreKeys, spare_calls, HasSettledGroup, HasSettledCheckpoint}
+use Rattle.spec_world.specs.Steps.{Move, accept, take_to, device_call, settle, release, take_all, IsStep, Leads, IsRun}
+use Rattle.book.specs.Book.{BookView, Run, Stands, settled_by, TakesNew, TakesKnown, releasable}
+use Rattle.book.specs.Checkpoints.{SettlesAll}
 use Rattle.book.specs.OnTheWay.{Flushes, GoesDown}
 use Rattle.book.specs.Pending.{IsLongestBeginning}
 
@@ -17,10 +20,24 @@ use Rattle.book.specs.Pending.{IsLongestBeginning}
 abbrev pub run_of : Node → World → Run
 run_of node world = record { base = kept node world.began; accepted = world.accepted; taken = taken_in world; settled = world.settled }
 
--- a book is that of a world: it stands at its run, what that began with is legal, and what it queues waits there
+-- a rewriting that settles so many of the accepted events: these are those that were settled before and those of the first group in flight,
+-- and it is in flight until that group is durable
+pub record IsRewritingTo (world : World) (count : ℕ) : Type 0 where
+  pub some : 1 ≤ length world.groups
+  pub counts : length world.settled + length (first_of world.groups) ≡ count
+  pub until_durable : (world.rewriting ≡ None) ↔ (1 ≤ world.durable)
+
+-- the rewriting of a book is that of its world
+abbrev pub IsRewriting : World → Option ℕ → Type 0
+IsRewriting world None = world.rewriting ≡ None
+IsRewriting world (Some count) = IsRewritingTo world count
+
+-- a book is that of a world: it stands at its run, what that began with is legal, its rewriting is that of the world, and what it queues
+-- waits there
 pub record IsOf {S : Type 0} (node : Node) (world : World) (book : BookView S) : Type 0 where
   pub began : IsLegal node world.began
   pub stands : Stands node (run_of node world) book
+  pub rewriting : IsRewriting world book.rewriting
   pub waits : All (Contains world.waiting) book.queue
 
 -- a move leads from a world to one whose book this is
@@ -46,10 +63,12 @@ TakeIsAStep S = (node : Node) (world : World) (before later : BookView S) (group
     → IsLongestBeginning before.pending group later.pending → later ≡ record before { pending = later.pending; taken = before.taken + length group }
     → TakesBehind node world group later
 
--- the first group in flight in the world, once one is written to its end, is settled there
+-- the first group in flight in the world, once it is written to its end, is settled there: one that has these records, or, where the book has
+-- a rewriting in flight, the one of that, whatever records it wrote
 abbrev pub SettleIsAStep : Type 0 → Type 0
-SettleIsAStep S = (node : Node) (world : World) (before later : BookView S) (group : List (List ℕ)) → IsOf node world before → 1 ≤ world.durable
-    → map record_of (first_of world.groups) ≡ group → Stands node (with_settled (run_of node world) (length group)) later → later.queue ≡ before.queue → Moves node world settle later
+SettleIsAStep S = (node : Node) (world : World) (before later : BookView S) (records : List (List ℕ)) → IsOf node world before → 1 ≤ world.durable
+    → (before.rewriting ≡ None → map record_of (first_of world.groups) ≡ records) → Stands node (settled_by (run_of node world) before.rewriting (length records)) later
+    → later.rewriting ≡ None → later.queue ≡ before.queue → Moves node world settle later
 
 -- what is released goes out there
 abbrev pub ReleaseIsAStep : Type 0 → Type 0
@@ -74,3 +93,29 @@ FlushIsSteps S = (node : Node) (moves : List Move) (world : World) (before later
 -- after that
 abbrev pub FailIsAStep : Type 0 → Type 0
 FailIsAStep S = (node : Node) (world : World) (before later : BookView S) → IsOf node world before → (down : GoesDown node before later) → TakesBehind node world down.group later
+
+-- all that was accepted is taken for a checkpoint of these bytes, whose rewriting is then in flight; the book may be down after it, as where
+-- the rewriting failed
+abbrev pub TakeAllIsAStep : Type 0 → Type 0
+TakeAllIsAStep S = (node : Node) (moves : List Move) (world : World) (before later : BookView S) (spare : Spare) (bytes : List ℕ) → IsNode node → IsRun node moves world → IsOf node world before
+    → world.groups ≡ [] → world.spare ≡ Some spare → IsCheckpointOf node (spare.generation + 1) (kept node (world.began ++ world.accepted)) bytes
+    → later ≡ record before { pending = []; taken = before.accepted; rewriting = Some before.accepted; down = later.down } → Moves node world (take_all bytes) later
+
+-- what a journal writes of these records behind the first gate can be the checkpoint of a node with keys of 32 bytes, of this generation
+pub record CanWrite (node : Node) (generation : ℕ) (snapshot : List (List ℕ)) : Type 0 where
+  pub keys : AreKeys node
+  pub generation_fits : generation < 2 ^ 64
+  pub packs : CanPack snapshot
+  pub are_bytes : AreBytes (bytes_for generation snapshot)
+
+-- a checkpoint of one owner that was settled: all is taken, the eight device calls of the rewriting are made, and it is settled
+pub record CheckpointsThere {S : Type 0} (node : Node) (world : World) (spare : Spare) (bytes : List ℕ) (later : BookView S) : Type 0 where
+  pub next : World
+  pub leads : Leads node world (take_all bytes ∷ (spare_calls 8 ++ settle ∷ [])) next
+  pub settled : HasSettledCheckpoint node world spare bytes next
+  pub is_of : IsOf node next later
+
+abbrev pub CheckpointIsSteps : Type 0 → Type 0
+CheckpointIsSteps S = (node : Node) (moves : List Move) (world : World) (before later : BookView S) (spare : Spare) (snapshot : List (List ℕ)) → IsNode node → IsRun node moves world
+    → IsOf node world before → world.groups ≡ [] → world.spare ≡ Some spare → CanWrite node (spare.generation + 1) snapshot → SettlesAll node before later snapshot
+    → CheckpointsThere node world spare (bytes_for (spare.generation + 1) snapshot) later

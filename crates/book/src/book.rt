@@ -1,9 +1,10 @@
 //! The book.
 
-ghost use Rattle.std.specs.Prelude.{◌≡◌, ◌+◌, ◌≤◌, ◌<◌, ◌^◌, ◌++◌, ◌∷◌, [], length, IfErr, OnOk, OnErr};
+ghost use Rattle.std.specs.Prelude.{◌≡◌, ◌+◌, ◌≤◌, ◌<◌, ◌^◌, ◌++◌, ◌∷◌, [], None, length, IfErr, OnOk, OnErr};
 ghost use Rattle.std.specs.VecDeque.{deque_len, deque_capacity};
 ghost use Rattle.journal.specs.declared.layout.TheConstants.{LENGTH_BYTES, MAX_GROUP_BYTES};
 ghost use Rattle.spec_records.specs.Records.{record_of};
+ghost use Rattle.book.specs.Book.{settled_to};
 ghost use Rattle.book.specs.declared.book.TheConstants.{MAX_ACCEPTED};
 
 use crate::pending::Pending;
@@ -12,7 +13,7 @@ use crate::reached::{Reached, leave_to, note_order};
 use crate::record::record_len;
 use committee::Committee;
 use header::Checked;
-use journal::{Group, Synced};
+use journal::{Group, Snapshot, Synced};
 use sigface::Sign;
 use std::alloc::{AllocError, Global};
 use std::collections::VecDeque;
@@ -51,6 +52,8 @@ pub struct Book<'a, S: Sign> {
     settled: u64,
     // How long the order is after the settled records.
     ordered: u64,
+    // Where a rewriting is in flight: how many of the accepted records it settles.
+    rewriting: Option<u64>,
     down: bool,
 }
 
@@ -66,6 +69,7 @@ impl<'a, S: Sign> Drop for Book<'a, S> {
             taken: _,
             settled: _,
             ordered: _,
+            rewriting: _,
             down: _,
         } = self;
     }
@@ -91,15 +95,15 @@ impl<'a, S: Sign> Model for Book<'a, S> {
 }
 
 impl<'a, S: Sign> Book<'a, S> {
-    ghost use Rattle.std.specs.Prelude.{◌≢◌, ◌⊎◌, ◌∷◌, [], ◌++◌, ◌+◌, ◌≤◌, true, false, length, map, take, drop, IsTrue, IsNone, Ok, IfOk, IfErr, IfSome, OnErr, IsErrOf, ◌↔◌, is_some, if◌then◌else◌, List, ℕ};
+    ghost use Rattle.std.specs.Prelude.{◌≢◌, ◌⊎◌, ◌∷◌, [], ◌++◌, ◌+◌, ◌≤◌, true, false, length, map, take, drop, IsTrue, IsNone, Some, None, is_some, Ok, IfOk, IfErr, IfSome, OnErr, IsErrOf, ◌↔◌, if◌then◌else◌, List, ℕ};
+    ghost use Rattle.checkpoint.specs.Describes.{Describes};
     ghost use Rattle.header.specs.Checks.{fault_of, accepts_all};
     ghost use Rattle.spec_machine.specs.Machine.{round_in};
     ghost use Rattle.spec_model.specs.States.{State};
-    ghost use Rattle.wire.specs.Lists.{Begins};
     ghost use Rattle.validator.specs.Setting.{node_of};
     ghost use Rattle.validator.specs.Standing.{AreAtSound};
     ghost use Rattle.book.specs.Pending.{IsLongestBeginning};
-    ghost use Rattle.book.specs.Book.{Run, Stands, StandsAsBefore, run_on, state_in, settled_in, with_taken, with_settled, TakesNew, TakesKnown, MayRefuse, IsFull, HasPlace, releasable, SettlesNext, GoesOutSettled};
+    ghost use Rattle.book.specs.Book.{Run, Stands, StandsAsBefore, run_on, state_in, settled_in, with_taken, with_all_taken, TakesNew, TakesKnown, MayRefuse, IsFull, HasPlace, releasable, IsCheckpointOfAll, Settles, SettlesNext, settled_by, settled_to, GoesOutSettled};
 
     /// A book over this validator that has accepted nothing.
     pub fn new(alloc: Global, validator: Validator<'a, S>) -> Book<'a, S>
@@ -108,6 +112,7 @@ impl<'a, S: Sign> Book<'a, S> {
         ensures validator { result.validator ≡ validator.entry }
         ensures pending { result.pending ≡ [] }
         ensures queue { result.queue ≡ [] }
+        ensures free { result.rewriting ≡ None }
         ensures up { result.down ≡ false }
     {
         validator.limits_hold();
@@ -122,6 +127,7 @@ impl<'a, S: Sign> Book<'a, S> {
             taken: 0,
             settled: 0,
             ordered,
+            rewriting: None,
             down: false,
         }
     }
@@ -241,16 +247,40 @@ impl<'a, S: Sign> Book<'a, S> {
         !self.pending.is_empty()
     }
 
-    /// Says that records are on the disk: those that were taken first of what isn't settled.
+    /// Takes all that was accepted, for a checkpoint of the state after it, with which a journal is rewritten. The rewriting is then in
+    /// flight, until `settle` says that it is on the disk; groups may be taken meanwhile. `AllocError` where an allocation failed:
+    /// nothing was taken then.
+    pub fn take_all(&mut self) -> Result<Snapshot, AllocError>
+        // No group is in flight, and no other rewriting.
+        requires free { self.old.taken ≡ self.old.settled }
+        requires none { self.old.rewriting ≡ None }
+        ensures snapshot { let node = node_of S.scheme self.old.validator.setting in IfOk result (λ snapshot. Describes node self.old.validator.tables snapshot) }
+        // At each run at which it stands it is a checkpoint of all that was accepted.
+        ensures checkpoint { let node = node_of S.scheme self.old.validator.setting in IfOk result (λ snapshot. IsCheckpointOfAll node self.old snapshot) }
+        ensures taken { OnOk result (self.new ≡ record self.old { pending = []; taken = self.old.accepted; rewriting = Some self.old.accepted }) }
+        ensures stands { let node = node_of S.scheme self.old.validator.setting in OnOk result ((run : Run) → Stands node run self.old
+            → Stands node (with_all_taken run) self.new) }
+        ensures err { OnErr result (self.new ≡ self.old) }
+    {
+        let snapshot = self.validator.snapshot()?;
+        self.pending = Pending::new(self.alloc);
+        self.taken = self.accepted;
+        self.rewriting = Some(self.accepted);
+        Ok(snapshot)
+    }
+
+    /// Says that records are on the disk: those of a rewriting in flight, which settles what was taken when it began; where there is none,
+    /// those that were taken first of what isn't settled.
     pub fn settle(&mut self, synced: Synced)
         requires { SettlesNext (node_of S.scheme self.old.validator.setting) self.old synced }
         ensures stands { let node = node_of S.scheme self.old.validator.setting in (run : Run) → Stands node run self.old
-            → Begins synced (map record_of (drop (length run.settled) run.taken))
-            → Stands node (with_settled run (length synced)) self.new }
-        ensures settled { self.new.settled ≡ self.old.settled + length synced }
-        ensures rest { self.new ≡ record self.old { settled = self.new.settled; ordered = self.new.ordered; reached = self.new.reached } }
+            → Settles node run self.old.rewriting synced
+            → Stands node (settled_by run self.old.rewriting (length synced)) self.new }
+        ensures settled { self.new.settled ≡ settled_to self.old.rewriting (self.old.settled + length synced) }
+        ensures rest { self.new ≡ record self.old { settled = self.new.settled; ordered = self.new.ordered; reached = self.new.reached; rewriting = None } }
     {
-        self.settled += synced.records();
+        self.settled = settled_with(self.rewriting, self.settled, synced.records());
+        self.rewriting = None;
         self.ordered = leave_to(&mut self.reached, self.settled, self.ordered);
     }
 
@@ -310,6 +340,13 @@ impl<'a, S: Sign> Book<'a, S> {
         self.settled
     }
 
+    /// Whether a rewriting is in flight: `take_all` was called, and not settled.
+    pub fn is_rewriting(&self) -> bool
+        ensures { result ≡ is_some self.now.rewriting }
+    {
+        self.rewriting.is_some()
+    }
+
     /// The validator's round, after all that was accepted.
     pub fn round_now(&self) -> u64
         ensures { let node = node_of S.scheme self.now.validator.setting in (run : Run) → Stands node run self.now
@@ -339,6 +376,17 @@ impl<'a, S: Sign> Book<'a, S> {
             Ok(digests) => Ok(digests),
             Err(_) => Err(Refusal::Memory),
         }
+    }
+}
+
+// How many are settled, where so many were, after so many records more, or by a rewriting.
+fn settled_with(rewriting: Option<u64>, settled: u64, records: u64) -> u64
+    requires { rewriting ≡ None → settled + records < 2 ^ 64 }
+    ensures { result ≡ settled_to rewriting (settled + records) }
+{
+    match rewriting {
+        Some(all) => all,
+        None => settled + records,
     }
 }
 

@@ -3,6 +3,7 @@
 mod error;
 
 use crate::book::{Book, Receipt};
+use crate::rewrite::rewrite_to_all;
 use committee::Committee;
 use diskmodel::Disk;
 pub use error::FlushError;
@@ -30,7 +31,7 @@ impl<'a, S: Sign> Model for OwnBook<'a, S> {
     ghost use Rattle.votebook.specs.contracts.book.VoteBook as votes;
     ghost use Rattle.book.specs.Book.{BookView};
     ghost use Rattle.validator.specs.Setting.{node_of};
-    ghost use Rattle.book.specs.OnTheWay.{StandsSomewhere};
+    ghost use Rattle.book.specs.OnTheWay.{StandsSomewhere, RewritesOnlyDown};
 
     ghost Value = { BookView S };
 
@@ -38,23 +39,24 @@ impl<'a, S: Sign> Model for OwnBook<'a, S> {
 
     ghost view = { λ own. own.book };
 
-    ghost invariant = { λ own. StandsSomewhere (node_of S.scheme own.book.validator.setting) own.book };
+    ghost invariant = { λ own. StandsSomewhere (node_of S.scheme own.book.validator.setting) own.book × RewritesOnlyDown own.book };
 }
 
 impl<'a, S: Sign> OwnBook<'a, S> {
-    ghost use Rattle.std.specs.Prelude.{◌≡◌, ◌≢◌, ◌⊎◌, ◌↔◌, ◌+◌, ◌<◌, ◌≤◌, ◌==◌, drop, map, false, is_some, if◌then◌else◌, IsNone, ◌++◌, ◌∷◌, [], List, ℕ, length, true, None, Ok, IfOk, IfErr, IfSome, IsSome, OnOk, OnErr, IsErrOf, IsTrue};
+    ghost use Rattle.std.specs.Prelude.{◌≡◌, ◌≢◌, ◌⊎◌, ◌↔◌, ◌+◌, ◌<◌, ◌≤◌, ◌==◌, ◌&&◌, not, drop, false, is_some, if◌then◌else◌, IsNone, ◌++◌, ◌∷◌, [], List, ℕ, length, true, Some, None, Ok, IfOk, IfErr, IfSome, IsSome, OnOk, OnErr, IsErrOf, IsTrue};
     ghost use Rattle.diskmodel.specs.Disk.{AtEachMoment, TellsFault};
     ghost use Rattle.header.specs.Checks.{fault_of, accepts_all};
+    ghost use Rattle.journal.specs.Areas.{tells};
     ghost use Rattle.journal.specs.Journal.{disk_of, spare_of, IsAlive};
+    ghost use Rattle.journal.specs.Pairs.{HaveKeptPlaces, generation_in, spare_disk, rewritten_disk, untouched_disk};
     ghost use Rattle.journal.specs.declared.layout.TheConstants.{CLOSED};
-    ghost use Rattle.spec_records.specs.Records.{record_of};
     ghost use Rattle.validator.specs.Setting.{node_of};
     ghost use Rattle.validator.specs.Standing.{AreAtSound};
-    ghost use Rattle.book.specs.Book.{Run, Stands, StandsAsBefore, run_on, with_settled, SettlesNext, TakesNew, TakesKnown, MayRefuse, GoesOutSettled, releasable, state_in, settled_in};
+    ghost use Rattle.book.specs.Book.{Run, Stands, StandsAsBefore, run_on, Settles, SettlesNext, settled_by, settled_to, TakesNew, TakesKnown, MayRefuse, GoesOutSettled, releasable, state_in, settled_in};
     ghost use Rattle.book.specs.declared.book.TheConstants.{MAX_ACCEPTED};
     ghost use Rattle.spec_machine.specs.Machine.{round_in};
     ghost use Rattle.spec_model.specs.States.{State};
-    ghost use Rattle.wire.specs.Lists.{Begins};
+    ghost use Rattle.book.specs.Checkpoints.{Checkpoints, FindsNoRoomToRewrite, FailsToRewrite, StandsAsOrForAll};
     ghost use Rattle.book.specs.OnTheWay.{AreOnTheWay, Flushes, FindsNoRoom, FailsWithRoom, IsWithOrWithout};
     ghost use Rattle.book.specs.Pending.{IsLongestBeginning};
 
@@ -107,14 +109,14 @@ impl<'a, S: Sign> OwnBook<'a, S> {
         self.book.take()
     }
 
-    /// Settles the first group on the way.
+    /// Settles the first group on the way, or the rewriting with which the book went down.
     pub fn settle(&mut self, synced: Synced)
         requires { SettlesNext (node_of S.scheme self.old.validator.setting) self.old synced }
         ensures stands { let node = node_of S.scheme self.old.validator.setting in (run : Run) → Stands node run self.old
-            → Begins synced (map record_of (drop (length run.settled) run.taken))
-            → Stands node (with_settled run (length synced)) self.new }
-        ensures settled { self.new.settled ≡ self.old.settled + length synced }
-        ensures rest { self.new ≡ record self.old { settled = self.new.settled; ordered = self.new.ordered; reached = self.new.reached } }
+            → Settles node run self.old.rewriting synced
+            → Stands node (settled_by run self.old.rewriting (length synced)) self.new }
+        ensures settled { self.new.settled ≡ settled_to self.old.rewriting (self.old.settled + length synced) }
+        ensures rest { self.new ≡ record self.old { settled = self.new.settled; ordered = self.new.ordered; reached = self.new.reached; rewriting = None } }
         ensures way { let node = node_of S.scheme self.old.validator.setting in (groups : List (List (List ℕ))) → AreOnTheWay node self.old (synced ∷ groups)
             → AreOnTheWay node self.new groups }
         ensures setting { self.new.validator.setting ≡ self.old.validator.setting }
@@ -122,12 +124,12 @@ impl<'a, S: Sign> OwnBook<'a, S> {
         self.book.settle(synced);
     }
 
-    /// Whether no group is on the way.
+    /// Whether no group is on the way, and no rewriting is in flight.
     pub fn is_settled(&self) -> bool
-        ensures value { result ≡ (self.now.taken == self.now.settled) }
+        ensures value { result ≡ ((self.now.taken == self.now.settled) && not (is_some self.now.rewriting)) }
         ensures way { IsTrue result → AreOnTheWay (node_of S.scheme self.now.validator.setting) self.now [] }
     {
-        self.book.taken() == self.book.settled()
+        self.book.taken() == self.book.settled() && !self.book.is_rewriting()
     }
 
     /// The next output that may go out.
@@ -211,9 +213,58 @@ impl<'a, S: Sign> OwnBook<'a, S> {
         }
     }
 
+    /// Takes all that was accepted, rewrites the journal to a checkpoint of it, and settles it. The other disk of the journal's two is
+    /// written, and read from then on. Answers the journal's new generation.
+    ///
+    /// # Errors
+    /// Each of them, as told there.
+    pub fn checkpoint<D: Disk>(&mut self, journal: &mut Journal<D>) -> Result<u64, FlushError>
+        requires alive { IsAlive D.device journal.old }
+        requires pair { IsSome (spare_of journal.old) }
+        // The area that is read has its first group.
+        requires begun { tells (D.device.content (disk_of journal.old)) ≡ Some (Some (generation_in journal.old)) }
+        // All that was accepted is settled, and the journal is a checkpoint of it.
+        ensures settled { IfOk result (λ generation. Checkpoints (node_of S.scheme self.old.validator.setting) D.device self.old self.new journal.old journal.new) }
+        ensures answer { IfOk result (λ generation. generation ≡ generation_in journal.new) }
+        ensures way { OnOk result (AreOnTheWay (node_of S.scheme self.old.validator.setting) self.new []) }
+        // A book that is down, and one with a group on the way, is left as it was, and so is one where memory is refused.
+        ensures down { IsErrOf result FlushError.Down ↔ (IsTrue self.old.down ⊎ (self.old.taken ≢ self.old.settled)) }
+        ensures unchanged { IfErr result (λ error. (error ≡ FlushError.Down) ⊎ (error ≡ FlushError.Memory) → (self.new ≡ self.old) × (journal.new ≡ journal.old)) }
+        // Where the journal has no room for the checkpoint and where the disk fails, the rewriting stays in flight, and the book is down.
+        ensures full { IsErrOf result FlushError.Full → FindsNoRoomToRewrite (node_of S.scheme self.old.validator.setting) self.old self.new journal.old }
+        ensures full_same { IsErrOf result FlushError.Full → journal.new ≡ journal.old }
+        ensures fails { IsErrOf result FlushError.Device → FailsToRewrite (node_of S.scheme self.old.validator.setting) self.old self.new journal.old }
+        // A stop at any moment leaves the records from before it, or the checkpoint.
+        ensures any_moment { AtEachMoment D.device (spare_disk journal.old) (rewritten_disk result journal.new) (StandsAsOrForAll (node_of S.scheme self.old.validator.setting) D.device self.old journal.old) }
+        // The disk that was read before is the same, whatever the answer; after an error it still is the one that is read.
+        ensures untouched { untouched_disk result journal.new ≡ disk_of journal.old }
+        ensures keeps { OnErr result (HaveKeptPlaces journal.old journal.new) }
+        // The journal is alive exactly where it doesn't answer Device.
+        ensures alive { (IsErrOf result FlushError.Device) ⊎ IsAlive D.device journal.new }
+        ensures dead { IsErrOf result FlushError.Device → ¬ IsAlive D.device journal.new }
+        // It answers Device exactly where the disk that it writes has failed.
+        ensures cause { TellsFault FlushError.Device (D.device.faults (spare_disk journal.old)) (D.device.faults (rewritten_disk result journal.new)) result }
+        ensures setting { self.new.validator.setting ≡ self.old.validator.setting }
+    {
+        if !self.is_free() {
+            return Err(FlushError::Down);
+        }
+        rewrite_to_all(&mut self.book, journal)
+    }
+
+    // Whether the book isn't down, and nothing is on the way.
+    fn is_free(&self) -> bool
+        ensures value { IsTrue result ↔ ((self.now.down ≡ false) × (self.now.taken ≡ self.now.settled)) }
+        ensures alone { IsTrue result → self.now.rewriting ≡ None }
+    {
+        !self.is_down() && self.is_settled()
+    }
+
     /// Whether the book is down.
     pub fn is_down(&self) -> bool
-        ensures { result ≡ self.now.down }
+        ensures value { result ≡ self.now.down }
+        // Where it isn't, no rewriting is in flight.
+        ensures up { result ≡ false → self.now.rewriting ≡ None }
     {
         self.book.is_down()
     }

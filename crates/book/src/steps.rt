@@ -1,6 +1,6 @@
 //! That what a book does is a step of its world: laws, each what a function without a body ensures.
 
-ghost use Rattle.book.specs.Steps.{AcceptIsAStep, TakeIsAStep, SettleIsAStep, ReleaseIsAStep, FlushIsSteps, FailIsAStep};
+ghost use Rattle.book.specs.Steps.{AcceptIsAStep, TakeIsAStep, SettleIsAStep, ReleaseIsAStep, FlushIsSteps, FailIsAStep, TakeAllIsAStep, CheckpointIsSteps};
 
 use sigface::Sign;
 
@@ -14,7 +14,7 @@ pub fn take_is_a_step<S: Sign>()
     ensures { TakeIsAStep S }
 {}
 
-/// The group that a book settles is settled in its world, where it is the first in flight and written to its end.
+/// What a book settles, a group or a rewriting, is settled in its world, where it is the first in flight and written to its end.
 pub fn settle_is_a_step<S: Sign>()
     ensures { SettleIsAStep S }
 {}
@@ -34,3 +34,16 @@ pub fn flush_is_steps<S: Sign>()
 pub fn fail_is_a_step<S: Sign>()
     ensures { FailIsAStep S }
 {}
+
+/// Where a book takes all for a checkpoint, its world does, also where the book goes down before that is settled.
+pub fn take_all_is_a_step<S: Sign>()
+    ensures { TakeAllIsAStep S }
+{}
+
+/// Where `OwnBook::checkpoint` settles all with nothing else on its way, its world takes all, makes the eight device calls of a rewriting
+/// and settles it.
+pub fn checkpoint_is_steps<S: Sign>()
+    ensures { CheckpointIsSteps S }
+{
+    spec_world::snapshots_are_checkpoints();
+}

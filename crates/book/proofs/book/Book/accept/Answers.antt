@@ -71,6 +71,7 @@ returns-in-Ok-New-clause-new g c = λ yes.
       accepted = b.accepted + 1;
       taken = b.taken;
       settled = b.settled;
+      rewriting = b.rewriting;
       ordered = b.ordered;
       reached = c.note_order.new.reached.items;
       down = b.down;
@@ -87,7 +88,7 @@ returns-in-Ok-New-clause-new g c = λ yes.
     (λ state at. subst (λ (st : Step). IsAnswer (answered node state event) (Ok st)) c.in-Ok-New.field-0-is
     (c.in-Ok-New.ensures.answer state at))
     (λ state at. c.in-Ok-New.ensures.at (ap (λ (st : Step). is_new_step (Ok st)) c.in-Ok-New.field-0-is) state at)
-    c.in_ok-make_room.ensures.ok queue refl refl refl refl refl (length from) (length to) noted (λ state at. ap (λ (l : List Digest). length l) (c.order-ordered.ensures.at state at))
+    c.in_ok-make_room.ensures.ok queue refl refl refl refl refl refl (length from) (length to) noted (λ state at. ap (λ (l : List Digest). length l) (c.order-ordered.ensures.at state at))
     (λ state at. ap (λ (l : List Digest). length l) (tos state at)))
 
 pub returns-in-Ok-Known-clause-known : goal.returns-in-Ok-Known-clause-known
@@ -110,6 +111,7 @@ returns-in-Ok-Known-clause-known g c = λ no.
       accepted = b.accepted;
       taken = b.taken;
       settled = b.settled;
+      rewriting = b.rewriting;
       ordered = b.ordered;
       reached = c.make_room.new.reached.items;
       down = b.down;
@@ -120,7 +122,7 @@ returns-in-Ok-Known-clause-known g c = λ no.
     (λ state at. subst (λ (st : Step). IsAnswer (answered node state event) (Ok st)) c.in-Ok-Known.field-0-is
     (c.in-Ok-Known.ensures.answer state at))
     (queue_alone before later queue (c.in-Ok-Known.ensures.same (ap (λ (st : Step). is_new_step (Ok st)) c.in-Ok-Known.field-0-is))
-    (c.take_back.ensures b.pending (record_of event) c.in_ok-make_room.ensures.ok) queue_is c.make_room.ensures.reached refl refl refl refl refl))
+    (c.take_back.ensures b.pending (record_of event) c.in_ok-make_room.ensures.ok) queue_is c.make_room.ensures.reached refl refl refl refl refl refl))
 
 pub returns-in-Err-clause-refused : goal.returns-in-Err-clause-refused
 returns-in-Err-clause-refused g c =
@@ -201,4 +203,4 @@ returns-in-Err-clause-err g c =
     } in
     queue_alone before later before.queue (c.in-Err.ensures.same refl)
     (c.take_back-in-Err.ensures b.pending (record_of c.args.event) c.in_ok-make_room.ensures.ok) (ap queue_of c.make_room.ensures.queue)
-    c.make_room.ensures.reached refl refl refl refl refl ∙ c.self.view_is
+    c.make_room.ensures.reached refl refl refl refl refl refl ∙ c.self.view_is

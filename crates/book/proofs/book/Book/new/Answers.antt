@@ -1,5 +1,5 @@
 use Rattle.std.proofs.Common.{length, false, refl, ap}
-use Rattle.std.specs.Prelude.{List}
+use Rattle.std.specs.Prelude.{List, None}
 use Rattle.spec_model.specs.Nodes.{Node}
 use Rattle.spec_model.specs.Words.{Digest}
 use Rattle.validator.specs.Setting.{node_of}
@@ -20,11 +20,11 @@ returns-clause-stands g c = λ base at.
       queue = queue_of c.new-2.result.items;
       accepted = 0;
       taken = 0;
-      settled =
-          0;
+      settled = 0;
+      rewriting = None;
       ordered = length whole;
       reached = c.new-3.result.items;
       down = false;
     } in
-    stands_first node base book c.limits_hold.ensures.node at c.new.ensures (ap (λ (l : List Queued). queue_of l) c.new-2.ensures.items) refl refl refl
+    stands_first node base book c.limits_hold.ensures.node at c.new.ensures (ap (λ (l : List Queued). queue_of l) c.new-2.ensures.items) refl refl refl refl
     c.new-3.ensures.items (ap (λ (l : List Digest). length l) (c.order.ensures.at base at))

@@ -2,8 +2,8 @@ use Rattle.std.proofs.Common.{List, ℕ, sym, subst}
 use Rattle.book.specs.Book.{BookView}
 use Rattle.spec_model.specs.Nodes.{Node}
 use Rattle.validator.specs.Setting.{ConfigView, node_of}
-use Rattle.book.specs.OnTheWay.{AreOnTheWay, StandsSomewhere}
-use Rattle.book.proofs.OnTheWay.{some_way, way_somewhere, way_accepted}
+use Rattle.book.specs.OnTheWay.{AreOnTheWay, StandsSomewhere, RewritesOnlyDown}
+use Rattle.book.proofs.OnTheWay.{accepted_somewhere, way_accepted}
 use Rattle.book.proofs.own.OwnBook.accept.Goals as goal
 
 pub invariant_of-self : goal.invariant_of-self
@@ -11,9 +11,8 @@ invariant_of-self g c =
     let before : BookView g.row.S.Denot = c.self.inside.book in
     let later : BookView g.row.S.Denot = c.accept.new.self in
     let node : Node = node_of g.S.Sign.scheme before.validator.setting in
-    let some = some_way node before c.self.invariant in
-    let way = way_accepted node before later some.0 c.args.event c.accept.result c.accept.ensures.new c.accept.ensures.known c.accept.ensures.err some.1 in
-    subst (λ (s : ConfigView g.row.S.Denot). StandsSomewhere (node_of g.S.Sign.scheme s) later) (sym c.accept.ensures.setting) (way_somewhere node later some.0 way)
+    subst (λ (s : ConfigView g.row.S.Denot). StandsSomewhere (node_of g.S.Sign.scheme s) later × RewritesOnlyDown later) (sym c.accept.ensures.setting)
+    (accepted_somewhere node before later c.args.event c.accept.result c.accept.ensures.new c.accept.ensures.known c.accept.ensures.err c.self.invariant)
 
 pub returns-clause-way : goal.returns-clause-way
 returns-clause-way g c =

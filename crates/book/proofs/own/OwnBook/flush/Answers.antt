@@ -1,12 +1,10 @@
-use Rattle.std.proofs.Common.{rules, ◌≡◌, suc, ◌+◌, ◌∷◌, [], ◌++◌, List, ℕ, length, map, drop, Err, sym, ap, ◌∙◌, subst, arith}
+use Rattle.std.proofs.Common.{rules, ◌≡◌, suc, ◌+◌, ◌∷◌, [], ◌++◌, List, ℕ, length, Err, sym, ap, ◌∙◌, subst, arith}
 use Rattle.std.proofs.Math.Nat.{lt_of_not-le}
 use Rattle.journal.specs.Format.{group_bytes}
 use Rattle.journal.specs.Journal.{disk_of, IsBeforeOrAfter}
 use Rattle.journal.specs.declared.error.JournalError.{JournalError}
 use Rattle.journal.specs.declared.layout.TheConstants.{MAX_JOURNAL_BYTES}
-use Rattle.wire.specs.Lists.{Begins}
-use Rattle.spec_records.specs.Records.{record_of}
-use Rattle.book.specs.Book.{BookView, Run, Stands, with_settled, SettlesNext}
+use Rattle.book.specs.Book.{BookView, Run, Stands, Settles, settled_by, settled_to, SettlesNext}
 use Rattle.spec_model.specs.Nodes.{Node}
 use Rattle.validator.specs.Setting.{ConfigView, node_of}
 use Rattle.book.specs.OnTheWay.{AreOnTheWay, HasRoomFor, IsWithOrWithout}
@@ -55,15 +53,17 @@ returns-in-Ok-clause-flushed g c some =
     let taken = of_some (λ group. middle ≡ record before { pending = middle.pending; taken = before.taken + length group }) _ group c.in-Some.is c.in_ok-group.ensures.taken in
     let settles =
     subst (λ (s : ConfigView g.row.S.Denot). (run : Run) → Stands (node s) run middle
-    → Begins group (map record_of (drop (length run.settled) run.taken)) → Stands (node s) (with_settled run (length group)) later)
+    → Settles (node s) run middle.rewriting group → Stands (node s) (settled_by run middle.rewriting (length group)) later)
     c.take.ensures.setting
     (subst (λ (records : List (List ℕ)). (run : Run) → Stands (node middle.validator.setting) run middle
-    → Begins records (map record_of (drop (length run.settled) run.taken))
-    → Stands (node middle.validator.setting) (with_settled run (length records)) later)
+    → Settles (node middle.validator.setting) run middle.rewriting records
+    → Stands (node middle.validator.setting) (settled_by run middle.rewriting (length records)) later)
     c.in-Ok.ensures.synced c.settle.ensures.stands) in
-    let settled : later.settled ≡ middle.settled + length group = c.settle.ensures.settled ∙ ap (λ (records : List (List ℕ)). middle.settled + length records) c.in-Ok.ensures.synced in
+    let settled : later.settled ≡ settled_to middle.rewriting (middle.settled + length group) =
+    c.settle.ensures.settled ∙ ap (λ (records : List (List ℕ)). settled_to middle.rewriting (middle.settled + length records)) c.in-Ok.ensures.synced in
+    let settled_before : before.taken ≡ before.settled = search rules in
     let room : HasRoomFor group file = omega (arith, lt_of_not-le {n = suc MAX_JOURNAL_BYTES} (λ over. let bad = c.in-Ok.ensures.full.1 over in absurd cc)) in
-    flushes (node before.validator.setting) before middle group longest taken later file (g.D.Disk.device.content (disk_of c.append.new.self)) c.records_count-count.result (search rules)
+    flushes (node before.validator.setting) before middle group longest taken later file (g.D.Disk.device.content (disk_of c.append.new.self)) c.records_count-count.result settled_before (c.is_settled.ensures.way (search rules)).alone
     c.settle.ensures.rest settled settles room c.in-Ok.ensures.content c.in-Ok.ensures.records c.records_count-count.ensures.value
 
 pub returns-in-Ok-clause-any_moment : goal.returns-in-Ok-clause-any_moment

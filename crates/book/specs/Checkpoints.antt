@@ -1,0 +1,57 @@
+-- What becomes of a book whose owner rewrites a journal to a checkpoint of it.
+use Rattle.std.specs.Prelude.{◌≡◌, ◌⊎◌, ℕ, ◌+◌, ◌-◌, ◌^◌, ◌<◌, true, None, Some, List, [], ◌∷◌, ◌++◌, length}
+use Rattle.diskmodel.specs.Disk.{Device}
+use Rattle.spec_model.specs.Nodes.{Node}
+use Rattle.journal.specs.Areas.{stands_in, other_side, rewrite_calls}
+use Rattle.journal.specs.Journal.{disk_of}
+use Rattle.journal.specs.Pairs.{HaveChangedPlaces, areas_of, areas_with, generation_in, side_in, spare_disk, stands_as}
+use Rattle.journal.specs.Snapshot.{bytes_for}
+use Rattle.journal.specs.declared.journal.Journal.{Journal}
+use Rattle.journal.specs.declared.layout.TheConstants.{MAX_JOURNAL_BYTES, OPEN}
+use Rattle.book.specs.Book.{BookView, Run, Stands, IsCheckpointOfAll, with_all_taken, with_all_settled}
+
+-- All that was accepted is taken and settled, and these records are a checkpoint of it. The book stands at each run at which it stood, with
+-- all of that settled, and no rewriting is in flight.
+pub record SettlesAll {S : Type 0} (node : Node) (before later : BookView S) (snapshot : List (List ℕ)) : Type 0 where
+  pub checkpoint : IsCheckpointOfAll node before snapshot
+  pub is : later ≡ record before { pending = []; taken = before.accepted; settled = before.accepted; ordered = later.ordered; reached = later.reached; rewriting = None }
+  pub stands : (run : Run) → Stands node run before → Stands node (with_all_settled run) later
+
+-- a checkpoint of these records is too long for a journal, or there is no generation after that of this one
+abbrev pub HasNoRoomFor : {D : Type 0} → Journal D → List (List ℕ) → Type 0
+HasNoRoomFor journal snapshot = (MAX_JOURNAL_BYTES < 1 + length (bytes_for (generation_in journal + 1) snapshot)) ⊎ (generation_in journal ≡ 2 ^ 64 - 1)
+
+-- So it is settled by a journal that had room for the checkpoint. The disk that wasn't read has that, after the eight calls of a
+-- rewriting, and is read now.
+pub record Checkpoints {S D : Type 0} (node : Node) (device : Device D) (before later : BookView S) (old new : Journal D) : Type 0 where
+  pub snapshot : List (List ℕ)
+  pub settles : SettlesAll node before later snapshot
+  pub room : HasNoRoomFor old snapshot → ⊥
+  pub swapped : HaveChangedPlaces old new
+  pub content : device.content (disk_of new) ≡ OPEN ∷ bytes_for (generation_in old + 1) snapshot
+  pub records : stands_in (areas_of device new) ≡ stands_as (other_side (side_in old)) (generation_in old + 1) snapshot
+  pub calls : device.calls (disk_of new) ≡ device.calls (spare_disk old) ++ rewrite_calls (bytes_for (generation_in old + 1) snapshot)
+
+-- all that was accepted is taken, the rewriting to its checkpoint stays in flight, and the book is down
+pub record GoesDownRewriting {S : Type 0} (node : Node) (before later : BookView S) : Type 0 where
+  pub snapshot : List (List ℕ)
+  pub checkpoint : IsCheckpointOfAll node before snapshot
+  pub is : later ≡ record before { pending = []; taken = before.accepted; rewriting = Some before.accepted; down = true }
+  pub stands : (run : Run) → Stands node run before → Stands node (with_all_taken run) later
+
+-- so it goes down, and the journal had no room for the checkpoint, or it had
+abbrev pub FindsNoRoomToRewrite : {S D : Type 0} → Node → BookView S → BookView S → Journal D → Type 0
+FindsNoRoomToRewrite node before later journal = (down : GoesDownRewriting node before later) × HasNoRoomFor journal down.snapshot
+
+abbrev pub FailsToRewrite : {S D : Type 0} → Node → BookView S → BookView S → Journal D → Type 0
+FailsToRewrite node before later journal = (down : GoesDownRewriting node before later) × (HasNoRoomFor journal down.snapshot → ⊥)
+
+-- With what a stop leaves of the disk that isn't read both stand for the records of this journal, or for a checkpoint of all that was
+-- accepted.
+abbrev pub StandsAsOrForAll : {S D : Type 0} → Node → Device D → BookView S → Journal D → List ℕ → Type 0
+StandsAsOrForAll node device book journal left = (stands_in (areas_with device journal left) ≡ stands_in (areas_of device journal)) ⊎ IsRewritten
+  where
+    IsRewritten : Type 0
+    IsRewritten =
+        (snapshot : List (List ℕ)) × IsCheckpointOfAll node book snapshot
+        × (stands_in (areas_with device journal left) ≡ stands_as (other_side (side_in journal)) (generation_in journal + 1) snapshot)
