@@ -5,6 +5,7 @@ mod Closing
 mod Drafting
 mod Loops
 mod Moments
+mod Numbered
 mod Openings
 mod Packing
 mod Pairs

@@ -2,6 +2,7 @@
 
 ghost use Rattle.std.specs.Prelude.{◌≡◌, ◌+◌, ◌≤◌, ◌++◌, ◌∷◌, ℕ, vec_len, take, drop, length, IfOk, IfErr, OnOk, OnErr, IsTrue, ◌↔◌};
 ghost use Rattle.std.specs.Int.{w64, to_be_bytes};
+ghost use Rattle.diskmodel.specs.Outcomes.{AreBytes};
 ghost use Rattle.diskmodel.specs.Disk.{LeavesOnly, AtEachMoment, TellsFault};
 ghost use Rattle.journal.specs.Areas.{IsAtRest, IsOlderOrNew, rewrite_calls};
 ghost use Rattle.journal.specs.Journal.{MadeSome};
@@ -77,6 +78,15 @@ impl Snapshot {
         self.count
     }
 
+    /// What holds of it: each record fits a group, and what a journal writes of it is bytes, whatever its generation. The call does
+    /// nothing.
+    pub fn limits_hold(&self)
+        ensures packs { CanPack self.now }
+        ensures are_bytes { (generation : ℕ) → AreBytes (bytes_for generation self.now) }
+    {
+        are_bytes(&self.bytes);
+    }
+
     // How long its groups are on the disk, without the first gate, in bytes.
     pub(crate) fn written_len(&self) -> u64
         ensures value { (generation : ℕ) → result ≡ length (bytes_for generation self.now) }
@@ -114,6 +124,13 @@ impl Snapshot {
             count: _,
         } = self;
     }
+}
+
+// What holds of bytes. The call does nothing.
+fn are_bytes(bytes: &[u8])
+    ensures { AreBytes bytes.now }
+{
+    let _ = bytes;
 }
 
 // Whether the records can be written as a checkpoint: the first one fits a group with a head after it, and each other
