@@ -7,12 +7,12 @@ use Rattle.journal.specs.declared.journal.Journal.{Journal}
 use Rattle.spec_model.specs.Histories.{History}
 use Rattle.spec_model.specs.Nodes.{Node}
 use Rattle.book.specs.Book.{BookView, Run, Stands, IsCheckpointOfAll, Settles, SettlesNext, settled_by, settled_to, with_all_taken, with_all_settled}
-use Rattle.book.specs.Checkpoints.{SettlesAll, GoesDownRewriting, StandsAsOrForAll}
+use Rattle.book.specs.Checkpoints.{CanBeWritten, SettlesAll, GoesDownRewriting, StandsAsOrForAll}
 use Rattle.book.specs.OnTheWay.{StandsSomewhere}
 use Rattle.book.proofs.Due.{events_now}
 use Rattle.book.proofs.Rewriting.{settles_all}
 
-module _ {S : Type 0} (node : Node) (before middle : BookView S) (snapshot : List (List ℕ)) (all : IsCheckpointOfAll node before snapshot)
+module _ {S : Type 0} (node : Node) (before middle : BookView S) (snapshot : List (List ℕ)) (writable : CanBeWritten snapshot) (all : IsCheckpointOfAll node before snapshot)
     (taken : middle ≡ record before { pending = []; taken = before.accepted; rewriting = Some before.accepted })
     (stands : (run : Run) → Stands node run before → Stands node (with_all_taken run) middle) where
   settles_there : (run : Run) → Stands node run before → Settles node (with_all_taken run) middle.rewriting snapshot
@@ -35,6 +35,7 @@ module _ {S : Type 0} (node : Node) (before middle : BookView S) (snapshot : Lis
     pub settles_it : SettlesAll node before later snapshot
     settles_it = record {
       checkpoint = all;
+      writable = writable;
       is = rest ∙ (λ i. record (taken i) {
         settled = (settled ∙ ap (λ (b : BookView S). settled_to b.rewriting (b.settled + length snapshot)) taken) i;
         ordered = later.ordered;
@@ -49,6 +50,7 @@ module _ {S : Type 0} (node : Node) (before middle : BookView S) (snapshot : Lis
   goes_down_with_it later down falls = record {
     snapshot = snapshot;
     checkpoint = all;
+    writable = writable;
     is = down ∙ (λ i. record (taken i) { down = true });
     stands = λ run at. falls (with_all_taken run) (stands run at);
   }

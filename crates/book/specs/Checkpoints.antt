@@ -1,19 +1,26 @@
 -- What becomes of a book whose owner rewrites a journal to a checkpoint of it.
 use Rattle.std.specs.Prelude.{◌≡◌, ◌⊎◌, ℕ, ◌+◌, ◌-◌, ◌^◌, ◌<◌, true, None, Some, List, [], ◌∷◌, ◌++◌, length}
 use Rattle.diskmodel.specs.Disk.{Device}
+use Rattle.diskmodel.specs.Outcomes.{AreBytes}
 use Rattle.spec_model.specs.Nodes.{Node}
 use Rattle.journal.specs.Areas.{stands_in, other_side, rewrite_calls}
 use Rattle.journal.specs.Journal.{disk_of}
 use Rattle.journal.specs.Pairs.{HaveChangedPlaces, areas_of, areas_with, generation_in, side_in, spare_disk, stands_as}
-use Rattle.journal.specs.Snapshot.{bytes_for}
+use Rattle.journal.specs.Snapshot.{bytes_for, CanPack}
 use Rattle.journal.specs.declared.journal.Journal.{Journal}
 use Rattle.journal.specs.declared.layout.TheConstants.{MAX_JOURNAL_BYTES, OPEN}
 use Rattle.book.specs.Book.{BookView, Run, Stands, IsCheckpointOfAll, with_all_taken, with_all_settled}
+
+-- a journal can write these records: each fits a group, and what it writes of them is bytes, whatever the generation
+pub record CanBeWritten (snapshot : List (List ℕ)) : Type 0 where
+  pub packs : CanPack snapshot
+  pub are_bytes : (generation : ℕ) → AreBytes (bytes_for generation snapshot)
 
 -- All that was accepted is taken and settled, and these records are a checkpoint of it. The book stands at each run at which it stood, with
 -- all of that settled, and no rewriting is in flight.
 pub record SettlesAll {S : Type 0} (node : Node) (before later : BookView S) (snapshot : List (List ℕ)) : Type 0 where
   pub checkpoint : IsCheckpointOfAll node before snapshot
+  pub writable : CanBeWritten snapshot
   pub is : later ≡ record before { pending = []; taken = before.accepted; settled = before.accepted; ordered = later.ordered; reached = later.reached; rewriting = None }
   pub stands : (run : Run) → Stands node run before → Stands node (with_all_settled run) later
 
@@ -36,6 +43,7 @@ pub record Checkpoints {S D : Type 0} (node : Node) (device : Device D) (before 
 pub record GoesDownRewriting {S : Type 0} (node : Node) (before later : BookView S) : Type 0 where
   pub snapshot : List (List ℕ)
   pub checkpoint : IsCheckpointOfAll node before snapshot
+  pub writable : CanBeWritten snapshot
   pub is : later ≡ record before { pending = []; taken = before.accepted; rewriting = Some before.accepted; down = true }
   pub stands : (run : Run) → Stands node run before → Stands node (with_all_taken run) later
 

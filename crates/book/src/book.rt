@@ -103,6 +103,7 @@ impl<'a, S: Sign> Book<'a, S> {
     ghost use Rattle.validator.specs.Setting.{node_of};
     ghost use Rattle.validator.specs.Standing.{AreAtSound};
     ghost use Rattle.book.specs.Pending.{IsLongestBeginning};
+    ghost use Rattle.book.specs.Checkpoints.{CanBeWritten};
     ghost use Rattle.book.specs.Book.{Run, Stands, StandsAsBefore, run_on, state_in, settled_in, with_taken, with_all_taken, TakesNew, TakesKnown, MayRefuse, IsFull, HasPlace, releasable, IsCheckpointOfAll, Settles, SettlesNext, settled_by, settled_to, GoesOutSettled};
 
     /// A book over this validator that has accepted nothing.
@@ -257,12 +258,14 @@ impl<'a, S: Sign> Book<'a, S> {
         ensures snapshot { let node = node_of S.scheme self.old.validator.setting in IfOk result (λ snapshot. Describes node self.old.validator.tables snapshot) }
         // At each run at which it stands it is a checkpoint of all that was accepted.
         ensures checkpoint { let node = node_of S.scheme self.old.validator.setting in IfOk result (λ snapshot. IsCheckpointOfAll node self.old snapshot) }
+        ensures writable { IfOk result CanBeWritten }
         ensures taken { OnOk result (self.new ≡ record self.old { pending = []; taken = self.old.accepted; rewriting = Some self.old.accepted }) }
         ensures stands { let node = node_of S.scheme self.old.validator.setting in OnOk result ((run : Run) → Stands node run self.old
             → Stands node (with_all_taken run) self.new) }
         ensures err { OnErr result (self.new ≡ self.old) }
     {
         let snapshot = self.validator.snapshot()?;
+        snapshot.limits_hold();
         self.pending = Pending::new(self.alloc);
         self.taken = self.accepted;
         self.rewriting = Some(self.accepted);

@@ -20,7 +20,7 @@ settle-requires g c =
     let setting : middle.validator.setting ≡ before.validator.setting = ap (λ (b : BookView g.row.S.Denot). b.validator.setting) took.taken in
     subst (λ (s : ConfigView g.row.S.Denot). SettlesNext (node s) middle c.in-Ok.synced) (sym setting)
     (subst (SettlesNext (node before.validator.setting) middle) (sym c.in-Ok.ensures.synced)
-    (comes_next (node before.validator.setting) before middle snapshot took.checkpoint took.taken took.stands c.requires.stands))
+    (comes_next (node before.validator.setting) before middle snapshot took.writable took.checkpoint took.taken took.stands c.requires.stands))
 
 pub returns-in-Ok-clause-settled : goal.returns-in-Ok-clause-settled
 returns-in-Ok-clause-settled g c =
@@ -40,7 +40,7 @@ returns-in-Ok-clause-settled g c =
     let settled : later.settled ≡ settled_to middle.rewriting (middle.settled + length snapshot) =
     c.settle.ensures.settled ∙ ap (λ (records : List (List ℕ)). settled_to middle.rewriting (middle.settled + length records)) c.in-Ok.ensures.synced in
     let settles : SettlesAll (node before.validator.setting) before later snapshot =
-    settles_it (node before.validator.setting) before middle snapshot took.checkpoint took.taken took.stands later c.settle.ensures.rest settled goes in
+    settles_it (node before.validator.setting) before middle snapshot took.writable took.checkpoint took.taken took.stands later c.settle.ensures.rest settled goes in
     let room : HasNoRoomFor c.args.journal.now snapshot → ⊥ = (λ over. let bad = c.in-Ok.ensures.full.1 over in absurd cc) in
     record {
       snapshot = snapshot;
@@ -83,7 +83,7 @@ returns-in-Ok-clause-somewhere g c =
     let settled : later.settled ≡ settled_to middle.rewriting (middle.settled + length snapshot) =
     c.settle.ensures.settled ∙ ap (λ (records : List (List ℕ)). settled_to middle.rewriting (middle.settled + length records)) c.in-Ok.ensures.synced in
     let settles : SettlesAll (node before.validator.setting) before later snapshot =
-    settles_it (node before.validator.setting) before middle snapshot took.checkpoint took.taken took.stands later c.settle.ensures.rest settled goes in
+    settles_it (node before.validator.setting) before middle snapshot took.writable took.checkpoint took.taken took.stands later c.settle.ensures.rest settled goes in
     (with_all_settled c.requires.stands.0, settles.stands c.requires.stands.0 c.requires.stands.1)
 
 pub returns-in-Err-Full-clause-full : goal.returns-in-Err-Full-clause-full
@@ -97,7 +97,7 @@ returns-in-Err-Full-clause-full g c =
     let later : BookView g.row.S.Denot = c.fail.new.self in
     let falls = subst (λ (s : ConfigView g.row.S.Denot). (run : Run) → Stands (node s) run middle → Stands (node s) run later) setting c.fail.ensures.stands in
     let down : GoesDownRewriting (node before.validator.setting) before later =
-    goes_down_with_it (node before.validator.setting) before middle snapshot took.checkpoint took.taken took.stands later c.fail.ensures.down falls in
+    goes_down_with_it (node before.validator.setting) before middle snapshot took.writable took.checkpoint took.taken took.stands later c.fail.ensures.down falls in
     (λ is. (down, c.in-Err-Full.ensures.full.0 (ap Err c.in-Err-Full.field-0-is)))
 
 pub returns-in-Err-Full-clause-any_moment : goal.returns-in-Err-Full-clause-any_moment
@@ -124,7 +124,7 @@ returns-in-Err-Full-clause-somewhere g c =
     let later : BookView g.row.S.Denot = c.fail.new.self in
     let falls = subst (λ (s : ConfigView g.row.S.Denot). (run : Run) → Stands (node s) run middle → Stands (node s) run later) setting c.fail.ensures.stands in
     let down : GoesDownRewriting (node before.validator.setting) before later =
-    goes_down_with_it (node before.validator.setting) before middle snapshot took.checkpoint took.taken took.stands later c.fail.ensures.down falls in
+    goes_down_with_it (node before.validator.setting) before middle snapshot took.writable took.checkpoint took.taken took.stands later c.fail.ensures.down falls in
     (with_all_taken c.requires.stands.0, down.stands c.requires.stands.0 c.requires.stands.1)
 
 pub returns-in-Err : goal.returns-in-Err
@@ -138,7 +138,7 @@ returns-in-Err g c =
     let later : BookView g.row.S.Denot = c.fail-in-Err.new.self in
     let falls = subst (λ (s : ConfigView g.row.S.Denot). (run : Run) → Stands (node s) run middle → Stands (node s) run later) setting c.fail-in-Err.ensures.stands in
     let down : GoesDownRewriting (node before.validator.setting) before later =
-    goes_down_with_it (node before.validator.setting) before middle snapshot took.checkpoint took.taken took.stands later c.fail-in-Err.ensures.down falls in
+    goes_down_with_it (node before.validator.setting) before middle snapshot took.writable took.checkpoint took.taken took.stands later c.fail-in-Err.ensures.down falls in
     let room : HasNoRoomFor c.args.journal.now snapshot → ⊥ =
     (λ over. let full : c.rewrite.result ≡ Err JournalError.Full = c.rewrite.ensures.full.1 over in absurd (search rules)) in
     record {

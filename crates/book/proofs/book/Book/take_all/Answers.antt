@@ -26,3 +26,6 @@ returns-clause-stands g c =
     → Stands (node_of g.S.Sign.scheme s.validator.setting) (with_all_taken run) later) c.self.view_is
     (λ run at. stands_all node run before later at
     (ap (λ (l : List (List ℕ)). record before { pending = l; taken = b.accepted; rewriting = Some b.accepted }) c.new.ensures))
+
+pub returns-clause-writable : goal.returns-clause-writable
+returns-clause-writable g c = record { packs = c.limits_hold.ensures.packs; are_bytes = c.limits_hold.ensures.are_bytes }
