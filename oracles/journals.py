@@ -332,9 +332,27 @@ def variants(file):
             yield "byte %d is %d" % (place, other), file[:place] + bytes([other]) + file[place + 1:]
 
 
+def read_nothing(program, folder, journal):
+    """Tries paths at which no regular file is, as a journal's and as a committee's; each is answered at once. Gives what was otherwise."""
+    pipe = os.path.join(folder, "pipe")
+    os.mkfifo(pipe)
+    for path in (pipe, os.devnull, folder, os.path.join(folder, "nothing")):
+        for words, status in ((("verify", path), 5), (("compare", journal, path), 5), (("verify", journal, path), 2)):
+            try:
+                ran = subprocess.run([program, *words], stdin=subprocess.DEVNULL, stdout=subprocess.PIPE, stderr=subprocess.PIPE, timeout=60)
+                printed, ended = ran.stdout, ran.returncode
+            except subprocess.TimeoutExpired:
+                printed, ended = b"", "no end"
+            yield None if (printed, ended) == (b"", status) else "%s: printed %r, status %s, and not %d" % (" ".join(words), printed, ended, status)
+
+
 def compare_program(program, paths):
     tried, wrong = 0, 0
     with tempfile.TemporaryDirectory(prefix="narwhal-journals-") as folder:
+        for difference in read_nothing(program, folder, paths[0]):
+            tried, wrong = tried + 1, wrong + (difference is not None)
+            if difference:
+                print(difference)
         path = os.path.join(folder, "journal")
         for name in paths:
             for what, file in variants(read(name)):

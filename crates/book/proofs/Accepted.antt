@@ -26,7 +26,8 @@ module _ {S : Type 0} (node : Node) (before later : BookView S) (event : Event) 
   pub takes_new : IsTaken node event → Answers node before event (λ answer. answer ≡ New outputs)
       → ((state : State) → AreAtSound node before.validator.tables state → AreAtSound node later.validator.tables (after node state event))
       → later.pending ≡ before.pending ++ record_of event ∷ [] → later.queue ≡ before.queue ++ ticketed (before.accepted + 1) outputs
-      → later.accepted ≡ before.accepted + 1 → later.taken ≡ before.taken → later.settled ≡ before.settled → later.rewriting ≡ before.rewriting → later.ordered ≡ before.ordered → later.down ≡ before.down
+      → later.accepted ≡ before.accepted + 1 → later.taken ≡ before.taken → later.settled ≡ before.settled → later.rewriting ≡ before.rewriting
+      → later.ordered ≡ before.ordered → later.down ≡ before.down
       → (from to : ℕ) → IsNoted before.reached later.reached (before.accepted + 1) from to
       → ((state : State) → AreAtSound node before.validator.tables state → from ≡ length state.order)
       → ((state : State) → AreAtSound node later.validator.tables state → to ≡ length state.order)

@@ -230,7 +230,8 @@ stands_released {S} node run before later first rest parts same at =
 
 -- at first
 pub stands_first : {S : Type 0} (node : Node) (base : State) (book : BookView S) → IsNode node → AreAtSound node book.validator.tables base
-    → book.pending ≡ [] → book.queue ≡ [] → book.accepted ≡ 0 → book.taken ≡ 0 → book.settled ≡ 0 → book.rewriting ≡ None → book.reached ≡ [] → book.ordered ≡ length base.order → Stands node (run_on base) book
+    → book.pending ≡ [] → book.queue ≡ [] → book.accepted ≡ 0 → book.taken ≡ 0 → book.settled ≡ 0 → book.rewriting ≡ None → book.reached ≡ []
+    → book.ordered ≡ length base.order → Stands node (run_on base) book
 stands_first node base book node_is at pending queue accepted taken settled rewriting reached ordered =
     let same : after_all node base [] ≡ base = after_none node base in
     record {

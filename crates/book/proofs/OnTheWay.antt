@@ -1,4 +1,4 @@
--- What becomes of the groups on the way.
+-- What becomes of the groups in flight.
 use Rattle.std.proofs.Common.{◌≡◌, ℕ, ◌+◌, ◌≤◌, List, [], ◌∷◌, ◌++◌, length, take, drop, map, Bool, true, false, Ok, Err, inl, inr, ⊎_elim, refl, sym, ap, ◌∙◌, subst, arith, drop-drop, append-nil}
 use Rattle.std.specs.Prelude.{Result, IfOk, OnErr, Option, Some, None, IfSome, IsNone}
 use Rattle.std.specs.declared.alloc.AllocError.{AllocError}
@@ -143,7 +143,7 @@ module _ {S : Type 0} (node : Node) where
 
   module _ (before middle : BookView S) (group : List (List ℕ))
       (longest : IsLongestBeginning before.pending group middle.pending) (taken : middle ≡ record before { pending = middle.pending; taken = before.taken + length group }) where
-    -- a round that settles what it took where none was on the way
+    -- a round that settles what it took where none was in flight
     pub flushes : (later : BookView S) (old new : List ℕ) (count : ℕ) → before.taken ≡ before.settled
         → before.rewriting ≡ None → later ≡ record middle { settled = later.settled; ordered = later.ordered; reached = later.reached; rewriting = None }
         → later.settled ≡ settled_to middle.rewriting (middle.settled + length group)
@@ -175,7 +175,7 @@ module _ {S : Type 0} (node : Node) where
               });
         }
 
-    -- and one that goes down with it on the way
+    -- and one that goes down with it in flight
     abbrev pub goes_down : (later : BookView S) → later ≡ record middle { down = true } → AreOnTheWay node later (group ∷ []) → GoesDown node before later
     goes_down later down way =
         let pending : middle.pending ≡ later.pending = sym (ap (λ (s : BookView S). s.pending) down) in

@@ -31,7 +31,8 @@ use Rattle.book.specs.Book.{BookView, Run, Stands, IsCheckpoint, state_in, with_
 use Rattle.book.specs.Queue.{settled_head}
 use Rattle.book.specs.OnTheWay.{Flushes, GoesDown}
 use Rattle.book.specs.Pending.{IsLongestBeginning}
-use Rattle.book.specs.Steps.{run_of, IsRewriting, IsOf, Moves, TakeAllIsAStep, CheckpointIsSteps, AcceptIsAStep, TakesBehind, TakeIsAStep, SettleIsAStep, ReleaseIsAStep, FlushesThere, FlushIsSteps, FailIsAStep}
+use Rattle.book.specs.Steps.{run_of, IsRewriting, IsOf, Moves, TakeAllIsAStep, CheckpointIsSteps, AcceptIsAStep, TakesBehind}
+use Rattle.book.specs.Steps.{TakeIsAStep, SettleIsAStep, ReleaseIsAStep, FlushesThere, FlushIsSteps, FailIsAStep}
 use Rattle.book.proofs.Flushing.{stands_taken, stands_all, records_taken}
 
 -- what waits goes on waiting after more outputs, and they wait too
@@ -80,7 +81,10 @@ module _ {S : Type 0} (node : Node) (world : World) (before later : BookView S) 
       let queue : later.queue ≡ before.queue ++ ticketed (length world.accepted + 1) new.outputs = new.queue ∙ ap (λ n. before.queue ++ ticketed (n + 1) new.outputs) is_of.stands.accepted in
       record {
         next = next;
-        step = record { is_taken = new.taken_by; is = subst (λ a. IsAnswered world event a next) (sym (answers event (New new.outputs) new.taken_by (new.answer (run_of node world) is_of.stands))) refl };
+        step = record {
+          is_taken = new.taken_by;
+          is = subst (λ a. IsAnswered world event a next) (sym (answers event (New new.outputs) new.taken_by (new.answer (run_of node world) is_of.stands))) refl;
+        };
         is_of = record {
           began = is_of.began;
           stands = new.stands (run_of node world) is_of.stands;
@@ -94,7 +98,10 @@ module _ {S : Type 0} (node : Node) (world : World) (before later : BookView S) 
       ap (λ (b : BookView S). b.queue) known.is ∙ ap (λ n. before.queue ++ ticketed n known.outputs) is_of.stands.accepted in
       record {
         next = next;
-        step = record { is_taken = known.taken_by; is = subst (λ a. IsAnswered world event a next) (sym (answers event (Known known.outputs) known.taken_by (known.answer (run_of node world) is_of.stands))) refl };
+        step = record {
+          is_taken = known.taken_by;
+          is = subst (λ a. IsAnswered world event a next) (sym (answers event (Known known.outputs) known.taken_by (known.answer (run_of node world) is_of.stands))) refl;
+        };
         is_of = record {
           began = is_of.began;
           stands = known.stands (run_of node world) is_of.stands;
@@ -207,7 +214,7 @@ module _ {S : Type 0} (node : Node) (world : World) (before later : BookView S) 
 
 -- ---- a round of one owner
 
--- the run after a group that is taken and settled where no other is on its way
+-- the run after a group that is taken and settled where no other is in flight
 run_there : (node : Node) (world next : World) (group count : ℕ) → world.groups ≡ [] → count ≡ length world.settled + group → next.began ≡ world.began → next.accepted ≡ world.accepted
     → next.settled ≡ take count world.accepted → next.groups ≡ [] → with_settled (with_taken (run_of node world) group) group ≡ run_of node next
 run_there node world next group count none is began accepted settled idle =

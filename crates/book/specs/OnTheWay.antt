@@ -40,7 +40,7 @@ pub record Flushes {S : Type 0} (node : Node) (before later : BookView S) (old n
   pub is : later ≡ record before { pending = later.pending; taken = before.taken + length group; settled = before.settled + length group; ordered = later.ordered; reached = later.reached }
   pub stands : (run : Run) → Stands node run before → Stands node (with_settled (with_taken run (length group)) (length group)) later
 
--- that beginning is taken and stays on the way, alone, and the book is down
+-- that beginning is taken and stays in flight, alone, and the book is down
 pub record GoesDown {S : Type 0} (node : Node) (before later : BookView S) : Type 0 where
   pub group : List (List ℕ)
   pub takes : IsLongestBeginning before.pending group later.pending

@@ -51,7 +51,7 @@ abbrev pub AcceptIsAStep : Type 0 → Type 0
 AcceptIsAStep S = (node : Node) (world : World) (before later : BookView S) (event : Event) → IsOf node world before
     → TakesNew node before later event ⊎ TakesKnown node before later event → Moves node world (accept event) later
 
--- a group that is taken, also before another one is settled, is the last one on its way there
+-- a group that is taken, also before another one is settled, is the last one in flight there
 pub record TakesBehind {S : Type 0} (node : Node) (world : World) (group : List (List ℕ)) (later : BookView S) : Type 0 where
   pub moves : Moves node world (take_to (length (taken_in world) + length group)) later
   pub events : History
@@ -89,7 +89,7 @@ abbrev pub FlushIsSteps : Type 0 → Type 0
 FlushIsSteps S = (node : Node) (moves : List Move) (world : World) (before later : BookView S) (old new : List ℕ) (count : ℕ) → IsNode node → IsRun node moves world → IsOf node world before
     → world.groups ≡ [] → Flushes node before later old new count → FlushesThere node world (length world.settled + count) old new later
 
--- a round that took the book down: the group is taken, and stays on its way; the device calls that were made before the failure come
+-- a round that took the book down: the group is taken, and stays in flight; the device calls that were made before the failure come
 -- after that
 abbrev pub FailIsAStep : Type 0 → Type 0
 FailIsAStep S = (node : Node) (world : World) (before later : BookView S) → IsOf node world before → (down : GoesDown node before later) → TakesBehind node world down.group later
@@ -101,7 +101,7 @@ TakeAllIsAStep S = (node : Node) (moves : List Move) (world : World) (before lat
     → world.groups ≡ [] → world.spare ≡ Some spare → IsCheckpointOf node (spare.generation + 1) (kept node (world.began ++ world.accepted)) bytes
     → later ≡ record before { pending = []; taken = before.accepted; rewriting = Some before.accepted; down = later.down } → Moves node world (take_all bytes) later
 
--- what a journal writes of these records behind the first gate can be the checkpoint of a node with keys of 32 bytes, of this generation
+-- what a journal writes of these records after the first gate can be the checkpoint of a node with keys of 32 bytes, of this generation
 pub record CanWrite (node : Node) (generation : ℕ) (snapshot : List (List ℕ)) : Type 0 where
   pub keys : AreKeys node
   pub generation_fits : generation < 2 ^ 64

@@ -93,7 +93,7 @@ impl<'a, S: Sign> OwnBook<'a, S> {
         self.book.accept(event)
     }
 
-    /// Takes the longest beginning of the pending records that fits a group, which is then the last on the way; `None` where
+    /// Takes the longest beginning of the pending records that fits a group, which is then the last in flight; `None` where
     /// nothing is pending. Groups are appended in the order in which they were taken. `AllocError` where an allocation failed:
     /// nothing was taken then.
     pub fn take(&mut self) -> Result<Option<Group>, AllocError>
@@ -109,7 +109,7 @@ impl<'a, S: Sign> OwnBook<'a, S> {
         self.book.take()
     }
 
-    /// Settles the first group on the way, or the rewriting with which the book went down.
+    /// Settles the first group in flight, or the rewriting with which the book went down.
     pub fn settle(&mut self, synced: Synced)
         requires { SettlesNext (node_of S.scheme self.old.validator.setting) self.old synced }
         ensures stands { let node = node_of S.scheme self.old.validator.setting in (run : Run) → Stands node run self.old
@@ -124,7 +124,7 @@ impl<'a, S: Sign> OwnBook<'a, S> {
         self.book.settle(synced);
     }
 
-    /// Whether no group is on the way, and no rewriting is in flight.
+    /// Whether no group is in flight, and no rewriting is in flight.
     pub fn is_settled(&self) -> bool
         ensures value { result ≡ ((self.now.taken == self.now.settled) && not (is_some self.now.rewriting)) }
         ensures way { IsTrue result → AreOnTheWay (node_of S.scheme self.now.validator.setting) self.now [] }
@@ -160,7 +160,7 @@ impl<'a, S: Sign> OwnBook<'a, S> {
     /// pending.
     ///
     /// # Errors
-    /// Each of them, as told there.
+    /// Each of them, as described there.
     pub fn flush<D: Disk>(&mut self, journal: &mut Journal<D>) -> Result<u64, FlushError>
         requires alive { IsAlive D.device journal.old }
         // A journal on two disks has its configuration.
@@ -169,10 +169,10 @@ impl<'a, S: Sign> OwnBook<'a, S> {
         ensures idle { OnOk result (self.old.pending ≡ [] → (result ≡ Ok 0) × (self.new ≡ self.old) × (journal.new ≡ journal.old)) }
         ensures flushed { IfOk result (λ count. self.old.pending ≢ [] → Flushes (node_of S.scheme self.old.validator.setting) self.old self.new (D.device.content (disk_of journal.old)) (D.device.content (disk_of journal.new)) count) }
         ensures way { OnOk result (AreOnTheWay (node_of S.scheme self.old.validator.setting) self.new []) }
-        // A book that is down, and one with a group on the way, is left as it was, and so is one where memory is refused.
+        // A book that is down, and one with a group in flight, is left as it was, and so is one where memory is refused.
         ensures down { IsErrOf result FlushError.Down ↔ (IsTrue self.old.down ⊎ (self.old.taken ≢ self.old.settled)) }
         ensures unchanged { IfErr result (λ error. (error ≡ FlushError.Down) ⊎ (error ≡ FlushError.Memory) → (self.new ≡ self.old) × (journal.new ≡ journal.old)) }
-        // Where the journal has no room for it and where the disk fails, what it took stays on the way, and the book is down.
+        // Where the journal has no room for it and where the disk fails, what it took stays in flight, and the book is down.
         ensures full { IsErrOf result FlushError.Full → FindsNoRoom (node_of S.scheme self.old.validator.setting) self.old self.new (D.device.content (disk_of journal.old)) }
         ensures full_same { IsErrOf result FlushError.Full → journal.new ≡ journal.old }
         ensures fails { IsErrOf result FlushError.Device → FailsWithRoom (node_of S.scheme self.old.validator.setting) self.old self.new (D.device.content (disk_of journal.old)) }
@@ -189,7 +189,7 @@ impl<'a, S: Sign> OwnBook<'a, S> {
         if self.is_down() {
             return Err(FlushError::Down);
         }
-        // A group that the owner took himself may be on the way.
+        // A group that the owner took himself may be in flight.
         if !self.is_settled() {
             return Err(FlushError::Down);
         }
@@ -217,7 +217,7 @@ impl<'a, S: Sign> OwnBook<'a, S> {
     /// written, and read from then on. Answers the journal's new generation.
     ///
     /// # Errors
-    /// Each of them, as told there.
+    /// Each of them, as described there.
     pub fn checkpoint<D: Disk>(&mut self, journal: &mut Journal<D>) -> Result<u64, FlushError>
         requires alive { IsAlive D.device journal.old }
         requires pair { IsSome (spare_of journal.old) }
@@ -227,7 +227,7 @@ impl<'a, S: Sign> OwnBook<'a, S> {
         ensures settled { IfOk result (λ generation. Checkpoints (node_of S.scheme self.old.validator.setting) D.device self.old self.new journal.old journal.new) }
         ensures answer { IfOk result (λ generation. generation ≡ generation_in journal.new) }
         ensures way { OnOk result (AreOnTheWay (node_of S.scheme self.old.validator.setting) self.new []) }
-        // A book that is down, and one with a group on the way, is left as it was, and so is one where memory is refused.
+        // A book that is down, and one with a group in flight, is left as it was, and so is one where memory is refused.
         ensures down { IsErrOf result FlushError.Down ↔ (IsTrue self.old.down ⊎ (self.old.taken ≢ self.old.settled)) }
         ensures unchanged { IfErr result (λ error. (error ≡ FlushError.Down) ⊎ (error ≡ FlushError.Memory) → (self.new ≡ self.old) × (journal.new ≡ journal.old)) }
         // Where the journal has no room for the checkpoint and where the disk fails, the rewriting stays in flight, and the book is down.
@@ -252,7 +252,7 @@ impl<'a, S: Sign> OwnBook<'a, S> {
         rewrite_to_all(&mut self.book, journal)
     }
 
-    // Whether the book isn't down, and nothing is on the way.
+    // Whether the book isn't down, and nothing is in flight.
     fn is_free(&self) -> bool
         ensures value { IsTrue result ↔ ((self.now.down ≡ false) × (self.now.taken ≡ self.now.settled)) }
         ensures alone { IsTrue result → self.now.rewriting ≡ None }

@@ -24,7 +24,7 @@ pub fn release_is_a_step<S: Sign>()
     ensures { ReleaseIsAStep S }
 {}
 
-/// Where `OwnBook::flush` settles a group with no other on its way, its world takes that group, makes the four device calls and
+/// Where `OwnBook::flush` settles a group with no other in flight, its world takes that group, makes the four device calls and
 /// settles it.
 pub fn flush_is_steps<S: Sign>()
     ensures { FlushIsSteps S }
@@ -40,7 +40,7 @@ pub fn take_all_is_a_step<S: Sign>()
     ensures { TakeAllIsAStep S }
 {}
 
-/// Where `OwnBook::checkpoint` settles all with nothing else on its way, its world takes all, makes the eight device calls of a rewriting
+/// Where `OwnBook::checkpoint` settles all with nothing else in flight, its world takes all, makes the eight device calls of a rewriting
 /// and settles it.
 pub fn checkpoint_is_steps<S: Sign>()
     ensures { CheckpointIsSteps S }

@@ -11,9 +11,10 @@ use journal_account::{
     Graph, Summary, Waves, config_in, last_frame, order_of, records_in, summary_of, votes_of,
     waves_of,
 };
+use node_io::{read_committee_file, read_regular_file};
 use sigface::HashSign;
 use std::alloc::Global;
-use std::fs::{self, File};
+use std::fs::File;
 use std::io::Write;
 use std::rt::Files;
 use std::str;
@@ -68,9 +69,9 @@ where
     }
 }
 
-// All the bytes of a file.
+// All the bytes of a journal's file.
 fn bytes_at<R: Files<File = File> + AllocGlobal>(rt: &R, path: &str) -> Result<Vec<u8>, Ending> {
-    match fs::read(rt, path) {
+    match read_regular_file(rt, path, u64::MAX) {
         Ok(bytes) => Ok(bytes),
         Err(error) => Err(Ending::of_file(&error)),
     }
@@ -99,8 +100,10 @@ fn committee_at<R: Files<File = File> + AllocGlobal>(
     alloc: Global,
     path: &str,
 ) -> Result<Committee, Ending> {
-    let Ok(text) = fs::read(rt, path) else {
-        return Err(Ending::Usage("the committee file can't be read"));
+    let text = match read_committee_file(rt, path) {
+        Ok(text) => text,
+        Err(node_io::Ending::Memory) => return Err(Ending::Memory),
+        Err(_) => return Err(Ending::Usage("the committee file can't be read")),
     };
     let Ok(text) = str::from_utf8(&text) else {
         return Err(Ending::Usage("the committee file is no committee's"));

@@ -8,6 +8,7 @@ mod ending;
 mod faults;
 mod input;
 mod makers;
+mod regular_file;
 mod request;
 mod told;
 
@@ -18,5 +19,6 @@ pub use ending::Ending;
 pub use faults::Faults;
 pub use input::{End, Input};
 pub use makers::Makers;
+pub use regular_file::read_regular_file;
 pub use request::{Request, SEALS, TRANSACTIONS, request_of};
 pub use told::Told;

@@ -18,7 +18,7 @@ pub enum FlushError {
     /// The journal is full; the book is down.
     #[error("3 Full")]
     Full,
-    /// The book was down before, or a group was on the way; nothing was changed.
+    /// The book was down before, or a group was in flight; nothing was changed.
     #[error("4 Down")]
     Down,
 }

@@ -13,7 +13,8 @@ settled_with-self-inside-requires g c = λ none.
     let b = c.self.inside in
     let node : Node = node_of g.S.Sign.scheme b.validator.setting in
     let before : BookView g.row.S.Denot = shown_of b in
-    let next : SettlesNext node before c.args.synced = subst (λ (s : BookView g.row.S.Denot). SettlesNext (node_of g.S.Sign.scheme s.validator.setting) s c.args.synced) (sym c.self.view_is) c.requires in
+    let next : SettlesNext node before c.args.synced =
+    subst (λ (s : BookView g.row.S.Denot). SettlesNext (node_of g.S.Sign.scheme s.validator.setting) s c.args.synced) (sym c.self.view_is) c.requires in
     let at = next.1 in
     let begins : Settles node next.0 None c.args.synced = subst (λ r. Settles node next.0 r c.args.synced) none next.2 in
     let within = settles_within node next.0 before before at c.args.synced begins in

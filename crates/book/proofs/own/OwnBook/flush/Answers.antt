@@ -63,8 +63,8 @@ returns-in-Ok-clause-flushed g c some =
     c.settle.ensures.settled ∙ ap (λ (records : List (List ℕ)). settled_to middle.rewriting (middle.settled + length records)) c.in-Ok.ensures.synced in
     let settled_before : before.taken ≡ before.settled = search rules in
     let room : HasRoomFor group file = omega (arith, lt_of_not-le {n = suc MAX_JOURNAL_BYTES} (λ over. let bad = c.in-Ok.ensures.full.1 over in absurd cc)) in
-    flushes (node before.validator.setting) before middle group longest taken later file (g.D.Disk.device.content (disk_of c.append.new.self)) c.records_count-count.result settled_before (c.is_settled.ensures.way (search rules)).alone
-    c.settle.ensures.rest settled settles room c.in-Ok.ensures.content c.in-Ok.ensures.records c.records_count-count.ensures.value
+    flushes (node before.validator.setting) before middle group longest taken later file (g.D.Disk.device.content (disk_of c.append.new.self)) c.records_count-count.result
+    settled_before (c.is_settled.ensures.way (search rules)).alone c.settle.ensures.rest settled settles room c.in-Ok.ensures.content c.in-Ok.ensures.records c.records_count-count.ensures.value
 
 pub returns-in-Ok-clause-any_moment : goal.returns-in-Ok-clause-any_moment
 returns-in-Ok-clause-any_moment g c =

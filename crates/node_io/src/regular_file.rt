@@ -1,0 +1,25 @@
+//! Files that are read whole.
+
+use std::fs::{self, File};
+use std::io::{self, ErrorKind, Read};
+use std::rt::Files;
+
+/// The bytes of the regular file at a path, or that a symbolic link there leads to; of a longer one so many as may be. Nothing else is
+/// opened: opening a pipe waits for who writes to it, and opening a device may do anything.
+///
+/// # Errors
+/// `InvalidInput` where no regular file is there, and what looking at it, opening and reading it answer.
+pub fn read_regular_file<R: Files<File = File> + AllocGlobal>(
+    rt: &R,
+    path: &str,
+    at_most: u64,
+) -> io::Result<Vec<u8>> {
+    if !fs::metadata(rt, path)?.is_file() {
+        return Err(io::Error::from(ErrorKind::InvalidInput));
+    }
+    let mut bytes = Vec::new(rt.alloc());
+    File::open(rt, path)?
+        .take(at_most)
+        .read_to_end(&mut bytes)?;
+    Ok(bytes)
+}
