@@ -23,8 +23,8 @@ numbered_bytes bytes place count generation snapshot are =
     let front = All-take below place bytes are in
     let rest = All-drop below (place + 8) bytes are in
     let whole = All-append below (take place bytes) (to_be_bytes w64 generation ++ drop (place + 8) bytes) front
-        (All-append below (to_be_bytes w64 generation) (drop (place + 8) bytes) (number_bytes 8 generation) rest) in
+    (All-append below (to_be_bytes w64 generation) (drop (place + 8) bytes) (number_bytes 8 generation) rest) in
     let replaced : take place bytes ++ (to_be_bytes w64 generation ++ drop (place + 8) bytes) ≡ bytes_for generation records =
-        ap (λ (l : List ℕ). take place l ++ (to_be_bytes w64 generation ++ drop (place + 8) l)) snapshot.written
-        ∙ numbered snapshot.generation generation place records snapshot.packable snapshot.at in
+    ap (λ (l : List ℕ). take place l ++ (to_be_bytes w64 generation ++ drop (place + 8) l)) snapshot.written
+    ∙ numbered snapshot.generation generation place records snapshot.packable snapshot.at in
     subst AreBytes replaced whole

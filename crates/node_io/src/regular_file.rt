@@ -18,8 +18,6 @@ pub fn read_regular_file<R: Files<File = File> + AllocGlobal>(
         return Err(io::Error::from(ErrorKind::InvalidInput));
     }
     let mut bytes = Vec::new(rt.alloc());
-    File::open(rt, path)?
-        .take(at_most)
-        .read_to_end(&mut bytes)?;
+    File::open(rt, path)?.take(at_most).read_to_end(&mut bytes)?;
     Ok(bytes)
 }
