@@ -186,6 +186,7 @@ module _ {S D : Type 0} (node : Node) (device : Device D) where
     up = opened.up;
     alive = opened.alive;
     waits = opened.waits;
+    rewriting = opened.rewriting;
     is_of = opened.is_of;
   }
 

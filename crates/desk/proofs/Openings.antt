@@ -1,5 +1,6 @@
 -- A desk that is opened.
 use Rattle.std.proofs.Common.{◌≡◌, ◌≢◌, ℕ, ◌≤◌, false, inl, inr, List, [], Ok, Err, refl, sym, ap, ◌∙◌}
+use Rattle.std.specs.Prelude.{None}
 use Rattle.admission.specs.declared.tables.Tables.{Tables}
 use Rattle.book.specs.Book as book
 use Rattle.diskmodel.specs.Disk.{Device}
@@ -20,9 +21,9 @@ use Rattle.desk.proofs.Standing.{left_firm}
 -- a new book over what an opening gives
 pub opened_of : {S D : Type 0} (node : Node) (device : Device D) (bytes : List ℕ) (tables : Tables) (one : book.BookView S) (journal : Journal D) → StandsAt node (told node bytes) tables
     → ((base : State) → AreAtSound node tables base → book.Stands node (book.run_on base) one)
-    → one.queue ≡ [] → one.down ≡ false → IsAlive device journal → stands (device.content (disk_of journal)) ≢ Ok [] → told node (device.content (disk_of journal)) ≡ told node bytes
+    → one.queue ≡ [] → one.down ≡ false → one.rewriting ≡ None → IsAlive device journal → stands (device.content (disk_of journal)) ≢ Ok [] → told node (device.content (disk_of journal)) ≡ told node bytes
     → IsOpened node device bytes (record { book = one; journal = journal })
-opened_of node device bytes tables one journal at stands_at queue up alive configured same =
+opened_of node device bytes tables one journal at stands_at queue up free alive configured same =
     let told_as : told node (device.content (disk_of journal)) ≡ Ok (book.settled_in node (book.run_on at.state)) = same ∙ at.is_read ∙ ap Ok (sym (after_none node at.state)) in
     record {
       state = at.state;
@@ -30,6 +31,7 @@ opened_of node device bytes tables one journal at stands_at queue up alive confi
       up = up;
       alive = alive;
       waits = queue;
+      rewriting = free;
       is_of = record {
         stands_at = stands_at at.state at.at;
         up = λ _. record { configured = configured; told_as = told_as; settled = refl };

@@ -1,6 +1,6 @@
 -- A desk in its world after each call.
 use Rattle.std.proofs.Common.{◌≡◌, ◌⊎◌, ℕ, ◌+◌, ◌≤◌, true, false, inl, inr, List, [], ◌∷◌, ◌++◌, length, take, drop, Result, Ok, refl, sym, ap, ◌∙◌, subst, arith, append-nil, append_assoc}
-use Rattle.std.specs.Prelude.{All, Contains, Some}
+use Rattle.std.specs.Prelude.{All, Contains, Option, Some, None}
 use Rattle.std.proofs.lemmas.Bool.{cases_Bool, true≢false}
 use Rattle.std.proofs.lemmas.List.{length-map}
 use Rattle.std.proofs.lemmas.List.Elements.{All-nil}
@@ -18,6 +18,7 @@ use Rattle.spec_machine.proofs.AfterAll.{after_is_kept, legal_again}
 use Rattle.spec_model.specs.Admitting.{admit, IsTaken, IsLegal}
 use Rattle.spec_model.specs.Giving.{kept as kept_in}
 use Rattle.spec_model.specs.Histories.{History}
+use Rattle.spec_model.specs.Holdings.{order}
 use Rattle.spec_model.specs.Nodes.{Node, IsNode}
 use Rattle.spec_model.specs.States.{State}
 use Rattle.wire.specs.Lists.{Begins}
@@ -25,8 +26,8 @@ use Rattle.spec_model.specs.Words.{Event, Output}
 use Rattle.header.specs.declared.admission.Admission.{Admission}
 use Rattle.header.specs.declared.admission.Admission.TheVariants.{New, Known, Refused}
 use Rattle.spec_records.specs.Records.{record_of}
-use Rattle.spec_world.specs.World.{World, Waiting, taken_in, Opened, alone_on, run_on}
-use Rattle.spec_world.specs.Steps.{Move, accept, take_to, device_call, settle, release, read_order, restart, group_to, IsAnswered, IsStep, IsRun}
+use Rattle.spec_world.specs.World.{World, Waiting, read, taken_in, Opened, alone_on, run_on}
+use Rattle.spec_world.specs.Steps.{Move, accept, take_to, device_call, settle, release, read_order, restart, with_given, group_to, IsAnswered, IsStep, IsRun}
 use Rattle.spec_world.specs.Runs.{areas_in, AreKeys, first_bytes}
 use Rattle.spec_world.proofs.Beginning.{runs_begin}
 use Rattle.spec_world.proofs.GoingOn.{stops_are_possible, runs_begin_with_what_stands}
@@ -41,6 +42,11 @@ use Rattle.opening.proofs.Telling.{told_records, journal_nil}
 use Rattle.journal.proofs.Walks.{stands_short}
 use Rattle.desk.proofs.Standing.{told_with, configured_with, left_firm}
 use Rattle.diskmodel.specs.Disk.{Device}
+
+-- where no group is in flight, no rewriting is, neither of the book nor of the world
+none_rewritten : (world : World) → world.groups ≡ [] → (rewriting : Option ℕ) → steps.IsRewriting world rewriting → (rewriting ≡ None) × (world.rewriting ≡ None)
+none_rewritten world idle None is = (refl, is)
+none_rewritten world idle (Some count) is = absurd (omega (arith, is.some, ap length idle))
 
 -- ---- what a move leaves as it was
 
@@ -119,7 +125,12 @@ module _ {S D : Type 0} (node : Node) (device : Device D) (world : World) (befor
       )
 
   pub reads : LeadsTo node device world (read_order ∷ []) before
-  reads = stays before read_order _ refl (record { began = refl; settled = refl; groups = refl }) (record { began = is.is_of_world.began; stands = is.is_of_world.stands; waits = is.is_of_world.waits }) up refl
+  reads =
+      let of = is.is_of_world in
+      let none = none_rewritten world idle before.book.rewriting of.rewriting in
+      let rewriting : steps.IsRewriting (with_given world (read (order node (world.began ++ world.settled))) (world.began ++ world.settled)) before.book.rewriting =
+      subst (steps.IsRewriting (with_given world (read (order node (world.began ++ world.settled))) (world.began ++ world.settled))) (sym none.0) none.1 in
+      stays before read_order _ refl (record { began = refl; settled = refl; groups = refl }) (record { began = of.began; stands = of.stands; rewriting = rewriting; waits = of.waits }) up refl
 
   -- ---- a round
 
@@ -239,6 +250,7 @@ module _ {S D : Type 0} (node : Node) (device : Device D) where
         is_of_world = record {
           began = subst (IsLegal node) (sym (ap (λ (w : World). w.began) same)) legal;
           stands = of.stands_at;
+          rewriting = subst (steps.IsRewriting world) (sym opened.rewriting) (ap (λ (w : World). w.rewriting) same);
           waits = subst (All (Contains world.waiting)) (sym opened.waits) (All-nil (Contains world.waiting));
         };
         is_of = of;

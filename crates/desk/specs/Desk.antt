@@ -46,13 +46,14 @@ pub record IsOf {S D : Type 0} (node : Node) (device : Device D) (run : book.Run
   pub up : desk.book.down ≡ false → IsUp node device run desk.journal
   pub left : IsLeft node device run desk.journal
 
--- it was opened on these bytes: it is that of a run that begins with what they are told as, and nothing waits
+-- it was opened on these bytes: it is that of a run that begins with what they are told as, nothing waits, and no rewriting is in flight
 pub record IsOpened {S D : Type 0} (node : Node) (device : Device D) (before : List ℕ) (desk : DeskView S D) : Type 0 where
   pub state : State
   pub told_first : told node before ≡ Ok state
   pub up : desk.book.down ≡ false
   pub alive : IsAlive device desk.journal
   pub waits : desk.book.queue ≡ []
+  pub rewriting : desk.book.rewriting ≡ None
   pub is_of : IsOf node device (book.run_on state) desk
 
 -- It was not opened: the error is what the bytes are told as, unless memory or the disk failed; and what a stop leaves is told as one

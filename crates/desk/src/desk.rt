@@ -81,10 +81,13 @@ impl<'a, S: Sign, D: Disk> Desk<'a, S, D> {
         ensures opening { IsOpening (node_of S.scheme config.now) D.device (λ desk. disk_of desk.journal) disk result }
     {
         match reopen(alloc, config, disk) {
-            Ok((validator, journal)) => Ok(Desk {
-                book: OwnBook::new(alloc, validator),
-                journal,
-            }),
+            Ok((validator, journal)) => {
+                let book = OwnBook::new(alloc, validator);
+                // A book that is up has no rewriting in flight.
+                let down = book.is_down();
+                prove!(!down);
+                Ok(Desk { book, journal })
+            }
             Err(failed) => Err(failed),
         }
     }

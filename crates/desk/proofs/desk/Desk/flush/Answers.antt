@@ -29,7 +29,7 @@ pub returns-clause-steps : goal.returns-clause-steps
 returns-clause-steps g c =
     let before : DeskView g.row.S.Denot g.row.D.Denot = record { book = c.self.inside.book; journal = c.self.inside.journal } in
     let later : DeskView g.row.S.Denot g.row.D.Denot = record { book = c.flush.new.self; journal = c.flush.new.journal } in
-    let up = sym c.is_down.ensures ∙ c.if-is_down.false in
+    let up = sym c.is_down.ensures.value ∙ c.if-is_down.false in
     subst (λ (d : DeskView g.row.S.Denot g.row.D.Denot). IfOk c.flush.result
     (λ count. d.book.pending ≢ [] → (world : World) → IsAt (node_of g.S.Sign.scheme d.book.validator.setting) g.D.Disk.device world d
     → LeadsTo (node_of g.S.Sign.scheme d.book.validator.setting) g.D.Disk.device world
@@ -41,7 +41,7 @@ pub returns-clause-fails_step : goal.returns-clause-fails_step
 returns-clause-fails_step g c =
     let before : DeskView g.row.S.Denot g.row.D.Denot = record { book = c.self.inside.book; journal = c.self.inside.journal } in
     let later : DeskView g.row.S.Denot g.row.D.Denot = record { book = c.flush.new.self; journal = c.flush.new.journal } in
-    let up = sym c.is_down.ensures ∙ c.if-is_down.false in
+    let up = sym c.is_down.ensures.value ∙ c.if-is_down.false in
     subst (λ (d : DeskView g.row.S.Denot g.row.D.Denot). IfErr c.flush.result (λ error. (error ≡ Full) ⊎ (error ≡ Device) → (world : World)
     → IsAt (node_of g.S.Sign.scheme d.book.validator.setting) g.D.Disk.device world d
     → (count : ℕ) × LeadsTo (node_of g.S.Sign.scheme d.book.validator.setting) g.D.Disk.device world (take_to count ∷ []) later)) c.self.view_is

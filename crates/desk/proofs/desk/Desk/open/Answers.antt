@@ -1,4 +1,4 @@
-use Rattle.std.proofs.Common.{sym, subst}
+use Rattle.std.proofs.Common.{sym, ◌∙◌, subst}
 use Rattle.spec_model.specs.States.{State}
 use Rattle.validator.specs.Setting.{ConfigView, node_of}
 use Rattle.validator.specs.Standing.{AreAtSound}
@@ -15,7 +15,7 @@ invariant_of-result g c =
     let at = subst (λ (s : ConfigView g.row.S.Denot). AreAtSound (node_of g.S.Sign.scheme s) c.in-Ok.validator.tables state) (sym c.in-Ok.ensures.setting) c.in-Ok.ensures.stands.at in
     record {
       alive = λ up. c.in-Ok.ensures.alive;
-      settled = λ up. nothing_taken node state c.new.result (c.new.ensures.stands state at);
+      settled = λ up. nothing_taken node state c.new-book.result (c.new-book.ensures.stands state at);
       alone = c.in-Ok.ensures.alone;
     }
 
@@ -23,11 +23,11 @@ pub returns-in-Ok-clause-ok : goal.returns-in-Ok-clause-ok
 returns-in-Ok-clause-ok g c =
     let node = node_of g.S.Sign.scheme c.args.config.now in
     let validator = c.in-Ok.validator in
-    let book = c.new.result in
+    let book = c.new-book.result in
     let stands = subst (λ (s : ConfigView g.row.S.Denot). (base : State) → AreAtSound (node_of g.S.Sign.scheme s) validator.tables base
-    → Stands (node_of g.S.Sign.scheme s) (run_on base) book) c.in-Ok.ensures.setting c.new.ensures.stands in
+    → Stands (node_of g.S.Sign.scheme s) (run_on base) book) c.in-Ok.ensures.setting c.new-book.ensures.stands in
     opened_of node g.D.Disk.device (g.D.Disk.device.content c.args.disk) validator.tables book c.in-Ok.journal c.in-Ok.ensures.stands stands
-    c.new.ensures.queue c.new.ensures.up c.in-Ok.ensures.alive c.in-Ok.ensures.configured c.in-Ok.ensures.same
+    c.new-book.ensures.queue c.new-book.ensures.up (c.is_down-down.ensures.up (c.is_down-down.ensures.value ∙ c.new-book.ensures.up)) c.in-Ok.ensures.alive c.in-Ok.ensures.configured c.in-Ok.ensures.same
 
 pub returns-in-Ok-clause-world : goal.returns-in-Ok-clause-world
 returns-in-Ok-clause-world g c = λ world history begun is.
