@@ -7,6 +7,7 @@ mod area_steps;
 mod areas;
 mod batches;
 mod books;
+mod checkpoints;
 mod damages;
 mod disks;
 mod draws;

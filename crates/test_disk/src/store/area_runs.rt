@@ -446,12 +446,12 @@ fn snapshot_of(alloc: Global, records: &[Vec<u8>]) -> Result<Option<Snapshot>, A
 }
 
 /// The record of the node's configuration.
-fn own_configuration(alloc: Global, config: &Config<HashSign>) -> Result<Vec<u8>, AllocError> {
+pub fn own_configuration(alloc: Global, config: &Config<HashSign>) -> Result<Vec<u8>, AllocError> {
     configuration_record(alloc, Version::Second, config.committee(), config.own())
 }
 
 /// Adds the group of a configuration alone. Says whether no call failed.
-fn add_first(
+pub fn add_first(
     alloc: Global,
     journal: &mut Journal<MemDisk>,
     configuration: Vec<u8>,

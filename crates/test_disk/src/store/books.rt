@@ -1,6 +1,7 @@
 //! Commands to a book of member 0.
 
 use crate::memory::taken;
+use crate::store::checkpoints::put_checkpoint;
 use crate::store::disks::tell_if;
 use crate::store::headers::{Named, batch, body, event, header, tell_output, vote};
 use crate::store::rounds::{Putting, put_groups};
@@ -53,6 +54,8 @@ impl Store<'_> {
             "put" => return self.put(Putting::Written, answer),
             "flush" => return self.put(Putting::Settled, answer),
             "write_two" => return self.put(Putting::Two, answer),
+            "checkpoint" => return self.checkpoint(0, answer),
+            "checkpoint_failing" => return self.checkpoint(2, answer),
             "release" => self.release(answer),
             "down" => tell_if(answer, self.book.is_down()),
             "fault" => self.book.fail(),
@@ -118,6 +121,11 @@ impl Store<'_> {
         let disk = taken(self.alloc, &mut self.disk)?;
         self.disk = put_groups(self.alloc, &mut self.book, disk, putting, answer);
         Ok(())
+    }
+
+    /// A checkpoint, of whose writes to the disk the count-th fails, none at 0. The opening makes the first one.
+    fn checkpoint(&mut self, count: u64, answer: &mut String) -> Told {
+        put_checkpoint(self.alloc, self.config, &mut self.book, count, answer)
     }
 
     fn release(&mut self, answer: &mut String) {

@@ -1,0 +1,55 @@
+//! A checkpoint of the book.
+
+ghost use Rattle.std.specs.Prelude.{IsSome};
+ghost use Rattle.journal.specs.Journal.{spare_of, IsAlive};
+
+use crate::memory::{disk_with, failing_disk};
+use crate::store::area_runs::{add_first, own_configuration};
+use crate::store::words::{Told, bad, put_count, put_shown};
+use book::OwnBook;
+use diskmodel::{CallKind, Disk, MemDisk};
+use journal::Journal;
+use sigface::HashSign;
+use std::alloc::Global;
+use validator::Config;
+
+/// Makes a checkpoint of a book on two new disks that have its node's configuration alone. The count-th write to the other
+/// disk is told to fail, none at 0. Tells the new generation, and how long the area is that is read then.
+pub fn put_checkpoint(
+    alloc: Global,
+    config: &Config<HashSign>,
+    own: &mut OwnBook<'_, HashSign>,
+    count: u64,
+    answer: &mut String,
+) -> Told {
+    let first = disk_with(alloc, &[])?;
+    let other = failing_disk(alloc, &[], CallKind::Write, count)?;
+    let Ok((mut journal, _)) = Journal::open_pair(alloc, first, other) else {
+        bad(answer);
+        return Ok(());
+    };
+    let configuration = own_configuration(alloc, config)?;
+    match add_first(alloc, &mut journal, configuration)? {
+        true => rewrite(own, &mut journal, answer),
+        false => bad(answer),
+    }
+    Ok(())
+}
+
+/// Makes a checkpoint of a book on these two disks.
+#[tactic(auto, using(crate::proofs::Begun::begun))]
+fn rewrite(own: &mut OwnBook<'_, HashSign>, journal: &mut Journal<MemDisk>, answer: &mut String)
+    requires alive { IsAlive ⟦<MemDisk as Disk>⟧.device journal.old }
+    requires pair { IsSome (spare_of journal.old) }
+{
+    if journal.len() < 2 {
+        return bad(answer);
+    }
+    match own.checkpoint(journal) {
+        Ok(generation) => {
+            put_count(answer, "generation ", generation, "");
+            put_count(answer, ", ", journal.len(), " bytes\n");
+        }
+        Err(error) => put_shown(answer, "", &error, "\n"),
+    }
+}
