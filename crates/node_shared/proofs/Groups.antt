@@ -1,6 +1,7 @@
 -- Groups that a flush seat takes and settles.
 use Rattle.std.proofs.Common.{◌≡◌, ℕ, ◌+◌, ◌-◌, ◌≤◌, List, [], length, map, take, drop, refl, sym, ap, ◌∙◌, subst, arith}
 use Rattle.std.proofs.lemmas.List.{take_at, take-append-le, take-map, take_all, length-map, length-drop}
+use Rattle.std.specs.Prelude.{Option, None}
 use Rattle.spec_model.specs.Histories.{History}
 use Rattle.spec_model.specs.States.{State}
 use Rattle.wire.specs.Lists.{Begins}
@@ -10,11 +11,11 @@ use Rattle.node_seats.specs.Sights.{SeatView}
 use Rattle.node_seats.specs.Views.{events, IsSame}
 use Rattle.node_seats.specs.declared.view.Marked.{Marked}
 use Rattle.node_seats.proofs.Beginnings.{begins_length, begins_whole, begins_same}
-use Rattle.book.specs.Book.{BookView, Run, Stands, with_taken, with_settled, SettlesNext}
+use Rattle.book.specs.Book.{BookView, Run, Stands, with_taken, with_settled, Settles, SettlesNext, settled_by}
 use Rattle.book.specs.Pending.{IsLongestBeginning}
 use Rattle.node_shared.specs.Home.{NodeView, IsBase, IsAtHome, IsFlushOf, IsTied, TakesNext, taken_by, group_of, run_of}
 use Rattle.node_shared.specs.declared.flush_seat.FlushSeat.{FlushSeat}
-use Rattle.node_shared.proofs.Standing.{of_same, at_home}
+use Rattle.node_shared.proofs.Standing.{of_same, at_home, none_rewrites}
 use Rattle.sigface.specs.Scheme.{Scheme}
 
 -- what begins a list is so many of its first elements
@@ -77,6 +78,7 @@ module _ {S : Type 0} (shared : NodeView S) (scheme : Scheme S) (seat : SeatView
     home_taken = at_home shared scheme seat later (events seat.view.seen) (with_taken run (length group)).taken (events seat.view.firm) home.somewhere
         (ap (λ (b : BookView S). b.validator.setting) is ∙ home.setting)
         home.of_node afterwards refl refl (λ down. home.down (sym (ap (λ (b : BookView S). b.down) is) ∙ down))
+        (none_rewrites later (ap (λ (b : BookView S). b.rewriting) is ∙ tied.alone))
 
     within : later.taken ≤ length flush.seat.view.seen
     within =
@@ -120,7 +122,8 @@ module _ {S : Type 0} (shared : NodeView S) (scheme : Scheme S) (seat : SeatView
     begins = subst (λ (l : List (List ℕ)). Begins synced l) are (begins_same synced)
 
     pub settles_next : SettlesNext (node_of scheme book.validator.setting) book synced
-    settles_next = subst (λ (s : ConfigView S). SettlesNext (node_of scheme s) book synced) (sym home.setting) (run, stood, begins)
+    settles_next = subst (λ (s : ConfigView S). SettlesNext (node_of scheme s) book synced) (sym home.setting)
+        (run, stood, subst (λ (r : Option ℕ). Settles (node_of scheme shared.setting) run r synced) (sym tied.alone) begins)
 
     all_of_it : take (length run.settled + length synced) run.taken ≡ events (taken_by flush)
     all_of_it =
@@ -130,15 +133,17 @@ module _ {S : Type 0} (shared : NodeView S) (scheme : Scheme S) (seat : SeatView
         take_all (length run.settled + length synced) run.taken (omega (arith, less, count, left)) ∙ taken_is
 
     -- and the book is at home again once its seat knows it
-    pub home_settled : (later : BookView S) (afterwards : SeatView) → later.validator.setting ≡ book.validator.setting → later.down ≡ book.down
-        → ((run : Run) → Stands (node_of scheme book.validator.setting) run book → Begins synced (map record_of (drop (length run.settled) run.taken))
-        → Stands (node_of scheme book.validator.setting) (with_settled run (length synced)) later)
+    pub home_settled : (later : BookView S) (afterwards : SeatView) → later.validator.setting ≡ book.validator.setting → later.down ≡ book.down → later.rewriting ≡ None
+        → ((run : Run) → Stands (node_of scheme book.validator.setting) run book → Settles (node_of scheme book.validator.setting) run book.rewriting synced
+        → Stands (node_of scheme book.validator.setting) (settled_by run book.rewriting (length synced)) later)
         → IsSame seat afterwards → afterwards.view.seen ≡ seat.view.seen → afterwards.view.firm ≡ taken_by flush → IsAtHome scheme shared afterwards later
-    home_settled later afterwards setting down stands same seen firm =
+    home_settled later afterwards setting down none stands same seen firm =
         let after = λ (base : State) (at : IsBase scheme shared base).
-        subst (λ (s : ConfigView S). (r : Run) → Stands (node_of scheme s) r book
-        → Begins synced (map record_of (drop (length r.settled) r.taken)) → Stands (node_of scheme s) (with_settled r (length synced)) later)
-        home.setting stands (run_of base seat.view home.taken) (home.stands base at) begins in
+        subst (λ (o : Option ℕ). (r : Run) → Stands (node_of scheme shared.setting) r book → Settles (node_of scheme shared.setting) r o synced
+        → Stands (node_of scheme shared.setting) (settled_by r o (length synced)) later) tied.alone
+        (subst (λ (s : ConfigView S). (r : Run) → Stands (node_of scheme s) r book → Settles (node_of scheme s) r book.rewriting synced
+        → Stands (node_of scheme s) (settled_by r book.rewriting (length synced)) later) home.setting stands) (run_of base seat.view home.taken) (home.stands base at) begins in
         at_home shared scheme afterwards later (events seat.view.seen) home.taken (with_settled run (length synced)).settled home.somewhere (setting ∙ home.setting)
         (of_same shared seat afterwards home.of_node same) after
         (ap events (sym seen)) (all_of_it ∙ ap events (sym firm)) (λ is. same.down (home.down (sym down ∙ is)))
+        (none_rewrites later none)

@@ -23,7 +23,7 @@ use Rattle.book.specs.declared.book.Receipt.{Receipt}
 use Rattle.book.specs.declared.book.TheConstants.{MAX_ACCEPTED}
 use Rattle.node_shared.specs.Home.{NodeView, IsBase, IsAtHome, run_of}
 use Rattle.node_shared.specs.Answers.{Submits, MayRefuseAt}
-use Rattle.node_shared.proofs.Standing.{of_same, at_home}
+use Rattle.node_shared.proofs.Standing.{of_same, at_home, rewrites_same}
 use Rattle.sigface.specs.Scheme.{Scheme}
 
 module _ {S : Type 0} (shared : NodeView S) (scheme : Scheme S) (seat : SeatView) (book later : BookView S) (event : Event) (home : IsAtHome scheme shared seat book) where
@@ -57,6 +57,7 @@ module _ {S : Type 0} (shared : NodeView S) (scheme : Scheme S) (seat : SeatView
         at_home shared scheme afterwards later (events seat.view.seen ++ event ∷ []) home.taken (events seat.view.firm) home.somewhere (setting ∙ home.setting)
         (of_same shared seat afterwards home.of_node same) (λ base at. here.stands (run base) (home.stands base at))
         (sym (events_push by event seat.view.seen) ∙ ap events (sym seen)) (ap events (sym firm)) (λ down. absurd (up down))
+        (rewrites_same book later here.rewriting here.taken home.whole)
 
     -- the answer
     pub submits_new : (before afterwards : View) (receipt : Receipt) → Begins before.seen seat.view.seen → receipt.new
@@ -94,6 +95,7 @@ module _ {S : Type 0} (shared : NodeView S) (scheme : Scheme S) (seat : SeatView
       taken = home.taken;
       stands = λ base at. was.stands (run base) (home.stands base at);
       down = λ is. home.down (sym (ap (λ (b : BookView S). b.down) was.is) ∙ is);
+      whole = rewrites_same book later (ap (λ (b : BookView S). b.rewriting) was.is) (ap (λ (b : BookView S). b.taken) was.is) home.whole;
     }
 
     pub submits_known : (before afterwards : View) (receipt : Receipt) → Begins before.seen seat.view.seen → receipt.new ≡ false → receipt.ticket ≡ later.accepted

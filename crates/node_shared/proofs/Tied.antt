@@ -7,6 +7,7 @@ use Rattle.node_seats.specs.Views.{events, IsSame}
 use Rattle.node_seats.specs.declared.view.Marked.{Marked}
 use Rattle.node_seats.proofs.Beginnings.{begins_length, begins_whole, take_begins}
 use Rattle.node_seats.proofs.Same.{same_then}
+use Rattle.std.specs.Prelude.{None}
 use Rattle.book.specs.Book.{BookView}
 use Rattle.sigface.specs.Scheme.{Scheme}
 use Rattle.node_shared.specs.Calls.{SettlesTaken}
@@ -22,8 +23,8 @@ firm_same one other count begins first second = sym (begins_whole one other begi
 -- a seat that knows just what the book's seat does, and numbers that are the book's
 pub tied_with : {S : Type 0} (shared : NodeView S) (scheme : Scheme S) (seat : SeatView) (book : BookView S) → IsAtHome scheme shared seat book
     → (mine : SeatView) (settled taken : ℕ) → IsOf shared mine → mine.view.seen ≡ seat.view.seen → mine.view.firm ≡ seat.view.firm → Begins mine.view.firm mine.view.seen
-    → settled ≤ taken → book.settled ≡ settled → book.taken ≡ taken → IsTied shared seat book (record { seat = mine; settled = settled; taken = taken })
-tied_with shared scheme seat book home mine settled taken of_node seen firm begins rising settled_is taken_is =
+    → settled ≤ taken → book.settled ≡ settled → book.taken ≡ taken → book.rewriting ≡ None → IsTied shared seat book (record { seat = mine; settled = settled; taken = taken })
+tied_with shared scheme seat book home mine settled taken of_node seen firm begins rising settled_is taken_is alone =
     let stood = home.stands home.somewhere.0 home.somewhere.1 in
     let firm_size = length-map seat.view.firm (λ (one : Marked). one.event) in
     let seen_size = length-map seat.view.seen (λ (one : Marked). one.event) in
@@ -40,6 +41,7 @@ tied_with shared scheme seat book home mine settled taken of_node seen firm begi
       firm = firm;
       settled = settled_is;
       taken = taken_is;
+      alone = alone;
     }
 
 -- a flush seat whose seat then knows all that it had taken as settled

@@ -1,5 +1,5 @@
 -- A shared node, its seats, and the book under its lock.
-use Rattle.std.specs.Prelude.{◌≡◌, ◌≤◌, ℕ, ◌+◌, List, length, map, take, drop, true}
+use Rattle.std.specs.Prelude.{◌≡◌, ◌≤◌, ℕ, ◌+◌, List, length, map, take, drop, None, IfSome, true}
 use Rattle.atomic_table.specs.Seated.{TableId}
 use Rattle.admission.specs.declared.tables.Tables.{Tables}
 use Rattle.spec_machine.specs.After.{after_all}
@@ -71,6 +71,10 @@ pub record TakesNext (flush : FlushSeat) (group : List (List ℕ)) : Type 0 wher
 abbrev pub run_of : State → View → History → Run
 run_of base view taken = record { base = base; accepted = events view.seen; taken = taken; settled = events view.firm }
 
+-- a rewriting that is in flight settles all that was taken
+abbrev pub RewritesAllTaken : {S : Type 0} → BookView S → Type 0
+RewritesAllTaken book = IfSome book.rewriting (λ count. count ≡ book.taken)
+
 -- A book is at home in a node, which has a base: it is set up as the node is, its own seat is one of the node's, which knows that the node
 -- is down if the book is, and from each base on it stands at exactly what that seat has seen and knows as settled, for some list between that was taken.
 pub record IsAtHome {S : Type 0} (scheme : Scheme S) (node : NodeView S) (seat : SeatView) (book : BookView S) : Type 0 where
@@ -80,11 +84,14 @@ pub record IsAtHome {S : Type 0} (scheme : Scheme S) (node : NodeView S) (seat :
   pub taken : History
   pub stands : (base : State) → IsBase scheme node base → Stands (node_of scheme node.setting) (run_of base seat.view taken) book
   pub down : book.down ≡ true → seat.view.down ≡ true
+  pub whole : RewritesAllTaken book
 
--- A flush seat is tied to a book at home and its seat: it knows just what that one does, and counts as the book does.
+-- A flush seat is tied to a book at home and its seat: it knows just what that one does, and counts as the book does, of which no rewriting is
+-- in flight.
 pub record IsTied {S : Type 0} (node : NodeView S) (seat : SeatView) (book : BookView S) (flush : FlushSeat) : Type 0 where
   pub flush_of : IsFlushOf node flush
   pub seen : flush.seat.view.seen ≡ seat.view.seen
   pub firm : flush.seat.view.firm ≡ seat.view.firm
   pub settled : book.settled ≡ flush.settled
   pub taken : book.taken ≡ flush.taken
+  pub alone : book.rewriting ≡ None

@@ -1,6 +1,6 @@
 //! What a node hands over for its disk, and what it is told of that.
 
-ghost use Rattle.std.specs.Prelude.{◌≡◌, ◌≤◌, true};
+ghost use Rattle.std.specs.Prelude.{◌≡◌, ◌≤◌, true, None};
 ghost use Rattle.wire.specs.Lists.{Begins};
 ghost use Rattle.spec_machine.specs.After.{IsLegalAfter};
 ghost use Rattle.spec_model.specs.States.{State};
@@ -13,6 +13,7 @@ ghost use Rattle.node_shared.specs.Home.{IsBase, IsOf, IsAtHome, IsFlushOf, IsTi
 use crate::flush_seat::FlushSeat;
 use crate::home::Locked;
 use crate::node::Node;
+use book::Book;
 use journal::{Group, Synced};
 use node_seats::{Anything, Seat};
 use sigface::Sign;
@@ -127,7 +128,7 @@ impl<'a, S: Sign> Node<'a, S> {
     {
         self.know_all(rt, locked, &mut flush.seat);
         self.see_all(rt, locked, &mut flush.seat);
-        locked.book.settled() == flush.settled && locked.book.taken() == flush.taken
+        counts_as(&locked.book, flush)
     }
 
     fn take_tied(
@@ -170,4 +171,17 @@ impl<'a, S: Sign> Node<'a, S> {
             .catch_up_firm::<Anything, R>(rt, &mut locked.seat, &mut flush.seat, flush.taken);
         flush.settled = flush.taken;
     }
+}
+
+// Whether a flush seat counts as a book does, which has no rewriting in flight.
+fn counts_as<S: Sign>(book: &Book<'_, S>, flush: &FlushSeat) -> bool
+    ensures { result ≡ true → (book.now.settled ≡ flush.now.settled) × (book.now.taken ≡ flush.now.taken) × (book.now.rewriting ≡ None) }
+{
+    if book.settled() != flush.settled {
+        return false;
+    }
+    if book.taken() != flush.taken {
+        return false;
+    }
+    !book.is_rewriting()
 }

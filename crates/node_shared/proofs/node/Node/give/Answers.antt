@@ -2,7 +2,7 @@ use Rattle.std.proofs.Common.{ap, sym, ◌∙◌}
 use Rattle.std.specs.Prelude.{drop, is_some, if◌then◌else◌}
 use Rattle.node_shared.proofs.Called.{learned_stays, gives_both}
 use Rattle.node_shared.proofs.Readings.{given, put_out_by, gives_next, none_given}
-use Rattle.node_shared.proofs.Standing.{home_where, queue_setting, queue_down, queue_left}
+use Rattle.node_shared.proofs.Standing.{home_where, queue_setting, queue_down, queue_rewriting, queue_taken, queue_left}
 use Rattle.node_shared.proofs.node.Node.give.Goals as goal
 
 pub returns-clause-home : goal.returns-clause-home
@@ -10,7 +10,10 @@ returns-clause-home g c =
     home_where c.args.self.now g.S.Sign.scheme c.know_down.new.locked.seat c.know_down.new.locked.book c.release.new.self c.know_down.ensures.home
     (queue_setting c.know_down.new.locked.book c.release.new.self (drop 1 c.know_down.new.locked.book.queue) (is_some c.release.result) c.release.ensures.queue)
     (λ down. sym (queue_down c.know_down.new.locked.book c.release.new.self (drop 1 c.know_down.new.locked.book.queue) (is_some c.release.result)
-    c.release.ensures.queue) ∙ down) c.release.ensures.stands
+    c.release.ensures.queue) ∙ down)
+    (queue_rewriting c.know_down.new.locked.book c.release.new.self (drop 1 c.know_down.new.locked.book.queue) (is_some c.release.result) c.release.ensures.queue)
+    (queue_taken c.know_down.new.locked.book c.release.new.self (drop 1 c.know_down.new.locked.book.queue) (is_some c.release.result) c.release.ensures.queue)
+    c.release.ensures.stands
 
 pub returns-clause-learned : goal.returns-clause-learned
 returns-clause-learned g c =

@@ -4,7 +4,7 @@ use Rattle.spec_model.specs.States.{State}
 use Rattle.validator.specs.Setting.{node_of}
 use Rattle.validator.specs.Standing.{ValidatorView, AreAtSound, StandSomewhere}
 use Rattle.book.specs.Book.{BookView, run_on, Stands}
-use Rattle.node_shared.proofs.Standing.{at_home}
+use Rattle.node_shared.proofs.Standing.{at_home, none_rewrites}
 use Rattle.node_shared.proofs.node.Node.new.Goals as goal
 
 pub new-requires : goal.new-requires
@@ -21,3 +21,4 @@ new-requires-3 g c =
     (search rules) (record { table = search rules; live = search rules; numbered = search rules })
     (λ base at. subst (λ (b : BookView g.row.S.Denot). Stands (node_of g.S.Sign.scheme c.in_ok-words.words.key.setting) (run_on base) b) boxed (stands base at))
     (search rules) (search rules) (λ down. let bad : true ≡ false = sym down ∙ (search rules) in absurd cc)
+    (none_rewrites c.in_ok-locked.locked.value.book (search rules))
