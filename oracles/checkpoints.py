@@ -38,6 +38,10 @@ class Committee:
         """Those that tell this committee: version 1 has no stakes."""
         return [self.configuration()] + ([self.configuration(1)] if set(self.stakes) == {1} else [])
 
+    def records_of(self, node):
+        """The records of a checkpoint of what a node holds, without a head."""
+        return [self.configuration()] + state_records(node)
+
     def named_weight(self, numbers):
         """As the checks of a message weigh: whoever is no member counts 1."""
         return sum(self.stakes[number] if number < self.size else 1 for number in numbers)
@@ -97,6 +101,20 @@ def coins_piece(values):
 
 def head(generation):
     return b'\2' + u64(generation)
+
+
+def state_records(node, own=histories.OWN):
+    """The records of a checkpoint of what a node holds, after the configuration and the head. No piece is full."""
+    ordered, floor, named = [one.certificate for one in node.order()], node.floor(), node.named()
+    records = [order_piece(ordered)] if ordered else []
+    for one in node.batches.values():
+        records.append(batch_record(one.text, sorted(node.acked.get(one.digest, ())), one.digest in named))
+    headers = [(slot, one) for slot, one in sorted(node.headers.items()) if slot[0] > floor]
+    records += [vote_record(author, round_, one.digest) for (round_, author), one in headers if author != own]
+    records += [header_record(one, sorted(node.counted[one.digest] - {own})) for (_, author), one in headers if author == own]
+    certificates = [(slot, one) for slot, one in sorted(node.certificates.items()) if slot[0] >= max(floor, 1)]
+    records += [certificate_record(one, node.voters[slot]) for slot, one in certificates]
+    return records + ([coins_piece(node.coins)] if node.coins else [])
 
 
 # ---- records, as they are read

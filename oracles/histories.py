@@ -2,7 +2,7 @@
 """Draws histories of one node's events and writes them as cases for the tests of the definitions.
 
     oracles/histories.py START DEPTH EVENTS [STAKES] > CASES
-    oracles/histories.py --play=BESIDE START DEPTH EVENTS [STAKES] > CASES
+    oracles/histories.py --play=BESIDE[,EACH] START DEPTH EVENTS [STAKES] > CASES
     oracles/histories.py --lines=TITLE DEPTH STAKES < LINES > CASES
 
 START is the value that all is drawn from, DEPTH the committee's depth, EVENTS how many new events a history has.
@@ -12,8 +12,10 @@ them: it shares nothing with the code of the repository. See docs/SIMULATOR.md f
 alone, behind a line `validator`, and behind them how often each answer comes and what there is at the end: that is for
 the tests of the validator.
 With --lines nothing is drawn: the events are those of these lines, with their forms.
-There each 50 events end with a line `sum N`, a running sum over all that was answered and put out, and over what is held
-and proposed behind each event. BESIDE is how many of the events are compared with the plain program too.
+There each 50 events, or EACH, end with a line `sum N`, a running sum over all that was answered and put out, and over what
+is held and proposed after each event, and with a line `records COUNT SUM`: how many records a checkpoint of the node has, and
+a sum over them. The events are then played once more, where the node is loaded from its records at each of these lines, and
+come to the same. BESIDE is how many of the events are compared with the plain program too.
 """
 import hashlib
 import random
@@ -46,7 +48,7 @@ class Batch:
     def __init__(self, label, author, transaction):
         self.label, self.author, self.worker = label, author, 0
         body = u16(author) + u16(0) + u32(1) + u32(len(transaction)) + transaction
-        self.transaction, self.digest = transaction, sha(b'B', body)
+        self.transaction, self.text, self.digest = transaction, body, sha(b'B', body)
 
 
 class Header:
@@ -320,15 +322,17 @@ class Sum:
 
 
 class Drawn:
-    """A history as it is drawn, and the lines of its case."""
+    """A history as it is drawn, and the lines of its case. A play also has what the records of a node come to."""
 
-    def __init__(self, start, depth, committee):
+    def __init__(self, start, depth, committee, between=BETWEEN_SUMS, records_of=None):
         self.random = random.Random(start)
         self.start, self.committee = start, committee
         self.node, self.lines, self.seen = Node(depth, committee), [], {}
         self.all_headers, self.all_batches = [], []
         self.limit = 1048576
         self.sum, self.given, self.pieces, self.proposals = Sum(), 0, 0, 0
+        self.between, self.records_of = between, records_of
+        self.states, self.above_floors, self.leaderless = 0, 0, 0
 
     def one_in(self, count):
         return self.random.randrange(count) == 0
@@ -381,8 +385,20 @@ class Drawn:
         for output in outputs:
             self.sum_output(*output.split())
         self.sum_state()
-        if self.given % BETWEEN_SUMS == 0:
+        if self.given % self.between == 0:
             self.lines.append('sum %d' % self.sum.value)
+            if self.records_of:
+                self.sum_records()
+
+    def sum_records(self):
+        """Adds what the records of a checkpoint come to, each with its length before it."""
+        records, total = self.records_of(self.node), Sum()
+        for record in records:
+            total.add(u64(len(record)) + record)
+        self.lines.append('records %d %d' % (len(records), total.value))
+        self.states += 1
+        self.above_floors += self.node.floor() > 0
+        self.leaderless += self.node.top() is None
 
     def sum_output(self, kind, first, *rest):
         self.sum.add(kind.encode())
@@ -594,8 +610,8 @@ class Drawn:
         self.look()
 
 
-def history(start, depth, events, committee):
-    drawn = Drawn(start, depth, committee)
+def history(start, depth, events, committee, between=BETWEEN_SUMS, records_of=None):
+    drawn = Drawn(start, depth, committee, between, records_of)
     looks = 0
     for _ in range(40 * events):
         if drawn.node.events >= events:
@@ -643,20 +659,30 @@ def tell_all(drawn, depth, words):
 
 def tell_play(drawn, depth, words, beside):
     """The case of the validator: the events, and then what they come to."""
-    looks, node = {'floor', 'round', 'propose', 'flush', 'order'}, drawn.node
+    looks = {'floor', 'round', 'propose', 'flush', 'order'}
     print('validator')
     print('depth %d' % depth)
     for word in words:
         print('stakes ' + word)
     print('\n'.join(line for line in drawn.lines if not line.startswith('>') and line not in looks))
     print('play %d' % beside)
+    tell_answers(drawn)
+    print('> beside the plain program %d' % min(beside, drawn.given))
+    if drawn.states:
+        print('loads')
+        tell_answers(drawn)
+        print('> loaded %d, above a floor %d, without a leader %d' % (drawn.states, drawn.above_floors, drawn.leaderless))
+
+
+def tell_answers(drawn):
+    """How often each answer comes, and what there is at the end."""
+    node = drawn.node
     print('> new %d, known %d' % (drawn.seen.get('new', 0), drawn.seen.get('known', 0)))
     refused = sorted((int(word.split()[1]), count) for word, count in drawn.seen.items() if word.startswith('refused'))
     for number, count in refused:
         print('> refused %d: %d' % (number, count))
     print('> pieces of the order %d, proposals %d' % (drawn.pieces, drawn.proposals))
     print('> round %d, floor %d, ordered %d' % (node.round(), node.floor(), len(node.order())))
-    print('> beside the plain program %d' % min(beside, drawn.given))
 
 
 def main():
@@ -670,7 +696,13 @@ def main():
     start, depth, events = map(int, arguments[:3])
     words = arguments[3:4]
     stakes = [int(stake) for word in words for stake in word.split(',')] or EQUAL_STAKES
-    drawn = history(start, depth, events, Committee(stakes))
+    numbers = [int(number) for number in sys.argv[1].removeprefix('--play=').split(',')] if plays else [0]
+    between, records_of = numbers[1] if len(numbers) > 1 else BETWEEN_SUMS, None
+    if plays:
+        # It imports this file.
+        import checkpoints
+        records_of = checkpoints.Committee(stakes, OWN, depth).records_of
+    drawn = history(start, depth, events, Committee(stakes), between, records_of)
     node = drawn.node
     title = ['a random history of %d events' % node.events, 'depth %d' % depth] + ['stakes ' + word for word in words]
     print('== %s, start value %d' % (', '.join(title), start))
@@ -680,7 +712,7 @@ def main():
     for word in sorted(drawn.seen):
         print('# %s: %d' % (word, drawn.seen[word]))
     if plays:
-        tell_play(drawn, depth, words, int(sys.argv[1].removeprefix('--play=')))
+        tell_play(drawn, depth, words, numbers[0])
     else:
         tell_all(drawn, depth, words)
 

@@ -286,19 +286,6 @@ COMMITTEE = checkpoints.Committee()
 CALLED = {'write': 'w', 'sync': 's', 'cut': 'c'}
 
 
-def state_records(node):
-    """The records of a checkpoint of what a node holds, behind the head."""
-    ordered, own = [one.certificate for one in node.order()], recoveries.OWN
-    records = [checkpoints.order_piece(ordered)] if ordered else []
-    for one in node.batches.values():
-        records.append(checkpoints.batch_record(one.text, sorted(node.acked.get(one.digest, ())), one.digest in node.named()))
-    headers = sorted(node.headers.items())
-    records += [checkpoints.vote_record(author, round_, one.digest) for (round_, author), one in headers if author != own]
-    records += [checkpoints.header_record(one, sorted(node.counted[one.digest] - {own})) for (_, author), one in headers if author == own]
-    records += [checkpoints.certificate_record(one, node.voters[slot]) for slot, one in sorted(node.certificates.items()) if slot[0]]
-    return records + ([checkpoints.coins_piece(node.coins)] if node.coins else [])
-
-
 def sum_of(records):
     """FNV-1a of 32 bits."""
     total = 2166136261
@@ -397,7 +384,7 @@ class TwoAreas:
         self.step('s')
 
     def take_all(self):
-        records = state_records(self.node)
+        records = checkpoints.state_records(self.node)
         file = areas.checkpoint([COMMITTEE.configuration()] + records, self.generation + 1)
         self.groups.append(len(self.history) - self.settled)
         self.bases.append(len(self.history))
@@ -487,7 +474,7 @@ class TwoAreas:
         is_written = self.rewriting is not None and self.rewriting.done
         follows = [firm + count for count in self.groups[self.written:self.written + 1]]
         assert len(found) in (follows if is_written else [firm] + follows), (len(found), firm, follows)
-        head = [checkpoints.head(self.generation)] + state_records(self.node_of(self.history[:base])) if self.generation else []
+        head = [checkpoints.head(self.generation)] + checkpoints.state_records(self.node_of(self.history[:base])) if self.generation else []
         assert front == [COMMITTEE.configuration()] + head
 
 

@@ -3,6 +3,7 @@
 mod asking;
 mod beside;
 mod bodies;
+mod loading;
 mod playing;
 mod same;
 mod seen;
@@ -14,7 +15,7 @@ use crate::definitions::weighing::committee_of;
 use crate::parts::parted;
 use bodies::tell_bodies;
 use header::Node;
-use playing::play_lines;
+use playing::{Way, play_lines};
 use sim_script::{BATCHES, DEPTH, FormError, OWN, signer};
 use std::alloc::{AllocError, Global};
 
@@ -40,8 +41,8 @@ impl Gathered {
         }
     }
 
-    /// Plays what was gathered, from the genesis on, so many events beside the plain program.
-    fn play(&self, most: u64, answer: &mut String) -> Result<(), FormError> {
+    /// Plays what was gathered, from the genesis on.
+    fn play(&self, way: Way, answer: &mut String) -> Result<(), FormError> {
         let stakes = self.stakes.as_str();
         let node = Node {
             own: OWN,
@@ -50,7 +51,7 @@ impl Gathered {
         };
         let committee = committee_of(self.alloc, stakes, self.depth, self.batches)?;
         let lines = self.lines.as_str();
-        play_lines(self.alloc, node, committee, lines, most, answer)
+        play_lines(self.alloc, node, committee, lines, way, answer)
     }
 
     /// Begins a case.
@@ -59,8 +60,9 @@ impl Gathered {
         self.stakes.push_str("1,1,1,1")
     }
 
-    /// `depth`, `batches` and `stakes` set up the committee, `play` plays the lines, `bodies` tells of memory; any
-    /// other line is one of them.
+    /// `depth`, `batches` and `stakes` set up the committee, `play` plays the lines, `loads` plays them with a validator that
+    /// is loaded anew wherever they have the records of its checkpoint, `bodies` tells of memory; any other line is one of
+    /// them.
     pub fn obey(
         &mut self,
         rt: &HostRuntime,
@@ -78,7 +80,8 @@ impl Gathered {
                 Ok(())
             }
             "stakes" => self.set_stakes(rest),
-            "play" => told(self.play(number(rest), answer), answer),
+            "play" => told(self.play(Way::beside(number(rest)), answer), answer),
+            "loads" => told(self.play(Way::loading(), answer), answer),
             "bodies" => told(self.tell_bodies(rt, rest, answer), answer),
             _ => self.add_line(command),
         }

@@ -7,6 +7,7 @@ use crate::definitions::looking::{number, proposal_line, words_of};
 use crate::definitions::played::coin;
 use crate::definitions::validating::asking::{Last, asked, tell_seen, tell_vote};
 use crate::definitions::validating::beside::Beside;
+use crate::definitions::validating::loading::{Expected, Loads, has_records, loaded_again};
 use crate::definitions::validating::seen::seen_of;
 use crate::definitions::validating::sum::Sum;
 use crate::definitions::validating::tally::{Tally, counts};
@@ -22,31 +23,62 @@ use std::alloc::{AllocError, Global};
 use validator::{Config, Refusal, Step, Validator};
 use wire::{Author, Header, Message};
 
+/// How lines are played.
+#[derive(Clone, Copy)]
+pub struct Way {
+    /// So many of the first events are played beside the plain program.
+    most: u64,
+    /// Whether the validator is loaded anew wherever the lines have the records of its checkpoint.
+    loads: bool,
+}
+
+impl Way {
+    /// With the plain program beside the first events, as many as `most`.
+    pub fn beside(most: u64) -> Way {
+        Way { most, loads: false }
+    }
+
+    /// With a validator that is loaded anew.
+    pub fn loading() -> Way {
+        Way {
+            most: 0,
+            loads: true,
+        }
+    }
+}
+
 /// A validator, with what is summed up and counted of it, and with the plain program beside it.
 #[derive(Drop)]
 struct Playing<'c> {
     alloc: Global,
+    config: &'c Config<HashSign>,
     validator: Validator<'c, HashSign>,
     labels: Labels,
     beside: Beside,
     sum: Sum,
     tally: Tally,
     last: Option<Last>,
+    /// At how many states the validator was loaded, where it is.
+    loads: Option<Loads>,
 }
 
-/// Plays these lines from the genesis on, the first events as many as `most` beside the plain program. It tells how often
-/// each answer came, and what there is at the end; or the first line at which something differs.
+/// Plays these lines from the genesis on. It tells how often each answer came, and what there is at the end; or the first
+/// line at which something differs.
 pub fn play_lines(
     alloc: Global,
     node: Node<HashSign>,
     committee: Committee,
     lines: &str,
-    most: u64,
+    way: Way,
     answer: &mut String,
 ) -> Result<(), FormError> {
     let config = config_of(committee)?;
-    let beside = Beside::new(alloc, node, most)?;
-    Playing::new(alloc, &config, beside)?.play(lines, answer)
+    let beside = Beside::new(alloc, node, way.most)?;
+    let mut playing = Playing::new(alloc, &config, beside)?;
+    if way.loads {
+        playing.loads = Some(Loads::new());
+    }
+    playing.play(lines, answer)
 }
 
 /// The setting of member 0. This call stands alone, too.
@@ -65,12 +97,14 @@ impl<'c> Playing<'c> {
     ) -> Result<Playing<'c>, FormError> {
         Ok(Playing {
             alloc,
+            config,
             validator: Validator::new(alloc, config)?,
             labels: Labels::new(alloc),
             beside,
             sum: Sum::new(),
             tally: Tally::new(),
             last: None,
+            loads: None,
         })
     }
 
@@ -106,8 +140,8 @@ impl<'c> Playing<'c> {
         }
     }
 
-    /// A line of these tests alone: a coin that another member sends, what the running sum has to be, an event that doesn't
-    /// pass the checks, or what the validator is asked.
+    /// A line of these tests alone: a coin that another member sends, what the running sum has to be, what the records of a
+    /// checkpoint have to come to, an event that doesn't pass the checks, or what the validator is asked.
     fn run_own(&mut self, line: &str) -> Result<Option<&'static str>, FormError> {
         let words = words_of(self.alloc, line)?;
         self.run_words(line, &words)
@@ -123,12 +157,41 @@ impl<'c> Playing<'c> {
                 true => Ok(None),
                 false => Ok(Some("the sum")),
             },
+            ["records", count, sum] => self.keep(Expected::of(count, sum)),
             ["unchecked", ..] => self.refuse(line),
             _ => match asked(words) {
                 None => Err(FormError::BadCommand),
                 Some(what) => self.ask(line, words, what),
             },
         }
+    }
+
+    /// Compares the records of the validator's checkpoint with what they have to come to. Where it is to be loaded from them
+    /// it goes on as the one that was loaded.
+    fn keep(&mut self, expected: Expected) -> Result<Option<&'static str>, FormError> {
+        if !has_records(&self.validator, expected)? {
+            return Ok(Some("the records"));
+        }
+        match self.loads {
+            None => Ok(None),
+            Some(loads) => self.load(loads, expected),
+        }
+    }
+
+    /// Loads the validator from its records, counts it, and compares the records of the one that was loaded.
+    fn load(
+        &mut self,
+        mut loads: Loads,
+        expected: Expected,
+    ) -> Result<Option<&'static str>, FormError> {
+        let Some(loaded) = loaded_again(self.alloc, self.config, &self.validator)? else {
+            return Ok(Some("what loading is answered"));
+        };
+        self.validator = loaded;
+        loads.count(&self.validator);
+        self.loads = Some(loads);
+        let is_same = has_records(&self.validator, expected)?;
+        Ok(as_told(is_same, "the records of the loaded validator"))
     }
 
     /// `unchecked`, a number and name, and an event: it doesn't pass the checks, with this error.
@@ -258,7 +321,8 @@ impl<'c> Playing<'c> {
         }
     }
 
-    /// How often each answer came, and what there is at the end.
+    /// How often each answer came, what there is at the end, and how often the validator was loaded, or how many events were
+    /// compared with the plain program.
     fn tell(&self, answer: &mut String) -> Result<(), AllocError> {
         self.tally.tell(answer)?;
         let seen = seen_of(&self.validator);
@@ -268,11 +332,14 @@ impl<'c> Playing<'c> {
             ("ordered", seen.order.len() as u64),
         ];
         counts(&found, answer)?;
-        list(
-            "beside the plain program",
-            &[self.beside.compared()],
-            answer,
-        )
+        match self.loads {
+            Some(loads) => loads.tell(answer),
+            None => list(
+                "beside the plain program",
+                &[self.beside.compared()],
+                answer,
+            ),
+        }
     }
 }
 

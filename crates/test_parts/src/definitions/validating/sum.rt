@@ -54,6 +54,12 @@ impl Sum {
         }
     }
 
+    /// Adds a record of a checkpoint, with its length before it.
+    pub fn add_record(&mut self, record: &[u8]) {
+        self.add(&(record.len() as u64).to_be_bytes());
+        self.add(record);
+    }
+
     fn add_digest(&mut self, digest: Option<Digest>) {
         match digest {
             None => self.add(&[0]),
