@@ -2,14 +2,20 @@
 """Records of checkpoints, and what loading each list of them is answered, computed without the node's code.
 
     oracles/checkpoints.py > CASES
+    oracles/checkpoints.py --changes > CASES
+    oracles/checkpoints.py --plays > CASES
+    oracles/checkpoints.py --memory > CASES
 
 The records are those of docs/FORMATS.md. `test_checkpoints` plays these cases. A list is judged in two ways that share nothing: its format by reading each record, its
-soundness by what the node of oracles/histories.py holds of what was read.
+soundness by what the node of oracles/histories.py holds of what was read. With --changes lists are loaded in which one byte is changed, with --plays validators are loaded
+from lists and given events, and with --memory there is one such list, for allocations that fail.
 """
+import collections
 import sys
 from types import SimpleNamespace
 
 sys.dont_write_bytecode = True
+import areas
 import histories
 import recoveries
 from histories import Header, u16, u32, u64
@@ -635,18 +641,287 @@ def supported_once():
     return [order_piece([first[1].certificate])] + [certificate_record(one) for one in first + second + third] + [coins_piece([1])]
 
 
-HEAD = """# crates: spec_checkpoint ref_checkpoint
+# ---- one byte changed
+
+def changed(record, index, value):
+    return record[:index] + bytes([value]) + record[index + 1:]
+
+
+def changes(title, committee, *records, places, has):
+    """How often which answer comes where a byte of a record at one of these places is changed to a value that this has."""
+    case(title, committee)
+    whole, counts = [committee.configuration()] + list(records), collections.Counter()
+    for place in places:
+        for index, byte in enumerate(whole[place]):
+            for value in (value for value in range(256) if has(byte, value)):
+                counts[load(committee, whole[:place] + [changed(whole[place], index, value)] + whole[place + 1:])] += 1
+    for record in records:
+        print('record : ' + spelled(record))
+    print('%s %s' % ('change-values' if has is is_other else 'change-bits', ' '.join(map(str, places))))
+    print('> lists: %d' % sum(counts.values()))
+    for answer in ['Ok', *(at(place) for place in range(len(whole))), WHOLE]:
+        if counts[answer]:
+            print('> %s: %d' % (answer, counts[answer]))
+
+
+def is_other(byte, value):
+    return byte != value
+
+
+def is_one_bit(byte, value):
+    return (byte ^ value).bit_count() == 1
+
+
+def all_changes():
+    committee, stakes = Committee(), Committee((3, 1, 1, 1))
+    own, mine, other = Ledger().header(0, 1), batch_body(0, b'ab'), batch_body(1, b'cd')
+    changes('a configuration, a vote, and an own header with a vote', committee, vote_record(1, 1, digest(7)), header_record(own, [1]),
+            places=[0, 1, 2], has=is_other)
+    changes('an own batch with an acknowledgement and the mark, a batch of a peer, and a certificate', committee,
+            batch_record(mine, [1, 2], True), batch_record(other), certificate_record(Ledger().header(1, 1)), places=[1, 2, 3], has=is_other)
+    records = one_supporter()
+    changes('a leader with its order, its supporter, and the coins', stakes, *records, places=[1, 5, 6], has=is_other)
+    changes('the same, one bit changed', stakes, *records, places=range(len(records) + 1), has=is_one_bit)
+
+
+def one_supporter():
+    """A leader of wave 1 and its order, where the stakes 3, 1, 1, 1 let member 0's certificate of round 2 commit it."""
+    ledger = Ledger()
+    first = ledger.rounds(1, 1, [0, 1, 2])
+    second = ledger.header(0, 2)
+    return [order_piece([first[1].certificate])] + [certificate_record(one) for one in first + [second]] + [coins_piece([1])]
+
+
+# ---- events after a list
+
+class Loaded(histories.Node):
+    """A node that goes on from the records of a checkpoint. What its order has does not have to come from its certificates: to it the
+    rules add what new leaders order after the last one."""
+
+    def __init__(self, committee, records):
+        super().__init__(committee.depth, committee.weigher)
+        state = State(committee, read(records, committee.own))
+        self.whole, self.coins = list(state.order), state.node.coins
+        for one in state.of_kind(4):
+            self.batches[one.batch.digest], self.acked[one.batch.digest] = one.batch, set(one.members)
+        for one in state.of_kind(5):
+            self.headers[one.round, one.author] = SimpleNamespace(digest=one.digest, label=one.digest.hex(), batches=[])
+        for one in state.of_kind(6):
+            self.headers[one.header.round, committee.own] = one.header
+            self.counted[one.header.digest] = {committee.own, *one.voters}
+        for one in state.of_kind(7):
+            self.certificates[one.header.round, one.header.author], self.voters[one.header.round, one.header.author] = one.header, one.voters
+
+    def grown(self, before):
+        after, start = self.order(), len(self.whole)
+        assert after[:len(before)] == before
+        added = [one.certificate for one in after[len(before):]]
+        self.whole += added
+        return ['order %d %s' % (start, ' '.join(one.hex() for one in added))] if added else []
+
+
+def told(node, answer):
+    """The lines of an answer, where digests stand for labels."""
+    word, outputs = answer
+    lines = [word if word.startswith('refused') else word.split()[0]]
+    for kind, label, *rest in map(str.split, outputs):
+        if kind == 'order':
+            what = ' '.join([label, *rest])
+        elif kind == 'certificate':
+            slot = next(slot for slot, one in node.certificates.items() if one.label == label)
+            what = ' '.join([node.certificates[slot].certificate.hex(), *map(str, node.voters[slot])])
+        else:
+            held = [*node.batches.values(), *node.headers.values()]
+            what = next(one.digest.hex() for one in held if one.label == label)
+        lines.append('out %s %s' % (kind, what))
+    return lines
+
+
+class Events:
+    """The events of a play, as lines, and what they are answered by the rules."""
+
+    def __init__(self, committee, *records):
+        self.committee, self.records, self.node = committee, list(records), Loaded(committee, records)
+        self.lines, self.answers, self.formed = [], [], {'g%d' % member for member in range(committee.size)}
+
+    def form(self, header):
+        for parent in header.parents:
+            if parent.label not in self.formed:
+                self.form(parent)
+        self.formed.add(header.label)
+        parents = ','.join(named(parent) for parent in header.parents)
+        self.lines.append('form %s %d %d %s -' % (named(header), header.author, header.round, parents))
+
+    def event(self, word, header, answer, more=''):
+        if header.label not in self.formed:
+            self.form(header)
+        self.lines.append('%s %s%s' % (word, named(header), more))
+        self.answers += told(self.node, answer)
+
+    def header(self, header):
+        self.event('header', header, self.node.header(header))
+
+    def vote(self, header, member):
+        self.event('vote', header, self.node.vote(header, member), ' %d' % member)
+
+    def cert(self, header, voters=(0, 1, 2)):
+        self.event('cert', header, self.node.certificate(header, list(voters)), ' ' + ','.join(map(str, voters)))
+
+    def coin(self, wave, value):
+        self.lines.append('coin %d %d' % (wave, value))
+        self.answers += told(self.node, self.node.coin(self.committee.own, wave, value))
+
+    def tell(self, command='play', kept=None):
+        """Plays them, on the list or from the genesis on. Then the node keeps these records, where they are given."""
+        for record in self.records:
+            print('record : ' + spelled(record))
+        for line in self.lines:
+            print('event ' + line)
+        print(command if kept is None else command + ' records area')
+        for answer in self.answers:
+            print('> ' + answer)
+        if kept is not None:
+            tell_kept([self.committee.configuration()] + kept)
+
+
+def tell_kept(records):
+    """The records of a checkpoint, and an area that was rewritten to it."""
+    for record in records:
+        print('> record ' + record.hex())
+    area = areas.checkpoint(records, 1)
+    print('> area %d : %s' % (len(area), area.hex()))
+
+
+def named(header):
+    """A label as scripts have it."""
+    return header.label.replace('.', 'r')
+
+
+def all_plays():
+    committee, one = Committee(), Ledger().header(1, 1)
+    case('a header of a peer, and then an area of 233 bytes', committee)
+    events, kept = Events(committee), [vote_record(1, 1, one.digest)]
+    assert len(areas.checkpoint([committee.configuration()] + kept, 1)) == 233
+    events.header(one)
+    events.tell('play-new', kept)
+    case('the same in two steps', committee)
+    events = Events(committee, *kept)
+    events.header(one)
+    events.tell(kept=kept)
+    for title, records in samples():
+        case(title, committee)
+        Events(committee, *records).tell(kept=records)
+    votes_on_loaded(committee)
+    orders_of_loaded()
+
+
+def samples():
+    mine, other = batch_body(0, b'ab'), batch_body(1, b'cd')
+    own = Ledger().header(0, 1, batches=[batch_of(mine)])
+    batches = [batch_record(mine, [1, 2], True), batch_record(other)]
+    return [('no record', []), ('batches, and an own header that names one', batches + [header_record(own, [3])]),
+            ('a leader with its order and the coins', leader_records())]
+
+
+def every_kind():
+    """Records of every kind, for a play in which allocations fail."""
+    mine, vote = batch_body(0, b'ab'), vote_record(1, 4, digest(9))
+    order, *certificates, coins = leader_records()
+    ledger = Ledger()
+    ledger.rounds(1, 3)
+    own = header_record(ledger.header(0, 4), [1])
+    return [order, batch_record(mine, [1, 2]), batch_record(batch_body(1, b'cd')), vote, own, *certificates, coins]
+
+
+def votes_on_loaded(committee):
+    own = Ledger().header(0, 1)
+    case('votes on an own header after it was loaded', committee)
+    events = Events(committee, header_record(own, [1]))
+    events.vote(own, 1)
+    events.vote(own, 2)
+    events.vote(own, 3)
+    events.header(own)
+    events.tell()
+    case('a header of a peer after a vote for another one was loaded', committee)
+    one, another = Ledger().header(1, 1), Ledger().header(1, 1, ['g1', 'g2', 'g3'])
+    another.label = 'another'
+    events = Events(committee, vote_record(1, 1, one.digest))
+    events.header(one)
+    events.header(another)
+    events.tell()
+
+
+def orders_of_loaded():
+    """States of no history: a leader is committed, and the order is one digest, which isn't the leader's."""
+    committee, ledger = Committee(), Ledger()
+    first = ledger.rounds(1, 3)
+    case('an order that has not the committed leader', committee)
+    events = Events(committee, order_piece([digest(7)]), *map(certificate_record, first), coins_piece([1]))
+    for header in ledger.rounds(4, 5, [0, 1, 2]):
+        events.cert(header)
+    events.coin(2, 1)
+    events.tell()
+    low, floor = Committee(depth=2), above_a_floor()
+    case('the same above a floor', low)
+    events = Events(low, floor.order, *floor.certificates, floor.coins)
+    for header in floor.ledger.rounds(7, 9, [0, 1, 2]):
+        events.cert(header)
+    events.coin(4, 2)
+    events.tell()
+    stakes = Committee((3, 1, 1, 1))
+    case('one certificate that commits a leader', stakes)
+    support, others = one_supporter(), Ledger()
+    others.rounds(1, 1, [0, 1, 2])
+    last = others.header(0, 2)
+    events = Events(stakes, *support[1:4], coins_piece([1]))
+    events.cert(last)
+    events.tell()
+
+
+HEAD = """# crates: spec_checkpoint ref_checkpoint checkpoint validator
 # Records of checkpoints, and what loading each list is answered: `oracles/checkpoints.py` writes these cases from the formats alone.
 # Bytes are hexadecimal digits, and these with a star and how often.
 # checkpoint begins a case of these. node: the own number, the depth, how many batches it holds at most, the stake of each member,
 # whose key is 32 bytes of its number and one. record: one more record of a list, after its colon. load: what the list is answered,
 # after the node's configuration in version 2; load-all: the first record is the list's own; load-none: of no record. Each ends the
-# list. record-of-configuration and record-of-head: these records."""
+# list. record-of-configuration and record-of-head: these records.
+# A validator is loaded from each list, too, at once and record by record: it answers the same, and keeps the records of the list."""
+
+HEAD_OF_CHANGES = """# crates: ref_checkpoint checkpoint validator
+# Lists of a checkpoint's records in which one byte is changed, and how often loading them is answered what:
+# `oracles/checkpoints.py --changes` writes these cases. change-values: each byte of the records at these places is changed to
+# each other value, change-bits: to each that differs in one bit; the configuration is at place 0. See checkpoints.cases for
+# the other commands."""
+
+HEAD_OF_PLAYS = """# crates: checkpoint validator
+# Validators that are loaded from lists of a checkpoint's records, and given events: `oracles/checkpoints.py --plays` writes
+# these cases. event: one more event, or what it is formed of. play: what they are answered after the list, and where it is asked
+# for, the records that the validator keeps then, and an area that is rewritten to its checkpoint; play-new: the same from the
+# genesis on. See checkpoints.cases for the other commands."""
+
+HEAD_OF_MEMORY = """# crates: checkpoint validator
+# A validator that is loaded from records of every kind: `oracles/checkpoints.py --memory` writes this case. `every-allocation` plays
+# it with each allocation failing in turn. See loaded.cases for the commands."""
+
+
+def memory():
+    committee, records = Committee(), every_kind()
+    case('records of every kind', committee)
+    Events(committee, *records).tell(kept=records)
+
+
+FILES = {
+    '': (HEAD, examples, formats, batches, votes, headers, certificates, wholes),
+    '--changes': (HEAD_OF_CHANGES, all_changes),
+    '--plays': (HEAD_OF_PLAYS, all_plays),
+    '--memory': (HEAD_OF_MEMORY, memory),
+}
 
 
 def main():
-    print(HEAD)
-    for write in (examples, formats, batches, votes, headers, certificates, wholes):
+    head, *parts = FILES[''.join(sys.argv[1:])]
+    print(head)
+    for write in parts:
         write()
 
 

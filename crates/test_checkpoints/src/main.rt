@@ -1,9 +1,15 @@
-//! The tests of what loading a checkpoint's records is answered: case files over the plain program of these records.
+//! The tests of what loading a checkpoint's records is answered: case files over the plain program of these records, and over
+//! validators that are loaded from them.
 #![tactic(auto)]
 
+mod area;
+mod changing;
 mod lists;
+mod loading;
 mod nodes;
+mod playing;
 mod records;
+mod telling;
 
 use lists::Lists;
 use std::fs;
@@ -28,19 +34,26 @@ fn tested(rt: &HostRuntime) -> Result<bool, Ending> {
     Ok(right)
 }
 
-/// Plays the file of this name, and tells of how many lists the records were written again.
+/// Plays the file of this name.
 fn is_right(rt: &HostRuntime, name: &str) -> Result<bool, Ending> {
     let text = fs::read(rt, name)?;
     let mut lists = Lists::new(rt.alloc());
     let mut player = Player::new(rt.alloc(), name, text.as_slice(), io::writer(rt));
     play_each(rt, &mut player, &mut lists)?;
     let right = player.end()?;
-    let same = lists.written_alike();
-    writeln!(
-        io::writer(rt),
-        "{name}: {same} lists were read, and written again as they were"
-    )?;
+    tell_same(rt, name, lists.written_alike())?;
     Ok(right)
+}
+
+/// Tells of how many lists the records were written again, if of any.
+fn tell_same(rt: &HostRuntime, name: &str, same: u64) -> Result<(), Ending> {
+    if same > 0 {
+        writeln!(
+            io::writer(rt),
+            "{name}: {same} lists were read, and written again as they were"
+        )?;
+    }
+    Ok(())
 }
 
 /// Plays each title and command. The loop owns nothing, since what a loop owns costs the proof at each way out of it.

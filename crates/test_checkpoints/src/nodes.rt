@@ -5,11 +5,19 @@ use header::Node;
 use sigface::HashSign;
 use sim_script::{member_list, signer};
 use std::alloc::{AllocError, Global};
+use validator::Config;
 use wire::Author;
+
+/// The node of a case, and what its validators are set up with.
+#[derive(Drop)]
+pub struct Member {
+    pub node: Node<HashSign>,
+    pub config: Config<HashSign>,
+}
 
 /// The node of these words, if they are one's: its own number, the depth, how many batches it holds at most, and the
 /// stakes of all members, parted by commas.
-pub fn node_of(alloc: Global, words: &str) -> Result<Option<Node<HashSign>>, AllocError> {
+pub fn member_of(alloc: Global, words: &str) -> Result<Option<Member>, AllocError> {
     let words: Vec<&str> = words.split(' ').collect(alloc)?;
     let [own, depth, batches, stakes] = words.as_slice() else {
         return Ok(None);
@@ -17,16 +25,26 @@ pub fn node_of(alloc: Global, words: &str) -> Result<Option<Node<HashSign>>, All
     let Ok(own) = own.parse::<u16>() else {
         return Ok(None);
     };
-    let Some(committee) = committee_of(alloc, depth, batches, stakes)? else {
-        return Ok(None);
-    };
-    let own = Author(own);
+    let committee = committee_of(alloc, depth, batches, stakes)?;
+    let again = committee_of(alloc, depth, batches, stakes)?;
+    match (committee, again) {
+        (Some(committee), Some(again)) => Ok(member_in(Author(own), committee, again)),
+        _ => Ok(None),
+    }
+}
+
+/// The member of this number, if the committee has it. The committee is given twice, since it isn't copied.
+fn member_in(own: Author, committee: Committee, again: Committee) -> Option<Member> {
+    let config = Config::new(again, own, signer(own))?;
     let signer = signer(own);
-    Ok(Some(Node {
-        own,
-        committee,
-        signer,
-    }))
+    Some(Member {
+        node: Node {
+            own,
+            committee,
+            signer,
+        },
+        config,
+    })
 }
 
 /// A committee of as many members as there are stakes, with one worker each.

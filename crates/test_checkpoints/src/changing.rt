@@ -1,0 +1,184 @@
+//! Lists in which one byte is changed, and what loading each of them is answered.
+
+use crate::loading::{copied, load, told_load};
+use crate::nodes::Member;
+use ref_checkpoint::load_answer;
+use std::alloc::Global;
+use test_cases::Told;
+use validator::LoadError;
+
+/// Places of records that are counted one by one.
+const PLACES: usize = 16;
+
+/// To what a byte is changed.
+#[derive(Clone, Copy)]
+pub enum Change {
+    /// To each other value.
+    Values,
+    /// To each value that differs in one bit.
+    Bits,
+}
+
+impl Change {
+    fn has(self, from: u8, to: u8) -> bool {
+        match self {
+            Change::Values => from != to,
+            Change::Bits => (from ^ to).count_ones() == 1,
+        }
+    }
+}
+
+/// How often loading was answered what.
+#[derive(Clone, Copy)]
+struct Counts {
+    lists: u64,
+    loaded: u64,
+    unsound: [u64; PLACES],
+    unsound_whole: u64,
+    /// How often the plain program answered otherwise, or the place is none of those that are counted.
+    others: u64,
+}
+
+impl Counts {
+    fn new() -> Counts {
+        Counts {
+            lists: 0,
+            loaded: 0,
+            unsound: [0; PLACES],
+            unsound_whole: 0,
+            others: 0,
+        }
+    }
+
+    fn count(&mut self, answer: Result<(), LoadError>) {
+        self.lists = self.lists.saturating_add(1);
+        match answer {
+            Ok(()) => self.loaded = self.loaded.saturating_add(1),
+            Err(LoadError::Unsound(place)) => self.count_place(place),
+            Err(LoadError::UnsoundWhole) => {
+                self.unsound_whole = self.unsound_whole.saturating_add(1);
+            }
+            Err(LoadError::Memory) => self.count_other(),
+        }
+    }
+
+    fn count_place(&mut self, place: u64) {
+        match self.unsound.get_mut(place.min(PLACES as u64) as usize) {
+            Some(count) => *count = count.saturating_add(1),
+            None => self.count_other(),
+        }
+    }
+
+    fn count_other(&mut self) {
+        self.others = self.others.saturating_add(1);
+    }
+
+    fn tell(&self, answer: &mut String) -> Told {
+        writeln!(answer, "lists: {}", self.lists)?;
+        tell_count("Ok", self.loaded, answer)?;
+        for place in 0..PLACES {
+            self.tell_place(place, answer)?;
+        }
+        tell_count("3 UnsoundWhole", self.unsound_whole, answer)?;
+        tell_count("not as the plain program", self.others, answer)
+    }
+
+    fn tell_place(&self, place: usize, answer: &mut String) -> Told {
+        match self.unsound.get(place) {
+            Some(count) if *count > 0 => writeln!(answer, "2 Unsound {place}: {count}"),
+            _ => Ok(()),
+        }
+    }
+}
+
+/// Adds how often something was answered, where it was.
+fn tell_count(name: &str, count: u64, answer: &mut String) -> Told {
+    if count == 0 {
+        return Ok(());
+    }
+    writeln!(answer, "{name}: {count}")
+}
+
+/// A list of which one byte after the other is changed, for a validator and the plain program.
+#[derive(Drop)]
+struct Changing<'m> {
+    alloc: Global,
+    member: &'m Member,
+    change: Change,
+    records: Vec<Vec<u8>>,
+    counts: Counts,
+}
+
+/// Changes each byte of the records at these places of a list, and tells how often which answer came.
+pub fn change_bytes(
+    alloc: Global,
+    member: &Member,
+    change: Change,
+    records: &[Vec<u8>],
+    places: &[usize],
+    answer: &mut String,
+) -> Told {
+    let mut changing = Changing {
+        alloc,
+        member,
+        change,
+        records: copied(alloc, records)?,
+        counts: Counts::new(),
+    };
+    for place in places {
+        changing.change_record(*place)?;
+    }
+    changing.counts.tell(answer)
+}
+
+impl Changing<'_> {
+    fn change_record(&mut self, place: usize) -> Told {
+        let length = match self.records.get(place) {
+            None => 0,
+            Some(record) => record.len(),
+        };
+        for at in 0..length {
+            self.change_byte(place, at)?;
+        }
+        Ok(())
+    }
+
+    fn change_byte(&mut self, place: usize, at: usize) -> Told {
+        let Some(byte) = self.byte(place, at) else {
+            return Ok(());
+        };
+        for value in 0..=u8::MAX {
+            if self.change.has(byte, value) {
+                self.try_value(place, at, value)?;
+            }
+        }
+        self.set_byte(place, at, byte);
+        Ok(())
+    }
+
+    fn byte(&self, place: usize, at: usize) -> Option<u8> {
+        self.records.get(place)?.get(at).copied()
+    }
+
+    fn set_byte(&mut self, place: usize, at: usize, value: u8) {
+        if let Some(record) = self.records.get_mut(place) {
+            if let Some(byte) = record.get_mut(at) {
+                *byte = value;
+            }
+        }
+    }
+
+    /// Loads the list with this byte in both ways, and counts what that is answered.
+    fn try_value(&mut self, place: usize, at: usize, value: u8) -> Told {
+        self.set_byte(place, at, value);
+        let plain = load_answer(self.alloc, &self.member.node, &self.records)?;
+        let found = load(self.alloc, &self.member.config, &self.records);
+        let told = told_load(self.alloc, found)?;
+        if told == plain {
+            self.counts.count(found);
+        } else {
+            self.counts.count_other();
+        }
+        Ok(())
+    }
+}

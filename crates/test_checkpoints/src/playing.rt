@@ -1,0 +1,139 @@
+//! Events that a validator takes after it was loaded from a list, or set up anew.
+
+ghost use Rattle.std.specs.Prelude.{◌≡◌, None};
+ghost use Rattle.header.specs.Checks.{fault_of, accepts_all};
+
+use crate::area::tell_area;
+use crate::loading::{kept_records, loaded, tell_error};
+use crate::nodes::Member;
+use crate::telling::{tell_outputs, tell_records};
+use header::{Checked, check};
+use sigface::{HashSign, HashVerify};
+use sim_script::{Command, FormError, Labels, define_batch, define_header, message_of, parse};
+use std::alloc::Global;
+use validator::{LoadError, Refusal, Step, Validator};
+use wire::{Author, Message};
+
+/// What a case plays: the events, which may form headers and batches first, and what is told after them.
+#[derive(Clone, Copy)]
+pub struct Play<'p> {
+    pub events: &'p [String],
+    /// Words: `records` for the records of a checkpoint, `area` for an area that was rewritten to it.
+    pub looks: &'p str,
+}
+
+/// Gives the events to a validator that has taken nothing.
+pub fn play_new(
+    alloc: Global,
+    member: &Member,
+    play: Play<'_>,
+    answer: &mut String,
+) -> Result<(), FormError> {
+    let validator = Validator::new(alloc, &member.config)?;
+    play_on(alloc, validator, play, answer)
+}
+
+/// Gives the events to a validator that is loaded from a list.
+pub fn play_loaded(
+    alloc: Global,
+    member: &Member,
+    records: &[Vec<u8>],
+    play: Play<'_>,
+    answer: &mut String,
+) -> Result<(), FormError> {
+    match loaded(alloc, &member.config, records) {
+        Err(LoadError::Memory) => Err(FormError::Memory),
+        Err(error) => {
+            tell_error(error, answer)?;
+            Ok(answer.push_str("\n")?)
+        }
+        Ok(validator) => play_on(alloc, validator, play, answer),
+    }
+}
+
+fn play_on(
+    alloc: Global,
+    validator: Validator<'_, HashSign>,
+    play: Play<'_>,
+    answer: &mut String,
+) -> Result<(), FormError> {
+    let mut playing = Playing {
+        alloc,
+        validator,
+        labels: Labels::new(alloc),
+    };
+    for line in play.events {
+        playing.run(line.as_str(), answer)?;
+    }
+    playing.look(play.looks, answer)
+}
+
+/// A validator, and what its events are spelled with.
+#[derive(Drop)]
+struct Playing<'c> {
+    alloc: Global,
+    validator: Validator<'c, HashSign>,
+    labels: Labels,
+}
+
+impl Playing<'_> {
+    /// A line that forms something, or an event.
+    fn run(&mut self, line: &str, answer: &mut String) -> Result<(), FormError> {
+        match parse(line.as_bytes()) {
+            Some(Command::Pack(pack)) => define_batch(self.alloc, &mut self.labels, &pack),
+            Some(Command::Form(form)) => define_header(self.alloc, &mut self.labels, &form),
+            Some(command) => {
+                let (sender, message) = message_of(self.alloc, &self.labels, command)?;
+                self.take(sender, message, answer)
+            }
+            None => Err(FormError::BadCommand),
+        }
+    }
+
+    /// Gives an event to the validator, if it passes the checks.
+    fn take(
+        &mut self,
+        sender: Author,
+        message: Message,
+        answer: &mut String,
+    ) -> Result<(), FormError> {
+        match check(self.validator.committee(), &HashVerify, sender, message) {
+            Ok(checked) => self.step(checked, answer),
+            Err(error) => Ok(writeln!(answer, "unchecked {error}")?),
+        }
+    }
+
+    fn step(&mut self, event: Checked, answer: &mut String) -> Result<(), FormError>
+        requires { fault_of self.old.validator.setting.charter accepts_all event ≡ None }
+    {
+        let step = self.validator.step(event);
+        tell_step(&step, answer)
+    }
+
+    /// Tells the records of a checkpoint, and an area that was rewritten to it, where these are asked for.
+    fn look(&self, looks: &str, answer: &mut String) -> Result<(), FormError> {
+        if looks.contains("records") {
+            tell_records(&kept_records(&self.validator)?, answer)?;
+        }
+        if looks.contains("area") {
+            tell_area(self.alloc, &self.validator, answer)?;
+        }
+        Ok(())
+    }
+}
+
+/// Adds what an event is answered, and what is put out.
+fn tell_step(step: &Result<Step, Refusal>, answer: &mut String) -> Result<(), FormError> {
+    match step {
+        Ok(Step::New(outputs)) => {
+            answer.push_str("new\n")?;
+            Ok(tell_outputs(outputs, answer)?)
+        }
+        Ok(Step::Known(outputs)) => {
+            answer.push_str("known\n")?;
+            Ok(tell_outputs(outputs, answer)?)
+        }
+        Err(Refusal::Memory) => Err(FormError::Memory),
+        Err(refusal) => Ok(writeln!(answer, "refused {refusal}")?),
+    }
+}
