@@ -3,12 +3,14 @@
 
     oracles/checkpoints.py > CASES
     oracles/checkpoints.py --changes > CASES
+    oracles/checkpoints.py --every-change > CASES
     oracles/checkpoints.py --plays > CASES
     oracles/checkpoints.py --memory > CASES
 
-The records are those of docs/FORMATS.md. `test_checkpoints` plays these cases. A list is judged in two ways that share nothing: its format by reading each record, its
-soundness by what the node of oracles/histories.py holds of what was read. With --changes lists are loaded in which one byte is changed, with --plays validators are loaded
-from lists and given events, and with --memory there is one such list, for allocations that fail.
+The records are those of docs/FORMATS.md. `test_checkpoints` plays these cases. A list is judged in two ways that share nothing: its format by
+reading each record, its soundness by what the node of oracles/histories.py holds of what was read. With --changes and --every-change one byte
+of a list is changed, with --plays validators are loaded from lists and given events, and with --memory there is a list for allocations that
+fail.
 """
 import collections
 import sys
@@ -647,9 +649,8 @@ def changed(record, index, value):
     return record[:index] + bytes([value]) + record[index + 1:]
 
 
-def changes(title, committee, *records, places, has):
+def changes(committee, *records, places, has):
     """How often which answer comes where a byte of a record at one of these places is changed to a value that this has."""
-    case(title, committee)
     whole, counts = [committee.configuration()] + list(records), collections.Counter()
     for place in places:
         for index, byte in enumerate(whole[place]):
@@ -672,16 +673,40 @@ def is_one_bit(byte, value):
     return (byte ^ value).bit_count() == 1
 
 
-def all_changes():
-    committee, stakes = Committee(), Committee((3, 1, 1, 1))
+def few_changes():
+    """Short records with each other value, long ones with one bit changed."""
+    committee, stakes, records = Committee(), Committee((3, 1, 1, 1)), one_supporter()
+    own, batches, held = short_records()
+    case('a configuration, a vote, and an own header with a vote', committee)
+    changes(committee, *own, places=[0, 1], has=is_other)
+    changes(committee, *own, places=[2], has=is_one_bit)
+    case('an own batch with acknowledgements and the mark, and a batch of a peer', committee)
+    changes(committee, *batches, places=[1, 2], has=is_other)
+    case('a certificate', committee)
+    changes(committee, held, places=[1], has=is_one_bit)
+    case('a leader with its order, its supporter, and the coins', stakes)
+    changes(stakes, *records, places=[6], has=is_other)
+    changes(stakes, *records, places=[1, 5], has=is_one_bit)
+
+
+def every_change():
+    """All of them with each other value."""
+    committee, stakes, records = Committee(), Committee((3, 1, 1, 1)), one_supporter()
+    own, batches, held = short_records()
+    case('a configuration, a vote, and an own header with a vote', committee)
+    changes(committee, *own, places=[0, 1, 2], has=is_other)
+    case('an own batch with acknowledgements and the mark, a batch of a peer, and a certificate', committee)
+    changes(committee, *batches, held, places=[1, 2, 3], has=is_other)
+    case('a leader with its order, its supporter, and the coins', stakes)
+    changes(stakes, *records, places=[1, 5, 6], has=is_other)
+    changes(stakes, *records, places=range(len(records) + 1), has=is_one_bit)
+
+
+def short_records():
+    """A vote and an own header with a vote, two batches, a certificate."""
     own, mine, other = Ledger().header(0, 1), batch_body(0, b'ab'), batch_body(1, b'cd')
-    changes('a configuration, a vote, and an own header with a vote', committee, vote_record(1, 1, digest(7)), header_record(own, [1]),
-            places=[0, 1, 2], has=is_other)
-    changes('an own batch with an acknowledgement and the mark, a batch of a peer, and a certificate', committee,
-            batch_record(mine, [1, 2], True), batch_record(other), certificate_record(Ledger().header(1, 1)), places=[1, 2, 3], has=is_other)
-    records = one_supporter()
-    changes('a leader with its order, its supporter, and the coins', stakes, *records, places=[1, 5, 6], has=is_other)
-    changes('the same, one bit changed', stakes, *records, places=range(len(records) + 1), has=is_one_bit)
+    return ([vote_record(1, 1, digest(7)), header_record(own, [1])], [batch_record(mine, [1, 2], True), batch_record(other)],
+            certificate_record(Ledger().header(1, 1)))
 
 
 def one_supporter():
@@ -891,7 +916,7 @@ HEAD_OF_CHANGES = """# crates: ref_checkpoint checkpoint validator
 # Lists of a checkpoint's records in which one byte is changed, and how often loading them is answered what:
 # `oracles/checkpoints.py --changes` writes these cases. change-values: each byte of the records at these places is changed to
 # each other value, change-bits: to each that differs in one bit; the configuration is at place 0. See checkpoints.cases for
-# the other commands."""
+# the other commands. `oracles/checkpoints.py --every-change` writes longer ones, for the proved program: with each other value of all."""
 
 HEAD_OF_PLAYS = """# crates: checkpoint validator
 # Validators that are loaded from lists of a checkpoint's records, and given events: `oracles/checkpoints.py --plays` writes
@@ -912,7 +937,8 @@ def memory():
 
 FILES = {
     '': (HEAD, examples, formats, batches, votes, headers, certificates, wholes),
-    '--changes': (HEAD_OF_CHANGES, all_changes),
+    '--changes': (HEAD_OF_CHANGES, few_changes),
+    '--every-change': (HEAD_OF_CHANGES, every_change),
     '--plays': (HEAD_OF_PLAYS, all_plays),
     '--memory': (HEAD_OF_MEMORY, memory),
 }
