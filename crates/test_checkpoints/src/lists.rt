@@ -1,16 +1,11 @@
-//! Lists of records, what the plain program and a validator answer of each, and what a validator that is loaded from one
-//! then does.
+//! The commands of a case, which spell lists of records.
 
-use crate::changing::{Change, change_bytes};
-use crate::loading::compare_loads;
+use crate::list::List;
 use crate::nodes::{Member, member_of};
-use crate::playing::{Play, play_loaded, play_new};
 use crate::records::{bytes_in, configuration_record, head_record};
 use header::Node;
-use ref_checkpoint::{checkpoint_read, load_answer, state_records};
 use sigface::HashSign;
-use sim_script::FormError;
-use std::alloc::{AllocError, Global};
+use std::alloc::Global;
 use test_cases::{Told, bad, write_hex};
 
 /// The node of a case, the list that its commands are spelling, and the events that come after it.
@@ -89,70 +84,18 @@ impl Lists {
             None => bad(answer),
             Some(member) => {
                 complete(self.alloc, &member.node, name, &mut self.records)?;
-                let alike = self.ended(member, name, words, answer)?;
+                let list = List {
+                    alloc: self.alloc,
+                    member,
+                    records: &self.records,
+                    events: &self.events,
+                };
+                let alike = list.obey(name, words, answer)?;
                 self.written_alike = self.written_alike.saturating_add(u64::from(alike));
             }
         }
         self.clear();
         Ok(())
-    }
-
-    /// Answers a command that ends the list. Says whether records of a state were written again as they were.
-    fn ended(
-        &self,
-        member: &Member,
-        name: &str,
-        words: &str,
-        answer: &mut String,
-    ) -> Result<bool, AllocError> {
-        match name {
-            "load" | "load-all" | "load-none" => self.load(member, answer),
-            "play" | "play-new" => {
-                told(self.play(member, name, words, answer), answer)?;
-                Ok(false)
-            }
-            _ => {
-                self.change(member, name, words, answer)?;
-                Ok(false)
-            }
-        }
-    }
-
-    /// Answers what loading the list is answered, by the plain program and by validators.
-    fn load(&self, member: &Member, answer: &mut String) -> Result<bool, AllocError> {
-        let plain = load_answer(self.alloc, &member.node, &self.records)?;
-        writeln!(answer, "{plain}")?;
-        compare_loads(self.alloc, member, &self.records, plain.as_str(), answer)?;
-        is_written_alike(self.alloc, &member.node, &self.records, answer)
-    }
-
-    /// Gives the events to a validator that is loaded from the list, or has taken nothing.
-    fn play(
-        &self,
-        member: &Member,
-        name: &str,
-        looks: &str,
-        answer: &mut String,
-    ) -> Result<(), FormError> {
-        let play = Play {
-            events: &self.events,
-            looks,
-        };
-        match name {
-            "play" => play_loaded(self.alloc, member, &self.records, play, answer),
-            _ => play_new(self.alloc, member, play, answer),
-        }
-    }
-
-    /// Answers how often which answer comes where one byte of the records at these places is changed.
-    fn change(&self, member: &Member, name: &str, words: &str, answer: &mut String) -> Told {
-        let change = match name {
-            "change-values" => Change::Values,
-            "change-bits" => Change::Bits,
-            _ => return Ok(bad(answer)),
-        };
-        let places = places_of(self.alloc, words)?;
-        change_bytes(self.alloc, member, change, &self.records, &places, answer)
     }
 
     /// Answers the bytes of a record that no list spells.
@@ -175,47 +118,6 @@ fn complete(alloc: Global, node: &Node<HashSign>, name: &str, records: &mut Vec<
         _ => records.insert(0, configuration_record(alloc, node)?)?,
     }
     Ok(())
-}
-
-/// That a play was made, unless memory was refused.
-fn told(played: Result<(), FormError>, answer: &mut String) -> Told {
-    match played {
-        Ok(()) => Ok(()),
-        Err(FormError::Memory) => Err(AllocError),
-        Err(_) => Ok(bad(answer)),
-    }
-}
-
-/// The places of these words.
-fn places_of(alloc: Global, words: &str) -> Result<Vec<usize>, AllocError> {
-    let mut places = Vec::new(alloc);
-    for word in words.split_whitespace() {
-        places.push(word.parse().unwrap_or(0))?;
-    }
-    Ok(places)
-}
-
-/// Whether there are records after the configuration, which are read, and written again as they were. What is read has
-/// one spelling, so the answer has a line more where it is written otherwise, and is then not as expected.
-fn is_written_alike(
-    alloc: Global,
-    node: &Node<HashSign>,
-    records: &[Vec<u8>],
-    answer: &mut String,
-) -> Result<bool, AllocError> {
-    let rest = records.get(1..).unwrap_or(&[]);
-    if rest.is_empty() {
-        return Ok(false);
-    }
-    let Ok(checkpoint) = checkpoint_read(alloc, node, rest)? else {
-        return Ok(false);
-    };
-    let written = state_records(alloc, &checkpoint)?;
-    if written.as_slice() != rest {
-        answer.push_str("written otherwise\n")?;
-        return Ok(false);
-    }
-    Ok(true)
 }
 
 fn tell_record(record: &[u8], answer: &mut String) -> Told {

@@ -4,6 +4,7 @@
 
 mod area;
 mod changing;
+mod list;
 mod lists;
 mod loading;
 mod nodes;

@@ -1,0 +1,124 @@
+//! A list of records: what the plain program and a validator answer of it, and what a validator that is loaded from it then
+//! does.
+
+use crate::changing::{Change, change_bytes};
+use crate::loading::compare_loads;
+use crate::nodes::Member;
+use crate::playing::{Play, play_loaded, play_new};
+use header::Node;
+use ref_checkpoint::{checkpoint_read, load_answer, state_records};
+use sigface::HashSign;
+use sim_script::FormError;
+use std::alloc::{AllocError, Global};
+use test_cases::{Told, bad};
+
+/// A list of records, with the node of its case and the events that come after it.
+#[derive(Clone, Copy)]
+pub struct List<'l> {
+    pub alloc: Global,
+    pub member: &'l Member,
+    pub records: &'l [Vec<u8>],
+    pub events: &'l [String],
+}
+
+impl List<'_> {
+    /// Answers the command that ends the list. Says whether records of a state were written again as they were.
+    pub fn obey(&self, name: &str, words: &str, answer: &mut String) -> Result<bool, AllocError> {
+        match name {
+            "load" | "load-all" | "load-none" => self.load(answer),
+            "play" | "play-new" => {
+                told(self.play(name, words, answer), answer)?;
+                Ok(false)
+            }
+            _ => {
+                self.change(name, words, answer)?;
+                Ok(false)
+            }
+        }
+    }
+
+    /// Answers what loading the list is answered, by the plain program and by validators.
+    fn load(&self, answer: &mut String) -> Result<bool, AllocError> {
+        let plain = load_answer(self.alloc, &self.member.node, self.records)?;
+        writeln!(answer, "{plain}")?;
+        compare_loads(
+            self.alloc,
+            self.member,
+            self.records,
+            plain.as_str(),
+            answer,
+        )?;
+        is_written_alike(self.alloc, &self.member.node, self.records, answer)
+    }
+
+    /// Gives the events to a validator that is loaded from the list, or has taken nothing.
+    fn play(&self, name: &str, looks: &str, answer: &mut String) -> Result<(), FormError> {
+        let play = Play {
+            events: self.events,
+            looks,
+        };
+        match name {
+            "play" => play_loaded(self.alloc, self.member, self.records, play, answer),
+            _ => play_new(self.alloc, self.member, play, answer),
+        }
+    }
+
+    /// Answers how often which answer comes where one byte of the records at these places is changed.
+    fn change(&self, name: &str, words: &str, answer: &mut String) -> Told {
+        let change = match name {
+            "change-values" => Change::Values,
+            "change-bits" => Change::Bits,
+            _ => return Ok(bad(answer)),
+        };
+        let places = places_of(self.alloc, words)?;
+        change_bytes(
+            self.alloc,
+            self.member,
+            change,
+            self.records,
+            &places,
+            answer,
+        )
+    }
+}
+
+/// Whether there are records after the configuration, which are read, and written again as they were. What is read has
+/// one spelling, so the answer has a line more where it is written otherwise, and is then not as expected.
+fn is_written_alike(
+    alloc: Global,
+    node: &Node<HashSign>,
+    records: &[Vec<u8>],
+    answer: &mut String,
+) -> Result<bool, AllocError> {
+    let rest = records.get(1..).unwrap_or(&[]);
+    if rest.is_empty() {
+        return Ok(false);
+    }
+    let Ok(checkpoint) = checkpoint_read(alloc, node, rest)? else {
+        return Ok(false);
+    };
+    let written = state_records(alloc, &checkpoint)?;
+    if written.as_slice() != rest {
+        answer.push_str("written otherwise\n")?;
+        return Ok(false);
+    }
+    Ok(true)
+}
+
+/// That a play was made, unless memory was refused.
+fn told(played: Result<(), FormError>, answer: &mut String) -> Told {
+    match played {
+        Ok(()) => Ok(()),
+        Err(FormError::Memory) => Err(AllocError),
+        Err(_) => Ok(bad(answer)),
+    }
+}
+
+/// The places of these words.
+fn places_of(alloc: Global, words: &str) -> Result<Vec<usize>, AllocError> {
+    let mut places = Vec::new(alloc);
+    for word in words.split_whitespace() {
+        places.push(word.parse().unwrap_or(0))?;
+    }
+    Ok(places)
+}
