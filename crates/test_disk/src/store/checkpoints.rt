@@ -1,7 +1,7 @@
 //! A checkpoint of the book.
 
-ghost use Rattle.std.specs.Prelude.{IsSome};
-ghost use Rattle.journal.specs.Journal.{spare_of, IsAlive};
+ghost use Rattle.std.specs.Prelude.{◌≤◌, length, IsSome};
+ghost use Rattle.journal.specs.Journal.{disk_of, spare_of, IsAlive};
 
 use crate::memory::{disk_with, failing_disk};
 use crate::store::area_runs::{add_first, own_configuration};
@@ -36,8 +36,7 @@ pub fn put_checkpoint(
     Ok(())
 }
 
-/// Makes a checkpoint of a book on these two disks.
-#[tactic(auto, using(crate::proofs::Begun::begun))]
+/// Makes a checkpoint of a book on these two disks, where the area that is read has its first group.
 fn rewrite(own: &mut OwnBook<'_, HashSign>, journal: &mut Journal<MemDisk>, answer: &mut String)
     requires alive { IsAlive ⟦<MemDisk as Disk>⟧.device journal.old }
     requires pair { IsSome (spare_of journal.old) }
@@ -45,6 +44,20 @@ fn rewrite(own: &mut OwnBook<'_, HashSign>, journal: &mut Journal<MemDisk>, answ
     if journal.len() < 2 {
         return bad(answer);
     }
+    rewrite_begun(own, journal, answer)
+}
+
+/// Makes it, and tells of it.
+#[tactic(auto, using(crate::proofs::Begun::begun))]
+fn rewrite_begun(
+    own: &mut OwnBook<'_, HashSign>,
+    journal: &mut Journal<MemDisk>,
+    answer: &mut String,
+)
+    requires alive { IsAlive ⟦<MemDisk as Disk>⟧.device journal.old }
+    requires pair { IsSome (spare_of journal.old) }
+    requires begun { 2 ≤ length (⟦<MemDisk as Disk>⟧.device.content (disk_of journal.old)) }
+{
     match own.checkpoint(journal) {
         Ok(generation) => {
             put_count(answer, "generation ", generation, "");
