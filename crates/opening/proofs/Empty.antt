@@ -75,12 +75,17 @@ in_body : (body : Option (List ℕ)) (behind : List ℕ → Result Found ℕ) (p
 in_body None behind place long is = cc
 in_body (Some b) behind place long is = group_some b (long b refl) (in_group (group_of b) (behind b) place is)
 
-walk_open : (gate : ℕ) (rest : List ℕ) (place : ℕ) → gate ≢ 0 → walk 0 0 (gate ∷ rest) ≡ Ok ([], place) → ⊥
+pub walk_open : (gate : ℕ) (rest : List ℕ) (place : ℕ) → gate ≢ 0 → walk 0 0 (gate ∷ rest) ≡ Ok ([], place) → ⊥
 unfolding walk
 walk_open gate rest place other is =
     in_body (body_at rest) (λ b. walk 1 (4 + length b) rest) place
     (λ b found. let s = body_stands rest b found in omega (arith, s.some, s.long))
     (sym (cond-false (eqb gate 0) (Ok ([], 0)) _ (ne_eqb gate 0 other)) ∙ is)
+
+-- a file of two bytes or more is read from its front
+pub scans_long : (file : List ℕ) → 2 ≤ length file → scan file ≡ walk 0 0 file
+unfolding scan
+scans_long file long = cond-false (ltb (length file) 2) (Ok ([], 0)) (walk 0 0 file) (le-ltb (length file) 2 long)
 
 -- ---- the first record
 

@@ -87,7 +87,7 @@ no_ok : (error : JournalError) (state : State) → ◌≡◌ {A = Result State J
 no_ok error state same = cc
 
 -- a reading after no fault gave a state
-unless_ok : (fault : Option JournalError) (read : Result State ℕ) (state : State) → unless fault read ≡ Ok state → (fault ≡ None) × (read ≡ Ok state)
+pub unless_ok : (fault : Option JournalError) (read : Result State ℕ) (state : State) → unless fault read ≡ Ok state → (fault ≡ None) × (read ≡ Ok state)
 unless_ok (Some error) read state is = absurd (no_ok error state is)
 unless_ok None (Ok found) state is = (refl, ap Ok (ok_is found state is))
 unless_ok None (Err place) state is = absurd (no_ok (Damaged place) state is)
@@ -182,7 +182,7 @@ stakes_long : (version : Version) (charter : Charter) → length charter.stakes 
 stakes_long First charter staked = refl
 stakes_long Second charter staked = each_long charter.stakes ∙ ap (λ (n : ℕ). n * 4) staked
 
-configuration_shape : (version : Version) (node : Node) → IsNode node → AreKeys node → shaped_version (configuration_of version node.charter node.own) ≡ Some version
+pub configuration_shape : (version : Version) (node : Node) → IsNode node → AreKeys node → shaped_version (configuration_of version node.charter node.own) ≡ Some version
 configuration_shape version node sound keys =
     let charter = node.charter in
     let long = keys_long charter.keys keys in

@@ -7,4 +7,11 @@ pub mod GroupTexts
 pub mod Histories
 pub mod Laws
 pub mod Opened
+pub mod FirstGroups
+pub mod PairTelling
+pub mod PairLaws
+mod StateTexts
+mod Keys
+mod Renewals
+mod PairReplays
 mod Replays

@@ -2,17 +2,18 @@
 use Rattle.std.specs.Prelude.{◌≡◌, ◌≢◌, ◌⊎◌, ℕ, List, Result, Ok, IfErr}
 use Rattle.diskmodel.specs.Disk.{AtEachMoment, Device as Disks}
 use Rattle.diskmodel.specs.Outcomes.{AreBytes}
-use Rattle.journal.specs.Areas.{alone}
+use Rattle.journal.specs.Areas.{Areas, alone, pair}
 use Rattle.journal.specs.Journal.{disk_after, TellsFaultBack}
 use Rattle.journal.specs.declared.error.Failed.{Failed}
 use Rattle.journal.specs.declared.error.JournalError.{JournalError}
 use Rattle.journal.specs.declared.error.JournalError.TheVariants.{Memory, Device, Full}
+use Rattle.spec_machine.specs.Sound.{IsSound}
 use Rattle.spec_model.specs.Admitting.{IsLegal}
 use Rattle.spec_model.specs.Giving.{kept}
 use Rattle.spec_model.specs.Histories.{History}
 use Rattle.spec_model.specs.Nodes.{Node, IsNode}
 use Rattle.spec_model.specs.States.{State}
-use Rattle.opening.specs.Told.{told, Tells, IsToldAsOneOf, KeepsRecords}
+use Rattle.opening.specs.Told.{told, told_in, Tells, IsToldAsOneOf, KeepsRecords}
 use Rattle.admission.specs.declared.tables.Tables.{Tables}
 use Rattle.validator.specs.Standing.{AreAtSound}
 use Rattle.spec_world.specs.Runs.{AreKeys}
@@ -48,6 +49,39 @@ pub record IsFound (node : Node) (world : World) (bytes : List ℕ) : Type 0 whe
 abbrev pub WorldsAreTold : Type 0
 WorldsAreTold = (node : Node) (moves : List Move) (world : World) (bytes : List ℕ) → IsNode node → AreKeys node → IsRun node moves world
     → MayStop world (alone bytes) → IsFound node world bytes
+
+-- ---- the same of one disk or of two
+
+-- all of the bytes are bytes
+abbrev pub AreBytesIn : Areas → Type 0
+AreBytesIn (alone bytes) = AreBytes bytes
+AreBytesIn (pair one other) = AreBytes one × AreBytes other
+
+-- areas stand for a state, which is sound. A checkpoint may be of a state that no history leads to
+pub record IsOfAreas (node : Node) (areas : Areas) (state : State) : Type 0 where
+  pub stands_for : StandsFor node areas state
+  pub sound : IsSound node state
+
+-- what areas are told as is such a state
+abbrev pub ToldInStandsFor : Type 0
+ToldInStandsFor = (node : Node) (areas : Areas) (state : State) → IsNode node → AreBytesIn areas → told_in node areas ≡ Ok state
+    → IsOfAreas node areas state
+
+-- and each state for which areas stand is what they are told as
+abbrev pub WhatStandsIsToldIn : Type 0
+WhatStandsIsToldIn = (node : Node) (areas : Areas) (state : State) → IsNode node → AreKeys node → StandsFor node areas state → told_in node areas ≡ Ok state
+
+-- areas are told as what is kept of a history that the world promises to be found again
+pub record IsFoundIn (node : Node) (world : World) (areas : Areas) : Type 0 where
+  pub history : History
+  pub is_told : told_in node areas ≡ Ok (kept node history)
+  pub stands_for : StandsFor node areas (kept node history)
+  pub recovered : IsRecovered node world history
+
+-- whatever a stop leaves in a world of the node is told so
+abbrev pub WorldsAreToldIn : Type 0
+WorldsAreToldIn = (node : Node) (moves : List Move) (world : World) (areas : Areas) → IsNode node → AreKeys node → IsRun node moves world
+    → MayStop world areas → IsFoundIn node world areas
 
 -- ---- what an opening answers
 

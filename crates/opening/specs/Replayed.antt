@@ -1,9 +1,7 @@
 -- What a validator has come to that takes the records of a journal as they are read.
 use Rattle.std.specs.Prelude.{◌≡◌, ◌≢◌, All, ℕ, Bool, List, [], ◌∷◌, drop, Option, Some, None, Result, Ok, Err, IfOk, IfErr, OnOk}
-use Rattle.std.specs.Option.{option_map_or}
-use Rattle.journal.specs.Configuration.{shaped_version}
 use Rattle.journal.specs.declared.error.JournalError.{JournalError}
-use Rattle.journal.specs.declared.error.JournalError.TheVariants.{Memory, Device, Damaged, Full}
+use Rattle.journal.specs.declared.error.JournalError.TheVariants.{Memory, Device, Full}
 use Rattle.journal.specs.declared.record.Record.{Record}
 use Rattle.sigface.specs.Scheme.{Scheme}
 use Rattle.spec_machine.specs.Machine.{fresh}
@@ -11,11 +9,7 @@ use Rattle.spec_model.specs.Nodes.{Node}
 use Rattle.spec_model.specs.States.{State}
 use Rattle.validator.specs.Setting.{ConfigView, node_of}
 use Rattle.validator.specs.Standing.{ValidatorView}
-use Rattle.opening.specs.Told.{IsText, StandsAt, read_events, mismatch, is_own, is_alone, unless}
-
--- why a first record isn't the node's own configuration, whatever comes after it
-abbrev pub own_fault : Node → Record → Option JournalError
-own_fault node first = option_map_or (λ version. mismatch (is_own node first.bytes version)) (shaped_version first.bytes) (Some (Damaged first.gate))
+use Rattle.opening.specs.Told.{IsText, StandsAt, read_events, own_fault, is_alone, unless}
 
 -- the state after the events of a journal's records, or why they are none, in whichever groups they stand
 abbrev pub read_apart : Node → List Record → Result State JournalError

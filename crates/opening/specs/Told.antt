@@ -1,5 +1,5 @@
 -- What the bytes of a node's journal are told as: the state after the events that they have, or why they are none of this node's.
-use Rattle.std.specs.Prelude.{◌≡◌, ◌≢◌, ◌⊎◌, All, ℕ, ◌==◌, ◌&&◌, not, nat_lt, Bool, true, List, [], ◌∷◌, length, drop, Option, Some}
+use Rattle.std.specs.Prelude.{◌≡◌, ◌≢◌, ◌⊎◌, All, ℕ, ◌==◌, ◌&&◌, not, nat_lt, Bool, true, false, List, [], ◌∷◌, length, map, drop, get_or, Option, Some}
 use Rattle.std.specs.Prelude.{None, is_none, Result, Ok, Err, slice_index, if◌then◌else◌}
 use Rattle.std.specs.Int.{w16, from_be_bytes}
 use Rattle.std.specs.List.{list_all}
@@ -10,12 +10,17 @@ use Rattle.admission.specs.declared.step.Step.TheVariants.{New, Known}
 use Rattle.committee.specs.Charter.{Charter}
 use Rattle.diskmodel.specs.Outcomes.{AreBytes}
 use Rattle.header.specs.Checks.{fault_of, accepts_all}
+use Rattle.journal.specs.Areas.{Areas, alone, pair, stands_in}
 use Rattle.journal.specs.Configuration.{shaped_version}
 use Rattle.journal.specs.Format.{kept_at, stands}
 use Rattle.journal.specs.Journal.{HaveSameRecords}
 use Rattle.journal.specs.declared.error.JournalError.{JournalError}
 use Rattle.journal.specs.declared.error.JournalError.TheVariants.{Memory, Damaged, ConfigMismatch}
 use Rattle.journal.specs.declared.record.Record.{Record}
+use Rattle.spec_checkpoint.specs.Data.{Checkpoint}
+use Rattle.spec_checkpoint.specs.Loading.{LoadFault, at_record, of_whole, load_fault}
+use Rattle.spec_checkpoint.specs.Meaning.{state_in}
+use Rattle.spec_checkpoint.specs.Reading.{kind_of, checkpoint_read}
 use Rattle.spec_machine.specs.Machine.{after, answered, fresh}
 use Rattle.spec_model.specs.Admitting.{is_new}
 use Rattle.spec_model.specs.Nodes.{Node}
@@ -24,6 +29,7 @@ use Rattle.spec_model.specs.Words.{Author, Event, Message}
 use Rattle.header.specs.declared.refusal.Refusal.{Refusal}
 use Rattle.header.specs.declared.refusal.Refusal.TheVariants as refusals
 use Rattle.spec_records.specs.Records.{configuration_of}
+use Rattle.spec_world.specs.World.{bytes_of}
 use Rattle.journal.specs.declared.version.Version.{Version}
 use Rattle.journal.specs.declared.version.Version.TheVariants.{First, Second}
 use Rattle.opening.specs.declared.events.TheConstants.{EVENT, FRONT_BYTES}
@@ -110,6 +116,10 @@ mismatch own = if own then None else Some ConfigMismatch
 abbrev pub first_fault : Node → Record → List Record → Option JournalError
 first_fault node first events = option_map_or (λ version. mismatch (is_own node first.bytes version)) (first_version first events) (Some (Damaged first.gate))
 
+-- why a first record isn't the node's own configuration, whatever comes after it
+abbrev pub own_fault : Node → Record → Option JournalError
+own_fault node first = option_map_or (λ version. mismatch (is_own node first.bytes version)) (shaped_version first.bytes) (Some (Damaged first.gate))
+
 -- what was read, or damage at its place
 abbrev pub or_damaged : Result State ℕ → Result State JournalError
 or_damaged (Ok state) = Ok state
@@ -133,6 +143,75 @@ told_by node (Err place) = Err (Damaged place)
 -- the state after the events of a journal's bytes, or why they are none
 unfoldable pub told : Node → List ℕ → Result State JournalError
 told node bytes = told_by node (stands bytes)
+
+-- ---- a journal on two disks
+
+-- after the first record a head stands in its group
+abbrev pub has_head : Record → List Record → Bool
+has_head first [] = false
+has_head first (second ∷ rest) = second.gate == first.gate
+
+-- a record's kind is an event's
+abbrev pub is_event : Record → Bool
+is_event one = kind_of one.bytes == EVENT
+
+-- the records up to the first one of an event: those of a checkpoint's state
+unfoldable pub state_part : List Record → List Record
+state_part [] = []
+state_part (one ∷ rest) = if is_event one then [] else one ∷ state_part rest
+
+-- and those from there on
+unfoldable pub events_part : List Record → List Record
+events_part [] = []
+events_part (one ∷ rest) = if is_event one then one ∷ rest else events_part rest
+
+-- the gates of records, a configuration's first
+abbrev pub gates_of : List Record → List ℕ
+gates_of records = map (λ one. one.gate) records
+
+-- the first of these gates
+abbrev pub first_of : List ℕ → ℕ
+first_of gates = get_or gates 0 0
+
+-- the gate at which a fault of the records with these gates is told: the record's, or for the whole the first one
+abbrev pub gate_of : List ℕ → LoadFault → ℕ
+gate_of gates (at_record place) = get_or gates place (first_of gates)
+gate_of gates of_whole = first_of gates
+
+-- the state of a checkpoint. Records without a fault are read as one
+abbrev pub loaded : Node → ℕ → Result Checkpoint ℕ → Result State ℕ
+loaded node gate (Ok checkpoint) = Ok (state_in node checkpoint)
+loaded node gate (Err place) = Err gate
+
+-- the state of a checkpoint's records after the configuration, or the gate of the first fault
+unfoldable pub read_state : Node → Record → List Record → Result State ℕ
+read_state node first state =
+    option_map_or (λ fault. Err (gate_of (gates_of (first ∷ state)) fault)) (load_fault node (bytes_of (first ∷ state)))
+    (loaded node first.gate (checkpoint_read node (bytes_of state)))
+
+-- the state after a checkpoint, whose records come first, and after the events after it
+unfoldable pub read_checkpoint : Node → Record → List Record → Result State ℕ
+read_checkpoint node first records =
+    go_on (λ state. read_events node state (events_part records)) (read_state node first (state_part records))
+
+-- the state after all that comes after the first record: a head and a checkpoint, or events alone
+abbrev pub read_behind : Node → Record → List Record → Result State ℕ
+read_behind node first rest = if has_head first rest then read_checkpoint node first (drop 1 rest) else read_events node (fresh node) rest
+
+-- the state after the records of the area that is read, or why they are none. Without a record it is the fresh one
+unfoldable pub read_pair : Node → List Record → Result State JournalError
+read_pair node [] = Ok (fresh node)
+read_pair node (first ∷ rest) = unless (own_fault node first) (read_behind node first rest)
+
+-- what reading the groups of two areas gave
+abbrev pub told_by_both : Node → Result (List Record) ℕ → Result State JournalError
+told_by_both node (Ok records) = read_pair node records
+told_by_both node (Err place) = Err (Damaged place)
+
+-- the state after a journal on one disk or on two, or why its bytes are none
+abbrev pub told_in : Node → Areas → Result State JournalError
+told_in node (alone bytes) = told node bytes
+told_in node (pair one other) = told_by_both node (stands_in (pair one other))
 
 -- ---- what the calls answer
 

@@ -1,12 +1,13 @@
 //! Which version of the record of a configuration can tell a committee.
 
-ghost use Rattle.std.specs.Prelude.{◌≡◌, true};
+ghost use Rattle.std.specs.Prelude.{◌≡◌, true, All};
 ghost use Rattle.spec_records.specs.Records.{CanTell};
 ghost use Rattle.opening.specs.Told.{has_ones as told_ones, can_tell as told_by_version};
-ghost use Rattle.wire.specs.Fields.{AreBytes};
+ghost use Rattle.wire.specs.Fields.{HasBytes, AreBytes};
 
 use committee::Committee;
 use journal::Version;
+use wire::{Author, Key};
 
 /// What holds of bytes. The call does nothing.
 pub fn are_bytes(bytes: &[u8])
@@ -32,4 +33,23 @@ fn has_ones(committee: &Committee) -> bool
 {
     committee.limits_hold();
     committee.total() == committee.size() as u64
+}
+
+/// What holds of a committee's keys: each has 32 bytes. It looks at each, and does nothing.
+pub(crate) fn keys_hold(committee: &Committee)
+    ensures { All (λ key. HasBytes 32 key.0) committee.now.keys }
+{
+    for member in 0..committee.size() {
+        match committee.key(Author(member)) {
+            Some(key) => is_key(key),
+            None => unreachable!(),
+        }
+    }
+}
+
+// What holds of a key: it has 32 bytes. The call does nothing.
+fn is_key(key: &Key)
+    ensures { HasBytes 32 key.now.0 }
+{
+    are_bytes(&key.0);
 }

@@ -1,15 +1,23 @@
 //! Opening a node on a disk: what its journal has, and the validator after the events there.
 #![tactic(auto)]
 
+mod checkpoints;
 mod configuration;
 mod events;
 mod first_group;
+mod pair_replay;
+mod reached;
 mod reader;
+mod renewing;
 mod reopening;
 mod replay;
 mod standing;
 
+pub use checkpoints::checkpoint;
 pub use configuration::can_tell;
 pub use events::{EVENT, FRONT_BYTES, event_of, is_text};
 pub use reopening::{first_version, is_own, reopen, write_configuration};
-pub use standing::{told_stands_for, what_stands_is_told, worlds_are_told};
+pub use standing::{
+    told_in_stands_for, told_stands_for, what_stands_is_told, what_stands_is_told_in,
+    worlds_are_told, worlds_are_told_in,
+};

@@ -1,0 +1,112 @@
+//! Taking the records of a journal on two disks while they are read: a checkpoint where there is one, and events.
+
+ghost use Rattle.std.specs.Prelude.{◌≡◌, ◌≢◌, ◌∷◌, [], ◌++◌, List, Some, None, Err, All, is_none, IfOk, IfErr, OnOk};
+ghost use Rattle.journal.specs.declared.record.Record.{Record};
+ghost use Rattle.validator.specs.Setting.{node_of};
+ghost use Rattle.opening.specs.Told.{IsText, StandsAt, Tells, read_pair};
+ghost use Rattle.opening.specs.PairReplayed.{HasReached, version_in};
+ghost use Rattle.opening.specs.PairReplays.{HasTakenPair, TakesMorePair};
+
+use crate::events::is_text;
+use crate::reached::{Reached, after_event, after_first, after_second, after_state, loaded};
+use journal::{JournalError, Record, Version, shaped_version};
+use sigface::Sign;
+use std::alloc::{AllocError, Global};
+use std::mem;
+use validator::{Config, Validator};
+
+/// A reader of the records of a journal on two disks. The first of them has to be its configuration.
+#[derive(Drop)]
+pub(crate) struct PairReplay<'a, S: Sign> {
+    config: &'a Config<S>,
+    // The version of the first record.
+    version: Option<Version>,
+    reached: Reached<'a, S>,
+}
+
+impl<'a, S: Sign> PairReplay<'a, S> {
+    /// One that has taken no record yet. It takes no memory.
+    pub(crate) fn new(config: &'a Config<S>) -> PairReplay<'a, S>
+        ensures config { result.config.now ≡ config.now }
+        ensures none { HasTakenPair S.scheme result [] }
+    {
+        PairReplay {
+            config,
+            version: None,
+            reached: Reached::Empty,
+        }
+    }
+
+    /// The version of the configuration, None where it has taken no record.
+    pub(crate) fn version(&self) -> Option<Version>
+        ensures { result ≡ self.now.version }
+    {
+        self.version
+    }
+
+    /// The validator after all records, or what is wrong with them.
+    pub(crate) fn finish(self, alloc: Global) -> Result<Validator<'a, S>, JournalError>
+        ensures setting { (records : List Record) → HasTakenPair S.scheme self.entry records → IfOk result (λ validator. validator.setting ≡ self.entry.config.now) }
+        ensures stands { let node = node_of S.scheme self.entry.config.now in (records : List Record) → HasTakenPair S.scheme self.entry records
+            → IfOk result (λ validator. StandsAt node (read_pair node records) validator.tables) }
+        ensures err { let node = node_of S.scheme self.entry.config.now in (records : List Record) → HasTakenPair S.scheme self.entry records
+            → IfErr result (λ error. Tells error (read_pair node records)) }
+        ensures never { (records : List Record) → HasTakenPair S.scheme self.entry records
+            → IfErr result (λ error. (error ≢ JournalError.Device) × (error ≢ JournalError.Full)) }
+    {
+        let PairReplay {
+            config,
+            version: _,
+            reached,
+        } = self;
+        match reached {
+            Reached::Empty | Reached::Configured(..) => Ok(Validator::new(alloc, config)?),
+            Reached::Checkpoint(loading, gates) => loaded(loading, gates),
+            Reached::Standing(validator) => Ok(validator),
+            Reached::Failed(fault) => Err(fault),
+        }
+    }
+
+    // Takes these records.
+    pub(crate) fn take_all(&mut self, alloc: Global, records: &[Record]) -> Result<(), AllocError>
+        ensures { OnOk result (TakesMorePair S.scheme self.old records.now self.new) }
+    {
+        for one in records {
+            self.take_one(alloc, one)?;
+        }
+        Ok(())
+    }
+
+    // Takes one record more.
+    fn take_one(&mut self, alloc: Global, one: &Record) -> Result<(), AllocError>
+        ensures config { self.new.config.now ≡ self.old.config.now }
+        ensures taken { OnOk result ((before : List Record) → HasTakenPair S.scheme self.old before → HasTakenPair S.scheme self.new (before ++ one.now ∷ [])) }
+    {
+        is_text(one);
+        let reached = mem::replace(&mut self.reached, Reached::Empty);
+        if let Reached::Empty = &reached {
+            self.version = shaped_version(one.bytes.as_slice());
+        }
+        self.reached = next(alloc, self.config, reached, one)?;
+        Ok(())
+    }
+}
+
+// What was reached with one record more.
+fn next<'a, S: Sign>(
+    alloc: Global,
+    config: &'a Config<S>,
+    reached: Reached<'a, S>,
+    one: &Record,
+) -> Result<Reached<'a, S>, AllocError>
+    ensures { IfOk result (λ later. (records : List Record) → All IsText records → HasReached S.scheme config.now records reached.entry
+        → HasReached S.scheme config.now (records ++ one.now ∷ []) later) }
+{
+    match reached {
+        Reached::Empty => after_first(alloc, config, one),
+        Reached::Configured(version, gate) => after_second(alloc, config, version, gate, one),
+        Reached::Checkpoint(loading, gates) => after_state(alloc, loading, gates, one),
+        Reached::Standing(validator) => after_event(alloc, validator, one),
+        Reached::Failed(fault) => Ok(Reached::Failed(fault)),
+    }
+}

@@ -1,0 +1,188 @@
+//! What a reader of a journal on two disks has come to, record by record.
+
+ghost use Rattle.std.specs.Prelude.{◌≡◌, ◌++◌, ◌∷◌, [], List, All, IfOk, IfErr};
+ghost use Rattle.journal.specs.Format.{FailsAs};
+ghost use Rattle.journal.specs.declared.record.Record.{Record};
+ghost use Rattle.spec_checkpoint.specs.Loading.{at_record};
+ghost use Rattle.spec_world.specs.World.{bytes_of};
+ghost use Rattle.validator.specs.Setting.{node_of};
+ghost use Rattle.opening.specs.Told.{IsText, is_event as is_event_of, gate_of, gates_of, first_of, read_state, StandsAt};
+ghost use Rattle.opening.specs.PairReplayed.{IsConfigured, IsLoadingTo, IsStandingBefore, HasReached, IsPut, error_at};
+
+use crate::events::{EVENT, is_text, take_event};
+use crate::reopening::is_own;
+use checkpoint::configuration_record;
+use journal::{JournalError, Record, Version, shaped_version};
+use sigface::Sign;
+use std::alloc::{AllocError, Global};
+use validator::{Config, LoadError, Loading, Validator};
+
+/// What a reader has come to.
+#[derive(Drop)]
+pub(crate) enum Reached<'a, S: Sign> {
+    /// No record came yet.
+    Empty,
+    /// The configuration alone, in this version and in the group of this gate.
+    Configured(Version, u64),
+    /// The configuration with a head, and records of a checkpoint's state. The gates are those of the configuration and of these.
+    Checkpoint(Loading<'a, S>, Vec<u64>),
+    /// All up to some event: the validator after it.
+    Standing(Validator<'a, S>),
+    /// A fault, the first one.
+    Failed(JournalError),
+}
+
+/// What the first record comes to.
+pub(crate) fn after_first<'a, S: Sign>(
+    alloc: Global,
+    config: &'a Config<S>,
+    one: &Record,
+) -> Result<Reached<'a, S>, AllocError>
+    ensures { IfOk result (HasReached S.scheme config.now (one.now ∷ [])) }
+{
+    let bytes = one.bytes.as_slice();
+    let Some(version) = shaped_version(bytes) else {
+        return Ok(Reached::Failed(JournalError::Damaged(one.gate)));
+    };
+    if is_own(alloc, config, version, bytes)? {
+        Ok(Reached::Configured(version, one.gate))
+    } else {
+        Ok(Reached::Failed(JournalError::ConfigMismatch))
+    }
+}
+
+/// What the second record comes to, after the configuration in this version: in its group it is a head.
+pub(crate) fn after_second<'a, S: Sign>(
+    alloc: Global,
+    config: &'a Config<S>,
+    version: Version,
+    gate: u64,
+    one: &Record,
+) -> Result<Reached<'a, S>, AllocError>
+    ensures { IfOk result (λ reached. (records : List Record) → All IsText records → IsConfigured S.scheme config.now records version gate
+        → HasReached S.scheme config.now (records ++ one.now ∷ []) reached) }
+{
+    spec_checkpoint::fails_at_first();
+    if one.gate == gate {
+        let own = configuration_record(alloc, version, config.committee(), config.own())?;
+        let loading = Loading::begin(alloc, config);
+        put(loading, Vec::new(alloc), own.as_slice(), gate)
+    } else {
+        let validator = Validator::new(alloc, config)?;
+        after_event(alloc, validator, one)
+    }
+}
+
+/// What a record comes to after those of a checkpoint's state: one more of them, or the first event.
+pub(crate) fn after_state<'a, S: Sign>(
+    alloc: Global,
+    loading: Loading<'a, S>,
+    gates: Vec<u64>,
+    one: &Record,
+) -> Result<Reached<'a, S>, AllocError>
+    ensures { IfOk result (λ reached. (records : List Record) → All IsText records → IsLoadingTo S.scheme loading.entry.setting records loading.entry gates.items
+        → HasReached S.scheme loading.entry.setting (records ++ one.now ∷ []) reached) }
+{
+    spec_checkpoint::fails_at_first();
+    is_text(one);
+    if !is_event(one) {
+        return put(loading, gates, one.bytes.as_slice(), one.gate);
+    }
+    match loaded(loading, gates) {
+        Ok(validator) => after_event(alloc, validator, one),
+        Err(JournalError::Memory) => Err(AllocError),
+        Err(fault) => Ok(Reached::Failed(fault)),
+    }
+}
+
+/// What a record comes to that has to be a new event.
+pub(crate) fn after_event<'a, S: Sign>(
+    alloc: Global,
+    mut validator: Validator<'a, S>,
+    one: &Record,
+) -> Result<Reached<'a, S>, AllocError>
+    ensures { IfOk result (λ reached. (records : List Record) → IsStandingBefore S.scheme validator.entry.setting records one.now validator.entry
+        → HasReached S.scheme validator.entry.setting (records ++ one.now ∷ []) reached) }
+{
+    match take_event(alloc, &mut validator, one) {
+        Ok(()) => Ok(Reached::Standing(validator)),
+        Err(JournalError::Memory) => Err(AllocError),
+        Err(fault) => Ok(Reached::Failed(fault)),
+    }
+}
+
+/// The validator at the state of a checkpoint's records with these gates, the configuration's first.
+///
+/// # Errors
+/// `Damaged` with the gate of the first record at fault, and with the first gate where no record is and the whole is; `Memory` where an
+/// allocation failed.
+pub(crate) fn loaded<'a, S: Sign>(
+    loading: Loading<'a, S>,
+    gates: Vec<u64>,
+) -> Result<Validator<'a, S>, JournalError>
+    ensures setting { IfOk result (λ validator. validator.setting ≡ loading.entry.setting) }
+    ensures stands { let node = node_of S.scheme loading.entry.setting in IfOk result (λ validator. (first : Record) (state : List Record) → loading.entry.records ≡ bytes_of (first ∷ state)
+        → StandsAt node (read_state node first state) validator.tables) }
+    ensures err { let node = node_of S.scheme loading.entry.setting in IfErr result (λ error. (first : Record) (state : List Record) → loading.entry.records ≡ bytes_of (first ∷ state)
+        → gates.items ≡ gates_of (first ∷ state) → FailsAs error (read_state node first state)) }
+{
+    match loading.finish() {
+        Ok(validator) => Ok(validator),
+        Err(error) => Err(fault_at(&gates, error)),
+    }
+}
+
+// Puts a record of a checkpoint's state, or the configuration before them, whose group has this gate.
+fn put<'a, S: Sign>(
+    mut loading: Loading<'a, S>,
+    mut gates: Vec<u64>,
+    bytes: &[u8],
+    gate: u64,
+) -> Result<Reached<'a, S>, AllocError>
+    ensures { IfOk result (IsPut S.scheme loading.entry gates.items bytes.now gate) }
+{
+    gates.push(gate)?;
+    match loading.put(bytes) {
+        Ok(()) => Ok(Reached::Checkpoint(loading, gates)),
+        Err(LoadError::Memory) => Err(AllocError),
+        Err(error) => Ok(Reached::Failed(fault_at(&gates, error))),
+    }
+}
+
+// What is wrong with the journal where records with these gates can't be loaded.
+fn fault_at(gates: &[u64], error: LoadError) -> JournalError
+    ensures { result ≡ error_at gates.now error }
+{
+    match error {
+        LoadError::Memory => JournalError::Memory,
+        LoadError::Unsound(place) => JournalError::Damaged(gate_at(gates, place)),
+        LoadError::UnsoundWhole => JournalError::Damaged(first_gate(gates)),
+    }
+}
+
+// The gate of the record at this place, or the first one where there is none.
+fn gate_at(gates: &[u64], place: u64) -> u64
+    ensures { result ≡ gate_of gates.now (at_record place) }
+{
+    gates
+        .get(place as usize)
+        .copied()
+        .unwrap_or(first_gate(gates))
+}
+
+// The first gate, 0 where there is none.
+fn first_gate(gates: &[u64]) -> u64
+    ensures { result ≡ first_of gates.now }
+{
+    gates.first().copied().unwrap_or(0)
+}
+
+// Whether a record's kind is an event's.
+fn is_event(one: &Record) -> bool
+    ensures { result ≡ is_event_of one.now }
+{
+    match one.bytes.as_slice().first() {
+        Some(kind) => *kind == EVENT,
+        None => false,
+    }
+}

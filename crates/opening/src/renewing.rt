@@ -1,0 +1,78 @@
+//! Bringing an opened journal on two disks to the second version.
+
+ghost use Rattle.std.specs.Prelude.{◌≡◌, ◌≢◌, [], List, Some, Ok, IfErr, IsSome};
+ghost use Rattle.journal.specs.Areas.{stands_in};
+ghost use Rattle.journal.specs.Journal.{spare_of, IsAlive};
+ghost use Rattle.journal.specs.Pairs.{areas_of};
+ghost use Rattle.journal.specs.declared.record.Record.{Record};
+ghost use Rattle.validator.specs.Setting.{node_of};
+ghost use Rattle.opening.specs.PairReplayed.{version_in};
+ghost use Rattle.opening.specs.Renewing.{IsRenewed};
+ghost use Rattle.opening.specs.Told.{told_in, StandsAt};
+
+use crate::checkpoints::checkpoint;
+use crate::reopening::write_configuration;
+use diskmodel::Disk;
+use journal::{Journal, JournalError, Version};
+use sigface::Sign;
+use std::alloc::Global;
+use validator::{Config, Validator};
+
+/// Brings an opened journal on two disks to its second version: an empty one gets its configuration, and one in the first version is
+/// rewritten as a checkpoint of the validator.
+pub(crate) fn renew<S: Sign, D: Disk>(
+    alloc: Global,
+    config: &Config<S>,
+    version: Option<Version>,
+    validator: &Validator<'_, S>,
+    journal: &mut Journal<D>,
+) -> Result<(), JournalError>
+    requires alive { IsAlive D.device journal.old }
+    requires pair { IsSome (spare_of journal.old) }
+    requires setting { validator.now.setting ≡ config.now }
+    requires stands { let node = node_of S.scheme config.now in StandsAt node (told_in node (areas_of D.device journal.old)) validator.now.tables }
+    requires version { (records : List Record) × (stands_in (areas_of D.device journal.old) ≡ Ok records) × (version ≡ version_in records) }
+    ensures renewed { IsRenewed (node_of S.scheme config.now) D.device journal.old result journal.new }
+    ensures first { IfErr result (λ error. error ≡ JournalError.Full → version ≡ Some Version.First) }
+{
+    match version {
+        None => begin(alloc, config, journal),
+        Some(Version::First) => migrate(config, validator, journal),
+        Some(Version::Second) => Ok(()),
+    }
+}
+
+// Writes the configuration to an empty journal on two disks.
+fn begin<S: Sign, D: Disk>(
+    alloc: Global,
+    config: &Config<S>,
+    journal: &mut Journal<D>,
+) -> Result<(), JournalError>
+    requires alive { IsAlive D.device journal.old }
+    requires pair { IsSome (spare_of journal.old) }
+    requires empty { stands_in (areas_of D.device journal.old) ≡ Ok [] }
+    ensures never_full { IfErr result (λ error. error ≢ JournalError.Full) }
+    ensures renewed { IsRenewed (node_of S.scheme config.now) D.device journal.old result journal.new }
+{
+    spec_machine::starts_fresh();
+    config.limits_hold();
+    config.keys_hold();
+    write_configuration(alloc, Version::Second, config, journal)
+}
+
+// Rewrites a journal on two disks as a checkpoint of the validator.
+fn migrate<S: Sign, D: Disk>(
+    config: &Config<S>,
+    validator: &Validator<'_, S>,
+    journal: &mut Journal<D>,
+) -> Result<(), JournalError>
+    requires alive { IsAlive D.device journal.old }
+    requires pair { IsSome (spare_of journal.old) }
+    requires setting { validator.now.setting ≡ config.now }
+    requires configured { stands_in (areas_of D.device journal.old) ≢ Ok [] }
+    requires stands { let node = node_of S.scheme config.now in StandsAt node (told_in node (areas_of D.device journal.old)) validator.now.tables }
+    ensures { IsRenewed (node_of S.scheme config.now) D.device journal.old result journal.new }
+{
+    let _ = checkpoint(validator, journal)?;
+    Ok(())
+}
