@@ -16,13 +16,13 @@ use Rattle.journal.specs.declared.side.Side.TheVariants.{First, Second}
 use Rattle.journal.specs.declared.version.Version.{Version}
 use Rattle.journal.proofs.Stops.{scan_ok, scan_err}
 use Rattle.journal.proofs.Telling.{gate_open, tells_long, tells_first, by_telling}
-use Rattle.journal.proofs.Walks.{Goes, goes, closed_is}
+use Rattle.journal.proofs.Walks.{goes, closed_is}
 use Rattle.spec_world.proofs.Recovering.{at_side}
 use Rattle.opening.specs.Told.{IsText}
 use Rattle.opening.proofs.Empty.{scans_long}
 use Rattle.opening.proofs.EventRecords.{each_byte}
 use Rattle.opening.proofs.GroupTexts.{OnlyGroups, stands_texts}
-use Rattle.wire_read.proofs.Steps.{IsBytes, IsBytes-drop}
+use Rattle.wire_read.proofs.Steps.{IsBytes-drop}
 
 abbrev pub Found : Type 0
 Found = List Record × ℕ

@@ -14,7 +14,6 @@ use Rattle.journal.specs.declared.record.Record.{Record}
 use Rattle.spec_machine.specs.Laws.{StartsFresh}
 use Rattle.spec_machine.specs.Machine.{fresh}
 use Rattle.spec_machine.proofs.AfterAll.{after_none, legal_none}
-use Rattle.spec_model.specs.Giving.{kept}
 use Rattle.spec_model.specs.Nodes.{Node, IsNode}
 use Rattle.spec_model.specs.States.{State}
 use Rattle.validator.specs.Standing.{AreAtSound}

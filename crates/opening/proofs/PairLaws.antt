@@ -1,20 +1,19 @@
 -- That what two areas are told as is what they stand for, both ways.
-use Rattle.std.proofs.Common.{◌≡◌, ◌≢◌, ℕ, ◌+◌, ◌<◌, inl, inr, Bool, true, false, cond, List, [], ◌∷◌, ◌++◌, length, get_or, map, take, drop, Option, Some, None, Result, Ok, Err, refl, sym, ap, ◌∙◌, subst, arith}
+use Rattle.std.proofs.Common.{◌≡◌, ◌≢◌, ℕ, ◌<◌, inl, inr, Bool, true, false, cond, List, [], ◌∷◌, ◌++◌, length, get_or, map, take, drop, Option, Some, None, Result, Ok, Err, refl, sym, ap, ◌∙◌, subst, arith}
 use Rattle.std.specs.Prelude.{All}
 use Rattle.std.specs.Option.{option_map_or}
 use Rattle.std.specs.Str.{bytes_eq}
 use Rattle.std.proofs.lemmas.Bool.{cases_Bool, and_parts, and_from, eq-eqb, ne_eqb}
-use Rattle.std.proofs.lemmas.List.{append-nil, map-append}
+use Rattle.std.proofs.lemmas.List.{map-append}
 use Rattle.std.proofs.lemmas.List.Elements.{All-nil, All-cons, All-head, All-tail, All-map, All-append}
 use Rattle.std.proofs.lemmas.Slice.Eq.{bytes_eq-Decides}
 use Rattle.journal.specs.Areas.{Areas, alone, pair, head_record, stands_in}
 use Rattle.journal.specs.Configuration.{shaped_version}
-use Rattle.journal.specs.declared.error.JournalError.{JournalError}
 use Rattle.journal.specs.declared.error.JournalError.TheVariants.{Damaged}
 use Rattle.journal.specs.declared.record.Record.{Record}
 use Rattle.journal.specs.declared.version.Version.{Version}
 use Rattle.spec_checkpoint.specs.Data.{Checkpoint, IsWritten}
-use Rattle.spec_checkpoint.specs.Loading.{LoadFault, load_fault, AreLoadable}
+use Rattle.spec_checkpoint.specs.Loading.{LoadFault, load_fault}
 use Rattle.spec_checkpoint.specs.Meaning.{state_in}
 use Rattle.spec_checkpoint.specs.Reading.{kind_of, checkpoint_read}
 use Rattle.spec_checkpoint.specs.Records.{order_record, batch_record, vote_record, header_record, certificate_record, coins_record, cut, state_records}
@@ -31,16 +30,16 @@ use Rattle.spec_model.specs.States.{State}
 use Rattle.spec_records.specs.Records.{record_of, configuration_of, CanTell}
 use Rattle.spec_world.specs.Promise.{NothingTakenBack}
 use Rattle.spec_world.specs.Runs.{AreKeys}
-use Rattle.spec_world.specs.World.{bytes_of, IsPair, IsJournal, own_configuration, BeginsAs, as_fresh, as_checkpoint, Holds, StandsFor, as_journal, as_empty}
+use Rattle.spec_world.specs.World.{bytes_of, IsPair, own_configuration, BeginsAs, as_fresh, as_checkpoint, Holds, StandsFor, as_journal, as_empty}
 use Rattle.wire.specs.Fields.{AreBytes}
 use Rattle.opening.specs.Laws.{IsOfAreas, ToldInStandsFor, WhatStandsIsToldIn, WorldsAreToldIn}
-use Rattle.opening.specs.Told.{IsText, can_tell, is_own, mismatch, own_fault, or_damaged, unless, go_on, read_events, has_head, is_event, state_part, events_part, gates_of, gate_of, loaded, read_state, read_checkpoint, read_behind, read_pair, told_in}
+use Rattle.opening.specs.Told.{IsText, can_tell, is_own, mismatch, own_fault, or_damaged, go_on, read_events, is_event, state_part, events_part, gates_of, gate_of, loaded, read_state, read_checkpoint, read_behind, read_pair, told_in}
 use Rattle.opening.proofs.Configured.{tells_of, told_of}
 use Rattle.opening.proofs.FirstGroups.{IsAfterFirst, BeginsWith, with_head, without_head, begins_with, pair_texts, head_written}
 use Rattle.opening.proofs.Histories.{AreEvents, read_back, read_whole}
 use Rattle.opening.proofs.GroupTexts.{OnlyGroups}
 use Rattle.opening.proofs.Laws.{fresh_sound, unless_ok, configuration_shape, told_stands_for, what_stands_is_told}
-use Rattle.opening.proofs.PairTelling.{IsOfState, pair_none, pair_first, pair_headed, pair_alone, pair_apart, checkpoint_is, state_on, events_on, state_read, told_pair_records, told_pair_damaged}
+use Rattle.opening.proofs.PairTelling.{pair_none, pair_first, pair_headed, pair_alone, pair_apart, checkpoint_is, state_read, told_pair_records, told_pair_damaged}
 use Rattle.opening.proofs.StateTexts.{state_are, configuration_are}
 use Rattle.opening.proofs.Telling.{by_version, bytes_same, read_nil}
 

@@ -1,7 +1,6 @@
 -- What taking one record more of a journal on two disks comes to.
-use Rattle.std.proofs.Common.{◌≡◌, ◌≢◌, ℕ, inl, inr, Bool, true, false, cond, List, [], ◌∷◌, ◌++◌, get_or, map, Option, Some, None, Result, Ok, Err, refl, sym, ap, ◌∙◌, subst, append_assoc}
+use Rattle.std.proofs.Common.{◌≡◌, ◌≢◌, ℕ, inl, inr, Bool, true, false, List, [], ◌∷◌, ◌++◌, Option, Some, None, Result, Err, refl, sym, ap, ◌∙◌, subst, append_assoc}
 use Rattle.std.specs.Prelude.{All, ◌⊎◌}
-use Rattle.std.specs.Option.{option_map_or}
 use Rattle.std.proofs.lemmas.Bool.{and_parts}
 use Rattle.std.proofs.lemmas.List.{append-nil, map-append}
 use Rattle.std.proofs.lemmas.List.Elements.{All-nil, All-tail, All-push}
@@ -17,11 +16,8 @@ use Rattle.journal.specs.declared.error.JournalError.TheVariants.{Memory, Device
 use Rattle.journal.specs.declared.record.Record.{Record}
 use Rattle.journal.specs.declared.version.Version.{Version}
 use Rattle.sigface.specs.Scheme.{Scheme}
-use Rattle.spec_checkpoint.specs.Data.{Checkpoint}
 use Rattle.spec_checkpoint.specs.Laws.{FailsAtFirst, ReadAsWritten}
 use Rattle.spec_checkpoint.specs.Loading.{LoadFault, at_record, of_whole, load_fault}
-use Rattle.spec_checkpoint.specs.Meaning.{state_in}
-use Rattle.spec_checkpoint.specs.Reading.{checkpoint_read}
 use Rattle.spec_machine.specs.Machine.{fresh}
 use Rattle.spec_model.specs.Nodes.{Node}
 use Rattle.spec_model.specs.States.{State}
@@ -31,11 +27,11 @@ use Rattle.admission.specs.declared.tables.Tables.{Tables}
 use Rattle.validator.specs.Loading.{LoadingView}
 use Rattle.validator.specs.Setting.{ConfigView, node_of}
 use Rattle.validator.specs.Standing.{AreAtSound, ValidatorView}
-use Rattle.opening.specs.Told.{IsText, StandsAt, Tells, can_tell, is_own, mismatch, own_fault, or_damaged, unless, go_on, read_event, read_events, is_event, gates_of, gate_of, read_state, read_checkpoint, read_pair}
-use Rattle.opening.specs.PairReplayed.{version_in, IsOfBytesAlone, IsConfigured, IsLoadingTo, IsStandingAt, IsStandingBefore, IsFailedAs, HasReached, error_at, IsPutTo, IsFaultOf, IsPut}
+use Rattle.opening.specs.Told.{IsText, StandsAt, Tells, can_tell, is_own, mismatch, own_fault, or_damaged, go_on, read_event, read_events, is_event, gates_of, gate_of, read_state, read_pair}
+use Rattle.opening.specs.PairReplayed.{version_in, IsOfBytesAlone, IsConfigured, IsLoadingTo, IsStandingAt, IsStandingBefore, IsFailedAs, HasReached, error_at, IsPut}
 use Rattle.opening.specs.declared.reached.Reached.{Reached}
 use Rattle.opening.specs.declared.reached.Reached.TheVariants as reached
-use Rattle.opening.proofs.PairTelling.{IsOfState, pair_none, pair_fails, pair_headed, pair_apart, pair_alone, checkpoint_ends, checkpoint_whole, state_read, state_fails, fault_stays}
+use Rattle.opening.proofs.PairTelling.{IsOfState, pair_none, pair_fails, pair_headed, pair_apart, pair_alone, checkpoint_ends, checkpoint_whole, state_fails, fault_stays}
 use Rattle.opening.proofs.Telling.{read_nil, read_ok, read_err, tells_is, by_version}
 
 -- ---- errors

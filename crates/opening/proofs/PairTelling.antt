@@ -1,28 +1,28 @@
 -- What readings of a journal on two disks come to.
-use Rattle.std.proofs.Common.{◌≡◌, ◌≢◌, ℕ, ◌+◌, ◌<◌, ◌≤◌, inl, inr, Bool, true, false, cond, List, [], ◌∷◌, ◌++◌, length, get_or, map, drop, Option, Some, None, Result, Ok, Err, refl, sym, ap, ◌∙◌, subst, arith, append_assoc, length-append}
-use Rattle.std.specs.Prelude.{All, not, ◌==◌, if◌then◌else◌}
+use Rattle.std.proofs.Common.{◌≡◌, ◌≢◌, ℕ, ◌+◌, ◌<◌, inl, inr, Bool, true, false, cond, List, [], ◌∷◌, ◌++◌, length, get_or, Option, Some, None, Result, Ok, Err, refl, sym, ap, ◌∙◌, arith, length-append}
+use Rattle.std.specs.Prelude.{All, not, if◌then◌else◌}
 use Rattle.std.specs.List.{position_from}
 use Rattle.std.specs.Option.{option_map, option_map_or, option_or}
 use Rattle.std.proofs.lemmas.Bool.{cases_Bool, eq-eqb, ne_eqb}
 use Rattle.std.proofs.lemmas.List.{append-nil, get_or_append_left, length-map, map-append}
 use Rattle.std.proofs.lemmas.List.Elements.{All-head, All-tail, All-map}
 use Rattle.journal.specs.declared.error.JournalError.{JournalError}
-use Rattle.journal.specs.declared.error.JournalError.TheVariants.{Memory, Damaged}
+use Rattle.journal.specs.declared.error.JournalError.TheVariants.{Damaged}
 use Rattle.journal.specs.declared.record.Record.{Record}
 use Rattle.journal.specs.Areas.{Areas, alone, pair, stands_in}
-use Rattle.spec_checkpoint.specs.Data.{KeptBatch, Checkpoint, IsCanonical}
-use Rattle.spec_checkpoint.specs.Faults.{is_batch_sound, batch_tests, is_vote_sound, is_header_sound, is_certificate_sound, piece_tests, record_tests, is_whole_sound}
+use Rattle.spec_checkpoint.specs.Data.{KeptBatch, Checkpoint}
+use Rattle.spec_checkpoint.specs.Faults.{batch_tests, record_tests, is_whole_sound}
 use Rattle.spec_checkpoint.specs.Laws.{FailsAtFirst, ReadAsWritten}
-use Rattle.spec_checkpoint.specs.Loading.{LoadFault, at_record, of_whole, is_configuration, unsound, fault_of_read, load_fault}
+use Rattle.spec_checkpoint.specs.Loading.{LoadFault, at_record, of_whole, is_configuration, fault_of_read, load_fault}
 use Rattle.spec_checkpoint.specs.Meaning.{state_in}
 use Rattle.spec_checkpoint.specs.Reading.{checkpoint_read}
-use Rattle.spec_checkpoint.specs.Records.{order_record, batch_record, vote_record, header_record, certificate_record, coins_record, cut, state_records}
+use Rattle.spec_checkpoint.specs.Records.{state_records}
 use Rattle.spec_machine.specs.Machine.{fresh}
 use Rattle.spec_model.specs.Nodes.{Node}
 use Rattle.spec_model.specs.States.{State}
 use Rattle.spec_world.specs.World.{bytes_of, IsPair}
 use Rattle.wire.specs.Fields.{AreBytes}
-use Rattle.opening.specs.Told.{IsText, own_fault, or_damaged, unless, go_on, read_events, has_head, is_event, state_part, events_part, gates_of, first_of, gate_of, loaded}
+use Rattle.opening.specs.Told.{IsText, own_fault, or_damaged, unless, go_on, read_events, is_event, state_part, events_part, gates_of, gate_of, loaded}
 use Rattle.opening.specs.Told.{read_state, read_checkpoint, read_behind, read_pair, told_by_both, told_in}
 use Rattle.opening.proofs.Telling.{read_nil}
 

@@ -1,6 +1,6 @@
 -- What a reader of the records of a journal on two disks has come to. What it says of the records so far it says of them with any others after
 -- them, so it stays while they come.
-use Rattle.std.specs.Prelude.{◌≡◌, ◌≢◌, All, ℕ, false, List, [], ◌∷◌, ◌++◌, Option, Some, None, Result, Err}
+use Rattle.std.specs.Prelude.{◌≡◌, ◌≢◌, All, ℕ, false, List, [], ◌∷◌, ◌++◌, Option, Some, None, Err}
 use Rattle.journal.specs.Configuration.{shaped_version}
 use Rattle.journal.specs.declared.error.JournalError.{JournalError}
 use Rattle.journal.specs.declared.error.JournalError.TheVariants.{Memory, Device, Damaged, Full}
@@ -10,13 +10,13 @@ use Rattle.checkpoint.specs.Reader.{fault_of}
 use Rattle.checkpoint.specs.declared.error.LoadError.{LoadError}
 use Rattle.checkpoint.specs.declared.error.LoadError.TheVariants as load
 use Rattle.sigface.specs.Scheme.{Scheme}
-use Rattle.spec_checkpoint.specs.Loading.{LoadFault, load_fault, at_record, of_whole}
+use Rattle.spec_checkpoint.specs.Loading.{load_fault, at_record, of_whole}
 use Rattle.spec_model.specs.States.{State}
 use Rattle.spec_world.specs.World.{bytes_of}
 use Rattle.validator.specs.Loading.{LoadingView}
 use Rattle.validator.specs.Setting.{ConfigView, node_of}
 use Rattle.validator.specs.Standing.{AreAtSound, ValidatorView}
-use Rattle.opening.specs.Told.{IsText, own_fault, or_damaged, read_events, is_event, gates_of, gate_of, first_of, read_pair}
+use Rattle.opening.specs.Told.{own_fault, or_damaged, read_events, is_event, gates_of, gate_of, read_pair}
 use Rattle.opening.specs.declared.reached.Reached.{Reached}
 use Rattle.opening.specs.declared.reached.Reached.TheVariants.{Empty, Configured, Checkpoint, Standing, Failed}
 

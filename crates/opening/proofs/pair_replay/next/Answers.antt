@@ -1,4 +1,4 @@
-use Rattle.std.proofs.Common.{List, ◌∷◌, [], ◌++◌, sym, ◌∙◌, subst}
+use Rattle.std.proofs.Common.{◌∷◌, [], ◌++◌, sym, subst}
 use Rattle.validator.specs.Setting.{ConfigView}
 use Rattle.opening.specs.PairReplayed.{IsStandingBefore, HasReached}
 use Rattle.opening.specs.declared.reached.Reached.{Reached}

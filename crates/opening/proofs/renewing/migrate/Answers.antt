@@ -1,10 +1,9 @@
-use Rattle.std.proofs.Common.{◌≡◌, ◌≢◌, sym, subst}
-use Rattle.std.proofs.lemmas.Result.{err_from_is_err_and}
+use Rattle.std.proofs.Common.{sym, subst}
 use Rattle.journal.specs.Pairs.{areas_of}
 use Rattle.validator.specs.Setting.{ConfigView, node_of}
 use Rattle.opening.specs.Renewing.{IsRenewed}
 use Rattle.opening.specs.Told.{told_in, StandsAt}
-use Rattle.opening.proofs.Renewals.{done, migrated, not_migrated}
+use Rattle.opening.proofs.Renewals.{done, migrated}
 use Rattle.opening.proofs.renewing.migrate.Goals as goal
 
 pub checkpoint-requires-clause-stands : goal.checkpoint-requires-clause-stands

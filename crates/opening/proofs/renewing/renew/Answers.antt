@@ -1,7 +1,7 @@
 use Rattle.std.proofs.Common.{sym, ◌∙◌}
 use Rattle.journal.specs.Pairs.{spare_disk, areas_of}
 use Rattle.validator.specs.Setting.{node_of}
-use Rattle.opening.proofs.Renewals.{areas_pair, beside, none_of_version, some_of_version, newest_of_version, stays_renewed}
+use Rattle.opening.proofs.Renewals.{areas_pair, none_of_version}
 use Rattle.opening.proofs.renewing.renew.Goals as goal
 
 pub begin-requires-clause-empty : goal.begin-requires-clause-empty

@@ -1,4 +1,4 @@
-use Rattle.std.proofs.Common.{List, ℕ, sym, ◌∙◌, subst}
+use Rattle.std.proofs.Common.{subst}
 use Rattle.validator.specs.Setting.{ConfigView, node_of}
 use Rattle.journal.specs.Format.{FailsAs}
 use Rattle.opening.specs.PairReplayed.{HasReached}

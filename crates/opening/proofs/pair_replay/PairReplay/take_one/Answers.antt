@@ -1,8 +1,6 @@
-use Rattle.std.proofs.Common.{◌≡◌, ◌≢◌, List, ℕ, [], ◌∷◌, ◌++◌, Option, refl, sym, ap, ◌∙◌, subst}
+use Rattle.std.proofs.Common.{◌≡◌, List, [], ◌∷◌, ◌++◌, sym, ap, ◌∙◌, subst}
 use Rattle.std.proofs.lemmas.List.Elements.{All-push}
 use Rattle.journal.specs.Configuration.{shaped_version}
-use Rattle.journal.specs.declared.version.Version.{Version}
-use Rattle.validator.specs.Setting.{ConfigView}
 use Rattle.opening.specs.PairReplayed.{version_in, HasReached}
 use Rattle.opening.specs.Told.{IsText}
 use Rattle.opening.specs.declared.reached.Reached.{Reached}
