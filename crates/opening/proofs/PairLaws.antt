@@ -1,5 +1,6 @@
 -- That what two areas are told as is what they stand for, both ways.
-use Rattle.std.proofs.Common.{◌≡◌, ◌≢◌, ℕ, ◌<◌, inl, inr, Bool, true, false, cond, List, [], ◌∷◌, ◌++◌, length, get_or, map, take, drop, Option, Some, None, Result, Ok, Err, refl, sym, ap, ◌∙◌, subst, arith}
+use Rattle.std.proofs.Common.{◌≡◌, ◌≢◌, ℕ, ◌<◌, inl, inr, Bool, true, false, cond, List, [], ◌∷◌, ◌++◌, length}
+use Rattle.std.proofs.Common.{get_or, map, take, drop, Option, Some, None, Result, Ok, Err, refl, sym, ap, ◌∙◌, subst, arith}
 use Rattle.std.specs.Prelude.{All}
 use Rattle.std.specs.Option.{option_map_or}
 use Rattle.std.specs.Str.{bytes_eq}
@@ -33,7 +34,8 @@ use Rattle.spec_world.specs.Runs.{AreKeys}
 use Rattle.spec_world.specs.World.{bytes_of, IsPair, own_configuration, BeginsAs, as_fresh, as_checkpoint, Holds, StandsFor, as_journal, as_empty}
 use Rattle.wire.specs.Fields.{AreBytes}
 use Rattle.opening.specs.Laws.{IsOfAreas, ToldInStandsFor, WhatStandsIsToldIn, WorldsAreToldIn}
-use Rattle.opening.specs.Told.{IsText, can_tell, is_own, mismatch, own_fault, or_damaged, go_on, read_events, is_event, state_part, events_part, gates_of, gate_of, loaded, read_state, read_checkpoint, read_behind, read_pair, told_in}
+use Rattle.opening.specs.Told.{IsText, can_tell, is_own, mismatch, own_fault, or_damaged, go_on, read_events, is_event}
+use Rattle.opening.specs.Told.{state_part, events_part, gates_of, gate_of, loaded, read_state, read_checkpoint, read_behind, read_pair, told_in}
 use Rattle.opening.proofs.Configured.{tells_of, told_of}
 use Rattle.opening.proofs.FirstGroups.{IsAfterFirst, BeginsWith, with_head, without_head, begins_with, pair_texts, head_written}
 use Rattle.opening.proofs.Histories.{AreEvents, read_back, read_whole}
@@ -108,7 +110,8 @@ loaded_by : (node : Node) (first : Record) (state : List Record) (base : State) 
     → checkpoint_read node (bytes_of state) ≡ read → read_state node first state ≡ Ok base → WasLoaded node first state base
 unfolding read_state
 loaded_by node first state base (Some fault) read is reads so =
-    absurd (no_ok _ base (sym (ap (λ (f : Option LoadFault). option_map_or (λ one. Err (gate_of (gates_of (first ∷ state)) one)) f (loaded node first.gate (checkpoint_read node (bytes_of state)))) is) ∙ so))
+    absurd (no_ok _ base (sym (ap (λ (f : Option LoadFault). option_map_or (λ one. Err (gate_of (gates_of (first ∷ state)) one)) f (loaded node first.gate (checkpoint_read node
+    (bytes_of state)))) is) ∙ so))
 loaded_by node first state base None (Ok checkpoint) is reads so = record {
   none = is;
   checkpoint = checkpoint;
@@ -357,7 +360,8 @@ own_by_bytes node first version sound keys can is = record { version = version; 
 
 module _ (node : Node) (areas : Areas) (two : IsPair areas) (keys : AreKeys node) where
   begun_told : (front : List (List ℕ)) (in_first : ℕ) (base : State) (events : History) → IsLegalAfter node base events → (records : List Record) → stands_in areas ≡ Ok records
-      → bytes_of records ≡ front ++ map record_of events → (gate : ℕ) → All (λ (one : Record). one.gate ≡ gate) (take in_first records) → All (λ (one : Record). gate < one.gate) (drop in_first records)
+      → bytes_of records ≡ front ++ map record_of events → (gate : ℕ) → All (λ (one : Record). one.gate ≡ gate) (take in_first records)
+      → All (λ (one : Record). gate < one.gate) (drop in_first records)
       → BeginsAs node areas front in_first base → told_in node areas ≡ Ok (after_all node base events)
   begun_told front in_first base events legal [] is are gate firsts others (as_fresh version can front_is first base_is) =
       absurd (omega (arith, ap length (are ∙ ap (λ (l : List (List ℕ)). l ++ map record_of events) front_is)))

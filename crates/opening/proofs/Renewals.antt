@@ -1,5 +1,6 @@
 -- What a renewal leaves of a journal on two disks.
-use Rattle.std.proofs.Common.{◌≡◌, ◌≢◌, ℕ, ◌+◌, ◌-◌, ◌^◌, ◌<◌, ◌≤◌, inl, inr, Bool, true, false, cond, List, [], ◌∷◌, ◌++◌, length, get_or, Option, Some, None, Result, Ok, Err, refl, sym, ap, ◌∙◌, subst, arith, append_assoc}
+use Rattle.std.proofs.Common.{◌≡◌, ◌≢◌, ℕ, ◌+◌, ◌-◌, ◌^◌, ◌<◌, ◌≤◌, inl, inr, Bool, true, false, cond, List, []}
+use Rattle.std.proofs.Common.{◌∷◌, ◌++◌, length, get_or, Option, Some, None, Result, Ok, Err, refl, sym, ap, ◌∙◌, subst, arith, append_assoc}
 use Rattle.std.specs.Prelude.{All, ◌⊎◌, IsSome, IfSome, IfErr, OnOk}
 use Rattle.std.specs.List.{flat_map}
 use Rattle.std.specs.Option.{option_map, option_and_then, option_map_or}
@@ -136,7 +137,8 @@ module _ {D : Type 0} (device : Disks D) where
       fault_sum error (device.faults live) (device.faults spare) (device.faults now) (faults_of_both device disks) (faults_of_both device now_disks) result
       (ap (faults_of_both device) was ∙ faults_by side live spare) (ap (faults_of_both device) is ∙ faults_by side live now) tells
 
-  pub fault_of_live : {T E : Type 0} (error : E) (side : Side) (live spare now : D) (disks now_disks : D × D) (result : Result T E) → disks ≡ by_area side live spare → now_disks ≡ by_area side now spare
+  pub fault_of_live : {T E : Type 0} (error : E) (side : Side) (live spare now : D) (disks now_disks : D × D) (result : Result T E) → disks ≡ by_area side live spare
+      → now_disks ≡ by_area side now spare
       → TellsFault error (device.faults live) (device.faults now) result → TellsFault error (faults_of_both device disks) (faults_of_both device now_disks) result
   fault_of_live error side live spare now disks now_disks result was is tells =
       fault_sum error (device.faults spare) (device.faults live) (device.faults now) (faults_of_both device disks) (faults_of_both device now_disks) result
@@ -181,7 +183,8 @@ module _ {D : Type 0} (device : Disks D) where
     none_by Second live spare still also here a b left right =
         subst (λ (l : List ℕ). P (pair l b)) (sym (also a left)) (subst (λ (l : List ℕ). P (pair (device.content spare) l)) (sym (still b right)) here)
 
-    pub moments_of_none : (side : Side) (live spare : D) (disks : D × D) → disks ≡ by_area side live spare → IsStill live → IsStill spare → P (pair_of side (device.content live) (device.content spare))
+    pub moments_of_none : (side : Side) (live spare : D) (disks : D × D) → disks ≡ by_area side live spare → IsStill live → IsStill spare
+        → P (pair_of side (device.content live) (device.content spare))
         → AtEachMomentOfBoth device disks disks (λ one other. P (pair one other))
     moments_of_none side live spare disks was still also here =
         subst (λ (d : D × D). AtEachMomentOfBoth device d d (λ one other. P (pair one other))) (sym was) (none_by side live spare still also here)
@@ -710,7 +713,8 @@ module _ {D : Type 0} (device : Disks D) (node : Node) (journal new : Journal D)
     full = tt;
     cause = (refl, tt);
     unchanged = tt;
-    any_moment = moments_of_none device (λ areas. told_in node areas ≡ told_in node (areas_of device journal)) (side_in journal) (disk_of journal) (spare_disk journal) (disks_of journal) refl live_still spare_still
+    any_moment = moments_of_none device (λ areas. told_in node areas ≡ told_in node (areas_of device journal)) (side_in journal) (disk_of journal) (spare_disk journal)
+        (disks_of journal) refl live_still spare_still
         (ap (told_in node) (sym (areas_are device journal (device.content (spare_disk journal)) two)));
   }
     where
@@ -720,14 +724,16 @@ module _ {D : Type 0} (device : Disks D) (node : Node) (journal new : Journal D)
 
 -- ---- whatever writing the configuration answered
 
-module _ {D : Type 0} (device : Disks D) (node : Node) (journal new : Journal D) (sound : IsNode node) (keys : AreKeys node) (fresh_is_sound : IsSound node (fresh node)) (two : IsSome (spare_of journal))
+module _ {D : Type 0} (device : Disks D) (node : Node) (journal new : Journal D) (sound : IsNode node) (keys : AreKeys node) (fresh_is_sound : IsSound node (fresh node)) (two : IsSome
+    (spare_of journal))
     (alive : IsAlive device journal) (empty : stands_in (areas_of device journal) ≡ Ok []) (same : spare_of new ≡ spare_of journal)
     (keeps : AtEachMoment device (disk_of journal) (disk_of new) (KeepsOrBegins versions.Second node (device.content (disk_of journal))))
     (only_now : (disk : D) (c : List ℕ) → device.outcome_since disk (device.clock disk) c → device.outcome disk c)
     (counts_now : (disk : D) (t : ℕ) (c : List ℕ) → t ≤ device.clock disk → device.outcome disk c → device.outcome_since disk t c)
     (is_outcome : (disk : D) → device.outcome disk (device.content disk)) where
   pub begun_any : (result : Result (Unit {0}) JournalError) → OnOk result (IsAlive device new) → OnOk result (stands (device.content (disk_of new)) ≢ Ok [])
-      → TellsFault Device (device.faults (disk_of journal)) (device.faults (disk_of new)) result → IfErr result (λ error. (error ≡ Device) ⊎ (error ≡ Memory)) → IfErr result (λ error. error ≡ Memory → new ≡ journal)
+      → TellsFault Device (device.faults (disk_of journal)) (device.faults (disk_of new)) result → IfErr result (λ error. (error ≡ Device) ⊎ (error ≡ Memory))
+      → IfErr result (λ error. error ≡ Memory → new ≡ journal)
       → IsRenewed node device journal result new
   begun_any (Ok given) alive_then some cause errors unchanged =
       begun_renews device node journal sound keys two alive empty new same keeps only_now counts_now is_outcome fresh_is_sound alive_then some cause

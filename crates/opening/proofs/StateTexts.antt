@@ -151,7 +151,8 @@ header_are : (node : Node) (kept : KeptHeader) → IsKeptHeader node kept → Ar
 header_are node kept is =
     let front = header_body kept.header.body ++ kept.header.signature.0 in
     one_more 6 (front ++ votes_bytes kept.votes) (omega arith)
-    (joined front (votes_bytes kept.votes) (joined (header_body kept.header.body) kept.header.signature.0 (body_are kept.header.body is.header.body) is.header.signature.each) (votes_are kept.votes is.votes))
+    (joined front (votes_bytes kept.votes) (joined (header_body kept.header.body) kept.header.signature.0 (body_are kept.header.body is.header.body) is.header.signature.each)
+    (votes_are kept.votes is.votes))
 
 certificate_are : (certificate : Certificate) → IsKeptCertificate certificate → AreBytes (certificate_record certificate)
 certificate_are certificate is =

@@ -27,7 +27,8 @@ returns-in-Ok g c =
     let set = c.in-Ok.ensures.setting in
     subst (λ (s : ConfigView g.row.S.Denot). HasReached g.S.Sign.scheme s (records ++ one ∷ []) later) set
     (goes records (subst (λ (s : ConfigView g.row.S.Denot). IsStandingBefore g.S.Sign.scheme s records one validator) (sym set)
-    (ends_state g.S.Sign.scheme c.args.loading.setting records c.args.loading c.args.gates.items is one validator (sym c.is_event.ensures ∙ on) set (c.in-Ok.ensures.stands is.first is.state is.came)))))
+    (ends_state g.S.Sign.scheme c.args.loading.setting records c.args.loading c.args.gates.items is one validator (sym c.is_event.ensures ∙ on) set
+    (c.in-Ok.ensures.stands is.first is.state is.came)))))
     c.after_event.ensures
 
 pub returns-in-Err : goal.returns-in-Err

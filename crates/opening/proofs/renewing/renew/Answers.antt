@@ -9,5 +9,6 @@ begin-requires-clause-empty g c =
     let device = g.D.Disk.device in
     let journal = c.args.journal.now in
     let has = c.requires.version in
-    none_of_version (node_of g.S.Sign.scheme c.args.config.now) (areas_of device journal) has.0 c.requires.stands.state (areas_pair device journal (device.content (spare_disk journal)) c.requires.pair)
+    none_of_version (node_of g.S.Sign.scheme c.args.config.now) (areas_of device journal) has.0 c.requires.stands.state (areas_pair device journal (device.content
+    (spare_disk journal)) c.requires.pair)
     has.1 c.requires.stands.is_read (sym has.2 ∙ c.in-None.is)
