@@ -75,7 +75,7 @@ pub empty_ends : EndsClosed (CLOSED ∷ [])
 empty_ends = ends_at (0 ∷ []) [] (walk_closed 0 0 [] refl) (omega arith)
 
 -- the empty history is legal
-empty_legal : (node : Node) → IsNode node → IsLegal node []
+pub empty_legal : (node : Node) → IsNode node → IsLegal node []
 empty_legal node sound = record { sound = sound; taken = All-nil (IsTaken node); new = refl }
 
 -- ---- what the first group tells
@@ -156,11 +156,11 @@ first_tells node sound keys =
 -- ---- runs
 
 module _ (node : Node) (sound : IsNode node) (keys : AreKeys node) where
-  closed_bytes : AreBytes (CLOSED ∷ [])
+  pub closed_bytes : AreBytes (CLOSED ∷ [])
   closed_bytes = All-cons (λ n. n < 256) 0 [] (omega arith) (All-nil (λ n. n < 256))
 
   -- the first bytes are the journal of no event
-  first_holds : (areas : Areas) → stands_in areas ≡ stands (first_bytes node) → Holds node areas (kept_of node [])
+  pub first_holds : (areas : Areas) → stands_in areas ≡ stands (first_bytes node) → Holds node areas (kept_of node [])
   first_holds areas reads =
       let group = own_configuration Second node ∷ [] in
       let fits = configuration_fits node sound keys in
@@ -182,10 +182,10 @@ module _ (node : Node) (sound : IsNode node) (keys : AreKeys node) where
         leads = after_none node (fresh node) ∙ sym (starts_fresh node);
       }
 
-  first_ends : EndsClosed (first_bytes node)
+  pub first_ends : EndsClosed (first_bytes node)
   first_ends = longer_ends (CLOSED ∷ []) empty_ends (own_configuration Second node ∷ []) (configuration_fits node sound keys)
 
-  first_are : AreBytes (first_bytes node)
+  pub first_are : AreBytes (first_bytes node)
   first_are =
       let group = own_configuration Second node ∷ [] in
       longer_bytes (CLOSED ∷ []) group closed_bytes (group_are group (All-cons AreBytes (own_configuration Second node) [] (configuration_are Second node keys) (All-nil AreBytes)))

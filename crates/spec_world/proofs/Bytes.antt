@@ -34,7 +34,7 @@ byte_below : (i n : ℕ) → byte_at i n < 256
 byte_below zero n = mod_below n 256 (omega arith)
 byte_below (suc i) n = mod_below (n / 256 ^ suc i) 256 (omega arith)
 
-number_bytes : (count n : ℕ) → AreBytes (bytes_high_first count n)
+pub number_bytes : (count n : ℕ) → AreBytes (bytes_high_first count n)
 number_bytes zero n = All-nil (λ b. b < 256)
 number_bytes (suc count) n = All-cons (λ b. b < 256) (byte_at count n) (bytes_high_first count n) (byte_below count n) (number_bytes count n)
 

@@ -114,7 +114,7 @@ first_group node generation sound keys some small =
     } in
     subst (IsFile generation group) (one_more [] group) is
 
-groups_are : (node : Node) (generation : ℕ) (kept_data : Checkpoint) (groups : List (List (List ℕ))) (bytes : List ℕ) → IsNode node → AreKeys node
+pub groups_are : (node : Node) (generation : ℕ) (kept_data : Checkpoint) (groups : List (List (List ℕ))) (bytes : List ℕ) → IsNode node → AreKeys node
     → 1 ≤ generation → generation < 2 ^ 64 → IsWritten node kept_data → All FitsGroup groups → flat_map (λ group. group) groups ≡ state_records kept_data → AreBytes bytes
     → 1 ∷ bytes ≡ file_bytes ((own_configuration Second node ∷ head_record generation ∷ []) ∷ groups) → IsCheckpointOf node generation (checkpoint.state_in node kept_data) bytes
 groups_are node generation kept_data groups bytes sound keys some small written fits all are is =

@@ -1,5 +1,5 @@
 -- Each legal history is where some run begins.
-use Rattle.std.proofs.Common.{◌≡◌, true, List, [], ◌∷◌, ◌++◌, length, map, take, drop, refl, sym, ap, ◌∙◌, subst}
+use Rattle.std.proofs.Common.{◌≡◌, Option, true, List, [], ◌∷◌, ◌++◌, length, map, take, drop, refl, sym, ap, ◌∙◌, subst}
 use Rattle.std.proofs.lemmas.List.{append-nil}
 use Rattle.header.specs.declared.admission.Admission.{Admission}
 use Rattle.header.specs.declared.admission.Admission.TheVariants.{New, Known, Refused}
@@ -11,17 +11,17 @@ use Rattle.spec_model.specs.Histories.{History}
 use Rattle.spec_model.specs.Nodes.{Node, IsNode}
 use Rattle.spec_model.specs.Words.{Event}
 use Rattle.spec_records.specs.Records.{record_of}
-use Rattle.spec_world.specs.World.{World, StandsFor, alone_on, events_of, taken_in, run_on}
+use Rattle.spec_world.specs.World.{World, Spare, StandsFor, alone_on, events_of, taken_in, run_on}
 use Rattle.spec_world.specs.Steps.{Move, accept, take_to, device_call, settle, restart, with_new, group_to, IsAnswered, IsRecovered, IsRestarted, Leads, IsRun}
-use Rattle.spec_world.specs.Runs.{areas_in, AreKeys, first_bytes, HistoriesBegin}
+use Rattle.spec_world.specs.Runs.{areas_in, first_bytes, HistoriesBegin}
 use Rattle.spec_world.proofs.Beginning.{runs_begin}
 use Rattle.spec_world.proofs.GoingOn.{stops_are_possible, groups_settle}
 use Rattle.spec_world.proofs.Law.{nothing_taken_back}
 use Rattle.spec_world.proofs.Scripts.{run_more}
 use Rattle.spec_world.proofs.Sizes.{event_fits}
 
--- a run that began with nothing, and has accepted and settled these events
-record HasSettled (node : Node) (history : History) : Type 0 where
+-- a run that began with nothing on disks of which this is the other one, if there are two, and has accepted and settled these events
+pub record HasSettled (node : Node) (spare : Option Spare) (history : History) : Type 0 where
   pub moves : List Move
   pub world : World
   pub run : IsRun node moves world
@@ -29,10 +29,11 @@ record HasSettled (node : Node) (history : History) : Type 0 where
   pub accepted : world.accepted ≡ history
   pub settled : world.settled ≡ history
   pub idle : world.groups ≡ []
+  pub beside : world.spare ≡ spare
 
 new_of : (answer : Admission) → is_new answer ≡ true → (world : World) (event : Event) → (next : World) × IsAnswered world event answer next
-    × (next.accepted ≡ world.accepted ++ event ∷ []) × (next.settled ≡ world.settled) × (next.groups ≡ world.groups) × (next.began ≡ world.began)
-new_of (New outputs) new world event = (with_new world event outputs, refl, refl, refl, refl, refl)
+    × (next.accepted ≡ world.accepted ++ event ∷ []) × (next.settled ≡ world.settled) × (next.groups ≡ world.groups) × (next.began ≡ world.began) × (next.spare ≡ world.spare)
+new_of (New outputs) new world event = (with_new world event outputs, refl, refl, refl, refl, refl, refl)
 new_of (Known outputs) new world event = absurd cc
 new_of (Refused why) new world event = absurd cc
 
@@ -46,8 +47,9 @@ drop_front [] event = refl
 drop_front (first ∷ history) event = drop_front history event
 
 -- with one more
-one_more : (node : Node) (history : History) (event : Event) → IsNode node → Adds node history event → HasSettled node history → HasSettled node (history ++ event ∷ [])
-one_more node history event sound adds so_far =
+one_more : (node : Node) (spare : Option Spare) (history : History) (event : Event) → IsNode node → Adds node history event → HasSettled node spare history
+    → HasSettled node spare (history ++ event ∷ [])
+one_more node spare history event sound adds so_far =
     let world = so_far.world in
     let all : world.began ++ world.accepted ≡ history = (λ i. so_far.began i ++ so_far.accepted i) in
     let new : is_new (admit node (world.began ++ world.accepted) event) ≡ true = ap (λ (h : History). is_new (admit node h event)) all ∙ adds.new in
@@ -72,25 +74,21 @@ one_more node history event sound adds so_far =
       accepted = there.2.accepted ∙ accepted;
       settled = there.2.settled ∙ ap (take count) accepted ∙ take_all longer;
       idle = there.2.groups;
+      beside = there.2.spare ∙ next.6 ∙ so_far.beside;
     }
 
-all_settled : (node : Node) (history : History) → IsLegal node history → AreKeys node → HasSettled node history
-all_settled node history legal keys =
-    legal-induction node (HasSettled node)
-    (record {
-      moves = [];
-      world = run_on (alone_on (first_bytes node)) [] [];
-      run = runs_begin node legal.sound keys;
-      began = refl;
-      accepted = refl;
-      settled = refl;
-      idle = refl;
-    })
-    (λ so_far event adds settled. one_more node so_far event legal.sound adds settled) history legal
+-- from the first world of a run on all events of a history can be settled
+pub all_settled : (node : Node) (first : World) (moves : List Move) (history : History) → IsLegal node history → IsRun node moves first → first.began ≡ [] → first.accepted ≡ []
+    → first.settled ≡ [] → first.groups ≡ [] → HasSettled node first.spare history
+all_settled node first moves history legal run began accepted settled idle =
+    legal-induction node (HasSettled node first.spare)
+    (record { moves = moves; world = first; run = run; began = began; accepted = accepted; settled = settled; idle = idle; beside = refl })
+    (λ so_far event adds done. one_more node first.spare so_far event legal.sound adds done) history legal
 
 pub histories_begin : HistoriesBegin
 histories_begin node history on legal keys opened =
-    let settled = all_settled node history legal keys in
+    let first = run_on (alone_on (first_bytes node)) [] [] in
+    let settled = all_settled node first [] history legal (runs_begin node legal.sound keys) refl refl refl refl in
     let world = settled.world in
     let found = areas_in world in
     let all : world.began ++ world.settled ≡ history = (λ i. settled.began i ++ settled.settled i) in

@@ -16,6 +16,7 @@ pub mod Filling
 pub mod Scripts
 mod Sizes
 pub mod Histories
+pub mod Beside
 pub mod Rewriting
 mod Checkpoints
 mod Starting

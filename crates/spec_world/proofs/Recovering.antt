@@ -222,10 +222,10 @@ holds_same node areas other held_state held two same = record {
 }
 
 -- and with a group of the records of these events more
-pub holds_more : (node : Node) (areas other : Areas) (side : Side) (file left : List ℕ) (history more : History) → Holds node areas (model.kept node history)
+pub holds_after : (node : Node) (areas other : Areas) (side : Side) (file left : List ℕ) (held_state : State) (more : History) → Holds node areas held_state
     → (IsPair areas → IsPair other) → stands_in areas ≡ stands_at side file → stands_in other ≡ stands_at side left → EndsClosed file → stands left ≡ stands_with file (map record_of more)
-    → IsLegal node (history ++ more) → Holds node other (model.kept node (history ++ more))
-holds_more node areas other side file left history more held two reads also ends is legal =
+    → IsLegalAfter node held_state more → Holds node other (after_all node held_state more)
+holds_after node areas other side file left held_state more held two reads also ends is legal =
     let long = begun_long node areas held.front held.in_first held.base held.begins in
     let place = base_of side + (length file - 1) in
     record {
@@ -237,9 +237,17 @@ holds_more node areas other side file left history more held two reads also ends
       journal = journal_more (stands_in areas) (stands_in other) held.front held.in_first held.events more place held.journal long.0 long.1
           (λ records stand. gates_at side file ends records (sym reads ∙ stand))
           (also ∙ with_at side file left (map record_of more) is ∙ ap (with_group place (map record_of more)) (sym reads));
-      legal = (after_joins node held.base held.events more).joined held.legal (subst (λ (s : State). IsLegalAfter node s more) (sym held.leads) (legal_after node history more legal));
-      leads = after_append node held.base held.events more ∙ ap (λ (s : State). after_all node s more) held.leads ∙ after_is_kept node history more legal;
+      legal = (after_joins node held.base held.events more).joined held.legal (subst (λ (s : State). IsLegalAfter node s more) (sym held.leads) legal);
+      leads = after_append node held.base held.events more ∙ ap (λ (s : State). after_all node s more) held.leads;
     }
+
+-- and of a history
+pub holds_more : (node : Node) (areas other : Areas) (side : Side) (file left : List ℕ) (history more : History) → Holds node areas (model.kept node history)
+    → (IsPair areas → IsPair other) → stands_in areas ≡ stands_at side file → stands_in other ≡ stands_at side left → EndsClosed file → stands left ≡ stands_with file (map record_of more)
+    → IsLegal node (history ++ more) → Holds node other (model.kept node (history ++ more))
+holds_more node areas other side file left history more held two reads also ends is legal =
+    subst (Holds node other) (after_is_kept node history more legal)
+    (holds_after node areas other side file left (model.kept node history) more held two reads also ends is (legal_after node history more legal))
 
 -- a journal has a record
 pub some_record : (node : Node) (areas : Areas) (held_state : State) (held : Holds node areas held_state) → 1 ≤ length held.journal.records

@@ -6,6 +6,7 @@ use Rattle.spec_checkpoint.specs.Data.{Checkpoint, IsWritten}
 use Rattle.spec_checkpoint.specs.Meaning as checkpoint
 use Rattle.spec_checkpoint.specs.Records.{state_records}
 use Rattle.journal.specs.Areas.{Areas, alone, pair_of, rewrite_calls}
+use Rattle.journal.specs.declared.side.Side.{Side}
 use Rattle.journal.specs.declared.side.Side.TheVariants.{First}
 use Rattle.journal.specs.Format.{FitsGroup, file_with}
 use Rattle.journal.specs.Snapshot.{bytes_for, CanPack}
@@ -78,6 +79,15 @@ pub record HasJustBegun (node : Node) (world : World) (history : History) : Type
 abbrev pub HistoriesBegin : Type 0
 HistoriesBegin = (node : Node) (history : History) (on : Opened) → IsLegal node history → AreKeys node → IsOpened node on (kept node history)
     → (given : List Given) × (moves : List Move) × IsRun node moves (run_on on history given)
+
+-- two disks with these bytes, of which the first given is read, on this side and in this generation
+abbrev pub two_on : List ℕ → List ℕ → Side → ℕ → Opened
+two_on live other side generation = record { bytes = live; spare = Some (record { bytes = other; side = side; generation = generation }) }
+
+-- and there are such disks: on two a run can begin with each legal history, whichever of them is read, and in each generation
+abbrev pub HistoriesBeginOnTwo : Type 0
+HistoriesBeginOnTwo = (node : Node) (history : History) (side : Side) (generation : ℕ) → IsLegal node history → AreKeys node → generation < 2 ^ 64
+    → (live : List ℕ) × (other : List ℕ) × IsOpened node (two_on live other side generation) (kept node history)
 
 -- the accepted events up to so many are settled, no group is in flight, and the disk has what is settled, which is its file with one
 -- group more; nothing else changed

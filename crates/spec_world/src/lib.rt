@@ -4,7 +4,7 @@
 
 ghost use Rattle.spec_world.specs.Lasting.{SettledGrows, GivenStays, EventsCameIn, GivenVotesAreSettled, GivenOrdersAreSettled};
 ghost use Rattle.spec_world.specs.Promise.{NothingTakenBack, WhatGoesOutAgrees};
-ghost use Rattle.spec_world.specs.Runs.{RunsBegin, RunsBeginOnTwo, StopsArePossible, RunsGoOn, RunsBeginWithWhatStands, RunsBeginAtStates, HistoriesBegin, GroupsSettle, TwoGroupsSettle, AppendsMakeCalls, CheckpointsSettle, SnapshotsAreCheckpoints, RewritingsMakeCalls};
+ghost use Rattle.spec_world.specs.Runs.{RunsBegin, RunsBeginOnTwo, StopsArePossible, RunsGoOn, RunsBeginWithWhatStands, RunsBeginAtStates, HistoriesBegin, HistoriesBeginOnTwo, GroupsSettle, TwoGroupsSettle, AppendsMakeCalls, CheckpointsSettle, SnapshotsAreCheckpoints, RewritingsMakeCalls};
 ghost use Rattle.spec_world.specs.Scripts.{ScriptsAreRuns, ScriptsBegin};
 
 /// Over every list of runs of one node, in every interleaving of accepts, takes, writes, syncs, settlements and
@@ -52,6 +52,13 @@ pub fn runs_begin_at_states()
 pub fn histories_begin()
     ensures { HistoriesBegin }
 {}
+
+/// On two disks a run can begin with each legal history, whichever of both is read, and in each generation of 64 bits.
+pub fn histories_begin_on_two()
+    ensures { HistoriesBeginOnTwo }
+{
+    spec_checkpoint::blank_is_fresh();
+}
 
 /// Accepted events that fit a group can be settled, where no group is in flight: taken, written, synced, their gate opened
 /// and synced. The disk then has what is settled, and nothing else changed.
