@@ -13,5 +13,7 @@ pub mod PairLaws
 mod StateTexts
 mod Keys
 mod Renewals
+mod AloneOpening
+mod PairOpening
 mod PairReplays
 mod Replays

@@ -7,8 +7,8 @@ use Rattle.std.specs.Option.{option_map, option_and_then, option_map_or}
 use Rattle.std.proofs.lemmas.Bool.{cases_eq, cases_lt}
 use Rattle.std.proofs.lemmas.List.{append-nil, map-append}
 use Rattle.std.proofs.lemmas.List.Elements.{All-nil, All-cons, All-head, All-append}
-use Rattle.diskmodel.proofs.Clock.{weaker}
-use Rattle.diskmodel.specs.Disk.{LeavesOnly, AtEachMoment, AtEachMomentOfBoth, TellsFault, Device as Disks}
+use Rattle.diskmodel.proofs.Clock.{started, weaker}
+use Rattle.diskmodel.specs.Disk.{LeavesOnly, AtEachMoment, TellsFault, Device as Disks}
 use Rattle.journal.specs.Areas.{Areas, alone, pair, pair_of, base_of, other_side, head_record, generation_of, tells, chosen, moved, stands_at, stands_in, IsOlder}
 use Rattle.journal.specs.Configuration.{shaped_version}
 use Rattle.journal.specs.Format.{sized_body, group_of, kept_at, kept, all_kept, walk, only_records, stands}
@@ -43,7 +43,9 @@ use Rattle.spec_world.specs.World.{bytes_of, IsPair, own_configuration, as_fresh
 use Rattle.admission.specs.Standing.{OneState}
 use Rattle.admission.specs.declared.tables.Tables.{Tables}
 use Rattle.checkpoint.specs.Describes.{Describes}
-use Rattle.opening.specs.Renewing.{KeepsStatesIn, IsFullAt, IsNewest, IsRenewed}
+use Rattle.opening.specs.Finished.{done, gives_up}
+use Rattle.opening.specs.Renewing.{KeepsStatesIn, IsFullAt, HasRoomAt, IsNewest, IsRenewed, IsRewritten, IsPlaced}
+use Rattle.opening.specs.Stages.{IsStage}
 use Rattle.opening.specs.Told.{own_fault, read_behind, StandsAt, told_in, KeepsOrBegins}
 use Rattle.opening.proofs.Empty.{scans_long, walk_open}
 use Rattle.opening.proofs.FirstGroups.{walk_from}
@@ -150,44 +152,60 @@ module _ {D : Type 0} (device : Disks D) where
   abbrev pub IsStill : D → Type 0
   IsStill disk = (c : List ℕ) → device.outcome_since disk (device.clock disk) c → c ≡ device.content disk
 
+  -- each disk over its moments, where P holds of both together
+  pub stage : (P : List ℕ → List ℕ → Type 0) (old new : D × D) (A B : List ℕ → Type 0) → AtEachMoment device old.0 new.0 A → AtEachMoment device old.1 new.1 B
+      → ((one other : List ℕ) → A one → B other → P one other) → IsStage device P old new
+  stage P old new A B first second both = record {
+    first = weaker device old.0 new.0 (λ one. (other : List ℕ) → device.outcome_since new.1 (device.clock old.1) other → P one other) A first
+        (λ one has other left. both one other has (second.each other left));
+    second = weaker device old.1 new.1 (λ other. (one : List ℕ) → device.outcome_since new.0 (device.clock old.0) one → P one other) B second
+        (λ other has one left. both one other (first.each one left) has);
+  }
+
   module _ (P : Areas → Type 0) where
-    moments_by : (side : Side) (live spare now : D) → IsStill live → AtEachMoment device spare now (λ left. P (pair_of side (device.content live) left))
-        → AtEachMomentOfBoth device (by_area side live spare) (by_area side live now) (λ one other. P (pair one other))
-    moments_by First live spare now still at a b left right = subst (λ (l : List ℕ). P (pair l b)) (sym (still a left)) (at.each b right)
-    moments_by Second live spare now still at a b left right = subst (λ (l : List ℕ). P (pair a l)) (sym (still b right)) (at.each a left)
+    abbrev OfBoth : List ℕ → List ℕ → Type 0
+    OfBoth one other = P (pair one other)
+
+    stays : (disk : D) → IsStill disk → AtEachMoment device disk disk (λ c. c ≡ device.content disk)
+    stays disk still = started device disk (λ c. c ≡ device.content disk) still
+
+    spare_by : (side : Side) (live spare now : D) → IsStill live → AtEachMoment device spare now (λ left. P (pair_of side (device.content live) left))
+        → IsStage device OfBoth (by_area side live spare) (by_area side live now)
+    spare_by First live spare now still at =
+        stage OfBoth (live, spare) (live, now) (λ c. c ≡ device.content live) (λ left. P (pair (device.content live) left)) (stays live still) at
+        (λ one other same has. subst (λ (l : List ℕ). P (pair l other)) (sym same) has)
+    spare_by Second live spare now still at =
+        stage OfBoth (spare, live) (now, live) (λ left. P (pair left (device.content live))) (λ c. c ≡ device.content live) at (stays live still)
+        (λ one other has same. subst (λ (l : List ℕ). P (pair one l)) (sym same) has)
 
     -- the disk that isn't read is written
-    pub moments_of_spare : (side : Side) (live spare now : D) (disks now_disks : D × D) → disks ≡ by_area side live spare → now_disks ≡ by_area side live now → IsStill live
-        → AtEachMoment device spare now (λ left. P (pair_of side (device.content live) left)) → AtEachMomentOfBoth device disks now_disks (λ one other. P (pair one other))
-    moments_of_spare side live spare now disks now_disks was is still at =
-        subst (λ (d : D × D). AtEachMomentOfBoth device d now_disks (λ one other. P (pair one other))) (sym was)
-        (subst (λ (d : D × D). AtEachMomentOfBoth device (by_area side live spare) d (λ one other. P (pair one other))) (sym is) (moments_by side live spare now still at))
+    pub stage_of_spare : (side : Side) (live spare now : D) (disks now_disks : D × D) → disks ≡ by_area side live spare → now_disks ≡ by_area side live now → IsStill live
+        → AtEachMoment device spare now (λ left. P (pair_of side (device.content live) left)) → IsStage device OfBoth disks now_disks
+    stage_of_spare side live spare now disks now_disks was is still at =
+        subst (λ (d : D × D). IsStage device OfBoth d now_disks) (sym was) (subst (λ (d : D × D). IsStage device OfBoth (by_area side live spare) d) (sym is) (spare_by side live spare now still at))
 
     live_by : (side : Side) (live spare now : D) → IsStill spare → AtEachMoment device live now (λ left. P (pair_of side left (device.content spare)))
-        → AtEachMomentOfBoth device (by_area side live spare) (by_area side now spare) (λ one other. P (pair one other))
-    live_by First live spare now still at a b left right = subst (λ (l : List ℕ). P (pair a l)) (sym (still b right)) (at.each a left)
-    live_by Second live spare now still at a b left right = subst (λ (l : List ℕ). P (pair l b)) (sym (still a left)) (at.each b right)
+        → IsStage device OfBoth (by_area side live spare) (by_area side now spare)
+    live_by First live spare now still at =
+        stage OfBoth (live, spare) (now, spare) (λ left. P (pair left (device.content spare))) (λ c. c ≡ device.content spare) at (stays spare still)
+        (λ one other has same. subst (λ (l : List ℕ). P (pair one l)) (sym same) has)
+    live_by Second live spare now still at =
+        stage OfBoth (spare, live) (spare, now) (λ c. c ≡ device.content spare) (λ left. P (pair (device.content spare) left)) (stays spare still) at
+        (λ one other same has. subst (λ (l : List ℕ). P (pair l other)) (sym same) has)
 
     -- the disk that is read is
-    pub moments_of_live : (side : Side) (live spare now : D) (disks now_disks : D × D) → disks ≡ by_area side live spare → now_disks ≡ by_area side now spare → IsStill spare
-        → AtEachMoment device live now (λ left. P (pair_of side left (device.content spare))) → AtEachMomentOfBoth device disks now_disks (λ one other. P (pair one other))
-    moments_of_live side live spare now disks now_disks was is still at =
-        subst (λ (d : D × D). AtEachMomentOfBoth device d now_disks (λ one other. P (pair one other))) (sym was)
-        (subst (λ (d : D × D). AtEachMomentOfBoth device (by_area side live spare) d (λ one other. P (pair one other))) (sym is) (live_by side live spare now still at))
+    pub stage_of_live : (side : Side) (live spare now : D) (disks now_disks : D × D) → disks ≡ by_area side live spare → now_disks ≡ by_area side now spare → IsStill spare
+        → AtEachMoment device live now (λ left. P (pair_of side left (device.content spare))) → IsStage device OfBoth disks now_disks
+    stage_of_live side live spare now disks now_disks was is still at =
+        subst (λ (d : D × D). IsStage device OfBoth d now_disks) (sym was) (subst (λ (d : D × D). IsStage device OfBoth (by_area side live spare) d) (sym is) (live_by side live spare now still at))
 
     -- neither is
-    none_by : (side : Side) (live spare : D) → IsStill live → IsStill spare → P (pair_of side (device.content live) (device.content spare))
-        → AtEachMomentOfBoth device (by_area side live spare) (by_area side live spare) (λ one other. P (pair one other))
-    none_by First live spare still also here a b left right =
-        subst (λ (l : List ℕ). P (pair l b)) (sym (still a left)) (subst (λ (l : List ℕ). P (pair (device.content live) l)) (sym (also b right)) here)
-    none_by Second live spare still also here a b left right =
-        subst (λ (l : List ℕ). P (pair l b)) (sym (also a left)) (subst (λ (l : List ℕ). P (pair (device.content spare) l)) (sym (still b right)) here)
-
-    pub moments_of_none : (side : Side) (live spare : D) (disks : D × D) → disks ≡ by_area side live spare → IsStill live → IsStill spare
-        → P (pair_of side (device.content live) (device.content spare))
-        → AtEachMomentOfBoth device disks disks (λ one other. P (pair one other))
-    moments_of_none side live spare disks was still also here =
-        subst (λ (d : D × D). AtEachMomentOfBoth device d d (λ one other. P (pair one other))) (sym was) (none_by side live spare still also here)
+    pub stage_of_none : (side : Side) (live spare : D) (disks : D × D) → disks ≡ by_area side live spare → IsStill live → IsStill spare → P (pair_of side (device.content live) (device.content spare))
+        → IsStage device OfBoth disks disks
+    stage_of_none side live spare disks was still also here =
+        stage_of_spare side live spare spare disks disks was was still
+        (weaker device spare spare (λ left. P (pair_of side (device.content live) left)) (λ c. c ≡ device.content spare) (stays spare also)
+        (λ left same. subst (λ (l : List ℕ). P (pair_of side (device.content live) l)) (sym same) here))
 
 swapped_by : {D : Type 0} (side : Side) (one other : D) → by_area (other_side side) one other ≡ by_area side other one
 swapped_by First one other = refl
@@ -482,13 +500,20 @@ module _ {D : Type 0} (device : Disks D) (node : Node) (journal : Journal D) (so
       };
     }
 
+    -- or there is
+    pub room_at : ¬ ((MAX_JOURNAL_BYTES < 1 + length (bytes_for (generation_in journal + 1) snapshot)) ⊎ (generation_in journal ≡ 2 ^ 64 - 1)) → HasRoomAt node device journal
+    room_at fits = record {
+      state = at.state;
+      is_told = at.is_read;
+      room = record {
+        checkpoint = of.checkpoint;
+        written = of.written;
+        is = sym state_is;
+        fits = subst (λ (l : List (List ℕ)). ¬ ((MAX_JOURNAL_BYTES < 1 + length (bytes_for (generation_in journal + 1) l)) ⊎ (generation_in journal ≡ 2 ^ 64 - 1))) of.are fits;
+      };
+    }
+
 -- ---- answers
-
-abbrev pub done : Result (Unit {0}) JournalError
-done = Ok tt
-
-abbrev pub gives_up : JournalError → Result (Unit {0}) JournalError
-gives_up error = Err error
 
 abbrev pub counts : ℕ → Result ℕ JournalError
 counts generation = Ok generation
@@ -566,9 +591,9 @@ module _ {D : Type 0} (device : Disks D) (node : Node) (journal : Journal D) (so
     still : IsStill device (spare_disk journal)
     still c left = (beside device journal alive two).firm c (only_now (spare_disk journal) c left)
 
-    moments : AtEachMomentOfBoth device (disks_of journal) (disks_of new) (λ one also. told_in node (pair one also) ≡ told_in node (areas_of device journal))
+    moments : IsStage device (λ one also. told_in node (pair one also) ≡ told_in node (areas_of device journal)) (disks_of journal) (disks_of new)
     moments =
-        moments_of_live device (λ areas. told_in node areas ≡ told_in node (areas_of device journal)) (side_in journal) (disk_of journal) (spare_disk journal) (disk_of new)
+        stage_of_live device (λ areas. told_in node areas ≡ told_in node (areas_of device journal)) (side_in journal) (disk_of journal) (spare_disk journal) (disk_of new)
         (disks_of journal) (disks_of new) refl disks_then still
         (weaker device (disk_of journal) (disk_of new) (λ left. told_in node (pair_of (side_in journal) left other) ≡ told_in node (areas_of device journal))
         (KeepsOrBegins versions.Second node live) keeps left_fresh)
@@ -649,9 +674,9 @@ module _ {D : Type 0} (device : Disks D) (node : Node) (journal new : Journal D)
 
   rewritten_moments : (now : D) → disks_of new ≡ by_area (side_in journal) (disk_of journal) now
       → AtEachMoment device (spare_disk journal) now (λ left. told_in node (areas_with device journal left) ≡ told_in node (areas_of device journal))
-      → AtEachMomentOfBoth device (disks_of journal) (disks_of new) (λ one other. told_in node (pair one other) ≡ told_in node (areas_of device journal))
+      → IsStage device (λ one other. told_in node (pair one other) ≡ told_in node (areas_of device journal)) (disks_of journal) (disks_of new)
   rewritten_moments now disks at =
-      moments_of_spare device (λ areas. told_in node areas ≡ told_in node (areas_of device journal)) (side_in journal) (disk_of journal) (spare_disk journal) now
+      stage_of_spare device (λ areas. told_in node areas ≡ told_in node (areas_of device journal)) (side_in journal) (disk_of journal) (spare_disk journal) now
       (disks_of journal) (disks_of new) refl disks live_still
       (weaker device (spare_disk journal) now (λ left. told_in node (pair_of (side_in journal) (device.content (disk_of journal)) left) ≡ told_in node (areas_of device journal))
       (λ left. told_in node (areas_with device journal left) ≡ told_in node (areas_of device journal)) at
@@ -713,7 +738,7 @@ module _ {D : Type 0} (device : Disks D) (node : Node) (journal new : Journal D)
     full = tt;
     cause = (refl, tt);
     unchanged = tt;
-    any_moment = moments_of_none device (λ areas. told_in node areas ≡ told_in node (areas_of device journal)) (side_in journal) (disk_of journal) (spare_disk journal)
+    any_moment = stage_of_none device (λ areas. told_in node areas ≡ told_in node (areas_of device journal)) (side_in journal) (disk_of journal) (spare_disk journal)
         (disks_of journal) refl live_still spare_still
         (ap (told_in node) (sym (areas_are device journal (device.content (spare_disk journal)) two)));
   }
@@ -721,6 +746,44 @@ module _ {D : Type 0} (device : Disks D) (node : Node) (journal new : Journal D)
       held : (state : State) → StandsFor node (areas_of device journal) state → Holds node (areas_of device journal) state
       held state (as_journal is) = is
       held state (as_empty none is) = absurd (some none)
+
+-- ---- the area that is read then
+
+pub kept_places : {D : Type 0} (old new : Journal D) → IsSome (spare_of old) → spare_of new ≡ spare_of old → HaveKeptPlaces old new
+kept_places {D} old new two same = record {
+  pair = subst (λ (o : Option (Spare D)). IsSome o) (sym same) two;
+  side = ap (λ (o : Option (Spare D)). option_map_or (λ s. s.side) o First) same;
+  generation = ap (λ (o : Option (Spare D)). option_map_or (λ s. s.generation) o 0) same;
+}
+
+pub placed_as_before : {D : Type 0} (node : Node) (device : Disks D) (version : Option Version) (old new : Journal D) → version ≢ Some versions.First → HaveKeptPlaces old new
+    → IsPlaced node device version old new
+placed_as_before node device version old new not_first kept = record { rewritten = λ is. absurd (not_first is); stays = λ same. kept }
+
+pub placed_still : {D : Type 0} (node : Node) (device : Disks D) (version : Option Version) (old new : Journal D) (result : Result (Unit {0}) JournalError) → version ≢ Some versions.First
+    → HaveKeptPlaces old new → OnOk result (IsPlaced node device version old new)
+placed_still node device version old new (Ok given) not_first kept = placed_as_before node device version old new not_first kept
+placed_still node device version old new (Err error) not_first kept = tt
+
+pub placed_anew : {D : Type 0} (node : Node) (device : Disks D) (version : Option Version) (old new : Journal D) (result : Result (Unit {0}) JournalError) → version ≡ Some versions.First
+    → OnOk result (IsRewritten node device old new) → OnOk result (IsPlaced node device version old new)
+placed_anew node device version old new (Ok given) is rewritten = record { rewritten = λ also. rewritten; stays = λ not_first. absurd (not_first is) }
+placed_anew node device version old new (Err error) is rewritten = tt
+
+pub some_is : (version : Option Version) (found named : Version) → version ≡ Some found → found ≡ named → version ≡ Some named
+some_is version found named is same = subst (λ (v : Version). version ≡ Some v) same is
+
+pub none_is_not_first : (version : Option Version) → version ≡ None → version ≢ Some versions.First
+none_is_not_first version none is = clash (sym none ∙ is)
+  where
+    clash : ◌≡◌ {A = Option Version} None (Some versions.First) → ⊥
+    clash same = cc
+
+pub second_is_not_first : (version : Option Version) → version ≡ Some versions.Second → version ≢ Some versions.First
+second_is_not_first version second is = clash (sym second ∙ is)
+  where
+    clash : ◌≡◌ {A = Option Version} (Some versions.Second) (Some versions.First) → ⊥
+    clash same = cc
 
 -- ---- whatever writing the configuration answered
 

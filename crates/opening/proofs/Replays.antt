@@ -119,7 +119,8 @@ module _ {S : Type 0} (scheme : Scheme S) (setting : ConfigView S) where
   module _ (one : Record) (alone : Bool) where
     module _ (gate : Option ℕ) (was : gate ≢ None) where
       pub took : (records : List Record) (before later : ValidatorView S) → HasReplayed scheme setting gate alone (Ok before) records → later.setting ≡ before.setting → IsText one
-          → ((state : State) → AreAtSound (node_of scheme before.setting) before.tables state → StandsAt (node_of scheme before.setting) (read_event (node_of scheme before.setting) state one) later.tables)
+          → ((state : State) → AreAtSound (node_of scheme before.setting) before.tables state
+          → StandsAt (node_of scheme before.setting) (read_event (node_of scheme before.setting) state one) later.tables)
           → HasReplayed scheme setting gate (alone && nat_lt 0 one.gate) (Ok later) (records ++ one ∷ [])
       took [] before later has same text next = absurd (was has.begins)
       took (first ∷ events) before later has same text next = record {
@@ -127,7 +128,8 @@ module _ {S : Type 0} (scheme : Scheme S) (setting : ConfigView S) where
         is_alone_in = ap (λ (b : Bool). b && nat_lt 0 one.gate) has.is_alone_in ∙ sym (alone_push events one);
         set = same ∙ has.set;
         stands = stands_push (node_of scheme setting) first events one before.tables later.tables has.stands
-            (subst (λ (s : ConfigView S). (state : State) → AreAtSound (node_of scheme s) before.tables state → StandsAt (node_of scheme s) (read_event (node_of scheme s) state one) later.tables) has.set next);
+            (subst (λ (s : ConfigView S). (state : State) → AreAtSound (node_of scheme s) before.tables state
+            → StandsAt (node_of scheme s) (read_event (node_of scheme s) state one) later.tables) has.set next);
         fault = tt;
         never = tt;
         texts = All-push IsText events one has.texts text;

@@ -276,7 +276,8 @@ stands_fresh node tables stands = stands_unless node None (read_events node (fre
 -- an error of the others
 pub fails_behind : (node : Node) (first : Record) (events : List Record) (error : JournalError) → first_fault node first events ≡ None → FailsAs error (read_events node (fresh node) events)
     → Tells error (read_journal node (first ∷ events))
-fails_behind node first events error none fails = tells_same error _ _ (sym (journal_cons node first events)) (fails_told (first_fault node first events) (read_events node (fresh node) events) error none fails)
+fails_behind node first events error none fails =
+    tells_same error _ _ (sym (journal_cons node first events)) (fails_told (first_fault node first events) (read_events node (fresh node) events) error none fails)
 
 pub fails_fresh : (node : Node) (error : JournalError) → FailsAs error (read_events node (fresh node) []) → Tells error (read_journal node [])
 fails_fresh node error fails = tells_same error _ _ (sym (fresh_is node)) (fails_told None (read_events node (fresh node) []) error refl fails)

@@ -1,7 +1,9 @@
+pub mod Finished
 pub mod Laws
 pub mod PairReplayed
 pub mod PairReplays
 pub mod Renewing
 pub mod Replayed
 pub mod Replays
+pub mod Stages
 pub mod Told

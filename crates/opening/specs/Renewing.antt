@@ -1,11 +1,12 @@
 -- What an opening makes of a journal on two disks after its records were taken: an empty one gets its configuration, and one in the first
 -- version is rewritten as a checkpoint.
-use Rattle.std.specs.Prelude.{◌≡◌, ◌≢◌, ◌⊎◌, ◌<◌, ◌+◌, ◌-◌, ◌^◌, ℕ, List, [], ◌∷◌, length, Some, IsSome, Result, Ok, IfErr, OnOk}
-use Rattle.diskmodel.specs.Disk.{Device as Disks, AtEachMomentOfBoth, TellsFault}
-use Rattle.journal.specs.Areas.{Areas, pair, stands_in}
+use Rattle.std.specs.Prelude.{◌≡◌, ◌≢◌, ◌⊎◌, ◌<◌, ◌+◌, ◌-◌, ◌^◌, ℕ, List, [], ◌∷◌, length, Option, Some, IsSome, Result, Ok, IfErr, OnOk}
+use Rattle.diskmodel.specs.Disk.{Device as Disks, TellsFault}
+use Rattle.journal.specs.Areas.{Areas, pair, other_side, stands_in, tells}
 use Rattle.journal.specs.Configuration.{shaped_version}
-use Rattle.journal.specs.Journal.{spare_of, IsAlive}
-use Rattle.journal.specs.Pairs.{areas_of, generation_in}
+use Rattle.journal.specs.Journal.{disk_of, spare_of, IsAlive}
+use Rattle.journal.specs.Opened.{IsChoice}
+use Rattle.journal.specs.Pairs.{areas_of, side_in, generation_in, HaveChangedPlaces, HaveKeptPlaces}
 use Rattle.journal.specs.Snapshot.{bytes_for}
 use Rattle.journal.specs.Stores.{disks_of, faults_of_both}
 use Rattle.journal.specs.declared.error.JournalError.{JournalError}
@@ -13,31 +14,69 @@ use Rattle.journal.specs.declared.error.JournalError.TheVariants.{Memory, Device
 use Rattle.journal.specs.declared.journal.Journal.{Journal}
 use Rattle.journal.specs.declared.layout.TheConstants.{MAX_JOURNAL_BYTES}
 use Rattle.journal.specs.declared.record.Record.{Record}
-use Rattle.journal.specs.declared.version.Version.TheVariants.{Second}
+use Rattle.journal.specs.declared.side.Side.{Side}
+use Rattle.journal.specs.declared.version.Version.{Version}
+use Rattle.journal.specs.declared.version.Version.TheVariants.{First, Second}
 use Rattle.spec_checkpoint.specs.Data.{Checkpoint, IsWritten}
 use Rattle.spec_checkpoint.specs.Meaning.{state_in}
 use Rattle.spec_checkpoint.specs.Records.{state_records}
 use Rattle.spec_model.specs.Nodes.{Node}
 use Rattle.spec_model.specs.States.{State}
 use Rattle.spec_world.specs.World.{own_configuration, Holds, StandsFor}
+use Rattle.opening.specs.PairReplayed.{version_in}
+use Rattle.opening.specs.Stages.{IsStage}
 use Rattle.opening.specs.Told.{told_in}
 
 -- at each state for which the first areas stand, the second ones are a journal of the node
 abbrev pub KeepsStatesIn : Node → Areas → Areas → Type 0
 KeepsStatesIn node before later = (state : State) → StandsFor node before state → Holds node later state
 
--- a checkpoint of this state doesn't fit an area, with the next generation, or there is no next one
+-- a checkpoint doesn't fit an area, with the generation after this one, or there is none after it
+abbrev pub IsTooLong : Node → ℕ → Checkpoint → Type 0
+IsTooLong node generation checkpoint =
+    (MAX_JOURNAL_BYTES < 1 + length (bytes_for (generation + 1) (own_configuration Second node ∷ state_records checkpoint))) ⊎ (generation ≡ 2 ^ 64 - 1)
+
+-- a checkpoint of this state has no room after this generation
 pub record HasNoRoom (node : Node) (generation : ℕ) (state : State) : Type 0 where
   pub checkpoint : Checkpoint
   pub written : IsWritten node checkpoint
   pub is : state_in node checkpoint ≡ state
-  pub full : (MAX_JOURNAL_BYTES < 1 + length (bytes_for (generation + 1) (own_configuration Second node ∷ state_records checkpoint))) ⊎ (generation ≡ 2 ^ 64 - 1)
+  pub full : IsTooLong node generation checkpoint
 
--- a journal that is open is told as a state of which a checkpoint has no room
+-- and here one has room
+pub record HasRoom (node : Node) (generation : ℕ) (state : State) : Type 0 where
+  pub checkpoint : Checkpoint
+  pub written : IsWritten node checkpoint
+  pub is : state_in node checkpoint ≡ state
+  pub fits : ¬ IsTooLong node generation checkpoint
+
+-- two areas, of which one is read with this generation, are a journal in the first version at a state of which a checkpoint has no room
+pub record IsFullOf (node : Node) (one other : List ℕ) : Type 0 where
+  pub records : List Record
+  pub stands_for : stands_in (pair one other) ≡ Ok records
+  pub version : version_in records ≡ Some First
+  pub side : Side
+  pub generation : ℕ
+  pub chosen : IsChoice side generation (tells one) (tells other)
+  pub state : State
+  pub is_told : told_in node (pair one other) ≡ Ok state
+  pub no_room : HasNoRoom node generation state
+
+-- the same of a journal that is open, whatever its version
 pub record IsFullAt {D : Type 0} (node : Node) (device : Disks D) (journal : Journal D) : Type 0 where
   pub state : State
   pub is_told : told_in node (areas_of device journal) ≡ Ok state
   pub no_room : HasNoRoom node (generation_in journal) state
+
+-- a journal that is open is told as a state of which a checkpoint has room
+pub record HasRoomAt {D : Type 0} (node : Node) (device : Disks D) (journal : Journal D) : Type 0 where
+  pub state : State
+  pub is_told : told_in node (areas_of device journal) ≡ Ok state
+  pub room : HasRoom node (generation_in journal) state
+
+-- of a journal on two disks the area that is read has its first group, which says its generation
+abbrev pub HasBegun : {D : Type 0} → Disks D → Journal D → Type 0
+HasBegun device journal = IsSome (spare_of journal) → tells (device.content (disk_of journal)) ≡ Some (Some (generation_in journal))
 
 -- the first record of a journal is a configuration in the second version
 abbrev pub IsNewest : Areas → Type 0
@@ -55,4 +94,26 @@ pub record IsRenewed {X D : Type 0} (node : Node) (device : Disks D) (old : Jour
   pub full : IfErr result (λ error. error ≡ Full → IsFullAt node device old)
   pub cause : TellsFault Device (faults_of_both device (disks_of old)) (faults_of_both device (disks_of new)) result
   pub unchanged : IfErr result (λ error. error ≢ Device → new ≡ old)
-  pub any_moment : AtEachMomentOfBoth device (disks_of old) (disks_of new) (λ one other. told_in node (pair one other) ≡ told_in node (areas_of device old))
+  pub any_moment : IsStage device (λ one other. told_in node (pair one other) ≡ told_in node (areas_of device old)) (disks_of old) (disks_of new)
+
+-- a journal on two disks was rewritten as a checkpoint: that had room, and the other area is read now, whose generation is one more
+pub record IsRewritten {D : Type 0} (node : Node) (device : Disks D) (old new : Journal D) : Type 0 where
+  pub room : HasRoomAt node device old
+  pub places : HaveChangedPlaces old new
+
+-- A renewal rewrites a journal in the first version. Else the same area is read, with its generation.
+pub record IsPlaced {D : Type 0} (node : Node) (device : Disks D) (version : Option Version) (old new : Journal D) : Type 0 where
+  pub rewritten : version ≡ Some First → IsRewritten node device old new
+  pub stays : version ≢ Some First → HaveKeptPlaces old new
+
+-- The area that is read after an opening of these two, of which this side was chosen with this generation, and whose records are these. A
+-- journal in the first version was rewritten as a checkpoint, which had room: the other area is read, and its generation is one more.
+pub record IsReadOn {D : Type 0} (node : Node) (one other : List ℕ) (journal : Journal D) : Type 0 where
+  pub records : List Record
+  pub stands_for : stands_in (pair one other) ≡ Ok records
+  pub side : Side
+  pub generation : ℕ
+  pub chosen : IsChoice side generation (tells one) (tells other)
+  pub rewritten : version_in records ≡ Some First → (side_in journal ≡ other_side side) × (generation_in journal ≡ generation + 1)
+  pub room : version_in records ≡ Some First → (state : State) × (told_in node (pair one other) ≡ Ok state) × HasRoom node generation state
+  pub stays : version_in records ≢ Some First → (side_in journal ≡ side) × (generation_in journal ≡ generation)

@@ -23,7 +23,8 @@ first_gate (first ∷ events) = Some first.gate
 
 -- what was read of these records: where the first one stands, whether it is alone in its group, and a validator that stands after the
 -- events, or the first fault
-pub record HasReplayed {S : Type 0} (scheme : Scheme S) (setting : ConfigView S) (first : Option ℕ) (alone : Bool) (reached : Result (ValidatorView S) JournalError) (records : List Record) : Type 0 where
+pub record HasReplayed {S : Type 0} (scheme : Scheme S) (setting : ConfigView S) (first : Option ℕ) (alone : Bool)
+    (reached : Result (ValidatorView S) JournalError) (records : List Record) : Type 0 where
   pub begins : first ≡ first_gate records
   pub is_alone_in : alone ≡ is_alone (drop 1 records)
   pub set : IfOk reached (λ validator. validator.setting ≡ setting)

@@ -6,7 +6,7 @@ ghost use Rattle.journal.specs.Areas.{stands_in};
 ghost use Rattle.journal.specs.Journal.{disk_of, spare_of, IsAlive};
 ghost use Rattle.journal.specs.Pairs.{HaveChangedPlaces, HaveKeptPlaces, spare_disk, generation_in, areas_of, areas_with, rewritten_disk, untouched_disk};
 ghost use Rattle.validator.specs.Setting.{node_of};
-ghost use Rattle.opening.specs.Renewing.{KeepsStatesIn, IsNewest, IsFullAt};
+ghost use Rattle.opening.specs.Renewing.{KeepsStatesIn, IsNewest, IsFullAt, HasRoomAt};
 ghost use Rattle.opening.specs.Told.{told_in, StandsAt};
 ghost use Rattle.spec_world.specs.Runs.{AreKeys};
 
@@ -47,7 +47,9 @@ pub fn checkpoint<S: Sign, D: Disk>(
     ensures untouched { untouched_disk result journal.new ≡ disk_of journal.old }
 
     ensures errors { IfErr result (λ error. (error ≡ JournalError.Device) ⊎ (error ≡ JournalError.Memory) ⊎ (error ≡ JournalError.Full)) }
+    // It answers Full where the checkpoint has no room, and Ok only where it has.
     ensures full { IfErr result (λ error. error ≡ JournalError.Full → IsFullAt (node_of S.scheme validator.now.setting) D.device journal.old) }
+    ensures room { OnOk result (HasRoomAt (node_of S.scheme validator.now.setting) D.device journal.old) }
     // It answers Device exactly where the disk that it writes has failed.
     ensures cause { TellsFault JournalError.Device (D.device.faults (spare_disk journal.old)) (D.device.faults (rewritten_disk result journal.new)) result }
     ensures unchanged { IfErr result (λ error. error ≢ JournalError.Device → journal.new ≡ journal.old) }

@@ -12,6 +12,7 @@ mod renewing;
 mod reopening;
 mod replay;
 mod standing;
+mod stores;
 
 pub use checkpoints::checkpoint;
 pub use configuration::can_tell;
@@ -21,3 +22,4 @@ pub use standing::{
     told_in_stands_for, told_stands_for, what_stands_is_told, what_stands_is_told_in,
     worlds_are_told, worlds_are_told_in,
 };
+pub use stores::{reopen_pair, reopen_store};

@@ -1,13 +1,13 @@
 //! Bringing an opened journal on two disks to the second version.
 
-ghost use Rattle.std.specs.Prelude.{◌≡◌, ◌≢◌, [], List, Some, Ok, IfErr, IsSome};
+ghost use Rattle.std.specs.Prelude.{◌≡◌, ◌≢◌, [], List, Some, Ok, IfErr, OnOk, IsSome};
 ghost use Rattle.journal.specs.Areas.{stands_in};
 ghost use Rattle.journal.specs.Journal.{spare_of, IsAlive};
-ghost use Rattle.journal.specs.Pairs.{areas_of};
+ghost use Rattle.journal.specs.Pairs.{areas_of, HaveKeptPlaces};
 ghost use Rattle.journal.specs.declared.record.Record.{Record};
 ghost use Rattle.validator.specs.Setting.{node_of};
 ghost use Rattle.opening.specs.PairReplayed.{version_in};
-ghost use Rattle.opening.specs.Renewing.{IsRenewed};
+ghost use Rattle.opening.specs.Renewing.{IsRenewed, IsPlaced, IsRewritten};
 ghost use Rattle.opening.specs.Told.{told_in, StandsAt};
 
 use crate::checkpoints::checkpoint;
@@ -33,6 +33,8 @@ pub(crate) fn renew<S: Sign, D: Disk>(
     requires stands { let node = node_of S.scheme config.now in StandsAt node (told_in node (areas_of D.device journal.old)) validator.now.tables }
     requires version { (records : List Record) × (stands_in (areas_of D.device journal.old) ≡ Ok records) × (version ≡ version_in records) }
     ensures renewed { IsRenewed (node_of S.scheme config.now) D.device journal.old result journal.new }
+    // It rewrites one in the first version, and no other.
+    ensures placed { OnOk result (IsPlaced (node_of S.scheme config.now) D.device version journal.old journal.new) }
     ensures first { IfErr result (λ error. error ≡ JournalError.Full → version ≡ Some Version.First) }
 {
     match version {
@@ -52,6 +54,7 @@ fn begin<S: Sign, D: Disk>(
     requires pair { IsSome (spare_of journal.old) }
     requires empty { stands_in (areas_of D.device journal.old) ≡ Ok [] }
     ensures never_full { IfErr result (λ error. error ≢ JournalError.Full) }
+    ensures stays { HaveKeptPlaces journal.old journal.new }
     ensures renewed { IsRenewed (node_of S.scheme config.now) D.device journal.old result journal.new }
 {
     spec_machine::starts_fresh();
@@ -71,7 +74,8 @@ fn migrate<S: Sign, D: Disk>(
     requires setting { validator.now.setting ≡ config.now }
     requires configured { stands_in (areas_of D.device journal.old) ≢ Ok [] }
     requires stands { let node = node_of S.scheme config.now in StandsAt node (told_in node (areas_of D.device journal.old)) validator.now.tables }
-    ensures { IsRenewed (node_of S.scheme config.now) D.device journal.old result journal.new }
+    ensures renewed { IsRenewed (node_of S.scheme config.now) D.device journal.old result journal.new }
+    ensures rewritten { OnOk result (IsRewritten (node_of S.scheme config.now) D.device journal.old journal.new) }
 {
     let _ = checkpoint(validator, journal)?;
     Ok(())

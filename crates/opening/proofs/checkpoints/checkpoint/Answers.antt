@@ -1,4 +1,4 @@
-use Rattle.std.proofs.Common.{◌≡◌, ◌+◌, Err, ap, subst}
+use Rattle.std.proofs.Common.{◌≡◌, ◌+◌, ℕ, List, Result, Ok, Err, ap, subst}
 use Rattle.std.specs.Prelude.{All}
 use Rattle.std.proofs.lemmas.Result.{err_from_is_err_and}
 use Rattle.committee.specs.Charter.{Charter}
@@ -10,8 +10,11 @@ use Rattle.journal.specs.Pairs.{spare_disk, side_in, generation_in, areas_of, ar
 use Rattle.validator.specs.Setting.{node_of}
 use Rattle.admission.proofs.OneState.{one_state}
 use Rattle.opening.specs.Told.{told_in}
-use Rattle.opening.proofs.Renewals.{areas_pair, generation_told, rewritten_same, rewritten_newest, rewritten_keeps, left_same, full_at}
+use Rattle.opening.proofs.Renewals.{areas_pair, generation_told, rewritten_same, rewritten_newest, rewritten_keeps, left_same, full_at, room_at}
 use Rattle.opening.proofs.checkpoints.checkpoint.Goals as goal
+
+no_error : (records : List (List ℕ)) {E : Type 0} {error : E} → ◌≡◌ {A = Result (List (List ℕ)) E} (Ok records) (Err error) → ⊥
+no_error records same = cc
 
 pub rewrite-requires-clause-begun : goal.rewrite-requires-clause-begun
 rewrite-requires-clause-begun g c =
@@ -85,3 +88,11 @@ returns-clause-any_moment g c =
     (StandsAsOrAfter device journal c.in_ok-snapshot.snapshot) c.in_ok-rewrite.ensures.any_moment
     (left_same device node journal c.limits_hold.ensures.node keys c.requires.pair c.requires.alive c.requires.configured one_state c.args.validator.now.tables c.in_ok-snapshot.snapshot
     c.requires.stands c.in_ok-snapshot.ensures)
+
+pub returns-clause-room : goal.returns-clause-room
+returns-clause-room g c =
+    let node = node_of g.S.Sign.scheme c.args.validator.now.setting in
+    let journal = c.args.journal.now in
+    let keys = subst (λ (charter : Charter). All (λ key. HasBytes 32 key.0) charter.keys) c.committee.ensures c.keys_hold.ensures in
+    room_at g.D.Disk.device node journal c.limits_hold.ensures.node keys c.requires.pair c.requires.alive c.requires.configured one_state c.args.validator.now.tables c.in_ok-snapshot.snapshot
+    c.requires.stands c.in_ok-snapshot.ensures (λ full. no_error c.in_ok-rewrite.field-0 (c.in_ok-rewrite.ensures.full.1 full))

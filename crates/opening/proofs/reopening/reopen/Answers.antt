@@ -42,7 +42,9 @@ returns-in-Ok-validator_on-clause-holds g c =
     let mid = g.D.Disk.device.content (disk_of c.in_ok-journal.journal) in
     let later = g.D.Disk.device.content (disk_of c.validator_on.new.journal) in
     let tables = c.in-Ok-validator_on.validator.tables in
-    holds_at c.starts_fresh.ensures node later tables c.limits_hold.ensures (stands_same node (told node mid) (told node later) tables (sym c.in-Ok-validator_on.ensures.same) c.in-Ok-validator_on.ensures.stands) c.in-Ok-validator_on.ensures.texts_left c.in-Ok-validator_on.ensures.configured
+    holds_at c.starts_fresh.ensures node later tables c.limits_hold.ensures
+    (stands_same node (told node mid) (told node later) tables (sym c.in-Ok-validator_on.ensures.same) c.in-Ok-validator_on.ensures.stands)
+    c.in-Ok-validator_on.ensures.texts_left c.in-Ok-validator_on.ensures.configured
 
 pub returns-in-Ok-validator_on-clause-kept : goal.returns-in-Ok-validator_on-clause-kept
 returns-in-Ok-validator_on-clause-kept g c =

@@ -35,7 +35,8 @@ returns-clause-stands g c =
     let has = c.requires.records in
     let tables = c.in_ok-validator.validator.tables in
     stands_same node (read_journal node has.0) (told node file) tables (sym (told_records node file has.0 has.1))
-    (subst (λ (s : ConfigView g.row.S.Denot). StandsAt (node_of g.S.Sign.scheme s) (read_journal (node_of g.S.Sign.scheme s) has.0) tables) c.requires.config (c.in_ok-validator.ensures.stands has.0 has.2))
+    (subst (λ (s : ConfigView g.row.S.Denot). StandsAt (node_of g.S.Sign.scheme s) (read_journal (node_of g.S.Sign.scheme s) has.0) tables) c.requires.config
+    (c.in_ok-validator.ensures.stands has.0 has.2))
 
 pub returns-clause-texts : goal.returns-clause-texts
 returns-clause-texts g c =
@@ -117,7 +118,8 @@ returns-clause-configured g c =
       | then-is_empty+in_ok-write_configuration w ↦ rw w.journal-is w.in_ok-write_configuration.ensures.configured
       | else-is_empty w ↦
           rw w.journal-is
-          (λ none. some_taken c.args.replay.first c.requires.records.0 c.requires.records.2.begins (sym c.is_empty-is_empty.ensures ∙ w.if-is_empty.false) (same_records (sym c.requires.records.1 ∙ none)))
+          (λ none. some_taken c.args.replay.first c.requires.records.0 c.requires.records.2.begins (sym c.is_empty-is_empty.ensures ∙ w.if-is_empty.false)
+          (same_records (sym c.requires.records.1 ∙ none)))
     ]
 
 pub branch-validator-requires : goal.branch-validator-requires

@@ -20,5 +20,6 @@ loop-one-preserved g c =
 pub returns : goal.returns
 returns g c = record {
   config = c.loop-one.invariant.config;
-  taken = λ before has. subst (λ (l : List Record). HasTaken g.S.Sign.scheme c.loop-one.self (before ++ l)) (take_all c.loop-one.one-index c.args.records.now (omega arith)) (c.loop-one.invariant.taken before has);
+  taken = λ before has. subst (λ (l : List Record). HasTaken g.S.Sign.scheme c.loop-one.self (before ++ l)) (take_all c.loop-one.one-index c.args.records.now (omega arith))
+      (c.loop-one.invariant.taken before has);
 }

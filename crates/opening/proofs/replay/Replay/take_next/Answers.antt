@@ -28,6 +28,7 @@ returns-in-Err-take_event g c =
 pub returns-in-Err-clause-taken : goal.returns-in-Err-clause-taken
 returns-in-Err-clause-taken g c before has =
     let was = c.args.self.now in
-    subst (λ (reached : Result (ValidatorView g.row.S.Denot) JournalError). HasReplayed g.S.Sign.scheme was.config.now was.first (was.alone && nat_lt 0 c.args.one.now.gate) reached (before ++ c.args.one.now ∷ [])) (sym c.in-Err.is)
+    subst (λ (reached : Result (ValidatorView g.row.S.Denot) JournalError). HasReplayed g.S.Sign.scheme was.config.now was.first (was.alone && nat_lt 0 c.args.one.now.gate) reached
+    (before ++ c.args.one.now ∷ [])) (sym c.in-Err.is)
     (stayed g.S.Sign.scheme was.config.now c.args.one.now was.alone was.first c.requires before c.in-Err.field-0
     (subst (λ (reached : Result (ValidatorView g.row.S.Denot) JournalError). HasReplayed g.S.Sign.scheme was.config.now was.first was.alone reached before) c.in-Err.is has))

@@ -1,0 +1,46 @@
+-- What becomes of an opened journal on two disks of which a reader has taken the records.
+use Rattle.std.specs.Prelude.{◌≡◌, ◌≢◌, List, Some, Result, Ok, Err}
+use Rattle.diskmodel.specs.Disk.{Device as Disks}
+use Rattle.journal.specs.Areas.{stands_in}
+use Rattle.journal.specs.Pairs.{areas_of, store_of}
+use Rattle.journal.specs.declared.error.Failed.{Failed}
+use Rattle.journal.specs.declared.error.JournalError.{JournalError}
+use Rattle.journal.specs.declared.error.JournalError.TheVariants.{Device, Full}
+use Rattle.journal.specs.declared.journal.Journal.{Journal}
+use Rattle.journal.specs.declared.record.Record.{Record}
+use Rattle.journal.specs.declared.store.Store.{Store}
+use Rattle.journal.specs.declared.version.Version.TheVariants.{First}
+use Rattle.sigface.specs.Scheme.{Scheme}
+use Rattle.spec_model.specs.Nodes.{Node}
+use Rattle.validator.specs.Setting.{ConfigView, node_of}
+use Rattle.validator.specs.Standing.{ValidatorView}
+use Rattle.opening.specs.PairReplayed.{version_in}
+use Rattle.opening.specs.Renewing.{IsRenewed, IsPlaced}
+use Rattle.opening.specs.Told.{told_in, Tells, StandsAt}
+
+-- a renewal has given nothing but a journal, or this error
+abbrev pub done : Result (Unit {0}) JournalError
+done = Ok tt
+
+abbrev pub gives_up : JournalError → Result (Unit {0}) JournalError
+gives_up error = Err error
+
+-- a validator stands at what the areas are read as, and the journal was renewed
+pub record IsReady {S D : Type 0} (scheme : Scheme S) (device : Disks D) (setting : ConfigView S) (old : Journal D) (validator : ValidatorView S) (new : Journal D) : Type 0 where
+  pub set : validator.setting ≡ setting
+  pub stands : StandsAt (node_of scheme setting) (told_in (node_of scheme setting) (areas_of device old)) validator.tables
+  pub is : IsRenewed (node_of scheme setting) device old done new
+  pub placed : (records : List Record) → stands_in (areas_of device old) ≡ Ok records → IsPlaced (node_of scheme setting) device (version_in records) old new
+
+-- or it was handed back with an error
+pub data IsGivenUp {D : Type 0} (node : Node) (device : Disks D) (old : Journal D) (failed : Failed JournalError (Store D)) : Type 0 where
+  -- that of its records, or of the memory
+  at_records : failed.error ≢ Device → failed.error ≢ Full → Tells failed.error (told_in node (areas_of device old)) → failed.disk ≡ store_of old → IsGivenUp node device old failed
+  -- or that of the renewal. Only a journal in the first version has no room
+  at_renewal : (new : Journal D) → IsRenewed node device old (gives_up failed.error) new
+      → (failed.error ≡ Full → (records : List Record) → stands_in (areas_of device old) ≡ Ok records → version_in records ≡ Some First)
+      → failed.disk ≡ store_of new → IsGivenUp node device old failed
+
+abbrev pub IsFinished : {S D : Type 0} → Scheme S → Disks D → ConfigView S → Journal D → Result (ValidatorView S × Journal D) (Failed JournalError (Store D)) → Type 0
+IsFinished scheme device setting old (Ok opened) = IsReady scheme device setting old opened.0 opened.1
+IsFinished scheme device setting old (Err failed) = IsGivenUp (node_of scheme setting) device old failed
