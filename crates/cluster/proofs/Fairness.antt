@@ -69,7 +69,8 @@ going_plain false went = (tt, releases went)
 
 stop_plain : (world : World) (moves : List Move) → IsStop world moves → ArePlain moves
 stop_plain world moves (found, inl same) = subst ArePlain (sym same) (tt, tt)
-stop_plain world moves (found, inr same) = subst ArePlain (sym same) (tt, (tt, (tt, (tt, (tt, tt)))))
+stop_plain world moves (found, inr (inl same)) = subst ArePlain (sym same) (tt, (tt, (tt, (tt, (tt, tt)))))
+stop_plain world moves (found, inr (inr same)) = subst ArePlain (sym same) (tt, (tt, (tt, (tt, (tt, (tt, (tt, (tt, (tt, tt)))))))))
 
 module _ {S D : Type 0} (device : Device D) where
   round_plain : (own : Node) (applied : Applied) (deed : Deed S D) → MakesRound own device applied deed → ArePlain deed.moves

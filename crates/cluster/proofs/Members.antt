@@ -5,6 +5,7 @@ use Rattle.diskmodel.specs.Disk.{Device}
 use Rattle.desk.specs.AtWorld.{IsAt, LeadsTo, IsStop}
 use Rattle.desk.specs.Desk.{DeskView, IsOpened}
 use Rattle.header.specs.Checks.{Accepts}
+use Rattle.journal.specs.Areas.{alone}
 use Rattle.journal.specs.Journal.{disk_of}
 use Rattle.journal.specs.declared.error.JournalError.{JournalError}
 use Rattle.journal.specs.declared.error.JournalError.TheVariants as journal
@@ -94,7 +95,7 @@ not_moved node device Done world desk at = stays node device (OrNothing Done) wo
 
 -- a stop
 pub stopped : {S D : Type 0} (node : Node) (device : Device D) (world : World) (before later : DeskView S D) (found : List ℕ) (count : ℕ) → device.outcome (disk_of before.journal) found
-    → IsOpened node device found later → count ≡ events_in found → (moves : List Move) → IsStop world moves → LeadsTo node device world moves later
+    → IsOpened node device (alone found) later → count ≡ events_in found → (moves : List Move) → IsStop world moves → LeadsTo node device world moves later
     → HasMoved node device (Stops node device (Reopened count)) world before later
 stopped node device world before later found count left opened counted moves by to =
     moved node device (Stops node device (Reopened count)) world moves before later (stop_quiet world moves by) to

@@ -6,11 +6,12 @@ use Rattle.book.specs.OnTheWay.{Flushes, FindsNoRoom, FailsWithRoom}
 use Rattle.book.specs.declared.own.error.FlushError.{FlushError}
 use Rattle.book.specs.declared.own.error.FlushError.TheVariants as errors
 use Rattle.desk.specs.AtWorld.{IsAt, LeadsTo, IsStop}
+use Rattle.desk.specs.Disks.{of_one}
 use Rattle.desk.specs.Desk.{DeskView, IsOpened}
 use Rattle.header.specs.Checks.{Accepts, fault_of}
 use Rattle.header.specs.declared.error.CheckError.{CheckError}
-use Rattle.journal.specs.Areas.{rewrite_calls}
-use Rattle.journal.specs.Journal.{disk_of}
+use Rattle.journal.specs.Areas.{alone, rewrite_calls}
+use Rattle.journal.specs.Journal.{disk_of, spare_of}
 use Rattle.opening.specs.Told.{told}
 use Rattle.spec_model.specs.Nodes.{Node}
 use Rattle.spec_model.specs.States.{State}
@@ -68,7 +69,8 @@ leads_given node (move ∷ moves) world last quiet leads = leads_given node move
 -- the moves of a stop are such
 pub stop_quiet : (world : World) (moves : List Move) → IsStop world moves → AllQuiet moves
 stop_quiet world moves (found, inl same) = subst AllQuiet (sym same) (tt, tt)
-stop_quiet world moves (found, inr same) = subst AllQuiet (sym same) (tt, (tt, (tt, (tt, (tt, tt)))))
+stop_quiet world moves (found, inr (inl same)) = subst AllQuiet (sym same) (tt, (tt, (tt, (tt, (tt, tt)))))
+stop_quiet world moves (found, inr (inr same)) = subst AllQuiet (sym same) (tt, (tt, (tt, (tt, (tt, (tt, (tt, (tt, (tt, tt)))))))))
 
 module _ {S D : Type 0} (node : Node) (device : Device D) where
   -- nothing moved
@@ -174,17 +176,20 @@ module _ {S D : Type 0} (node : Node) (device : Device D) where
         })
 
   -- what a stop leaves of a desk in its world is told as a state
-  pub left_told : (world : World) (desk : DeskView S D) → IsAt node device world desk → (found : List ℕ) → device.outcome (disk_of desk.journal) found
+  pub left_told : (world : World) (desk : DeskView S D) → IsAt node device world desk → spare_of desk.journal ≡ None → (found : List ℕ) → device.outcome (disk_of desk.journal) found
       → (state : State) × (told node found ≡ Ok state)
-  left_told world desk at found may = elim (at.is_of.left found may) [ inl settled ↦ (_, settled) | inr all ↦ (_, all) ]
+  left_told world desk at one found may = elim (at.is_of.left (alone found) (of_one found one may refl)) [ inl settled ↦ (_, settled) | inr all ↦ (_, all) ]
 
   -- a desk that was opened on bytes that are told as these are
-  pub opened_same : (one other : List ℕ) (desk : DeskView S D) → told node other ≡ told node one → IsOpened node device other desk → IsOpened node device one desk
+  pub opened_same : (one other : List ℕ) (desk : DeskView S D) → told node other ≡ told node one → IsOpened node device (alone other) desk → IsOpened node device (alone one) desk
   opened_same one other desk same opened = record {
     state = opened.state;
     told_first = sym same ∙ opened.told_first;
     up = opened.up;
     alive = opened.alive;
+    begun = opened.begun;
+    disks = opened.disks;
+    generation = opened.generation;
     waits = opened.waits;
     rewriting = opened.rewriting;
     is_of = opened.is_of;

@@ -8,6 +8,7 @@ use Rattle.desk.specs.AtWorld.{IsAt, IsStop}
 use Rattle.desk.specs.Desk.{DeskView, IsOpened}
 use Rattle.header.specs.Checks.{Accepts, fault_of}
 use Rattle.header.specs.declared.error.CheckError.{CheckError}
+use Rattle.journal.specs.Areas.{alone}
 use Rattle.journal.specs.Format.{stands}
 use Rattle.journal.specs.Journal.{disk_of}
 use Rattle.journal.specs.declared.error.JournalError.TheVariants as journal
@@ -124,7 +125,7 @@ events_in bytes = events_among (stands bytes)
 pub record IsReopened {S D : Type 0} (node : Node) (device : Device D) (count : ℕ) (deed : Deed S D) : Type 0 where
   pub found : List ℕ
   pub left : device.outcome (disk_of deed.before.journal) found
-  pub opened : IsOpened node device found deed.later
+  pub opened : IsOpened node device (alone found) deed.later
   pub counted : count ≡ events_in found
   pub by : IsStop deed.world deed.moves
 

@@ -3,7 +3,7 @@ use Rattle.std.specs.Prelude.{◌≡◌, ◌⊎◌, List, [], ◌∷◌, ◌++�
 use Rattle.book.specs.Book.{Run, Stands, state_in, releasable}
 use Rattle.desk.specs.AtWorld.{IsAt}
 use Rattle.desk.specs.Desk as desk
-use Rattle.journal.specs.Journal.{disk_of}
+use Rattle.journal.specs.Journal.{disk_of, spare_of}
 use Rattle.wire.specs.Lists.{Begins}
 use Rattle.spec_model.specs.Holdings.{order}
 use Rattle.spec_machine.specs.Machine.{proposed}
@@ -26,6 +26,11 @@ pub record MemberView (S D : Type 0) : Type 0 where
   pub setting : ConfigView S
   pub desk : Option (desk.DeskView S D)
   pub out : GivenOutView
+
+-- a desk is a member's: it is set up with this, and is on one disk
+pub record IsOwn {S D : Type 0} (setting : ConfigView S) (one : desk.DeskView S D) : Type 0 where
+  pub set : one.book.validator.setting ≡ setting
+  pub alone : spare_of one.journal ≡ None
 
 -- an order is the longest that was given out in a world: it was given, where any was, and each other one is a beginning of it
 pub record IsLongest (node : Node) (world : World) (digests : List Digest) : Type 0 where

@@ -35,7 +35,7 @@ impl<'a, S: Sign, D: StopDisk> Model for Member<'a, S, D> {
     ghost use Rattle.std.specs.Coded.{codes};
     ghost use Rattle.votebook.specs.contracts.book.VoteBook as votes;
     ghost use Rattle.desk.specs.Desk.{DeskView};
-    ghost use Rattle.cluster.specs.Member.{MemberView};
+    ghost use Rattle.cluster.specs.Member.{MemberView, IsOwn};
 
     ghost Value = { MemberView S D };
 
@@ -43,7 +43,7 @@ impl<'a, S: Sign, D: StopDisk> Model for Member<'a, S, D> {
 
     ghost view = { λ m. record { setting = m.config.now; desk = m.desk; out = m.given } };
 
-    ghost invariant = { λ m. (desk : DeskView S D) → m.desk ≡ Some desk → desk.book.validator.setting ≡ m.config.now };
+    ghost invariant = { λ m. (desk : DeskView S D) → m.desk ≡ Some desk → IsOwn m.config.now desk };
 }
 
 impl<'a, S: Sign, D: StopDisk> Member<'a, S, D> {

@@ -2,8 +2,9 @@
 
 ghost use Rattle.std.specs.Prelude.{◌≡◌, ◌<◌, List, ℕ, None, Ok, IfOk, OnErr, IfErr, IsErrOf};
 ghost use Rattle.header.specs.Checks.{Accepts, fault_of, accepts_all};
+ghost use Rattle.journal.specs.Areas.{alone};
 ghost use Rattle.journal.specs.Format.{stands};
-ghost use Rattle.journal.specs.Journal.{disk_of};
+ghost use Rattle.journal.specs.Journal.{disk_of, spare_of};
 ghost use Rattle.opening.specs.Laws.{IsNoRefusal};
 ghost use Rattle.opening.specs.Told.{told};
 ghost use Rattle.spec_model.specs.Nodes.{Node};
@@ -37,6 +38,7 @@ pub(crate) fn offer<S: Sign, D: StopDisk, V: Verify>(
     ensures err { OnErr result (desk.new ≡ desk.old) }
     ensures errors { IfErr result (λ error. error ≡ ClusterError.Memory) }
     ensures setting { desk.new.book.validator.setting ≡ desk.old.book.validator.setting }
+    ensures spare { spare_of desk.new.journal ≡ spare_of desk.old.journal }
 {
     match check(desk.committee(), verifier, sender, message) {
         Ok(event) => hand_in(desk, event),
@@ -56,6 +58,7 @@ fn hand_in<S: Sign, D: StopDisk>(
     ensures err { OnErr result (desk.new ≡ desk.old) }
     ensures errors { IfErr result (λ error. error ≡ ClusterError.Memory) }
     ensures setting { desk.new.book.validator.setting ≡ desk.old.book.validator.setting }
+    ensures spare { spare_of desk.new.journal ≡ spare_of desk.old.journal }
 {
     match desk.accept(event) {
         Ok(receipt) => Ok(Applied::Took {
@@ -74,6 +77,7 @@ pub(crate) fn round<S: Sign, D: StopDisk>(desk: &mut Desk<'_, S, D>) -> Applied
     // It answers Device only where the disk counted a failure.
     ensures device { IsDeviceFault result → D.device.faults (disk_of desk.old.journal) < D.device.faults (disk_of desk.new.journal) }
     ensures setting { desk.new.book.validator.setting ≡ desk.old.book.validator.setting }
+    ensures spare { spare_of desk.new.journal ≡ spare_of desk.old.journal }
 {
     match desk.flush() {
         Ok(count) => Applied::Settled(count),
@@ -90,9 +94,10 @@ pub(crate) fn restart<'a, S: Sign, D: StopDisk + Drop>(
     config: &'a Config<S>,
     desk: Desk<'a, S, D>,
 ) -> Result<(Desk<'a, S, D>, u64), JournalError>
+    requires alone { spare_of desk.journal ≡ None }
     ensures setting { IfOk result (λ opened. opened.0.book.validator.setting ≡ config.now) }
     ensures opened { IfOk result (λ opened. (found : List ℕ) × D.device.outcome (disk_of desk.entry.journal) found
-        × IsOpened (node_of S.scheme config.now) D.device found opened.0 × (opened.1 ≡ events_in found)) }
+        × IsOpened (node_of S.scheme config.now) D.device (alone found) opened.0 × (opened.1 ≡ events_in found)) }
     // It answers Device only where the disk counted a failure.
     ensures device { IsErrOf result JournalError.Device → CountsMore D.device (disk_of desk.entry.journal) }
     // What a stop leaves of a node in its world is refused for want of memory or a fault of the disk alone.

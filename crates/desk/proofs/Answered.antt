@@ -1,26 +1,36 @@
 -- What the calls of a desk answer, in its world.
-use Rattle.std.proofs.Common.{◌≡◌, ◌≢◌, ◌⊎◌, ℕ, ◌+◌, Bool, true, false, inl, inr, List, [], ◌∷◌, length, Result, Ok, Err, refl, sym, ap, ◌∙◌, subst}
-use Rattle.std.specs.Prelude.{IfOk, IfErr, OnOk, IsErrOf, IsTrue, ◌↔◌, Option, Some, None, IfSome, is_some, drop, if◌then◌else◌}
+use Rattle.std.proofs.Common.{◌≡◌, ◌≢◌, ◌⊎◌, ℕ, ◌+◌, ◌^◌, ◌<◌, Bool, true, false, inl, inr, List, [], ◌∷◌, length, take, arith, Result, Ok, Err, refl, sym, ap, ◌∙◌, subst}
+use Rattle.std.specs.Prelude.{IfOk, IfErr, OnOk, OnErr, IsErrOf, IsSome, IsTrue, ◌↔◌, Option, Some, None, IfSome, is_some, drop, if◌then◌else◌}
 use Rattle.std.proofs.lemmas.Bool.{cases_Bool}
 use Rattle.book.specs.Book as book
+use Rattle.book.specs.Checkpoints.{Checkpoints, FailsToRewrite, FindsNoRoomToRewrite, GoesDownRewriting, StandsAsOrForAll}
 use Rattle.book.specs.OnTheWay.{Flushes, FindsNoRoom, FailsWithRoom, IsWithOrWithout}
 use Rattle.book.specs.Queue.{settled_head}
 use Rattle.book.specs.Steps as steps
 use Rattle.book.specs.declared.book.Receipt.{Receipt}
 use Rattle.book.specs.declared.own.error.FlushError.{FlushError}
 use Rattle.book.specs.declared.own.error.FlushError.TheVariants as errors
-use Rattle.journal.specs.Journal.{disk_of, IsAlive}
+use Rattle.journal.specs.Areas.{Areas}
+use Rattle.journal.specs.Journal.{disk_of, spare_of, IsAlive}
+use Rattle.journal.specs.Pairs.{HaveKeptPlaces, generation_in, rewritten_disk, untouched_disk}
 use Rattle.journal.specs.declared.journal.Journal.{Journal}
-use Rattle.opening.specs.Told.{told}
 use Rattle.spec_model.specs.Nodes.{Node}
 use Rattle.spec_model.specs.Words.{Event, Output}
 use Rattle.header.specs.declared.refusal.Refusal.{Refusal}
 use Rattle.header.specs.declared.refusal.Refusal.TheVariants as refusals
-use Rattle.spec_world.specs.World.{World}
-use Rattle.spec_world.specs.Steps.{accept, take_to, device_call, settle, release, read_order}
-use Rattle.desk.specs.Desk.{DeskView}
-use Rattle.desk.specs.AtWorld.{IsAt, LeadsTo}
-use Rattle.desk.proofs.Standing.{told_either}
+use Rattle.spec_machine.specs.After.{after_all}
+use Rattle.spec_model.specs.Giving.{kept as kept_in}
+use Rattle.spec_model.specs.Histories.{History}
+use Rattle.spec_world.specs.World.{World, taken_in}
+use Rattle.spec_world.specs.Runs.{AreKeys, SnapshotsAreCheckpoints}
+use Rattle.spec_world.specs.Steps.{accept, take_to, device_call, settle, release, read_order, take_all}
+use Rattle.desk.specs.Desk.{DeskView, IsSound, IsLeft}
+use Rattle.desk.specs.Disks.{AreReadAs}
+use Rattle.desk.specs.AtWorld.{IsAt, LeadsTo, CheckpointsAt}
+use Rattle.desk.proofs.Checkpoints.{checkpoints, goes_down as takes_all}
+use Rattle.desk.proofs.Found.{none_taken}
+use Rattle.desk.proofs.Reading.{firm_beside, left_beside}
+use Rattle.desk.proofs.Standing.{read_either, left_firm}
 use Rattle.desk.proofs.Worlds.{accepts, releases, reads, flushes, goes_down}
 use Rattle.diskmodel.specs.Disk.{Device}
 
@@ -55,34 +65,72 @@ module _ {S D : Type 0} (node : Node) (device : Device D) (before later : DeskVi
       none_down : (b : book.BookView S) → b.down ≡ true → (o : Output) → book.releasable b ≡ Some o → ⊥
       none_down b so o may = let none : ◌≡◌ {A = Option Output} None (Some o) = sym (ap (λ (d : Bool). if d then None else settled_head b.settled b.queue) so) ∙ may in cc
 
-  pub flush_steps : steps.FlushIsSteps S → before.book.down ≡ false → (answer : Result ℕ FlushError)
+  pub flush_steps : steps.FlushIsSteps S → before.book.down ≡ false → IsSound device before → spare_of later.journal ≡ spare_of before.journal → (answer : Result ℕ FlushError)
       → IfOk answer (λ count. before.book.pending ≢ [] → Flushes node before.book later.book (device.content (disk_of before.journal))
       (device.content (disk_of later.journal)) count) → OnOk answer (IsAlive device later.journal)
       → IfOk answer (λ count. before.book.pending ≢ [] → (world : World) → IsAt node device world before
       → LeadsTo node device world (take_to (length world.settled + count) ∷ device_call ∷ device_call ∷ device_call ∷ device_call ∷ settle ∷ []) later)
-  flush_steps law up (Err error) flushed alive = tt
-  flush_steps law up (Ok count) flushed alive = λ some world is.
-      flushes node device world before is up law later (device.content (disk_of before.journal)) (device.content (disk_of later.journal)) count refl refl (flushed some) alive
+  flush_steps law up sound spare (Err error) flushed alive = tt
+  flush_steps law up sound spare (Ok count) flushed alive = λ some world is.
+      flushes node device world before is up (sound.alive up) (sound.begun up) later spare law (device.content (disk_of before.journal))
+      (device.content (disk_of later.journal)) count refl refl (flushed some) alive
 
-  pub flush_fails : steps.FailIsAStep S → before.book.down ≡ false → (answer : Result ℕ FlushError)
+  pub flush_fails : steps.FailIsAStep S → before.book.down ≡ false → IsSound device before → spare_of later.journal ≡ spare_of before.journal → (answer : Result ℕ FlushError)
       → (IsErrOf answer errors.Full → FindsNoRoom node before.book later.book (device.content (disk_of before.journal)))
-      → (IsErrOf answer errors.Full → later.journal ≡ before.journal) → IsAlive device before.journal
+      → (IsErrOf answer errors.Full → later.journal ≡ before.journal)
       → (IsErrOf answer errors.Device → FailsWithRoom node before.book later.book (device.content (disk_of before.journal)))
       → ((bytes : List ℕ) → device.outcome (disk_of later.journal) bytes → IsWithOrWithout before.book.pending (device.content (disk_of before.journal)) bytes)
       → IfErr answer (λ error. (error ≡ errors.Full) ⊎ (error ≡ errors.Device) → (world : World) → IsAt node device world before → (count : ℕ) × LeadsTo node device world (take_to count ∷ []) later)
-  flush_fails law up (Ok count) full same alive fails left = tt
-  flush_fails law up (Err error) full same alive fails left = fails_as
+  flush_fails law up sound spare (Ok count) full same fails left = tt
+  flush_fails law up sound spare (Err error) full same fails left = fails_as
     where
       fails_as : (error ≡ errors.Full) ⊎ (error ≡ errors.Device) → (world : World) → IsAt node device world before → (count : ℕ) × LeadsTo node device world (take_to count ∷ []) later
       fails_as (inl is_full) world is =
           let found = full (ap (λ (e : FlushError). Err e) is_full) in
           let kept = same (ap (λ (e : FlushError). Err e) is_full) in
-          goes_down node device world before is up law later found.0 (λ bytes may.
-          inl (ap (told node) (alive.firm bytes (subst (λ (j : Journal D). device.outcome (disk_of j) bytes) kept may)) ∙ (is.is_of.up up).told_as))
+          let run = steps.run_of node world in
+          let left = subst (IsLeft node device run) (sym kept) (left_firm node device run before.journal (is.is_of.up up).read_as (sound.alive up)) in
+          goes_down node device world before is up (sound.alive up) (sound.begun up) later spare law found.0 (λ areas may.
+          elim (left areas may) [
+            | inl so ↦ inl so
+            | inr with_it ↦ inl (subst (λ (l : History). AreReadAs node areas (after_all node (kept_in node world.began) l)) (none_taken world (is.idle up)) with_it)
+          ])
       fails_as (inr is_device) world is =
           let found = fails (ap (λ (e : FlushError). Err e) is_device) in
-          goes_down node device world before is up law later found.0 (λ bytes may.
-          told_either node device (steps.run_of node world) before.book before.journal is.is_of_world.stands (is.is_of.up up) found.0.group later.book.pending found.0.takes bytes (left bytes may))
+          goes_down node device world before is up (sound.alive up) (sound.begun up) later spare law found.0 (λ areas may.
+          let one = left_beside device later.journal (spare_of before.journal) areas spare (firm_beside device before.journal (sound.alive up)) may in
+          let either = read_either node device world before.book before.journal is.is_of_world (is.is_of.up up) (sound.alive up) (sound.begun up) found.0.group
+          later.book.pending found.0.takes one.live (left one.live one.may) in
+          subst (λ (a : Areas). AreReadAs node a (book.settled_in node (steps.run_of node world))
+          ⊎ AreReadAs node a (after_all node (kept_in node world.began) (take (length (taken_in world) + length found.0.group) world.accepted))) (sym one.are) either)
+
+  -- ---- a checkpoint
+
+  pub checkpoint_steps : steps.CheckpointIsSteps S → before.book.down ≡ false → IsSome (spare_of before.journal) → (answer : Result ℕ FlushError)
+      → IfOk answer (λ generation. Checkpoints node device before.book later.book before.journal later.journal) → OnOk answer (IsAlive device later.journal)
+      → IfOk answer (λ generation. generation < 2 ^ 64) → IfOk answer (λ generation. generation ≡ generation_in later.journal)
+      → OnOk answer (AreKeys node → (world : World) → IsAt node device world before → CheckpointsAt node device world later)
+  checkpoint_steps law up two (Err error) made alive fits answer = tt
+  checkpoint_steps law up two (Ok generation) made alive fits answer = λ keys world is.
+      checkpoints node device world before is up two later law made alive keys (omega (arith, fits, answer, made.swapped.generation))
+
+  pub checkpoint_fails : steps.TakeAllIsAStep S → SnapshotsAreCheckpoints → before.book.down ≡ false → IsSound device before → IsSome (spare_of before.journal) → (answer : Result ℕ FlushError)
+      → (IsErrOf answer errors.Full → FindsNoRoomToRewrite node before.book later.book before.journal) → (IsErrOf answer errors.Device → FailsToRewrite node before.book later.book before.journal)
+      → untouched_disk answer later.journal ≡ disk_of before.journal → OnErr answer (HaveKeptPlaces before.journal later.journal)
+      → ((left : List ℕ) → device.outcome (rewritten_disk answer later.journal) left → StandsAsOrForAll node device before.book before.journal left)
+      → IfErr answer (λ error. (error ≡ errors.Full) ⊎ (error ≡ errors.Device) → AreKeys node → generation_in before.journal + 1 < 2 ^ 64 → (world : World) → IsAt node device world before
+      → (bytes : List ℕ) × LeadsTo node device world (take_all bytes ∷ []) later)
+  checkpoint_fails law written up sound two (Ok generation) full fails untouched places left = tt
+  checkpoint_fails law written up sound two (Err error) full fails untouched places left = fails_as
+    where
+      as_down : GoesDownRewriting node before.book later.book → AreKeys node → generation_in before.journal + 1 < 2 ^ 64 → (world : World) → IsAt node device world before
+          → (bytes : List ℕ) × LeadsTo node device world (take_all bytes ∷ []) later
+      as_down down keys fits world is = takes_all node device world before is up two later law written down (sound.alive up) untouched places left keys fits
+
+      fails_as : (error ≡ errors.Full) ⊎ (error ≡ errors.Device) → AreKeys node → generation_in before.journal + 1 < 2 ^ 64 → (world : World) → IsAt node device world before
+          → (bytes : List ℕ) × LeadsTo node device world (take_all bytes ∷ []) later
+      fails_as (inl is_full) = as_down (full (ap (λ (e : FlushError). Err e) is_full)).0
+      fails_as (inr is_device) = as_down (fails (ap (λ (e : FlushError). Err e) is_device)).0
 
 -- at Ok a journal is alive
 pub alive_at_ok : {D : Type 0} (device : Device D) (journal : Journal D) (answer : Result ℕ FlushError) → IsErrOf answer errors.Device ⊎ IsAlive device journal

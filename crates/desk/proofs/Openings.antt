@@ -1,43 +1,159 @@
 -- A desk that is opened.
-use Rattle.std.proofs.Common.{◌≡◌, ◌≢◌, ℕ, ◌≤◌, false, inl, inr, List, [], Ok, Err, refl, sym, ap, ◌∙◌}
-use Rattle.std.specs.Prelude.{None}
+use Rattle.std.proofs.Common.{◌≡◌, ◌≢◌, ℕ, ◌<◌, ◌≤◌, ◌^◌, false, inl, inr, List, [], ◌∷◌, Result, Ok, Err, refl, sym, ap, ◌∙◌, subst}
+use Rattle.std.specs.Prelude.{Option, Some, None, IsSome}
+use Rattle.journal.specs.declared.spare.Spare.{Spare}
 use Rattle.admission.specs.declared.tables.Tables.{Tables}
 use Rattle.book.specs.Book as book
-use Rattle.diskmodel.specs.Disk.{Device}
-use Rattle.journal.specs.Format.{stands}
-use Rattle.journal.specs.Journal.{disk_of, IsAlive}
+use Rattle.diskmodel.specs.Disk.{Device, AtEachMoment}
+use Rattle.journal.specs.Areas.{Areas, alone, pair, stands_in}
+use Rattle.journal.specs.Journal.{disk_of, spare_of, IsAlive}
+use Rattle.journal.specs.Pairs.{areas_of, areas_in, generation_in, store_of}
+use Rattle.journal.specs.Stores.{faults_in}
+use Rattle.journal.specs.declared.store.Store.{Store}
+use Rattle.journal.specs.declared.store.Store.TheVariants.{One, Two}
 use Rattle.journal.specs.declared.error.JournalError.{JournalError}
+use Rattle.journal.specs.declared.error.JournalError.TheVariants as errors
+use Rattle.journal.specs.declared.record.Record.{Record}
+use Rattle.journal.specs.declared.version.Version.{Version}
+use Rattle.journal.specs.declared.version.Version.TheVariants.{First, Second}
 use Rattle.journal.specs.declared.journal.Journal.{Journal}
 use Rattle.journal.specs.declared.error.Failed.{Failed}
-use Rattle.opening.specs.Laws.{IsOpening}
-use Rattle.opening.specs.Told.{told, StandsAt}
+use Rattle.opening.specs.Laws.{HoldsIn, IsReadIn, IsFullIn, IsNoRefusal, KeepsAlone, IsOpening, IsOpeningOn}
+use Rattle.opening.specs.Stages.{IsToldThroughout}
+use Rattle.opening.proofs.Opened.{no_refusal}
+use Rattle.opening.specs.PairReplayed.{version_in}
+use Rattle.opening.specs.Renewing.{HasBegun, IsNewest}
+use Rattle.opening.specs.Told.{told, told_in, Tells, IsToldAsOneOf, KeepsRecords, StandsAt}
 use Rattle.spec_machine.proofs.AfterAll.{after_none}
-use Rattle.spec_model.specs.Nodes.{Node}
+use Rattle.spec_model.specs.Nodes.{Node, IsNode}
+use Rattle.spec_world.specs.Runs.{AreKeys}
 use Rattle.spec_model.specs.States.{State}
+use Rattle.sigface.specs.Scheme.{Scheme}
+use Rattle.spec_world.specs.World.{Holds, IsPair}
+use Rattle.validator.specs.Setting.{ConfigView, node_of}
 use Rattle.validator.specs.Standing.{AreAtSound}
-use Rattle.desk.specs.Desk.{IsOpened, IsNotOpened}
+use Rattle.desk.specs.Desk.{DeskView, IsOpened, IsNotOpened}
+use Rattle.desk.specs.Disks.{AreReadAs, IsOnAsMany}
+use Rattle.desk.proofs.Reading.{over, areas_over, areas_alone, as_told, told_of, configured_in}
 use Rattle.desk.proofs.Standing.{left_firm}
 
+-- the validator of an opening stands at some state of its own setting
+pub set_at : {S : Type 0} (scheme : Scheme S) {read : Result State JournalError} {own setting : ConfigView S} {tables : Tables} → own ≡ setting
+    → StandsAt (node_of scheme setting) read tables → (state : State) × AreAtSound (node_of scheme own) tables state
+set_at scheme {tables = tables} same at = (at.state, subst (λ (s : ConfigView _). AreAtSound (node_of scheme s) tables at.state) (sym same) at.at)
+
 -- a new book over what an opening gives
-pub opened_of : {S D : Type 0} (node : Node) (device : Device D) (bytes : List ℕ) (tables : Tables) (one : book.BookView S) (journal : Journal D) → StandsAt node (told node bytes) tables
+pub opened_of : {S D : Type 0} (node : Node) (device : Device D) (before : Areas) (tables : Tables) (one : book.BookView S) (journal : Journal D) → StandsAt node (told_in node before) tables
     → ((base : State) → AreAtSound node tables base → book.Stands node (book.run_on base) one)
-    → one.queue ≡ [] → one.down ≡ false → one.rewriting ≡ None → IsAlive device journal → stands (device.content (disk_of journal)) ≢ Ok [] → told node (device.content (disk_of journal)) ≡ told node bytes
-    → IsOpened node device bytes (record { book = one; journal = journal })
-opened_of node device bytes tables one journal at stands_at queue up free alive configured same =
-    let told_as : told node (device.content (disk_of journal)) ≡ Ok (book.settled_in node (book.run_on at.state)) = same ∙ at.is_read ∙ ap Ok (sym (after_none node at.state)) in
+    → one.queue ≡ [] → one.down ≡ false → one.rewriting ≡ None → generation_in journal < 2 ^ 64 → IsAlive device journal → HasBegun device journal → IsOnAsMany before journal
+    → stands_in (areas_of device journal) ≢ Ok [] → told_in node (areas_of device journal) ≡ told_in node before
+    → ((state : State) → told_in node (areas_of device journal) ≡ Ok state → AreReadAs node (areas_of device journal) state)
+    → IsOpened node device before (record { book = one; journal = journal })
+opened_of node device before tables one journal at stands_at queue up free small alive begun disks configured same reads =
+    let state : told_in node (areas_of device journal) ≡ Ok (book.settled_in node (book.run_on at.state)) = same ∙ at.is_read ∙ ap Ok (sym (after_none node at.state)) in
+    let read_as : AreReadAs node (areas_of device journal) (book.settled_in node (book.run_on at.state)) = reads (book.settled_in node (book.run_on at.state)) state in
     record {
       state = at.state;
       told_first = at.is_read;
       up = up;
       alive = alive;
+      begun = begun;
+      disks = disks;
+      generation = small;
       waits = queue;
       rewriting = free;
       is_of = record {
         stands_at = stands_at at.state at.at;
-        up = λ _. record { configured = configured; told_as = told_as; settled = refl };
-        left = left_firm node device (book.run_on at.state) journal told_as alive;
+        up = λ _. record { configured = configured_in device journal alive begun configured; read_as = read_as; settled = refl };
+        left = left_firm node device (book.run_on at.state) journal read_as alive;
       };
     }
+
+ok_is : (one other : State) → ◌≡◌ {A = Result State JournalError} (Ok one) (Ok other) → one ≡ other
+ok_is one other same = cc
+
+-- two areas are those of a journal on two disks
+two_of : {D : Type 0} (device : Device D) (spare : Option (Spare D)) (live : List ℕ) → IsPair (over device spare live) → IsSome spare
+two_of device None live two = absurd two
+two_of device (Some spare) live two = refl
+
+-- what a journal is told as it is read as, where it is a journal at some state as which it is told
+pub held_as : {D : Type 0} (node : Node) (device : Device D) (journal : Journal D) (tables : Tables) → HoldsIn node (areas_of device journal) tables
+    → (IsSome (spare_of journal) → IsNewest (areas_of device journal)) → (state : State) → told_in node (areas_of device journal) ≡ Ok state → AreReadAs node (areas_of device journal) state
+held_as node device journal tables held newest state is =
+    as_told node state (areas_of device journal) is
+    (subst (Holds node (areas_of device journal)) (ok_is held.state state (sym held.told_as ∙ is)) held.holds)
+    (λ two. newest (two_of device (spare_of journal) (device.content (disk_of journal)) (subst IsPair (areas_over device journal) two)))
+
+-- and of one disk by its bytes alone
+pub told_as_one : {D : Type 0} (node : Node) (device : Device D) (journal : Journal D) → spare_of journal ≡ None
+    → (state : State) → told_in node (areas_of device journal) ≡ Ok state → AreReadAs node (areas_of device journal) state
+told_as_one {D} node device journal one state is =
+    let are : areas_of device journal ≡ alone (device.content (disk_of journal)) = areas_alone device journal one in
+    subst (λ (a : Areas). AreReadAs node a state) (sym are) (subst (λ (a : Areas). told_in node a ≡ Ok state) are is)
+
+-- the bytes of one disk are told as they were
+pub same_told : {D : Type 0} (node : Node) (device : Device D) (journal : Journal D) → spare_of journal ≡ None → {read : Result State JournalError}
+    → told node (device.content (disk_of journal)) ≡ read → told_in node (areas_of device journal) ≡ read
+same_told node device journal one same = ap (told_in node) (areas_alone device journal one) ∙ same
+
+-- an opening says on how many disks it is
+pub as_many : {D : Type 0} (node : Node) (device : Device D) (store : Store D) (journal : Journal D) → IsReadIn node device store journal → IsOnAsMany (areas_in device store) journal
+as_many node device (One disk) journal is = is
+as_many node device (Two first second) journal is = is.0
+
+-- ---- a desk over a journal
+
+module _ {S D : Type 0} (node : Node) (device : Device D) (desk : DeskView S D) (journal : Journal D) (same : desk.journal ≡ journal) where
+  pub opened_desk : (before : Areas) → IsOpened node device before (record { book = desk.book; journal = journal }) → IsOpened node device before desk
+  opened_desk before is = subst (λ (j : Journal D). IsOpened node device before (record { book = desk.book; journal = j })) (sym same) is
+
+  pub opening_desk : {V : Type 0} (validator : V) (disk : D) → IsOpening {T = V × Journal D} node device (λ opened. disk_of opened.1) disk (Ok (validator, journal))
+      → IsOpening {T = DeskView S D} node device (λ d. disk_of d.journal) disk (Ok desk)
+  opening_desk validator disk at = record {
+    tells = tt;
+    never_full = tt;
+    cause = (ap (λ (j : Journal D). device.faults (disk_of j)) same ∙ at.cause.0, tt);
+    any_moment = subst (λ (j : Journal D). AtEachMoment device disk (disk_of j) (IsToldAsOneOf node (device.outcome disk))) (sym same) at.any_moment;
+    keeps = subst (λ (j : Journal D). AtEachMoment device disk (disk_of j) (KeepsRecords node (device.outcome disk))) (sym same) at.keeps;
+    never_refused = tt;
+  }
+
+  pub opening_desk_on : {V : Type 0} (validator : V) (store : Store D) → IsOpeningOn {T = V × Journal D} node device (λ opened. store_of opened.1) store (Ok (validator, journal))
+      → IsOpeningOn {T = DeskView S D} node device (λ d. store_of d.journal) store (Ok desk)
+  opening_desk_on validator store at = record {
+    tells = tt;
+    full = tt;
+    cause = (ap (λ (j : Journal D). faults_in device (store_of j)) same ∙ at.cause.0, tt);
+    any_moment = subst (λ (j : Journal D). IsToldThroughout node device store (store_of j)) (sym same) at.any_moment;
+    keeps = subst (λ (j : Journal D). KeepsAlone node device store (store_of j)) (sym same) at.keeps;
+    never_refused = tt;
+    unchanged = tt;
+  }
+
+-- ---- what is never refused
+
+-- a journal in the second version is in no other
+not_first : (areas : Areas) (records : List Record) → stands_in areas ≡ Ok records → version_in records ≡ Some First → IsNewest areas → ⊥
+not_first areas [] stands first newest = cc
+not_first areas (one ∷ rest) stands first newest = two_versions (sym (newest one rest stands) ∙ first)
+  where
+    two_versions : ◌≡◌ {A = Option Version} (Some Second) (Some First) → ⊥
+    two_versions same = cc
+
+-- so no checkpoint of it is written by an opening, and lacks room
+not_full : {D : Type 0} (node : Node) (device : Device D) (store : Store D) (state : State) → AreReadAs node (areas_in device store) state → IsFullIn node device store → ⊥
+not_full node device (One disk) state is full = full
+not_full node device (Two first second) state is full =
+    not_first (pair (device.content first) (device.content second)) full.records full.stands_for full.version is.newest
+
+-- what is read as a state is refused only where memory or a disk fails
+pub never_refused : {D : Type 0} (node : Node) (device : Device D) (store : Store D) (state : State) (error : JournalError) → IsNode node → AreKeys node
+    → AreReadAs node (areas_in device store) state → (error ≢ errors.Device → error ≢ errors.Full → Tells error (told_in node (areas_in device store)))
+    → (error ≡ errors.Full → IsFullIn node device store) → IsNoRefusal error
+never_refused node device store state error sound keys is tells full =
+    no_refusal error state (told_in node (areas_in device store)) (told_of node state (areas_in device store) sound (λ two. keys) is)
+    (λ other. tells other (λ lacks. not_full node device store state is (full lacks)))
 
 -- an opening that failed
 pub not_opened_of : {T D : Type 0} (node : Node) (device : Device D) (disk_in : T → D) (disk : D) (failed : Failed JournalError D)

@@ -1,14 +1,19 @@
 -- A desk in the world of its node's runs.
-use Rattle.std.specs.Prelude.{◌≡◌, ◌⊎◌, ℕ, true, false, List, [], ◌∷◌}
+use Rattle.std.specs.Prelude.{◌≡◌, ◌⊎◌, ℕ, true, false, List, [], ◌∷◌, ◌++◌, Some, IsSome}
 use Rattle.book.specs.Steps as book
 use Rattle.journal.specs.Areas.{Areas}
+use Rattle.journal.specs.Journal.{disk_of, spare_of}
+use Rattle.journal.specs.Pairs.{side_in, generation_in}
+use Rattle.journal.specs.declared.journal.Journal.{Journal}
+use Rattle.journal.specs.declared.layout.TheConstants.{OPEN}
 use Rattle.spec_model.specs.Nodes.{Node, IsNode}
-use Rattle.spec_world.specs.World.{World}
-use Rattle.spec_world.specs.Steps.{Move, device_call, restart, IsTakenTo, Leads, IsRun}
+use Rattle.spec_world.specs.Runs.{device_calls, spare_calls}
+use Rattle.spec_world.specs.World.{World, Spare}
+use Rattle.spec_world.specs.Steps.{Move, settle, take_all, restart, IsTakenTo, IsTakenAll, Leads, IsRun}
 use Rattle.desk.specs.Desk.{DeskView, IsOf}
 use Rattle.diskmodel.specs.Disk.{Device}
 
--- a group was taken after a world with none on its way, and nothing happened since
+-- a group was taken after a world with none in flight, and nothing happened since
 pub record HasTaken (node : Node) (world : World) : Type 0 where
   pub before : World
   pub moves : List Move
@@ -17,8 +22,28 @@ pub record HasTaken (node : Node) (world : World) : Type 0 where
   pub count : ℕ
   pub taken : IsTakenTo before count world
 
--- A desk is at a world of its node's runs: it is that of the world's run, what it queues waits there, and no group is on its way, but
--- for the one with which it went down.
+-- all that was accepted was taken for a checkpoint after a world with nothing in flight, and nothing happened since
+pub record HasTakenAll (node : Node) (world : World) : Type 0 where
+  pub before : World
+  pub moves : List Move
+  pub run : IsRun node moves before
+  pub bytes : List ℕ
+  pub taken : IsTakenAll node before bytes world
+
+-- what a desk that went down had in flight: a group, or, on two disks, the rewriting to a checkpoint of all
+pub data HasInFlight {D : Type 0} (node : Node) (world : World) (journal : Journal D) : Type 0 where
+  a_group : HasTaken node world → HasInFlight node world journal
+  a_checkpoint : IsSome (spare_of journal) → HasTakenAll node world → HasInFlight node world journal
+
+-- a world on two disks is that of a journal on two: the area that is read has the same side and the same generation
+pub record IsBeside {D : Type 0} (world : World) (journal : Journal D) : Type 0 where
+  pub spare : Spare
+  pub is : world.spare ≡ Some spare
+  pub side : spare.side ≡ side_in journal
+  pub generation : spare.generation ≡ generation_in journal
+
+-- A desk is at a world of its node's runs: it is that of the world's run, what it queues waits there, its other disk of two is that of the
+-- world, and nothing is in flight, but for that with which it went down.
 pub record IsAt {S D : Type 0} (node : Node) (device : Device D) (world : World) (desk : DeskView S D) : Type 0 where
   pub sound : IsNode node
   pub moves : List Move
@@ -26,7 +51,8 @@ pub record IsAt {S D : Type 0} (node : Node) (device : Device D) (world : World)
   pub is_of_world : book.IsOf node world desk.book
   pub is_of : IsOf node device (book.run_of node world) desk
   pub idle : desk.book.down ≡ false → world.groups ≡ []
-  pub taken : desk.book.down ≡ true → HasTaken node world
+  pub in_flight : desk.book.down ≡ true → HasInFlight node world desk.journal
+  pub beside : IsSome (spare_of desk.journal) → IsBeside world desk.journal
 
 -- these moves lead from a world to one at which a desk is
 pub record LeadsTo {S D : Type 0} (node : Node) (device : Device D) (world : World) (moves : List Move) (desk : DeskView S D) : Type 0 where
@@ -34,6 +60,22 @@ pub record LeadsTo {S D : Type 0} (node : Node) (device : Device D) (world : Wor
   pub leads : Leads node world moves next
   pub is_at : IsAt node device next desk
 
--- the moves of a stop: the machine stops and what that left is opened. Where a group was on its way its append may have been done before
+-- a checkpoint of a desk in its world: all is taken, with what the disk has then after an open gate, the eight device calls of the
+-- rewriting are made, and it is settled
+abbrev pub CheckpointsAt : {S D : Type 0} → Node → Device D → World → DeskView S D → Type 0
+CheckpointsAt node device world desk =
+    (bytes : List ℕ) × (device.content (disk_of desk.journal) ≡ OPEN ∷ bytes) × LeadsTo node device world (take_all bytes ∷ (spare_calls 8 ++ settle ∷ [])) desk
+
+-- the moves of a stop: the machine stops and what that left is opened. Where a group was in flight its append may have been done before, and
+-- where a rewriting was, that
 abbrev pub IsStop : World → List Move → Type 0
-IsStop world moves = (found : Areas) × (moves ≡ restart found ∷ [] ⊎ moves ≡ device_call ∷ device_call ∷ device_call ∷ device_call ∷ restart found ∷ [])
+IsStop world moves = (found : Areas) × (IsRestart found ⊎ IsAfterAppend found ⊎ IsAfterRewriting found)
+  where
+    IsRestart : Areas → Type 0
+    IsRestart found = moves ≡ restart found ∷ []
+
+    IsAfterAppend : Areas → Type 0
+    IsAfterAppend found = moves ≡ device_calls 4 ++ restart found ∷ []
+
+    IsAfterRewriting : Areas → Type 0
+    IsAfterRewriting found = moves ≡ spare_calls 8 ++ restart found ∷ []

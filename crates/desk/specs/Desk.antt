@@ -1,62 +1,69 @@
 -- A node with one owner: what contracts see of it, and of which run it is.
-use Rattle.std.specs.Prelude.{◌≡◌, ◌≢◌, ◌⊎◌, ℕ, false, List, [], None, Ok}
+use Rattle.std.specs.Prelude.{◌≡◌, ◌≢◌, ◌⊎◌, ◌<◌, ◌^◌, ℕ, false, List, [], None, Ok}
 use Rattle.diskmodel.specs.Disk.{Device}
 use Rattle.book.specs.Book as book
+use Rattle.journal.specs.Areas.{Areas}
 use Rattle.journal.specs.Format.{stands}
-use Rattle.journal.specs.Journal.{disk_of, spare_of, IsAlive}
+use Rattle.journal.specs.Journal.{disk_of, IsAlive}
+use Rattle.journal.specs.Pairs.{areas_of, generation_in}
 use Rattle.journal.specs.declared.error.JournalError.{JournalError}
 use Rattle.journal.specs.declared.error.JournalError.TheVariants as errors
 use Rattle.journal.specs.declared.error.JournalError.TheVariants.{Full}
 use Rattle.journal.specs.declared.journal.Journal.{Journal}
-use Rattle.opening.specs.Told.{told, Tells, IsToldAsOneOf, KeepsRecords}
+use Rattle.opening.specs.Renewing.{HasBegun}
+use Rattle.opening.specs.Told.{told, told_in, Tells, IsToldAsOneOf, KeepsRecords}
 use Rattle.spec_machine.specs.After.{after_all}
 use Rattle.spec_model.specs.Nodes.{Node}
 use Rattle.spec_model.specs.States.{State}
+use Rattle.desk.specs.Disks.{AreReadAs, MayLeave, IsOnAsMany}
 
 -- its book and its journal
 pub record DeskView (S D : Type 0) : Type 0 where
   pub book : book.BookView S
   pub journal : Journal D
 
--- its journal is on one disk; while it is up, that can be added to, and no group is on the way
+-- while it is up, its journal can be added to and has its first group, and no group is in flight
 pub record IsSound {S D : Type 0} (device : Device D) (desk : DeskView S D) : Type 0 where
   pub alive : desk.book.down ≡ false → IsAlive device desk.journal
+  pub begun : desk.book.down ≡ false → HasBegun device desk.journal
   pub settled : desk.book.down ≡ false → desk.book.taken ≡ desk.book.settled
-  pub alone : spare_of desk.journal ≡ None
 
 -- the state after all that a run took
 abbrev pub taken_in : Node → book.Run → State
 taken_in node run = after_all node run.base run.taken
 
--- while it is up, its disk has the node's configuration and is told as the state after what is settled, which is all that was taken
+-- while it is up, its disks have the node's configuration and are read as the state after what is settled, which is all that was taken
 pub record IsUp {D : Type 0} (node : Node) (device : Device D) (run : book.Run) (journal : Journal D) : Type 0 where
   pub configured : stands (device.content (disk_of journal)) ≢ Ok []
-  pub told_as : told node (device.content (disk_of journal)) ≡ Ok (book.settled_in node run)
+  pub read_as : AreReadAs node (areas_of device journal) (book.settled_in node run)
   pub settled : run.taken ≡ run.settled
 
--- whatever a stop leaves of its disk is told as the state after what is settled, or after all that was taken
+-- whatever a stop leaves of its disks is read as the state after what is settled, or after all that was taken
 abbrev pub IsLeft : {D : Type 0} → Node → Device D → book.Run → Journal D → Type 0
-IsLeft node device run journal = (bytes : List ℕ) → device.outcome (disk_of journal) bytes
-    → (told node bytes ≡ Ok (book.settled_in node run)) ⊎ (told node bytes ≡ Ok (taken_in node run))
+IsLeft node device run journal = (areas : Areas) → MayLeave device journal areas → AreReadAs node areas (book.settled_in node run) ⊎ AreReadAs node areas (taken_in node run)
 
--- A desk is that of a run: the book stands there, and the disk has what is settled. Where it went down, a stop leaves that, or what was on
--- the way too.
+-- A desk is that of a run: the book stands there, and the disks have what is settled. Where it went down, a stop leaves that, or what was in
+-- flight too.
 pub record IsOf {S D : Type 0} (node : Node) (device : Device D) (run : book.Run) (desk : DeskView S D) : Type 0 where
   pub stands_at : book.Stands node run desk.book
   pub up : desk.book.down ≡ false → IsUp node device run desk.journal
   pub left : IsLeft node device run desk.journal
 
--- it was opened on these bytes: it is that of a run that begins with what they are told as, nothing waits, and no rewriting is in flight
-pub record IsOpened {S D : Type 0} (node : Node) (device : Device D) (before : List ℕ) (desk : DeskView S D) : Type 0 where
+-- it was opened on these areas: it is that of a run that begins with what they are told as, on as many disks, nothing waits, and no rewriting
+-- is in flight
+pub record IsOpened {S D : Type 0} (node : Node) (device : Device D) (before : Areas) (desk : DeskView S D) : Type 0 where
   pub state : State
-  pub told_first : told node before ≡ Ok state
+  pub told_first : told_in node before ≡ Ok state
   pub up : desk.book.down ≡ false
   pub alive : IsAlive device desk.journal
+  pub begun : HasBegun device desk.journal
+  pub disks : IsOnAsMany before desk.journal
+  pub generation : generation_in desk.journal < 2 ^ 64
   pub waits : desk.book.queue ≡ []
   pub rewriting : desk.book.rewriting ≡ None
   pub is_of : IsOf node device (book.run_on state) desk
 
--- It was not opened: the error is what the bytes are told as, unless memory or the disk failed; and what a stop leaves is told as one
+-- It was not opened on one disk: the error is what the bytes are told as, unless memory or the disk failed; and what a stop leaves is told as one
 -- outcome from before, and is one byte for byte, or has the records of one, or where these are none the configuration alone.
 pub record IsNotOpened (node : Node) (error : JournalError) (before : List ℕ) (possible outcome : List ℕ → Type 0) : Type 0 where
   pub tells : error ≢ errors.Device → Tells error (told node before)

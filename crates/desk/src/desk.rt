@@ -1,15 +1,17 @@
 //! A desk: a book, and the journal of its one owner.
 
+ghost use Rattle.desk.specs.Disks.{HaveStopped};
+
 use book::{FlushError, OwnBook, Receipt};
 use committee::Committee;
 use diskmodel::{Disk, StopDisk};
 use header::Checked;
-use journal::{Failed, Journal, JournalError};
-use opening::reopen;
+use journal::{Failed, Journal, JournalError, Store};
+use opening::{reopen, reopen_store};
 use sigface::Sign;
 use std::alloc::{AllocError, Global};
 use std::marker::Model;
-use validator::{Config, Refusal};
+use validator::{Config, Refusal, Validator};
 use wire::{Digest, Header, Output};
 
 /// A node with one owner: a book, and the journal to which its records go. It answers at once, and nothing waits.
@@ -42,24 +44,31 @@ impl<'a, S: Sign, D: Disk> Model for Desk<'a, S, D> {
 }
 
 impl<'a, S: Sign, D: Disk> Desk<'a, S, D> {
-    ghost use Rattle.std.specs.Prelude.{◌≡◌, ◌≢◌, ◌⊎◌, ◌↔◌, ◌+◌, ◌<◌, ◌≤◌, ◌∷◌, [], ◌++◌, List, ℕ, length, drop, not, true, false, is_some, None, Ok, IfOk, IfErr, IfSome, OnOk, OnErr, IsErrOf, IsTrue, if◌then◌else◌};
+    ghost use Rattle.std.specs.Prelude.{◌≡◌, ◌≢◌, ◌⊎◌, ◌↔◌, ◌+◌, ◌^◌, ◌<◌, ◌≤◌, ◌∷◌, [], ◌++◌, List, ℕ, length, drop, not, true, false, is_some, None, Ok, IfOk, IfErr, IfSome, IsSome, OnOk, OnErr, IsErrOf, IsTrue, if◌then◌else◌};
     ghost use Rattle.diskmodel.specs.Disk.{AtEachMoment, TellsFault};
     ghost use Rattle.header.specs.Checks.{fault_of, accepts_all};
-    ghost use Rattle.journal.specs.Journal.{disk_of, TellsFaultBack, IsAlive};
-    ghost use Rattle.book.specs.Book.{Run, Stands, StandsAsBefore, TakesNew, TakesKnown, MayRefuse, GoesOutSettled, releasable, state_in, settled_in};
+    ghost use Rattle.journal.specs.Journal.{disk_of, spare_of, TellsFaultBack, IsAlive};
+    ghost use Rattle.journal.specs.Pairs.{HaveKeptPlaces, areas_in, generation_in, side_in, spare_disk, rewritten_disk, untouched_disk, store_of};
+    ghost use Rattle.journal.specs.Spares.{by_area};
+    ghost use Rattle.book.specs.Checkpoints.{Checkpoints, FindsNoRoomToRewrite, FailsToRewrite, StandsAsOrForAll};
+    ghost use Rattle.book.specs.Book.{Run, Stands, run_on, StandsAsBefore, TakesNew, TakesKnown, MayRefuse, GoesOutSettled, releasable, state_in, settled_in};
     ghost use Rattle.book.specs.OnTheWay.{Flushes, FindsNoRoom, FailsWithRoom, IsWithOrWithout};
     ghost use Rattle.book.specs.declared.book.TheConstants.{MAX_ACCEPTED};
     ghost use Rattle.spec_machine.specs.Machine.{is_ready, proposed, round_in};
-    ghost use Rattle.spec_world.specs.Steps.{accept as accept_event, take_to, device_call, settle, read_order, release as release_output};
+    ghost use Rattle.spec_world.specs.Steps.{accept as accept_event, take_to, take_all, device_call, settle, read_order, release as release_output};
     ghost use Rattle.spec_model.specs.Giving.{kept};
     ghost use Rattle.spec_model.specs.Histories.{History};
-    ghost use Rattle.spec_world.specs.Runs.{HasJustBegun};
+    ghost use Rattle.spec_world.specs.Runs.{AreKeys, HasJustBegun};
     ghost use Rattle.spec_world.specs.World.{World};
-    ghost use Rattle.opening.specs.Told.{told};
+    ghost use Rattle.opening.specs.Renewing.{HasBegun};
+    ghost use Rattle.opening.specs.Told.{told, told_in};
     ghost use Rattle.validator.specs.Setting.{node_of};
-    ghost use Rattle.opening.specs.Laws.{IsOpening};
+    ghost use Rattle.validator.specs.Standing.{AreAtSound};
+    ghost use Rattle.spec_model.specs.States.{State};
+    ghost use Rattle.journal.specs.Areas.{alone, pair};
+    ghost use Rattle.opening.specs.Laws.{IsOpening, IsOpeningOn, IsReadIn, with_store};
     ghost use Rattle.desk.specs.Desk.{IsOpened, IsNotOpened};
-    ghost use Rattle.desk.specs.AtWorld.{IsAt, LeadsTo};
+    ghost use Rattle.desk.specs.AtWorld.{IsBeside, IsAt, LeadsTo, CheckpointsAt};
 
     /// Opens a node on a disk, with a book that has accepted nothing.
     ///
@@ -71,7 +80,7 @@ impl<'a, S: Sign, D: Disk> Desk<'a, S, D> {
         disk: D,
     ) -> Result<Desk<'a, S, D>, Failed<JournalError, D>>
         ensures setting { IfOk result (λ desk. desk.book.validator.setting ≡ config.now) }
-        ensures ok { IfOk result (λ desk. IsOpened (node_of S.scheme config.now) D.device (D.device.content disk) desk) }
+        ensures ok { IfOk result (λ desk. IsOpened (node_of S.scheme config.now) D.device (alone (D.device.content disk)) desk) }
         ensures err { IfErr result (λ failed. IsNotOpened (node_of S.scheme config.now) failed.error (D.device.content disk) (D.device.outcome disk) (D.device.outcome failed.disk)) }
         // Take a world in which a run has just begun with some history. If the disk is read as what is kept of that, the desk stands in
         // this world. Each legal history begins some run.
@@ -81,15 +90,85 @@ impl<'a, S: Sign, D: Disk> Desk<'a, S, D> {
         ensures opening { IsOpening (node_of S.scheme config.now) D.device (λ desk. disk_of desk.journal) disk result }
     {
         match reopen(alloc, config, disk) {
-            Ok((validator, journal)) => {
-                let book = OwnBook::new(alloc, validator);
-                // A book that is up has no rewriting in flight.
-                let down = book.is_down();
-                prove!(!down);
-                Ok(Desk { book, journal })
-            }
+            Ok((validator, journal)) => Ok(Desk::over(alloc, validator, journal)),
             Err(failed) => Err(failed),
         }
+    }
+
+    /// Opens a node on one disk or on two, with a book that has accepted nothing.
+    ///
+    /// # Errors
+    /// As `reopen_store` answers them. What was given is handed back.
+    pub fn open_store(
+        alloc: Global,
+        config: &'a Config<S>,
+        store: Store<D>,
+    ) -> Result<Desk<'a, S, D>, Failed<JournalError, Store<D>>>
+        ensures setting { IfOk result (λ desk. desk.book.validator.setting ≡ config.now) }
+        ensures ok { IfOk result (λ desk. IsOpened (node_of S.scheme config.now) D.device (areas_in D.device store) desk) }
+        // Of two disks the one that is read says which generation it has.
+        ensures read { IfOk result (λ desk. IsReadIn (node_of S.scheme config.now) D.device store desk.journal) }
+        // Take a world in which a run has just begun with some history, on disks of which the same one is read, in the same generation. If
+        // what was opened is read as what is kept of that history, the desk stands in this world. Each legal history begins such a run.
+        ensures world { let node = node_of S.scheme config.now in IfOk result (λ desk. (world : World) (history : History) → HasJustBegun node world history
+            → (IsSome (spare_of desk.journal) → IsBeside world desk.journal) → told_in node (areas_in D.device store) ≡ Ok (kept node history) → IsAt node D.device world desk) }
+        // Its errors, and what a stop at any moment of it leaves.
+        ensures opening { IsOpeningOn (node_of S.scheme config.now) D.device (λ desk. store_of desk.journal) store result }
+    {
+        match reopen_store(alloc, config, store) {
+            Ok((validator, journal)) => Ok(Desk::over(alloc, validator, journal)),
+            Err(failed) => Err(failed),
+        }
+    }
+
+    /// Opens a node on two disks, that of the first area and that of the second.
+    ///
+    /// # Errors
+    /// As `reopen_pair` answers them. Both disks are handed back.
+    pub fn open_pair(
+        alloc: Global,
+        config: &'a Config<S>,
+        first: D,
+        second: D,
+    ) -> Result<Desk<'a, S, D>, Failed<JournalError, (D, D)>>
+        ensures setting { IfOk result (λ desk. desk.book.validator.setting ≡ config.now) }
+        ensures ok { IfOk result (λ desk. IsOpened (node_of S.scheme config.now) D.device (pair (D.device.content first) (D.device.content second)) desk) }
+        ensures read { IfOk result (λ desk. IsReadIn (node_of S.scheme config.now) D.device (Store.Two first second) desk.journal) }
+        ensures world { let node = node_of S.scheme config.now in IfOk result (λ desk. (world : World) (history : History) → HasJustBegun node world history
+            → IsBeside world desk.journal → told_in node (pair (D.device.content first) (D.device.content second)) ≡ Ok (kept node history) → IsAt node D.device world desk) }
+        ensures opening { IsOpeningOn (node_of S.scheme config.now) D.device (λ desk. store_of desk.journal) (Store.Two first second) (with_store result) }
+    {
+        match Desk::open_store(alloc, config, Store::Two(first, second)) {
+            Ok(desk) => Ok(desk),
+            Err(Failed { error, disk }) => match disk {
+                Store::Two(first, second) => Err(Failed {
+                    error,
+                    disk: (first, second),
+                }),
+                Store::One(_) => unreachable!(),
+            },
+        }
+    }
+
+    // A desk with a new book over what an opening gave.
+    fn over(alloc: Global, validator: Validator<'a, S>, journal: Journal<D>) -> Desk<'a, S, D>
+        requires alive { IsAlive D.device journal }
+        requires begun { HasBegun D.device journal }
+        requires stands { (state : State) × AreAtSound (node_of S.scheme validator.setting) validator.tables state }
+        ensures setting { result.book.validator.setting ≡ validator.entry.setting }
+        ensures journal { result.journal ≡ journal }
+        ensures up { result.book.down ≡ false }
+        ensures waits { result.book.queue ≡ [] }
+        ensures free { result.book.rewriting ≡ None }
+        ensures stands { let node = node_of S.scheme validator.entry.setting in (base : State) → AreAtSound node validator.entry.tables base → Stands node (run_on base) result.book }
+        ensures small { generation_in journal < 2 ^ 64 }
+    {
+        let generation = journal.generation();
+        let book = OwnBook::new(alloc, validator);
+        // A book that is up has no rewriting in flight.
+        let down = book.is_down();
+        prove!(!down);
+        Desk { book, journal }
     }
 
     /// Takes an event, which passed the checks under the node's committee, as the book does.
@@ -133,6 +212,8 @@ impl<'a, S: Sign, D: Disk> Desk<'a, S, D> {
         // A stop at any moment leaves the records from before it, with all that it takes or without.
         ensures any_moment { self.old.book.down ≡ false → AtEachMoment D.device (disk_of self.old.journal) (disk_of self.new.journal) (IsWithOrWithout self.old.book.pending (D.device.content (disk_of self.old.journal))) }
         ensures alive { OnOk result (IsAlive D.device self.new.journal) }
+        // Of two disks it writes to one alone.
+        ensures spare { spare_of self.new.journal ≡ spare_of self.old.journal }
         ensures accepted { self.new.book.accepted ≡ self.old.book.accepted }
         // It answers Device exactly where the disk has failed.
         ensures cause { TellsFault FlushError.Device (D.device.faults (disk_of self.old.journal)) (D.device.faults (disk_of self.new.journal)) result }
@@ -150,6 +231,51 @@ impl<'a, S: Sign, D: Disk> Desk<'a, S, D> {
             return Err(FlushError::Down);
         }
         self.book.flush(&mut self.journal)
+    }
+
+    /// A checkpoint, of a desk on two disks: takes all that was accepted, rewrites the disk that isn't read to the state after it, and
+    /// settles it. The disk is read from then on. Answers the journal's new generation.
+    ///
+    /// # Errors
+    /// `Down` exactly where the desk is down, and `Memory`: nothing was changed. `Full` where the checkpoint is too long for a journal or
+    /// the generation is the last one, and `Device` where the disk fails: all was taken, its rewriting stays in flight, and the desk is
+    /// down.
+    pub fn checkpoint(&mut self) -> Result<u64, FlushError>
+        requires pair { IsSome (spare_of self.old.journal) }
+        // All that was accepted is settled, and the journal is a checkpoint of the state after it.
+        ensures settled { IfOk result (λ generation. Checkpoints (node_of S.scheme self.old.book.validator.setting) D.device self.old.book self.new.book self.old.journal self.new.journal) }
+        ensures answer { IfOk result (λ generation. generation ≡ generation_in self.new.journal) }
+        ensures down { IsErrOf result FlushError.Down ↔ IsTrue self.old.book.down }
+        ensures unchanged { IfErr result (λ error. (error ≡ FlushError.Down) ⊎ (error ≡ FlushError.Memory) → self.new ≡ self.old) }
+        ensures full { IsErrOf result FlushError.Full → FindsNoRoomToRewrite (node_of S.scheme self.old.book.validator.setting) self.old.book self.new.book self.old.journal }
+        ensures full_same { IsErrOf result FlushError.Full → self.new.journal ≡ self.old.journal }
+        ensures fails { IsErrOf result FlushError.Device → FailsToRewrite (node_of S.scheme self.old.book.validator.setting) self.old.book self.new.book self.old.journal }
+        // A stop at any moment leaves the records from before it, or a checkpoint of all that was accepted.
+        ensures any_moment { self.old.book.down ≡ false → AtEachMoment D.device (spare_disk self.old.journal) (rewritten_disk result self.new.journal) (StandsAsOrForAll (node_of S.scheme self.old.book.validator.setting) D.device self.old.book self.old.journal) }
+        // The disk that was read before is the same, whatever the answer; after an error it still is the one that is read.
+        ensures untouched { untouched_disk result self.new.journal ≡ disk_of self.old.journal }
+        ensures keeps { OnErr result (HaveKeptPlaces self.old.journal self.new.journal) }
+        ensures alive { OnOk result (IsAlive D.device self.new.journal) }
+        ensures accepted { self.new.book.accepted ≡ self.old.book.accepted }
+        // It answers Device exactly where the disk that it writes has failed.
+        ensures cause { TellsFault FlushError.Device (D.device.faults (spare_disk self.old.journal)) (D.device.faults (rewritten_disk result self.new.journal)) result }
+        ensures setting { self.new.book.validator.setting ≡ self.old.book.validator.setting }
+        // In the world of a node whose keys have 32 bytes each all is taken, the eight device calls of a rewriting are made, and it is
+        // settled.
+        ensures steps { let node = node_of S.scheme self.old.book.validator.setting in OnOk result (AreKeys node → (world : World) → IsAt node D.device world self.old
+            → CheckpointsAt node D.device world self.new) }
+        // Where the desk goes down all is taken, unless the generation was the last one.
+        ensures fails_step { let node = node_of S.scheme self.old.book.validator.setting in IfErr result (λ error. (error ≡ FlushError.Full) ⊎ (error ≡ FlushError.Device)
+            → AreKeys node → generation_in self.old.journal + 1 < 2 ^ 64 → (world : World) → IsAt node D.device world self.old
+            → (bytes : List ℕ) × LeadsTo node D.device world (take_all bytes ∷ []) self.new) }
+    {
+        book::checkpoint_is_steps::<S>();
+        book::take_all_is_a_step::<S>();
+        spec_world::snapshots_are_checkpoints();
+        if self.book.is_down() {
+            return Err(FlushError::Down);
+        }
+        self.book.checkpoint(&mut self.journal)
     }
 
     /// The next output that may go out; None where the desk is down.
@@ -225,25 +351,56 @@ impl<'a, S: Sign, D: Disk> Desk<'a, S, D> {
         self.book.committee()
     }
 
-    /// Hands the disk back. What wasn't settled is lost.
+    /// Hands the disk back, of a desk on one. What wasn't settled is lost.
     pub fn into_disk(self) -> D
+        requires { spare_of self.journal ≡ None }
         ensures { result ≡ disk_of self.entry.journal }
     {
         let Desk { book: _, journal } = self;
         journal.into_disk()
     }
+
+    /// Hands both disks back, of a desk on two: that of the first area, and that of the second. What wasn't settled is lost.
+    pub fn into_disks(self) -> (D, D)
+        requires { IsSome (spare_of self.journal) }
+        ensures { result ≡ by_area (side_in self.entry.journal) (disk_of self.entry.journal) (spare_disk self.entry.journal) }
+    {
+        let Desk { book: _, journal } = self;
+        journal.into_disks()
+    }
+
+    /// Hands back the disk or the disks that it is on. What wasn't settled is lost.
+    pub fn into_store(self) -> Store<D>
+        ensures { result ≡ store_of self.entry.journal }
+    {
+        let Desk { book: _, journal } = self;
+        journal.into_store()
+    }
+
+    /// Whether it is on two disks, so that it can make a checkpoint.
+    pub fn is_pair(&self) -> bool
+        ensures { IsTrue result ↔ IsSome (spare_of self.now.journal) }
+    {
+        self.journal.is_pair()
+    }
 }
 
 impl<'a, S: Sign, D: StopDisk> Desk<'a, S, D> {
-    ghost use Rattle.std.specs.Prelude.{◌≡◌, ◌≢◌, ◌<◌, List, ℕ, IfOk, IfErr};
-    ghost use Rattle.journal.specs.Journal.{disk_of, TellsFaultBack};
+    ghost use Rattle.std.specs.Prelude.{◌≡◌, ◌≢◌, ◌<◌, List, ℕ, None, IfOk, IfErr, Err};
+    ghost use Rattle.journal.specs.Areas.{Areas, alone};
+    ghost use Rattle.journal.specs.Journal.{disk_of, spare_of, TellsFaultBack};
+    ghost use Rattle.journal.specs.Pairs.{store_of, areas_in};
+    ghost use Rattle.journal.specs.Stores.{faults_in, TellsFaultsBack};
     ghost use Rattle.validator.specs.Setting.{node_of};
     ghost use Rattle.spec_world.specs.Steps.{Move};
     ghost use Rattle.spec_world.specs.World.{World};
+    ghost use Rattle.book.specs.Book.{Run};
+    ghost use Rattle.opening.specs.Laws.{IsNoRefusal, IsOpeningOn};
     ghost use Rattle.desk.specs.AtWorld.{IsAt, LeadsTo, IsStop};
-    ghost use Rattle.desk.specs.Desk.{IsOpened, IsNotOpened};
+    ghost use Rattle.desk.specs.Desk.{IsOf, IsOpened, IsNotOpened};
+    ghost use Rattle.desk.specs.Disks.{MayLeave, HaveStopped};
 
-    /// Stops the machine, and opens the node again on what the stop left.
+    /// Stops the machine of a node on one disk, and opens the node again on what the stop left.
     ///
     /// # Errors
     /// As `reopen` answers them. The disk is handed back.
@@ -252,8 +409,9 @@ impl<'a, S: Sign, D: StopDisk> Desk<'a, S, D> {
         alloc: Global,
         config: &'a Config<S>,
     ) -> Result<Desk<'a, S, D>, Failed<JournalError, D>>
+        requires alone { spare_of self.journal ≡ None }
         ensures setting { IfOk result (λ next. next.book.validator.setting ≡ config.now) }
-        ensures ok { IfOk result (λ next. (found : List ℕ) × D.device.outcome (disk_of self.entry.journal) found × IsOpened (node_of S.scheme config.now) D.device found next) }
+        ensures ok { IfOk result (λ next. (found : List ℕ) × D.device.outcome (disk_of self.entry.journal) found × IsOpened (node_of S.scheme config.now) D.device (alone found) next) }
         ensures err { IfErr result (λ failed. (found : List ℕ) × D.device.outcome (disk_of self.entry.journal) found × IsNotOpened (node_of S.scheme config.now) failed.error found (D.device.outcome (disk_of self.entry.journal)) (D.device.outcome failed.disk)) }
         // In the world the machine stops, and what that left is opened.
         ensures steps { let node = node_of S.scheme config.now in IfOk result (λ next. (world : World) → IsAt node D.device world self.entry
@@ -263,5 +421,46 @@ impl<'a, S: Sign, D: StopDisk> Desk<'a, S, D> {
         let mut disk = self.into_disk();
         disk.stop();
         Desk::open(alloc, config, disk)
+    }
+
+    /// Stops the machine of a node, whether it is on one disk or on two, and opens the node again on what the stop left.
+    ///
+    /// # Errors
+    /// As `reopen_store` answers them. What it was on is handed back.
+    pub fn stop_store(
+        self,
+        alloc: Global,
+        config: &'a Config<S>,
+    ) -> Result<Desk<'a, S, D>, Failed<JournalError, Store<D>>>
+        ensures setting { IfOk result (λ next. next.book.validator.setting ≡ config.now) }
+        ensures ok { IfOk result (λ next. (found : Areas) × MayLeave D.device self.entry.journal found × IsOpened (node_of S.scheme config.now) D.device found next) }
+        ensures err { IfErr result (λ failed. (stopped : Store D) × HaveStopped D.device (store_of self.entry.journal) stopped × IsOpeningOn (node_of S.scheme config.now) D.device (λ next. store_of next.journal) stopped result) }
+        // What a stop leaves of a run's desk is refused only where memory or a disk fails.
+        ensures never_refused { IfErr result (λ failed. (run : Run) → IsOf (node_of S.scheme config.now) D.device run self.entry → IsNoRefusal failed.error) }
+        // In the world the machine stops, and what that left is opened.
+        ensures steps { let node = node_of S.scheme config.now in IfOk result (λ next. (world : World) → IsAt node D.device world self.entry
+            → (moves : List Move) × IsStop world moves × LeadsTo node D.device world moves next) }
+        ensures cause { TellsFaultsBack (faults_in D.device) (λ next. store_of next.journal) JournalError.Device (store_of self.entry.journal) result }
+    {
+        config.keys_hold();
+        spec_world::histories_begin_on_two();
+        Desk::open_store(alloc, config, stopped(self.into_store()))
+    }
+}
+
+// The same disks after a stop of their machine.
+fn stopped<D: StopDisk>(store: Store<D>) -> Store<D>
+    ensures { HaveStopped D.device store result }
+{
+    match store {
+        Store::One(mut disk) => {
+            disk.stop();
+            Store::One(disk)
+        }
+        Store::Two(mut first, mut second) => {
+            first.stop();
+            second.stop();
+            Store::Two(first, second)
+        }
     }
 }

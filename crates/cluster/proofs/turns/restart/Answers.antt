@@ -24,14 +24,14 @@ returns-in_err-events-clause-refused g c =
     let may = subst (λ (d : g.row.D.Denot). g.D.Disk.device.outcome d found) c.into_disk-disk.ensures c.stop.ensures.content in
     let p = err_from_is_err_and c.from_residual.result c.from_residual.ensures.1 in
     rw (p.1, p.2)
-    (λ world at. let told_as = left_told node g.D.Disk.device world c.args.desk at found may in c.in_err-events.ensures.refused node told_as.0 told_as.1)
+    (λ world at. let told_as = left_told node g.D.Disk.device world c.args.desk at c.requires.alone found may in c.in_err-events.ensures.refused node told_as.0 told_as.1)
 
 pub returns-in-Err-clause-refused : goal.returns-in-Err-clause-refused
 returns-in-Err-clause-refused g c = λ world at.
     let node = node_of g.S.Sign.scheme c.args.config.now in
     let found = g.D.Disk.device.content c.stop.new.self in
     let may = subst (λ (d : g.row.D.Denot). g.D.Disk.device.outcome d found) c.into_disk-disk.ensures c.stop.ensures.content in
-    let told_as = left_told node g.D.Disk.device world c.args.desk at found may in
+    let told_as = left_told node g.D.Disk.device world c.args.desk at c.requires.alone found may in
     let later = g.D.Disk.device.content c.in_ok-events.disk in
     no_refusal c.in-Err.failed.error told_as.0 (told node later) (told_same node later found c.in_ok-events.ensures.same ∙ told_as.1) c.in-Err.ensures.err.tells
 

@@ -14,7 +14,7 @@ use Rattle.cluster.proofs.member.Member.flush.Goals as goal
 pub returns-in_err-collect-clause-became : goal.returns-in_err-collect-clause-became
 returns-in_err-collect-clause-became g c = λ accepts.
     let memory = err_from_is_err_and c.from_residual.result c.from_residual.ensures.1 in
-    let own = c.self.invariant c.in-Some.desk c.in-Some.is in
+    let own = (c.self.invariant c.in-Some.desk c.in-Some.is).set in
     let before : MemberView g.row.S.Denot g.row.D.Denot = record { setting = c.self.inside.config.now; desk = c.self.inside.desk; out = c.self.inside.given } in
     let later : MemberView g.row.S.Denot g.row.D.Denot = record { setting = c.self.inside.config.now; desk = Some c.collect.new.desk; out = c.collect.new.given } in
     rw (memory.1, memory.2)
@@ -25,7 +25,7 @@ returns-in_err-collect-clause-became g c = λ accepts.
 
 pub returns-clause-became : goal.returns-clause-became
 returns-clause-became g c = λ accepts.
-    let own = c.self.invariant c.in-Some.desk c.in-Some.is in
+    let own = (c.self.invariant c.in-Some.desk c.in-Some.is).set in
     let before : MemberView g.row.S.Denot g.row.D.Denot = record { setting = c.self.inside.config.now; desk = c.self.inside.desk; out = c.self.inside.given } in
     let later : MemberView g.row.S.Denot g.row.D.Denot = record { setting = c.self.inside.config.now; desk = Some c.collect.new.desk; out = c.collect.new.given } in
     subst (λ (m : MemberView g.row.S.Denot g.row.D.Denot). Became (node_of g.S.Sign.scheme m.setting) g.D.Disk.device accepts Round m later (Ok c.round-applied.result)) c.self.view_is

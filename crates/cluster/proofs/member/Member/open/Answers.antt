@@ -1,5 +1,6 @@
 use Rattle.std.proofs.Common.{List, ℕ, Some, refl, ap, ◌∙◌, subst}
 use Rattle.desk.specs.Desk.{IsOpened}
+use Rattle.journal.specs.Areas.{alone}
 use Rattle.desk.proofs.Worlds.{begins}
 use Rattle.opening.specs.Told.{told}
 use Rattle.opening.proofs.Opened.{no_refusal}
@@ -16,7 +17,7 @@ pub returns-in-Ok-clause-begins : goal.returns-in-Ok-clause-begins
 returns-in-Ok-clause-begins g c = λ empty.
     let node = node_of g.S.Sign.scheme c.args.config.now in
     let keys = c.keys_hold.ensures in
-    let opened = subst (λ (bytes : List ℕ). IsOpened node g.D.Disk.device bytes c.in-Ok.desk) empty c.in-Ok.ensures.ok in
+    let opened = subst (λ (bytes : List ℕ). IsOpened node g.D.Disk.device (alone bytes) c.in-Ok.desk) empty c.in-Ok.ensures.ok in
     let member : MemberView g.row.S.Denot g.row.D.Denot = record { setting = c.args.config.now; desk = Some c.in-Ok.desk; out = c.new.result } in
     begins_at node g.D.Disk.device member c.in-Ok.desk refl c.new.ensures.outputs c.new.ensures.order
     (begins c.starts_fresh.ensures node g.D.Disk.device c.in-Ok.desk c.limits_hold.ensures keys opened)

@@ -8,7 +8,7 @@ use Rattle.cluster.proofs.member.Member.propose.Goals as goal
 pub returns-in_ok-propose-in-Some-clause-ok : goal.returns-in_ok-propose-in-Some-clause-ok
 returns-in_ok-propose-in-Some-clause-ok g c =
     let desk = c.in-Some.desk in
-    let own = c.self.invariant desk c.in-Some.is in
+    let own = (c.self.invariant desk c.in-Some.is).set in
     subst (λ (m : MemberView g.row.S.Denot g.row.D.Denot). Proposes (node_of g.S.Sign.scheme m.setting) m c.in_ok-propose-in-Some.field-0) c.self.view_is
     (record {
       desk = desk;

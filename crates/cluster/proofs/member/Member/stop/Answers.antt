@@ -8,9 +8,12 @@ use Rattle.cluster.specs.declared.error.ClusterError.TheVariants as errors
 use Rattle.journal.specs.declared.error.JournalError.TheVariants as journal
 use Rattle.cluster.specs.declared.moves.Applied.TheVariants.{Reopened}
 use Rattle.cluster.specs.declared.moves.Request.TheVariants.{Stop}
-use Rattle.desk.proofs.Worlds.{stops}
+use Rattle.desk.proofs.Worlds.{stops_alone}
 use Rattle.cluster.proofs.Members.{asked_ok, asked_some, stopped, was_lost, journal_is}
 use Rattle.cluster.proofs.member.Member.stop.Goals as goal
+
+pub restart-requires : goal.restart-requires
+restart-requires g c = record { alone = (c.self.invariant c.in-Some.desk (sym c.take.ensures.value ∙ c.in-Some.is)).alone }
 
 pub returns-in_err-collected : goal.returns-in_err-collected
 returns-in_err-collected g c = λ accepts.
@@ -24,7 +27,7 @@ returns-in_err-collected g c = λ accepts.
     (subst (λ (m : MemberView g.row.S.Denot g.row.D.Denot). Became (node_of g.S.Sign.scheme m.setting) g.D.Disk.device accepts Stop m later (Err errors.Memory)) c.self.view_is
     (asked_some g.S.Sign.scheme g.D.Disk.device accepts Stop before later c.in-Some.desk c.in-Ok.opened.0 c.collect-collected.new.desk was refl refl
     c.self.inside.config.now c.in-Ok.opened.0.book.validator.setting refl c.in-Ok.ensures.setting (Reopened c.in-Ok.opened.1)
-    (λ world at. let to = stops node g.D.Disk.device world c.in-Some.desk at opened.0 opened.1 c.in-Ok.opened.0 opened.2 in
+    (λ world at. let to = stops_alone node g.D.Disk.device world c.in-Some.desk at (c.self.invariant c.in-Some.desk was).alone opened.0 opened.1 c.in-Ok.opened.0 opened.2 in
     stopped node g.D.Disk.device world c.in-Some.desk c.in-Ok.opened.0 opened.0 c.in-Ok.opened.1 opened.1 opened.2 opened.3 to.0 to.1 to.2)
     c.in_err-collected.ensures.err))
 
@@ -38,7 +41,7 @@ returns g c = λ accepts.
     subst (λ (m : MemberView g.row.S.Denot g.row.D.Denot). Became (node_of g.S.Sign.scheme m.setting) g.D.Disk.device accepts Stop m later (Ok (Reopened c.in-Ok.opened.1))) c.self.view_is
     (asked_ok g.S.Sign.scheme g.D.Disk.device accepts Stop before later c.in-Some.desk c.in-Ok.opened.0 c.collect-collected.new.desk was refl refl
     c.self.inside.config.now c.in-Ok.opened.0.book.validator.setting refl c.in-Ok.ensures.setting (Reopened c.in-Ok.opened.1)
-    (λ world at. let to = stops node g.D.Disk.device world c.in-Some.desk at opened.0 opened.1 c.in-Ok.opened.0 opened.2 in
+    (λ world at. let to = stops_alone node g.D.Disk.device world c.in-Some.desk at (c.self.invariant c.in-Some.desk was).alone opened.0 opened.1 c.in-Ok.opened.0 opened.2 in
     stopped node g.D.Disk.device world c.in-Some.desk c.in-Ok.opened.0 opened.0 c.in-Ok.opened.1 opened.1 opened.2 opened.3 to.0 to.1 to.2)
     c.in_ok-collected.ensures.ok (λ is. absurd cc))
 

@@ -32,7 +32,7 @@ returns-in_err-collect-clause-became g c =
     let accepts = g.V.Verify.accepts c.args.verifier.now in
     let asked : Request = Take c.args.sender c.args.message in
     let memory = err_from_is_err_and c.from_residual-in_err-collect.result c.from_residual-in_err-collect.ensures.1 in
-    let own = c.self.invariant c.in-Some.desk c.in-Some.is in
+    let own = (c.self.invariant c.in-Some.desk c.in-Some.is).set in
     let before : MemberView g.row.S.Denot g.row.D.Denot = record { setting = c.self.inside.config.now; desk = c.self.inside.desk; out = c.self.inside.given } in
     let later : MemberView g.row.S.Denot g.row.D.Denot = record { setting = c.self.inside.config.now; desk = Some c.collect.new.desk; out = c.collect.new.given } in
     rw (memory.1, memory.2)
@@ -45,7 +45,7 @@ pub returns-clause-became : goal.returns-clause-became
 returns-clause-became g c =
     let accepts = g.V.Verify.accepts c.args.verifier.now in
     let asked : Request = Take c.args.sender c.args.message in
-    let own = c.self.invariant c.in-Some.desk c.in-Some.is in
+    let own = (c.self.invariant c.in-Some.desk c.in-Some.is).set in
     let before : MemberView g.row.S.Denot g.row.D.Denot = record { setting = c.self.inside.config.now; desk = c.self.inside.desk; out = c.self.inside.given } in
     let later : MemberView g.row.S.Denot g.row.D.Denot = record { setting = c.self.inside.config.now; desk = Some c.collect.new.desk; out = c.collect.new.given } in
     subst (λ (m : MemberView g.row.S.Denot g.row.D.Denot). Became (node_of g.S.Sign.scheme m.setting) g.D.Disk.device accepts asked m later (Ok c.in_ok-applied.applied)) c.self.view_is

@@ -9,8 +9,24 @@ use Rattle.validator.specs.Setting.{node_of}
 use Rattle.desk.specs.Desk.{DeskView}
 use Rattle.desk.specs.AtWorld.{IsAt, LeadsTo}
 use Rattle.desk.proofs.Answered.{flush_steps, flush_fails, alive_at_ok}
+use Rattle.desk.proofs.Reading.{not_shut}
+use Rattle.desk.proofs.Sound.{flush_sound}
 use Rattle.desk.proofs.Standing.{left_by}
 use Rattle.desk.proofs.desk.Desk.flush.Goals as goal
+
+pub flush-requires-clause-begun : goal.flush-requires-clause-begun
+flush-requires-clause-begun g c =
+    let up = sym c.is_down.ensures.value ∙ c.if-is_down.false in
+    not_shut g.D.Disk.device c.self.inside.journal (c.self.invariant.begun up)
+
+pub invariant_of-self : goal.invariant_of-self
+invariant_of-self g c =
+    let before : DeskView g.row.S.Denot g.row.D.Denot = record { book = c.self.inside.book; journal = c.self.inside.journal } in
+    let later : DeskView g.row.S.Denot g.row.D.Denot = record { book = c.flush.new.self; journal = c.flush.new.journal } in
+    let up = sym c.is_down.ensures.value ∙ c.if-is_down.false in
+    flush_sound (node_of g.S.Sign.scheme before.book.validator.setting) g.D.Disk.device before later c.self.invariant up c.flush.result
+    (g.D.Disk.device.content (disk_of before.journal)) c.flush.ensures.idle c.flush.ensures.flushed c.flush.ensures.unchanged c.flush.ensures.full c.flush.ensures.fails
+    (alive_at_ok g.D.Disk.device later.journal c.flush.result c.flush.ensures.alive)
 
 pub returns-clause-full : goal.returns-clause-full
 returns-clause-full g c =
@@ -34,7 +50,8 @@ returns-clause-steps g c =
     (λ count. d.book.pending ≢ [] → (world : World) → IsAt (node_of g.S.Sign.scheme d.book.validator.setting) g.D.Disk.device world d
     → LeadsTo (node_of g.S.Sign.scheme d.book.validator.setting) g.D.Disk.device world
     (take_to (length world.settled + count) ∷ device_call ∷ device_call ∷ device_call ∷ device_call ∷ settle ∷ []) later)) c.self.view_is
-    (flush_steps (node_of g.S.Sign.scheme before.book.validator.setting) g.D.Disk.device before later c.flush_is_steps.ensures up c.flush.result c.flush.ensures.flushed
+    (flush_steps (node_of g.S.Sign.scheme before.book.validator.setting) g.D.Disk.device before later c.flush_is_steps.ensures up c.self.invariant
+    c.flush.ensures.spare c.flush.result c.flush.ensures.flushed
     (alive_at_ok g.D.Disk.device later.journal c.flush.result c.flush.ensures.alive))
 
 pub returns-clause-fails_step : goal.returns-clause-fails_step
@@ -45,8 +62,9 @@ returns-clause-fails_step g c =
     subst (λ (d : DeskView g.row.S.Denot g.row.D.Denot). IfErr c.flush.result (λ error. (error ≡ Full) ⊎ (error ≡ Device) → (world : World)
     → IsAt (node_of g.S.Sign.scheme d.book.validator.setting) g.D.Disk.device world d
     → (count : ℕ) × LeadsTo (node_of g.S.Sign.scheme d.book.validator.setting) g.D.Disk.device world (take_to count ∷ []) later)) c.self.view_is
-    (flush_fails (node_of g.S.Sign.scheme before.book.validator.setting) g.D.Disk.device before later c.fail_is_a_step.ensures up c.flush.result c.flush.ensures.full c.flush.ensures.full_same
-    (c.self.invariant.alive up) c.flush.ensures.fails
+    (flush_fails (node_of g.S.Sign.scheme before.book.validator.setting) g.D.Disk.device before later c.fail_is_a_step.ensures up c.self.invariant
+    c.flush.ensures.spare c.flush.result c.flush.ensures.full c.flush.ensures.full_same
+    c.flush.ensures.fails
     (λ bytes may. left_by g.D.Disk.device (disk_of before.journal) (disk_of later.journal)
     (IsWithOrWithout before.book.pending (g.D.Disk.device.content (disk_of before.journal))) bytes c.flush.ensures.any_moment
     g.met.D.Disk.counts_now may))

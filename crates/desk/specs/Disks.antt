@@ -1,0 +1,49 @@
+-- What the disks of a journal are read as, and what a stop may leave of them.
+use Rattle.std.specs.Prelude.{◌≡◌, ℕ, List, Some, None, Ok, IsSome}
+use Rattle.diskmodel.specs.Disk.{Device}
+use Rattle.journal.specs.Areas.{Areas, alone, pair, pair_of}
+use Rattle.journal.specs.Journal.{disk_of, spare_of}
+use Rattle.journal.specs.Pairs.{areas_in}
+use Rattle.journal.specs.Stores.{faults_in}
+use Rattle.journal.specs.declared.store.Store.{Store}
+use Rattle.journal.specs.declared.store.Store.TheVariants.{One, Two}
+use Rattle.journal.specs.declared.journal.Journal.{Journal}
+use Rattle.journal.specs.declared.spare.Spare.{Spare}
+use Rattle.opening.specs.Renewing.{IsNewest}
+use Rattle.opening.specs.Told.{told}
+use Rattle.spec_model.specs.Nodes.{Node}
+use Rattle.spec_model.specs.States.{State}
+use Rattle.spec_world.specs.World.{Holds}
+
+-- areas are a journal of the node at this state, and its configuration is in the second version
+pub record AreHeld (node : Node) (areas : Areas) (state : State) : Type 0 where
+  pub holds : Holds node areas state
+  pub newest : IsNewest areas
+
+-- areas are read as this state: one is told as it, and two are a journal of the node at it
+abbrev pub AreReadAs : Node → Areas → State → Type 0
+AreReadAs node (alone bytes) state = told node bytes ≡ Ok state
+AreReadAs node (pair first second) state = AreHeld node (pair first second) state
+
+-- a stop may leave these areas of the disks of a journal: of each disk one of its outcomes
+pub data MayLeave {D : Type 0} (device : Device D) (journal : Journal D) (areas : Areas) : Type 0 where
+  of_one : (left : List ℕ) → spare_of journal ≡ None → device.outcome (disk_of journal) left → areas ≡ alone left → MayLeave device journal areas
+  of_two : (spare : Spare D) (live other : List ℕ) → spare_of journal ≡ Some spare → device.outcome (disk_of journal) live → device.outcome spare.disk other
+      → areas ≡ pair_of spare.side live other → MayLeave device journal areas
+
+-- a stop may leave these areas of disks that aren't open
+abbrev pub Leaves : {D : Type 0} → Device D → Store D → Areas → Type 0
+Leaves device (One disk) (alone left) = device.outcome disk left
+Leaves device (Two first second) (pair one other) = device.outcome first one × device.outcome second other
+Leaves device store areas = ⊥
+
+-- a journal is on as many disks as these areas are of
+abbrev pub IsOnAsMany : {D : Type 0} → Areas → Journal D → Type 0
+IsOnAsMany (alone bytes) journal = spare_of journal ≡ None
+IsOnAsMany (pair one other) journal = IsSome (spare_of journal)
+
+-- the machine of these disks stopped: a read gives what that left, and what may be left is what might have been
+pub record HaveStopped {D : Type 0} (device : Device D) (before later : Store D) : Type 0 where
+  pub content : Leaves device before (areas_in device later)
+  pub outcomes : (areas : Areas) → Leaves device later areas → Leaves device before areas
+  pub faults : faults_in device later ≡ faults_in device before
