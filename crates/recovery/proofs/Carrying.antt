@@ -2,34 +2,39 @@
 use Rattle.std.proofs.Common.{◌≡◌, ℕ, zero, suc, ◌+◌, ◌<◌, append_assoc, append-nil, drop-cons, List, [], ◌∷◌, ◌++◌, length, take, drop, get_or}
 use Rattle.std.proofs.Common.{Option, Ok, refl, sym, ap, ◌∙◌, subst, arith, length-append}
 use Rattle.std.proofs.KnownBytes.{Appends-nil, Appends-trans}
-use Rattle.std.specs.Prelude.{All}
+use Rattle.std.specs.Prelude.{All, true}
 use Rattle.std.specs.Io.KnownBytes.{Appends}
 use Rattle.std.proofs.lemmas.List.{map-append, take-append-drop}
-use Rattle.std.proofs.lemmas.List.Elements.{All-head, All-tail}
+use Rattle.std.proofs.lemmas.List.Elements.{All-nil, All-cons, All-head, All-tail}
 use Rattle.journal.specs.declared.journal.Journal.{Journal}
 use Rattle.spec_model.specs.Nodes.{Node}
 use Rattle.spec_model.specs.States.{State}
 use Rattle.spec_world.specs.Text as script
 use Rattle.book.specs.Book.{BookView}
 use Rattle.committee.specs.Charter.{Charter}
-use Rattle.recovery.specs.Script.{said, script_of, Passes, IsOf, IsOpenedOf, HasRun, Breaks, IsCutShort}
-use Rattle.opening.specs.Told.{told}
+use Rattle.recovery.specs.Script.{said, script_of, CarriesOut, Passes, IsOf, IsOpenedOf, HasRun, Breaks, IsCutShort}
+use Rattle.opening.specs.Told.{told_in}
 use Rattle.recovery.specs.Writing.{AppendsPart}
 use Rattle.recovery.specs.declared.driving.Command.{Command}
+use Rattle.recovery.specs.declared.driving.Command.TheVariants.{Event, Flush, Checkpoint, Stop}
 use Rattle.recovery.specs.declared.driving.DriveError.{DriveError}
-use Rattle.journal.specs.Journal.{disk_of}
+use Rattle.desk.specs.Disks.{Leaves}
+use Rattle.desk.proofs.Stores.{firm_store}
+use Rattle.journal.specs.Areas.{Areas}
+use Rattle.journal.specs.Pairs.{areas_in, store_of}
+use Rattle.recovery.proofs.Desks.{told_now}
 use Rattle.recovery.proofs.Scripts.{text_push, desk_push, text_nil, desk_nil}
 use Rattle.diskmodel.specs.Disk.{Device}
 
 -- the first of the commands were carried out
-pub record IsCarriedOut {S D : Type 0} (node : Node) (device : Device D) (before : List ℕ) (done : List script.Command) (book : BookView S)
+pub record IsCarriedOut {S D : Type 0} (node : Node) (device : Device D) (before : Areas) (done : List script.Command) (book : BookView S)
     (journal : Journal D) (old new : Option (List ℕ)) : Type 0 where
   pub state : State
-  pub told_first : told node before ≡ Ok state
+  pub told_first : told_in node before ≡ Ok state
   pub is_of : IsOf node device (script.desk_behind node (script.desk_on state) done) book journal
   pub writes : Appends old new (script.text node (script.desk_on state) done)
 
-module _ {S D : Type 0} (node : Node) (device : Device D) (before : List ℕ) where
+module _ {S D : Type 0} (node : Node) (device : Device D) (before : Areas) where
   -- none at first
   pub first_carried : (book : BookView S) (journal : Journal D) (old : Option (List ℕ)) → IsOpenedOf node device before book journal → IsCarriedOut node device before [] book journal old old
   first_carried book journal old opened = record {
@@ -56,7 +61,7 @@ module _ {S D : Type 0} (node : Node) (device : Device D) (before : List ℕ) wh
     }
 
     -- the next one failed
-    pub cut_short : (commands rest : List script.Command) (error : DriveError) (later : List ℕ) (left : List ℕ → Type 0) (new : Option (List ℕ)) → commands ≡ done ++ next ∷ rest
+    pub cut_short : (commands rest : List script.Command) (error : DriveError) (later : Areas) (left : Areas → Type 0) (new : Option (List ℕ)) → commands ≡ done ++ next ∷ rest
         → Breaks node desk next error later left → AppendsPart error mid new (script.frames (script.due (script.after node desk next))) → IsCutShort node commands error before later left old new
     cut_short commands rest error later left new parts breaks appends =
         let text_done = script.text node (script.desk_on so_far.state) done in
@@ -85,13 +90,14 @@ module _ {S D : Type 0} (node : Node) (device : Device D) (before : List ℕ) wh
   -- all of them
   pub all_carried : (commands done : List script.Command) (book : BookView S) (journal : Journal D) (old new : Option (List ℕ)) → commands ≡ done
       → IsCarriedOut node device before done book journal old new
-      → HasRun node commands before (device.content (disk_of journal)) (device.outcome (disk_of journal)) old new
+      → HasRun node commands before (areas_in device (store_of journal)) (Leaves device (store_of journal)) old new
   all_carried commands done book journal old new same so_far = record {
     state = so_far.state;
     told_first = so_far.told_first;
     writes = subst (λ (l : List script.Command). Appends old new (script.text node (script.desk_on so_far.state) l)) (sym same) so_far.writes;
-    told_later = so_far.is_of.told_as ∙ ap (λ (l : List script.Command). Ok (script.settled_in node (script.desk_behind node (script.desk_on so_far.state) l))) (sym same);
-    firm = so_far.is_of.alive.firm;
+    told_later = told_now node device _ book journal so_far.is_of
+        ∙ ap (λ (l : List script.Command). Ok (script.settled_in node (script.desk_behind node (script.desk_on so_far.state) l))) (sym same);
+    firm = λ areas may. firm_store device journal so_far.is_of.alive areas may;
   }
 
 -- ---- the commands one by one
@@ -110,13 +116,29 @@ script_parts commands done next front within is =
     ap script_of (sym (take-append-drop at commands)) ∙ map-append said (take at commands) (drop at commands)
     ∙ (λ i. script_of (sym front i) ++ script_of (here i))
 
--- each command passes
+-- what holds of all commands holds of the next one
+pub each_at : (P : Command → Type 0) (commands : List Command) (count : ℕ) (next : Command) → All P commands → count < length commands
+    → next ≡ get_or commands count next → P next
+each_at P [] count next all within is = absurd (omega (arith, within))
+each_at P (command ∷ commands) zero next all within is = subst P (sym is) (All-head P command commands all)
+each_at P (command ∷ commands) (suc count) next all within is =
+    each_at P commands count next (All-tail P command commands all) (omega (arith, within)) is
+
+-- so each passes
 pub passes_at : (charter : Charter) (commands : List Command) (count : ℕ) (next : Command) → All (Passes charter) commands → count < length commands
     → next ≡ get_or commands count next → Passes charter next
-passes_at charter [] count next all within is = absurd (omega (arith, within))
-passes_at charter (command ∷ commands) zero next all within is = subst (Passes charter) (sym is) (All-head (Passes charter) command commands all)
-passes_at charter (command ∷ commands) (suc count) next all within is =
-    passes_at charter commands count next (All-tail (Passes charter) command commands all) (omega (arith, within)) is
+passes_at charter commands count next all within is = each_at (Passes charter) commands count next all within is
 
 pub script_push : (done : List Command) (next : Command) → script_of (done ++ next ∷ []) ≡ script_of done ++ said next ∷ []
 script_push done next = map-append said done (next ∷ [])
+
+-- on two disks each command can be carried out
+on_two : (command : Command) → CarriesOut true command
+on_two (Event event) = tt
+on_two Flush = tt
+on_two Checkpoint = refl
+on_two Stop = tt
+
+pub all_on_two : (commands : List Command) → All (CarriesOut true) commands
+all_on_two [] = All-nil (CarriesOut true)
+all_on_two (command ∷ commands) = All-cons (CarriesOut true) command commands (on_two command) (all_on_two commands)

@@ -1,13 +1,22 @@
 -- A book and a journal after each command.
 use Rattle.std.proofs.Common.{◌≡◌, ◌≢◌, ℕ, suc, ◌+◌, ◌<◌, ◌≤◌, true, false, ◌⊎◌, inl, inr, List, [], ◌∷◌, ◌++◌, length, take, drop, map, Result, Ok}
-use Rattle.std.proofs.Common.{Err, refl, sym, ap, ◌∙◌, subst, arith, append-nil}
-use Rattle.std.specs.Prelude.{IsErrOf, IfOk, IfErr, OnErr}
+use Rattle.std.proofs.Common.{None, Err, refl, sym, ap, ◌∙◌, subst, arith, append-nil}
+use Rattle.std.specs.Prelude.{Option, Some, IsErrOf, IfOk, IfErr, OnErr, IsSome}
+use Rattle.std.specs.Option.{option_map_or}
 use Rattle.std.proofs.lemmas.Bool.{cases_Bool, true≢false}
 use Rattle.std.proofs.Math.Nat.{lt_of_not-le}
 use Rattle.std.proofs.lemmas.List.{take-take, take_at, take-append-drop, take-map}
 use Rattle.journal.specs.Format.{group_bytes, stands}
-use Rattle.journal.specs.Journal.{disk_of, IsAlive, stands_with}
+use Rattle.journal.specs.Journal.{disk_of, spare_of, IsAlive, stands_with}
+use Rattle.journal.specs.Areas.{Areas}
+use Rattle.journal.specs.Pairs.{areas_in, areas_of, two, store_of}
+use Rattle.journal.specs.Spares.{by_area}
 use Rattle.journal.specs.declared.journal.Journal.{Journal}
+use Rattle.journal.specs.declared.side.Side.{Side}
+use Rattle.journal.specs.declared.side.Side.TheVariants.{First, Second}
+use Rattle.journal.specs.declared.spare.Spare.{Spare}
+use Rattle.journal.specs.declared.store.Store.{Store}
+use Rattle.journal.specs.declared.store.Store.TheVariants.{One}
 use Rattle.journal.specs.declared.layout.TheConstants.{MAX_JOURNAL_BYTES}
 use Rattle.spec_machine.specs.After.{IsLegalAfter}
 use Rattle.spec_machine.specs.Machine.{answered}
@@ -15,6 +24,7 @@ use Rattle.spec_machine.proofs.AfterAll.{after_append, after_joins}
 use Rattle.spec_model.specs.Histories.{History}
 use Rattle.wire.specs.Lists.{Begins}
 use Rattle.spec_model.specs.Nodes.{Node}
+use Rattle.spec_model.specs.States.{State}
 use Rattle.spec_model.specs.Words.{Event}
 use Rattle.header.specs.declared.admission.Admission.{Admission}
 use Rattle.header.specs.declared.admission.Admission.TheVariants.{New, Known, Refused}
@@ -28,13 +38,17 @@ use Rattle.book.specs.declared.book.Receipt.{Receipt}
 use Rattle.book.specs.OnTheWay.{Flushes, FindsNoRoom, IsWithOrWithout}
 use Rattle.book.specs.Pending.{IsLongestBeginning}
 use Rattle.book.specs.Book.{BookView, Run, Stands, with_taken, with_settled, TakesNew, TakesKnown, MayRefuse}
-use Rattle.recovery.specs.Script.{run_of, IsOf, MayEnd, Breaks}
-use Rattle.opening.specs.Told.{told}
+use Rattle.recovery.specs.Script.{run_of, IsOf, IsAreaOf, for_group, MayEnd, Breaks}
+use Rattle.opening.specs.Told.{told_in}
 use Rattle.recovery.specs.declared.driving.DriveError.{DriveError}
 use Rattle.recovery.specs.declared.driving.DriveError.TheVariants as ends
-use Rattle.opening.proofs.Longer.{told_more, some_more}
 use Rattle.desk.proofs.Groups.{group_is, group_none}
-use Rattle.opening.proofs.Telling.{told_same}
+use Rattle.desk.specs.Desk as desks
+use Rattle.desk.specs.Disks.{AreReadAs, MayLeave, Leaves}
+use Rattle.desk.proofs.Standing as standing
+use Rattle.desk.proofs.Reading.{over, areas_over, same_spare, IsFirmBeside, firm_beside, read_beside, left_beside, told_of, more_tells, read_same, read_after, still_configured}
+use Rattle.desk.proofs.Standing.{long_enough}
+use Rattle.desk.proofs.Stores.{may_leave, store_areas, firm_store}
 use Rattle.diskmodel.specs.Disk.{Device}
 
 after_take_in : (node : Node) (desk : Desk) (event : Event) → after node desk (take_in event) ≡ with_answer desk event (answered node (state_in node desk) event)
@@ -62,8 +76,10 @@ module _ {S D : Type 0} (node : Node) (device : Device D) (desk : Desk) (before 
         waits = takes.queue ∙ (λ i. is.waits i ++ ticketed (is.stands_at.accepted i + 1) takes.outputs);
         up = takes.down ∙ is.up;
         alive = is.alive;
+        begun = is.begun;
+        keys = is.keys;
         configured = is.configured;
-        told_as = is.told_as;
+        read_as = is.read_as;
       })
 
   -- after a known one
@@ -74,8 +90,10 @@ module _ {S D : Type 0} (node : Node) (device : Device D) (desk : Desk) (before 
         waits = ap (λ (b : BookView S). b.queue) takes.is ∙ (λ i. is.waits i ++ ticketed (is.stands_at.accepted i) takes.outputs);
         up = ap (λ (b : BookView S). b.down) takes.is ∙ is.up;
         alive = is.alive;
+        begun = is.begun;
+        keys = is.keys;
         configured = is.configured;
-        told_as = is.told_as;
+        read_as = is.read_as;
       })
 
   -- why it is refused, where neither memory nor room is wanting
@@ -109,8 +127,14 @@ settled_more {X} (x ∷ settled) (y ∷ accepted) count begins =
     head_is a b p q same = cc
 
 module _ {S D : Type 0} (node : Node) (device : Device D) (desk : Desk) (before : BookView S) (old : Journal D) (is : IsOf node device desk before old) where
+  abbrev file : List ℕ
+  file = device.content (disk_of old)
+
   abbrev pending : History
   pending = drop (length desk.settled) desk.accepted
+
+  read_now : AreReadAs node (over device (spare_of old) file) (settled_in node desk)
+  read_now = subst (λ (a : Areas). AreReadAs node a (settled_in node desk)) (areas_over device old) is.read_as
 
   abbrev events : History
   events = group_of pending
@@ -139,18 +163,18 @@ module _ {S D : Type 0} (node : Node) (device : Device D) (desk : Desk) (before 
         let first = ((after_joins node desk.base (take count desk.accepted) (drop count desk.accepted)).parts all).0 in
         ((after_joins node desk.base desk.settled events).parts (subst (IsLegalAfter node desk.base) settled_are first)).1
 
-    -- what bytes with the group more are told as
-    pub told_flushed : (bytes : List ℕ) → stands bytes ≡ stands_with (device.content (disk_of old)) group → told node bytes ≡ Ok (settled_in node (flushed desk))
-    told_flushed bytes with_it =
-        told_more node (device.content (disk_of old)) bytes (settled_in node desk) is.configured is.told_as events
-        (with_it ∙ ap (stands_with (device.content (disk_of old))) group_are) legal
-        ∙ ap Ok (sym (after_append node desk.base desk.settled events))
+    -- what bytes with the group more are read as
+    pub read_flushed : (bytes : List ℕ) → stands bytes ≡ stands_with file group → AreReadAs node (over device (spare_of old) bytes) (settled_in node (flushed desk))
+    read_flushed bytes with_it =
+        subst (AreReadAs node (over device (spare_of old) bytes)) (sym (after_append node desk.base desk.settled events))
+        (read_after device file bytes is.alive.ends_closed is.configured node (settled_in node desk) events (spare_of old) (long_enough file is.configured) (read_beside device old is.alive is.begun)
+        (with_it ∙ ap (stands_with file) group_are) legal read_now)
 
     -- after the flush
     pub flushed_is : (later : BookView S) (new : Journal D) → Stands node (with_settled (with_taken (run_of desk) (length group)) (length group)) later
-        → later.queue ≡ before.queue → later.down ≡ before.down → IsAlive device new → stands (device.content (disk_of new)) ≡ stands_with (device.content (disk_of old)) group
+        → later.queue ≡ before.queue → later.down ≡ before.down → IsAlive device new → spare_of new ≡ spare_of old → stands (device.content (disk_of new)) ≡ stands_with file group
         → IsOf node device (after node desk flush) later new
-    flushed_is later new stands queue down alive with_it =
+    flushed_is later new stands queue down alive same with_it =
         let count = length desk.settled + length group in
         let twice : take count (take count desk.accepted) ≡ desk.settled ++ events = take-take count count desk.accepted (omega arith) ∙ settled_are in
         let runs : with_settled (with_taken (run_of desk) (length group)) (length group) ≡ run_of (flushed desk) =
@@ -160,24 +184,47 @@ module _ {S D : Type 0} (node : Node) (device : Device D) (desk : Desk) (before 
           waits = queue ∙ is.waits;
           up = down ∙ is.up;
           alive = alive;
-          configured = some_more node (device.content (disk_of old)) (device.content (disk_of new)) (settled_in node desk) is.configured is.told_as group with_it;
-          told_as = told_flushed (device.content (disk_of new)) with_it;
+          begun = λ some.
+              more_tells device file (device.content (disk_of new)) is.alive.ends_closed is.configured (long_enough file is.configured) group with_it
+              ∙ is.begun (subst IsSome same some) ∙ ap (λ (s : Option (Spare D)). Some (Some (option_map_or (λ o. o.generation) s 0))) (sym same);
+          keys = is.keys;
+          configured = still_configured device file (device.content (disk_of new)) is.alive.ends_closed is.configured group with_it;
+          read_as = subst (λ (a : Areas). AreReadAs node a (settled_in node (flushed desk))) (sym (same_spare device old new same))
+              (read_flushed (device.content (disk_of new)) with_it);
         })
 
+  -- what areas are read as they are told as
+  pub told_as : (state : State) (areas : Areas) → AreReadAs node areas state → told_in node areas ≡ Ok state
+  told_as state areas = told_of node state areas is.stands_at.legal.node_is (λ two. is.keys)
+
   -- whatever a stop leaves while a group is written
-  pub left_by_flush : (bytes : List ℕ) → IsWithOrWithout before.pending (device.content (disk_of old)) bytes
-      → (told node bytes ≡ Ok (settled_in node desk)) ⊎ (told node bytes ≡ Ok (settled_in node (after node desk flush)))
-  left_by_flush bytes (inl same) = inl (told_same node bytes (device.content (disk_of old)) same ∙ is.told_as)
+  left_by_flush : (bytes : List ℕ) → IsWithOrWithout before.pending file bytes
+      → AreReadAs node (over device (spare_of old) bytes) (settled_in node desk) ⊎ AreReadAs node (over device (spare_of old) bytes) (settled_in node (after node desk flush))
+  left_by_flush bytes (inl same) =
+      inl (read_same device file bytes is.alive.ends_closed is.configured node (settled_in node desk) (spare_of old) (read_beside device old is.alive is.begun) same read_now)
   left_by_flush bytes (inr with_it) =
-      inr (told_flushed (record before { pending = with_it.1 }) with_it.0 with_it.2 bytes with_it.3 ∙ ap (λ (d : Desk). Ok (settled_in node d)) (sym (after_flush node desk)))
+      inr (subst (λ (d : Desk). AreReadAs node (over device (spare_of old) bytes) (settled_in node d)) (sym (after_flush node desk))
+      (read_flushed (record before { pending = with_it.1 }) with_it.0 with_it.2 bytes with_it.3))
+
+  -- of the disk that is written to, the other one of two staying as it is
+  pub told_by_flush : (new : Journal D) → spare_of new ≡ spare_of old → ((bytes : List ℕ) → device.outcome (disk_of new) bytes → IsWithOrWithout before.pending file bytes)
+      → (areas : Areas) → Leaves device (store_of new) areas → (told_in node areas ≡ Ok (settled_in node desk)) ⊎ (told_in node areas ≡ Ok (settled_in node (after node desk flush)))
+  told_by_flush new same left areas may =
+      let firm = subst (IsFirmBeside device) (sym same) (firm_beside device old is.alive) in
+      let one = left_beside device new (spare_of new) areas refl firm (may_leave device new (store_of new) refl areas may) in
+      let are : areas ≡ over device (spare_of old) one.live = one.are ∙ ap (λ (s : Option (Spare D)). over device s one.live) same in
+      elim (left_by_flush one.live (left one.live one.may)) [
+        | inl so ↦ inl (told_as (settled_in node desk) areas (subst (λ (a : Areas). AreReadAs node a (settled_in node desk)) (sym are) so))
+        | inr so ↦ inr (told_as (settled_in node (after node desk flush)) areas (subst (λ (a : Areas). AreReadAs node a (settled_in node (after node desk flush))) (sym are) so))
+      ]
 
   -- after a round that settled a group
   pub flushes_is : (later : BookView S) (new : Journal D) (old_bytes new_bytes : List ℕ) (count : ℕ) → device.content (disk_of old) ≡ old_bytes
       → device.content (disk_of new) ≡ new_bytes → Flushes node before later old_bytes new_bytes count
-      → IsAlive device new → IsOf node device (after node desk flush) later new
-  flushes_is later new old_bytes new_bytes count old_is new_is round alive =
+      → IsAlive device new → spare_of new ≡ spare_of old → IsOf node device (after node desk flush) later new
+  flushes_is later new old_bytes new_bytes count old_is new_is round alive same =
       flushed_is later round.group round.takes later new (round.stands (run_of desk) is.stands_at)
-      (ap (λ (b : BookView S). b.queue) round.is) (ap (λ (b : BookView S). b.down) round.is) alive
+      (ap (λ (b : BookView S). b.queue) round.is) (ap (λ (b : BookView S). b.down) round.is) alive same
       (ap stands new_is ∙ round.records ∙ ap (λ (l : List ℕ). stands_with l round.group) (sym old_is))
 
   -- a flush with nothing pending changes nothing
@@ -194,9 +241,27 @@ module _ {S D : Type 0} (node : Node) (device : Device D) (desk : Desk) (before 
       }) in
       subst (λ (d : Desk). IsOf node device d before old) (sym (after_flush node desk ∙ same)) is
 
-  -- a firm disk is told as what is settled
-  pub left_firm : (bytes : List ℕ) → device.outcome (disk_of old) bytes → told node bytes ≡ Ok (settled_in node desk)
-  left_firm bytes left = ap (told node) (is.alive.firm bytes left) ∙ is.told_as
+  -- the desk is that of a run of its node
+  pub run_at : desks.IsOf node device (run_of desk) (record { book = before; journal = old })
+  run_at = record {
+    stands_at = is.stands_at;
+    up = λ _. record { configured = is.configured; read_as = is.read_as; settled = refl };
+    left = standing.left_firm node device (run_of desk) old is.read_as is.alive;
+  }
+
+  -- what a stop may leave is told as what is settled
+  pub left_told : (areas : Areas) → MayLeave device old areas → told_in node areas ≡ Ok (settled_in node desk)
+  left_told areas may =
+      told_as (settled_in node desk) areas
+      (subst (λ (a : Areas). AreReadAs node a (settled_in node desk)) (sym (standing.firm_left device old is.alive areas may)) is.read_as)
+
+  -- so are its disks
+  pub told_now : told_in node (areas_in device (store_of old)) ≡ Ok (settled_in node desk)
+  told_now = ap (told_in node) (store_areas device old) ∙ told_as (settled_in node desk) (areas_of device old) is.read_as
+
+  -- and so is what firm disks leave
+  pub left_firm : (areas : Areas) → Leaves device (store_of old) areas → told_in node areas ≡ Ok (settled_in node desk)
+  left_firm areas may = ap (told_in node) (firm_store device old is.alive areas may) ∙ told_now
 
 -- ---- what comes of an event
 
@@ -227,6 +292,19 @@ count_is {S} node before later event (Err refusal) new known same = omega (arith
 
 -- ---- what a stop leaves after an error
 
+-- the area that is read is one of a journal's
+live_of : {D : Type 0} (device : Device D) (side : Side) (live other : D) → IsAreaOf (areas_in device (two (by_area side live other))) (device.content live)
+live_of device First live other = inl refl
+live_of device Second live other = inr refl
+
+live_by : {D : Type 0} (device : Device D) (disk : D) (spare : Option (Spare D))
+    → IsAreaOf (areas_in device (option_map_or (λ s. two (by_area s.side disk s.disk)) spare (One disk))) (device.content disk)
+live_by device disk None = refl
+live_by device disk (Some spare) = live_of device spare.side disk spare.disk
+
+live_area : {D : Type 0} (device : Device D) (journal : Journal D) → IsAreaOf (areas_in device (store_of journal)) (device.content (disk_of journal))
+live_area device journal = live_by device (disk_of journal) (spare_of journal)
+
 -- an error of writing isn't that of a full journal, or of the disk
 not_full : (error : DriveError) → (error ≡ ends.Memory) ⊎ (error ≡ ends.Output) → error ≡ ends.Full → ⊥
 not_full error (inl memory) full = cc
@@ -243,49 +321,47 @@ ends_any command error (inr output) = subst (MayEnd command) (sym output) tt
 
 module _ {S D : Type 0} (node : Node) (device : Device D) (desk : Desk) (book : BookView S) (old : Journal D) (is : IsOf node device desk book old) where
   -- after want of memory, which changed nothing on the disk
-  pub same_breaks : (command : Command) (error : DriveError) → error ≡ ends.Memory → Breaks node desk command error (device.content (disk_of old)) (device.outcome (disk_of old))
+  pub same_breaks : (command : Command) (error : DriveError) → error ≡ ends.Memory → Breaks node desk command error (areas_in device (store_of old)) (Leaves device (store_of old))
   same_breaks command error memory = record {
-    left = λ bytes left. inl (left_firm node device desk book old is bytes left);
+    left = λ areas left. inl (left_firm node device desk book old is areas left);
     errors = ends_any command error (inl memory);
     full = λ full. absurd (not_full error (inl memory) full);
   }
 
   -- after a disk that failed
-  pub device_breaks : (pending : List (List ℕ)) → pending ≡ book.pending → (new : Journal D)
-      → ((bytes : List ℕ) → device.outcome (disk_of new) bytes → IsWithOrWithout pending (device.content (disk_of old)) bytes)
-      → Breaks node desk flush ends.Device (device.content (disk_of new)) (device.outcome (disk_of new))
-  device_breaks pending same new left = record {
-    left = λ bytes may. left_by_flush node device desk book old is bytes (subst (λ (l : List (List ℕ)). IsWithOrWithout l (device.content (disk_of old)) bytes) same (left bytes may));
+  pub device_breaks : (new : Journal D) → spare_of new ≡ spare_of old
+      → ((bytes : List ℕ) → device.outcome (disk_of new) bytes → IsWithOrWithout book.pending (device.content (disk_of old)) bytes)
+      → Breaks node desk flush ends.Device (areas_in device (store_of new)) (Leaves device (store_of new))
+  device_breaks new same left = record {
+    left = told_by_flush node device desk book old is new same left;
     errors = tt;
     full = λ so. absurd (cc);
   }
 
   -- after a group for which the journal has no room
   pub full_breaks : (later : BookView S) (new : Journal D) → new ≡ old → FindsNoRoom node book later (device.content (disk_of old))
-      → Breaks node desk flush ends.Full (device.content (disk_of new)) (device.outcome (disk_of new))
-  full_breaks later new same no_room = subst (λ (j : Journal D). Breaks node desk flush ends.Full (device.content (disk_of j)) (device.outcome (disk_of j))) (sym same) (record {
-    left = λ bytes left. inl (left_firm node device desk book old is bytes left);
-    errors = refl;
-    full = λ _. record {
-      flushes = refl;
-      too_long = subst (λ (l : List (List ℕ)). MAX_JOURNAL_BYTES < length (device.content (disk_of old)) + length (group_bytes l))
-          (group_are node device desk book old is later no_room.0.group no_room.0.takes) (lt_of_not-le no_room.1);
-    };
+      → Breaks node desk flush ends.Full (areas_in device (store_of new)) (Leaves device (store_of new))
+  full_breaks later new same no_room = subst (λ (j : Journal D). Breaks node desk flush ends.Full (areas_in device (store_of j)) (Leaves device (store_of j))) (sym same) (record {
+    left = λ areas left. inl (left_firm node device desk book old is areas left);
+    errors = tt;
+    full = λ _. for_group (device.content (disk_of old)) refl (live_area device old)
+        (subst (λ (l : List (List ℕ)). MAX_JOURNAL_BYTES < length (device.content (disk_of old)) + length (group_bytes l))
+        (group_are node device desk book old is later no_room.0.group no_room.0.takes) (lt_of_not-le no_room.1));
   })
 
 -- after an error in writing what a command made due
 pub behind_breaks : {S D : Type 0} (node : Node) (device : Device D) (desk : Desk) (command : Command) (book : BookView S) (new : Journal D)
     → IsOf node device (after node desk command) book new → (error : DriveError) → (error ≡ ends.Memory) ⊎ (error ≡ ends.Output)
-    → Breaks node desk command error (device.content (disk_of new)) (device.outcome (disk_of new))
+    → Breaks node desk command error (areas_in device (store_of new)) (Leaves device (store_of new))
 behind_breaks {S} {D} node device desk command book new is error either = record {
-  left = λ bytes left. inr (left_firm node device (after node desk command) book new is bytes left);
+  left = λ areas left. inr (left_firm node device (after node desk command) book new is areas left);
   errors = ends_any command error either;
   full = λ full. absurd (not_full error either full);
 }
 
--- of an error and a disk that are these
-pub breaks_at : {D : Type 0} (node : Node) (device : Device D) (desk : Desk) (command : Command) (error is : DriveError) (disk end : D) → error ≡ is → disk ≡ end
-    → Breaks node desk command is (device.content end) (device.outcome end) → Breaks node desk command error (device.content disk) (device.outcome disk)
-breaks_at {D} node device desk command error is disk end same ends_at breaks =
-    subst (λ (e : DriveError). Breaks node desk command e (device.content disk) (device.outcome disk)) (sym same)
-    (subst (λ (d : D). Breaks node desk command is (device.content d) (device.outcome d)) (sym ends_at) breaks)
+-- of an error and of disks that are these
+pub breaks_at : {D : Type 0} (node : Node) (device : Device D) (desk : Desk) (command : Command) (error is : DriveError) (store end : Store D) → error ≡ is → store ≡ end
+    → Breaks node desk command is (areas_in device end) (Leaves device end) → Breaks node desk command error (areas_in device store) (Leaves device store)
+breaks_at {D} node device desk command error is store end same ends_at breaks =
+    subst (λ (e : DriveError). Breaks node desk command e (areas_in device store) (Leaves device store)) (sym same)
+    (subst (λ (s : Store D). Breaks node desk command is (areas_in device s) (Leaves device s)) (sym ends_at) breaks)

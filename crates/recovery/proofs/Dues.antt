@@ -171,8 +171,10 @@ module _ {S : Type 0} (node : Node) (before now : BookView S) (old mid : Option 
       waits = sym (all_unready before.settled now.queue (late none)) ∙ sym so_far.left ∙ left_is;
       up = ap (λ (b : BookView S). b.down) so_far.same ∙ up;
       alive = is.alive;
+      begun = is.begun;
+      keys = is.keys;
       configured = is.configured;
-      told_as = is.told_as;
+      read_as = is.read_as;
     }
 
     -- or less than all of it

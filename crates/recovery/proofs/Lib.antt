@@ -2,6 +2,8 @@ pub mod Appending
 pub mod Scripts
 pub mod Desks
 pub mod Rounds
+pub mod Faults
+pub mod Rewriting
 pub mod Dues
 pub mod DeskOpening
 pub mod Carrying

@@ -4,6 +4,7 @@ use Rattle.std.proofs.KnownBytes.{Appends-trans}
 use Rattle.std.specs.Prelude.{All}
 use Rattle.std.specs.Io.KnownBytes.{Keeps, Appends}
 use Rattle.book.specs.Book.{BookView}
+use Rattle.journal.specs.Areas.{Areas}
 use Rattle.journal.specs.declared.journal.Journal.{Journal}
 use Rattle.spec_model.specs.Giving.{kept}
 use Rattle.spec_model.specs.Histories.{History}
@@ -19,7 +20,7 @@ use Rattle.recovery.specs.Running.{IsWithinLimits, HasBegun, EachRunOn, GivesOut
 use Rattle.recovery.specs.Script.{said, Passes, HasRun}
 use Rattle.recovery.specs.Writing.{AppendsPart}
 use Rattle.recovery.specs.declared.driving.Command.{Command}
-use Rattle.recovery.specs.declared.driving.Command.TheVariants.{Event, Flush, Stop}
+use Rattle.recovery.specs.declared.driving.Command.TheVariants.{Event, Flush, Checkpoint, Stop}
 use Rattle.recovery.specs.declared.driving.DriveError.{DriveError}
 use Rattle.wire_write.proofs.Appending.{keeps_appends}
 use Rattle.recovery.proofs.Carrying.{IsCarriedOut}
@@ -31,6 +32,7 @@ use Rattle.diskmodel.specs.Disk.{Device}
 pub taken_in : (node : Node) (command : Command) → Passes node.charter command → IsWithinLimits command → IsTakenIn node (said command)
 taken_in node (Event event) passed within = record { message = within; passed = passed }
 taken_in node Flush passed within = tt
+taken_in node Checkpoint passed within = tt
 taken_in node Stop passed within = tt
 
 module _ (node : Node) (sound : IsNode node) where
@@ -42,7 +44,7 @@ module _ (node : Node) (sound : IsNode node) where
       (subst (λ (w : World). IsAtDesk node w (script.desk_on (kept node history))) (sym begun.is) (scripts_begin node begun.on history world.given)) taken
 
   -- and gives out what was written
-  pub run_given : (commands : List script.Command) (before later : List ℕ) (outcome : List ℕ → Type 0) (old new : Option (List ℕ))
+  pub run_given : (commands : List script.Command) (before later : Areas) (outcome : Areas → Type 0) (old new : Option (List ℕ))
       → All (IsTakenIn node) commands → HasRun node commands before later outcome old new
       → EachRunOn node before (GivesOut node commands old new)
   run_given commands before later outcome old new taken run = λ history moves world is begun.
@@ -54,7 +56,7 @@ module _ (node : Node) (sound : IsNode node) where
       }
 
   -- also where the next command failed
-  pub cut_given : {S D : Type 0} (device : Device D) (before : List ℕ) (done : List script.Command) (next : script.Command) (book : BookView S) (journal : Journal D) (old mid new : Option (List ℕ))
+  pub cut_given : {S D : Type 0} (device : Device D) (before : Areas) (done : List script.Command) (next : script.Command) (book : BookView S) (journal : Journal D) (old mid new : Option (List ℕ))
       (so_far : IsCarriedOut node device before done book journal old mid) (commands rest : List script.Command) (error : DriveError) → commands ≡ done ++ next ∷ rest
       → AppendsPart error mid new (script.frames (script.due (script.after node (script.desk_behind node (script.desk_on so_far.state) done) next))) → All (IsTakenIn node) (done ++ next ∷ [])
       → EachRunOn node before (GivesOutNoLess node commands old new)
@@ -78,7 +80,7 @@ module _ (node : Node) (sound : IsNode node) where
       }
 
 -- where nothing was written a run goes nowhere
-pub nothing_given : (node : Node) (commands : List script.Command) (before : List ℕ) (old new : Option (List ℕ)) → Keeps old new → EachRunOn node before (GivesOutNoLess node commands old new)
+pub nothing_given : (node : Node) (commands : List script.Command) (before : Areas) (old new : Option (List ℕ)) → Keeps old new → EachRunOn node before (GivesOutNoLess node commands old new)
 nothing_given node commands before old new keeps = λ history moves world is begun.
     let desk = script.desk_on (kept node history) in
     record {

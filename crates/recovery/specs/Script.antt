@@ -1,13 +1,19 @@
 -- What a node with one owner does with a script of commands.
-use Rattle.std.specs.Prelude.{◌≡◌, ◌≢◌, ◌⊎◌, ⊤, ℕ, ◌+◌, ◌<◌, false, List, [], ◌∷◌, ◌++◌, length, map, drop, Option, None, Ok}
+use Rattle.std.specs.Prelude.{◌≡◌, ◌≢◌, ◌⊎◌, ⊤, ℕ, ◌+◌, ◌<◌, Bool, true, false, List, [], ◌∷◌, ◌++◌, length, map, drop, Option, None, Result, Ok, IfOk, IfErr}
 use Rattle.std.specs.Io.KnownBytes.{Keeps, Appends}
 use Rattle.book.specs.Book.{BookView, Run, Stands}
 use Rattle.desk.specs.Desk.{DeskView}
+use Rattle.desk.specs.Disks.{AreReadAs, Leaves}
 use Rattle.committee.specs.Charter.{Charter}
-use Rattle.diskmodel.specs.Disk.{Device, LeavesOnly}
+use Rattle.diskmodel.specs.Disk.{Device}
 use Rattle.header.specs.Checks.{fault_of, accepts_all}
 use Rattle.journal.specs.Format.{group_bytes, stands}
+use Rattle.journal.specs.Areas.{Areas, alone, pair}
 use Rattle.journal.specs.Journal.{disk_of, IsAlive}
+use Rattle.journal.specs.Pairs.{areas_in, areas_of}
+use Rattle.journal.specs.declared.error.Failed.{Failed}
+use Rattle.journal.specs.declared.store.Store.{Store}
+use Rattle.journal.specs.declared.store.Store.TheVariants.{One, Two}
 use Rattle.journal.specs.declared.error.JournalError.{JournalError}
 use Rattle.journal.specs.declared.error.JournalError.TheVariants as journal
 use Rattle.journal.specs.declared.journal.Journal.{Journal}
@@ -16,12 +22,14 @@ use Rattle.wire.specs.Lists.{Begins}
 use Rattle.spec_model.specs.Nodes.{Node}
 use Rattle.spec_model.specs.States.{State}
 use Rattle.spec_records.specs.Records.{record_of}
+use Rattle.spec_world.specs.Runs.{AreKeys}
 use Rattle.spec_world.specs.Text as script
 use Rattle.recovery.specs.Faults.{ended_by}
-use Rattle.opening.specs.Told.{told, Tells, IsToldAsOneOf, KeepsRecords}
+use Rattle.opening.specs.Renewing.{HasBegun, IsFullOf, HasNoRoom as LacksRoom}
+use Rattle.opening.specs.Told.{told_in, Tells, KeepsRecords}
 use Rattle.recovery.specs.Writing.{EndsAtDisk}
 use Rattle.recovery.specs.declared.driving.Command.{Command}
-use Rattle.recovery.specs.declared.driving.Command.TheVariants.{Event, Flush, Stop}
+use Rattle.recovery.specs.declared.driving.Command.TheVariants.{Event, Flush, Checkpoint, Stop}
 use Rattle.recovery.specs.declared.driving.DriveError.{DriveError}
 use Rattle.recovery.specs.declared.driving.DriveError.TheVariants as ends
 use Rattle.recovery.specs.declared.driving.DriveError.TheVariants.{Memory, Damaged, ConfigMismatch, Full, Output}
@@ -32,6 +40,7 @@ use Rattle.recovery.specs.declared.driving.DriveError.TheVariants.{Memory, Damag
 abbrev pub said : Command → script.Command
 said (Event event) = script.take_in event
 said Flush = script.flush
+said Checkpoint = script.checkpoint
 said Stop = script.stop
 
 abbrev pub script_of : List Command → List script.Command
@@ -42,6 +51,20 @@ abbrev pub Passes : Charter → Command → Type 0
 Passes charter (Event event) = fault_of charter accepts_all event ≡ None
 Passes charter other = ⊤
 
+-- there are two disks
+abbrev pub is_two : {D : Type 0} → Store D → Bool
+is_two (One disk) = false
+is_two (Two first second) = true
+
+-- a node on one disk, or on two, can carry a command out: a checkpoint needs two
+abbrev pub CarriesOut : Bool → Command → Type 0
+CarriesOut two Checkpoint = two ≡ true
+CarriesOut two other = ⊤
+
+-- a call that takes disks gives back as many, whatever it answers
+abbrev pub KeepsDisks : {T D E : Type 0} → (T → Store D) → Store D → Result T (Failed E (Store D)) → Type 0
+KeepsDisks disks_in store result = IfOk result (λ given. is_two (disks_in given) ≡ is_two store) × IfErr result (λ failed. is_two failed.disk ≡ is_two store)
+
 -- ---- what stands between two commands
 
 -- the run of a book whose owner settles all that it takes
@@ -49,88 +72,110 @@ abbrev pub run_of : script.Desk → Run
 run_of desk = record { base = desk.base; accepted = desk.accepted; taken = desk.settled; settled = desk.settled }
 
 -- A book and a journal are those of a script's desk: the book stands at its run and queues the outputs that wait there, the journal can be
--- added to, and its disk has the configuration and is told as the state after what is settled.
+-- added to, has the configuration and is read as the state after what is settled.
 pub record IsOf {S D : Type 0} (node : Node) (device : Device D) (desk : script.Desk) (book : BookView S) (journal : Journal D) : Type 0 where
   pub stands_at : Stands node (run_of desk) book
   pub waits : book.queue ≡ desk.waiting
   pub up : book.down ≡ false
   pub alive : IsAlive device journal
+  pub begun : HasBegun device journal
+  pub keys : AreKeys node
   pub configured : stands (device.content (disk_of journal)) ≢ Ok []
-  pub told_as : told node (device.content (disk_of journal)) ≡ Ok (script.settled_in node desk)
+  pub read_as : AreReadAs node (areas_of device journal) (script.settled_in node desk)
 
 -- whichever script's desk the first one is of, the second is of what this makes of it
 abbrev pub Follows : {S D : Type 0} → Node → Device D → (script.Desk → script.Desk) → DeskView S D → DeskView S D → Type 0
 Follows node device next before later =
     (desk : script.Desk) → IsOf node device desk before.book before.journal → IsOf node device (next desk) later.book later.journal
 
--- they are those of a run that began with the state that the disk was told as
-pub record IsOpenedOf {S D : Type 0} (node : Node) (device : Device D) (before : List ℕ) (book : BookView S) (journal : Journal D) : Type 0 where
+-- they are those of a run that began with the state that the disks were told as
+pub record IsOpenedOf {S D : Type 0} (node : Node) (device : Device D) (before : Areas) (book : BookView S) (journal : Journal D) : Type 0 where
   pub state : State
-  pub told_first : told node before ≡ Ok state
+  pub told_first : told_in node before ≡ Ok state
   pub is_of : IsOf node device (script.desk_on state) book journal
 
 -- ---- how a script ends
 
--- It was carried out: what is written is its text, from the state that the disk was told as. The disk is told as the state after what is
+-- It was carried out: what is written is its text, from the state that the disks were told as. The disks are told as the state after what is
 -- settled then, and no stop changes that.
-pub record HasRun (node : Node) (commands : List script.Command) (before later : List ℕ) (outcome : List ℕ → Type 0) (old new : Option (List ℕ)) : Type 0 where
+pub record HasRun (node : Node) (commands : List script.Command) (before later : Areas) (possible : Areas → Type 0) (old new : Option (List ℕ)) : Type 0 where
   pub state : State
-  pub told_first : told node before ≡ Ok state
+  pub told_first : told_in node before ≡ Ok state
   pub writes : Appends old new (script.text node (script.desk_on state) commands)
-  pub told_later : told node later ≡ Ok (script.settled_in node (script.desk_behind node (script.desk_on state) commands))
-  pub firm : LeavesOnly later outcome
+  pub told_later : told_in node later ≡ Ok (script.settled_in node (script.desk_behind node (script.desk_on state) commands))
+  pub firm : (areas : Areas) → possible areas → areas ≡ later
 
--- The node was not opened: the error is what the bytes are told as, unless memory or the disk failed; and what a stop leaves is told as
--- one outcome from before, and is one byte for byte, or has the records of one, or where these are none the configuration alone.
-pub record IsNotOpened (node : Node) (error : DriveError) (before : List ℕ) (possible outcome : List ℕ → Type 0) : Type 0 where
+-- areas are two, and a journal in the first version, of which no checkpoint has room
+abbrev pub IsFull : Node → Areas → Type 0
+IsFull node (alone bytes) = ⊥
+IsFull node (pair one other) = IsFullOf node one other
+
+-- The node was not opened: the error is what the areas are told as, unless memory or a disk failed, or a checkpoint of a journal in the first
+-- version had no room on two disks; and what a stop leaves is told as one outcome from before, and of one disk is that byte for byte, or
+-- has the records of one, or where these are none the configuration alone.
+pub record IsNotOpened (node : Node) (error : DriveError) (before : Areas) (possible later : Areas → Type 0) : Type 0 where
   pub cause : JournalError
   pub is : error ≡ ended_by cause
-  pub tells : cause ≢ journal.Device → Tells cause (told node before)
-  pub never_full : cause ≢ journal.Full
-  pub left : (bytes : List ℕ) → outcome bytes → IsToldAsOneOf node possible bytes
-  pub keeps : (bytes : List ℕ) → outcome bytes → KeepsRecords node possible bytes
+  pub tells : cause ≢ journal.Device → cause ≢ journal.Full → Tells cause (told_in node before)
+  pub full : cause ≡ journal.Full → IsFull node before
+  pub left : (areas : Areas) → later areas → (first : Areas) × possible first × (told_in node areas ≡ told_in node first)
+  pub keeps : (bytes : List ℕ) → later (alone bytes) → KeepsRecords node (λ one. possible (alone one)) bytes
 
 -- and nothing was written
-abbrev pub IsUnopened : Node → DriveError → List ℕ → (List ℕ → Type 0) → (List ℕ → Type 0) → Option (List ℕ) → Option (List ℕ) → Type 0
-IsUnopened node error before possible outcome old new = IsNotOpened node error before possible outcome × Keeps old new
+abbrev pub IsUnopened : Node → DriveError → Areas → (Areas → Type 0) → (Areas → Type 0) → Option (List ℕ) → Option (List ℕ) → Type 0
+IsUnopened node error before possible later old new = IsNotOpened node error before possible later × Keeps old new
 
--- the journal has no room for the group of a flush
-pub record HasNoRoom (desk : script.Desk) (command : script.Command) (content : List ℕ) : Type 0 where
-  pub flushes : command ≡ script.flush
-  pub too_long : MAX_JOURNAL_BYTES < length content + length (group_bytes (map record_of (script.group_of (drop (length desk.settled) desk.accepted))))
+-- one of the areas of a journal
+abbrev pub IsAreaOf : Areas → List ℕ → Type 0
+IsAreaOf (alone bytes) file = file ≡ bytes
+IsAreaOf (pair one other) file = (file ≡ one) ⊎ (file ≡ other)
+
+-- The journal has no room: for the group of a flush after the area that is read, or for a checkpoint of all that was accepted, or no
+-- generation comes after its own.
+pub data HasNoRoom (node : Node) (desk : script.Desk) (areas : Areas) (command : script.Command) : Type 0 where
+  for_group : (file : List ℕ) → command ≡ script.flush → IsAreaOf areas file
+      → MAX_JOURNAL_BYTES < length file + length (group_bytes (map record_of (script.group_of (drop (length desk.settled) desk.accepted))))
+      → HasNoRoom node desk areas command
+  for_checkpoint : (generation : ℕ) → command ≡ script.checkpoint → LacksRoom node generation (script.state_in node desk) → HasNoRoom node desk areas command
 
 -- a command calls the disk: an event is only accepted
 abbrev pub CallsDisk : script.Command → Type 0
 CallsDisk (script.take_in event) = ⊥
 CallsDisk other = ⊤
 
+-- a command needs room
+abbrev pub NeedsRoom : script.Command → Type 0
+NeedsRoom script.flush = ⊤
+NeedsRoom script.checkpoint = ⊤
+NeedsRoom other = ⊥
+
 -- An error may end a command: memory or the writer can fail at each of them, the disk where it is called, and the journal is full only for
--- a flush. Damage or another configuration ends none: only the opening before the first command answers so.
+-- a flush or a checkpoint. Damage or another configuration ends none: only the opening before the first command answers so.
 abbrev pub MayEnd : script.Command → DriveError → Type 0
 MayEnd command Memory = ⊤
 MayEnd command Output = ⊤
 MayEnd command ends.Device = CallsDisk command
-MayEnd command Full = command ≡ script.flush
+MayEnd command Full = NeedsRoom command
 MayEnd command (Damaged place) = ⊥
 MayEnd command ConfigMismatch = ⊥
 
 -- A command failed at a desk: what a stop leaves is told as the state after what is settled there, or after the command.
-pub record Breaks (node : Node) (desk : script.Desk) (command : script.Command) (error : DriveError) (content : List ℕ) (outcome : List ℕ → Type 0) : Type 0 where
-  pub left : (bytes : List ℕ) → outcome bytes
-      → (told node bytes ≡ Ok (script.settled_in node desk)) ⊎ (told node bytes ≡ Ok (script.settled_in node (script.after node desk command)))
+pub record Breaks (node : Node) (desk : script.Desk) (command : script.Command) (error : DriveError) (later : Areas) (possible : Areas → Type 0) : Type 0 where
+  pub left : (areas : Areas) → possible areas
+      → (told_in node areas ≡ Ok (script.settled_in node desk)) ⊎ (told_in node areas ≡ Ok (script.settled_in node (script.after node desk command)))
   pub errors : MayEnd command error
-  pub full : error ≡ Full → HasNoRoom desk command content
+  pub full : error ≡ Full → HasNoRoom node desk later command
 
--- whichever script's desk this one was of, the command failed there with an error and left a disk
-abbrev pub BreaksOff : {S D : Type 0} → Node → Device D → script.Command → DeskView S D → DriveError → D → Type 0
-BreaksOff node device command before error disk =
-    (desk : script.Desk) → IsOf node device desk before.book before.journal → Breaks node desk command error (device.content disk) (device.outcome disk)
+-- whichever script's desk this one was of, the command failed there with an error and left these disks
+abbrev pub BreaksOff : {S D : Type 0} → Node → Device D → script.Command → DeskView S D → DriveError → Store D → Type 0
+BreaksOff node device command before error store =
+    (desk : script.Desk) → IsOf node device desk before.book before.journal → Breaks node desk command error (areas_in device store) (Leaves device store)
 
 -- Some of the commands were carried out, and the next one failed: what is written is the text of these, and a beginning of what the next
 -- one writes, not the whole of it where the writer failed, and nothing of it where that ended at the disk.
-pub record IsCutShort (node : Node) (commands : List script.Command) (error : DriveError) (before later : List ℕ) (outcome : List ℕ → Type 0) (old new : Option (List ℕ)) : Type 0 where
+pub record IsCutShort (node : Node) (commands : List script.Command) (error : DriveError) (before later : Areas) (possible : Areas → Type 0) (old new : Option (List ℕ)) : Type 0 where
   pub state : State
-  pub told_first : told node before ≡ Ok state
+  pub told_first : told_in node before ≡ Ok state
   pub done : List script.Command
   pub next : script.Command
   pub rest : List script.Command
@@ -141,4 +186,4 @@ pub record IsCutShort (node : Node) (commands : List script.Command) (error : Dr
   pub no_more : Begins written (script.text node (script.desk_on state) (done ++ next ∷ []))
   pub less : error ≡ Output → length written < length (script.text node (script.desk_on state) (done ++ next ∷ []))
   pub nothing : EndsAtDisk error → written ≡ script.text node (script.desk_on state) done
-  pub breaks : Breaks node (script.desk_behind node (script.desk_on state) done) next error later outcome
+  pub breaks : Breaks node (script.desk_behind node (script.desk_on state) done) next error later possible

@@ -4,13 +4,15 @@ ghost use Rattle.std.specs.Prelude.{◌≡◌, ◌≢◌, ◌⊎◌, ◌+◌, �
 ghost use Rattle.diskmodel.specs.Disk.{TellsFault};
 ghost use Rattle.std.specs.Io.KnownBytes.{Appends};
 ghost use Rattle.header.specs.Checks.{fault_of, accepts_all};
-ghost use Rattle.journal.specs.Journal.{disk_of, TellsFaultBack};
+ghost use Rattle.journal.specs.Pairs.{areas_in, store_of};
+ghost use Rattle.journal.specs.Stores.{faults_in, TellsFaultsBack};
 ghost use Rattle.book.specs.Book.{StandsAsBefore};
 ghost use Rattle.book.specs.declared.book.TheConstants.{MAX_ACCEPTED};
 ghost use Rattle.validator.specs.Setting.{node_of};
-ghost use Rattle.spec_world.specs.Text.{take_in, flush as flush_it, stop as stop_it, frames, due, without_due, after, carried_out, Desk as ScriptDesk};
+ghost use Rattle.desk.specs.Disks.{Leaves};
+ghost use Rattle.spec_world.specs.Text.{take_in, flush as flush_it, checkpoint as settle_all, stop as stop_it, frames, due, without_due, after, carried_out, Desk as ScriptDesk};
 ghost use Rattle.recovery.specs.Faults.{ended_by};
-ghost use Rattle.recovery.specs.Script.{said, Passes, IsOf, IsOpenedOf, IsNotOpened, Follows, BreaksOff};
+ghost use Rattle.recovery.specs.Script.{said, is_two, Passes, CarriesOut, KeepsDisks, IsOf, IsOpenedOf, IsNotOpened, Follows, BreaksOff};
 ghost use Rattle.recovery.specs.Writing.{AppendsPart, WritesFirst, WritesNone, WritesPartOfFirst};
 ghost use Rattle.wire_write.specs.Frames.{AppendsLess};
 
@@ -18,27 +20,29 @@ use crate::driving::{Command, DriveError};
 use desk::{Desk, FlushError, Receipt};
 use diskmodel::{Disk, StopDisk};
 use header::Checked;
-use journal::{Failed, JournalError};
+use journal::{Failed, JournalError, Store};
 use sigface::Sign;
 use std::alloc::Global;
 use std::io::Write;
 use validator::{Config, Refusal};
 use wire_write::write_output;
 
-/// Opens a node on a disk, with a book that has accepted nothing.
+/// Opens a node on one disk or on two, with a book that has accepted nothing.
 pub(crate) fn open<'a, S: Sign, D: StopDisk>(
     alloc: Global,
     config: &'a Config<S>,
-    disk: D,
-) -> Result<Desk<'a, S, D>, Failed<DriveError, D>>
+    store: Store<D>,
+) -> Result<Desk<'a, S, D>, Failed<DriveError, Store<D>>>
     ensures setting { IfOk result (λ desk. desk.book.validator.setting ≡ config.now) }
-    ensures ok { IfOk result (λ desk. IsOpenedOf (node_of S.scheme config.now) D.device (D.device.content disk) desk.book desk.journal) }
+    ensures ok { IfOk result (λ desk. IsOpenedOf (node_of S.scheme config.now) D.device (areas_in D.device store) desk.book desk.journal) }
     ensures none { IfOk result (λ desk. desk.book.accepted ≡ 0) }
-    ensures err { IfErr result (λ failed. IsNotOpened (node_of S.scheme config.now) failed.error (D.device.content disk) (D.device.outcome disk) (D.device.outcome failed.disk)) }
-    ensures cause { TellsFaultBack D.device (λ desk. disk_of desk.journal) DriveError.Device disk result }
+    ensures disks { KeepsDisks (λ desk. store_of desk.journal) store result }
+    ensures err { IfErr result (λ failed. IsNotOpened (node_of S.scheme config.now) failed.error (areas_in D.device store) (Leaves D.device store) (Leaves D.device failed.disk)) }
+    ensures cause { TellsFaultsBack (faults_in D.device) (λ desk. store_of desk.journal) DriveError.Device store result }
     ensures never_output { IfErr result (λ failed. failed.error ≢ DriveError.Output) }
 {
-    match Desk::open(alloc, config, disk) {
+    config.keys_hold();
+    match Desk::open_store(alloc, config, store) {
         Ok(desk) => Ok(desk),
         Err(failed) => Err(ended(failed)),
     }
@@ -51,21 +55,23 @@ pub(crate) fn carry_out<'a, S: Sign, D: StopDisk, W: Write>(
     config: &'a Config<S>,
     command: Command,
     writer: &mut W,
-) -> Result<Desk<'a, S, D>, Failed<DriveError, D>>
+) -> Result<Desk<'a, S, D>, Failed<DriveError, Store<D>>>
     requires setting { desk.book.validator.setting ≡ config.now }
     requires stands { (script : ScriptDesk) × IsOf (node_of S.scheme config.now) D.device script desk.book desk.journal }
+    requires can { CarriesOut (is_two (store_of desk.journal)) command }
     requires passed { Passes config.now.charter command }
     requires room { desk.book.accepted < MAX_ACCEPTED }
 
     ensures setting { IfOk result (λ next. next.book.validator.setting ≡ config.now) }
     ensures ok { let node = node_of S.scheme config.now in IfOk result (λ next. Follows node D.device (λ script. carried_out node script (said command)) desk.entry next) }
+    ensures disks { KeepsDisks (λ next. store_of next.journal) (store_of desk.entry.journal) result }
     ensures writes { let node = node_of S.scheme config.now in OnOk result ((script : ScriptDesk) → IsOf node D.device script desk.entry.book desk.entry.journal
         → Appends (W.contents writer.old) (W.contents writer.new) (frames (due (after node script (said command))))) }
     ensures count { IfOk result (λ next. next.book.accepted ≤ desk.entry.book.accepted + 1) }
     ensures err { let node = node_of S.scheme config.now in IfErr result (λ failed. BreaksOff node D.device (said command) desk.entry failed.error failed.disk) }
     ensures writes_part { let node = node_of S.scheme config.now in IfErr result (λ failed. (script : ScriptDesk) → IsOf node D.device script desk.entry.book desk.entry.journal
         → AppendsPart failed.error (W.contents writer.old) (W.contents writer.new) (frames (due (after node script (said command))))) }
-    ensures cause { TellsFaultBack D.device (λ next. disk_of next.journal) DriveError.Device (disk_of desk.entry.journal) result }
+    ensures cause { TellsFaultsBack (faults_in D.device) (λ next. store_of next.journal) DriveError.Device (store_of desk.entry.journal) result }
 {
     let mut desk = apply(desk, alloc, config, command)?;
     match write_due(&mut desk, alloc, writer) {
@@ -80,22 +86,25 @@ fn apply<'a, S: Sign, D: StopDisk>(
     alloc: Global,
     config: &'a Config<S>,
     command: Command,
-) -> Result<Desk<'a, S, D>, Failed<DriveError, D>>
+) -> Result<Desk<'a, S, D>, Failed<DriveError, Store<D>>>
     requires setting { desk.book.validator.setting ≡ config.now }
     requires stands { (script : ScriptDesk) × IsOf (node_of S.scheme config.now) D.device script desk.book desk.journal }
+    requires can { CarriesOut (is_two (store_of desk.journal)) command }
     requires passed { Passes config.now.charter command }
     requires room { desk.book.accepted < MAX_ACCEPTED }
 
     ensures setting { IfOk result (λ next. next.book.validator.setting ≡ config.now) }
     ensures ok { let node = node_of S.scheme config.now in IfOk result (λ next. Follows node D.device (λ script. after node script (said command)) desk.entry next) }
+    ensures disks { KeepsDisks (λ next. store_of next.journal) (store_of desk.entry.journal) result }
     ensures count { IfOk result (λ next. next.book.accepted ≤ desk.entry.book.accepted + 1) }
     ensures err { let node = node_of S.scheme config.now in IfErr result (λ failed. BreaksOff node D.device (said command) desk.entry failed.error failed.disk) }
-    ensures cause { TellsFaultBack D.device (λ next. disk_of next.journal) DriveError.Device (disk_of desk.entry.journal) result }
+    ensures cause { TellsFaultsBack (faults_in D.device) (λ next. store_of next.journal) DriveError.Device (store_of desk.entry.journal) result }
     ensures never_output { IfErr result (λ failed. failed.error ≢ DriveError.Output) }
 {
     match command {
         Command::Event(event) => with_event(desk, event),
         Command::Flush => flushed(desk),
+        Command::Checkpoint => rewritten(desk),
         Command::Stop => stopped(desk, alloc, config),
     }
 }
@@ -104,7 +113,7 @@ fn apply<'a, S: Sign, D: StopDisk>(
 fn with_event<'a, S: Sign, D: StopDisk>(
     mut desk: Desk<'a, S, D>,
     event: Checked,
-) -> Result<Desk<'a, S, D>, Failed<DriveError, D>>
+) -> Result<Desk<'a, S, D>, Failed<DriveError, Store<D>>>
     requires stands { (script : ScriptDesk) × IsOf (node_of S.scheme desk.book.validator.setting) D.device script desk.book desk.journal }
     requires passed { fault_of desk.book.validator.setting.charter accepts_all event ≡ None }
     requires room { desk.book.accepted < MAX_ACCEPTED }
@@ -113,7 +122,7 @@ fn with_event<'a, S: Sign, D: StopDisk>(
     ensures ok { let node = node_of S.scheme desk.entry.book.validator.setting in IfOk result (λ next. Follows node D.device (λ script. after node script (take_in event)) desk.entry next) }
     ensures count { IfOk result (λ next. next.book.accepted ≤ desk.entry.book.accepted + 1) }
     ensures same { IfOk result (λ next. next.journal ≡ desk.entry.journal) }
-    ensures same_err { IfErr result (λ failed. failed.disk ≡ disk_of desk.entry.journal) }
+    ensures same_err { IfErr result (λ failed. failed.disk ≡ store_of desk.entry.journal) }
     ensures err { let node = node_of S.scheme desk.entry.book.validator.setting in IfErr result (λ failed. BreaksOff node D.device (take_in event) desk.entry failed.error failed.disk) }
     ensures memory { IfErr result (λ failed. failed.error ≡ DriveError.Memory) }
 {
@@ -126,17 +135,39 @@ fn with_event<'a, S: Sign, D: StopDisk>(
 // With the next group on the disk.
 fn flushed<'a, S: Sign, D: StopDisk>(
     mut desk: Desk<'a, S, D>,
-) -> Result<Desk<'a, S, D>, Failed<DriveError, D>>
+) -> Result<Desk<'a, S, D>, Failed<DriveError, Store<D>>>
     requires stands { (script : ScriptDesk) × IsOf (node_of S.scheme desk.book.validator.setting) D.device script desk.book desk.journal }
 
     ensures setting { IfOk result (λ next. next.book.validator.setting ≡ desk.entry.book.validator.setting) }
     ensures ok { let node = node_of S.scheme desk.entry.book.validator.setting in IfOk result (λ next. Follows node D.device (λ script. after node script flush_it) desk.entry next) }
+    ensures disks { KeepsDisks (λ next. store_of next.journal) (store_of desk.entry.journal) result }
     ensures count { IfOk result (λ next. next.book.accepted ≡ desk.entry.book.accepted) }
     ensures err { let node = node_of S.scheme desk.entry.book.validator.setting in IfErr result (λ failed. BreaksOff node D.device flush_it desk.entry failed.error failed.disk) }
-    ensures cause { TellsFaultBack D.device (λ next. disk_of next.journal) DriveError.Device (disk_of desk.entry.journal) result }
+    ensures cause { TellsFaultsBack (faults_in D.device) (λ next. store_of next.journal) DriveError.Device (store_of desk.entry.journal) result }
     ensures never_output { IfErr result (λ failed. failed.error ≢ DriveError.Output) }
 {
     match flush(&mut desk) {
+        Ok(()) => Ok(desk),
+        Err(error) => Err(fail(desk, error)),
+    }
+}
+
+// With a checkpoint on the other disk, which settles all that was accepted.
+fn rewritten<'a, S: Sign, D: StopDisk>(
+    mut desk: Desk<'a, S, D>,
+) -> Result<Desk<'a, S, D>, Failed<DriveError, Store<D>>>
+    requires stands { (script : ScriptDesk) × IsOf (node_of S.scheme desk.book.validator.setting) D.device script desk.book desk.journal }
+    requires pair { is_two (store_of desk.journal) ≡ true }
+
+    ensures setting { IfOk result (λ next. next.book.validator.setting ≡ desk.entry.book.validator.setting) }
+    ensures ok { let node = node_of S.scheme desk.entry.book.validator.setting in IfOk result (λ next. Follows node D.device (λ script. after node script settle_all) desk.entry next) }
+    ensures disks { KeepsDisks (λ next. store_of next.journal) (store_of desk.entry.journal) result }
+    ensures count { IfOk result (λ next. next.book.accepted ≡ desk.entry.book.accepted) }
+    ensures err { let node = node_of S.scheme desk.entry.book.validator.setting in IfErr result (λ failed. BreaksOff node D.device settle_all desk.entry failed.error failed.disk) }
+    ensures cause { TellsFaultsBack (faults_in D.device) (λ next. store_of next.journal) DriveError.Device (store_of desk.entry.journal) result }
+    ensures never_output { IfErr result (λ failed. failed.error ≢ DriveError.Output) }
+{
+    match checkpoint(&mut desk) {
         Ok(()) => Ok(desk),
         Err(error) => Err(fail(desk, error)),
     }
@@ -147,15 +178,16 @@ fn stopped<'a, S: Sign, D: StopDisk>(
     desk: Desk<'a, S, D>,
     alloc: Global,
     config: &'a Config<S>,
-) -> Result<Desk<'a, S, D>, Failed<DriveError, D>>
+) -> Result<Desk<'a, S, D>, Failed<DriveError, Store<D>>>
     ensures setting { IfOk result (λ next. next.book.validator.setting ≡ config.now) }
     ensures ok { let node = node_of S.scheme config.now in IfOk result (λ next. Follows node D.device (λ script. after node script stop_it) desk.entry next) }
+    ensures disks { KeepsDisks (λ next. store_of next.journal) (store_of desk.entry.journal) result }
     ensures count { IfOk result (λ next. next.book.accepted ≡ 0) }
     ensures err { let node = node_of S.scheme config.now in IfErr result (λ failed. BreaksOff node D.device stop_it desk.entry failed.error failed.disk) }
-    ensures cause { TellsFaultBack D.device (λ next. disk_of next.journal) DriveError.Device (disk_of desk.entry.journal) result }
+    ensures cause { TellsFaultsBack (faults_in D.device) (λ next. store_of next.journal) DriveError.Device (store_of desk.entry.journal) result }
     ensures never_output { IfErr result (λ failed. failed.error ≢ DriveError.Output) }
 {
-    match desk.stop(alloc, config) {
+    match desk.stop_store(alloc, config) {
         Ok(next) => Ok(next),
         Err(failed) => Err(ended(failed)),
     }
@@ -182,12 +214,29 @@ fn flush<S: Sign, D: StopDisk>(desk: &mut Desk<'_, S, D>) -> Result<(), DriveErr
 
     ensures setting { desk.new.book.validator.setting ≡ desk.old.book.validator.setting }
     ensures ok { let node = node_of S.scheme desk.old.book.validator.setting in OnOk result (Follows node D.device (λ script. after node script flush_it) desk.old desk.new) }
+    ensures disks { is_two (store_of desk.new.journal) ≡ is_two (store_of desk.old.journal) }
     ensures count { desk.new.book.accepted ≡ desk.old.book.accepted }
-    ensures err { let node = node_of S.scheme desk.old.book.validator.setting in IfErr result (λ error. BreaksOff node D.device flush_it desk.old error (disk_of desk.new.journal)) }
-    ensures cause { TellsFault DriveError.Device (D.device.faults (disk_of desk.old.journal)) (D.device.faults (disk_of desk.new.journal)) result }
+    ensures err { let node = node_of S.scheme desk.old.book.validator.setting in IfErr result (λ error. BreaksOff node D.device flush_it desk.old error (store_of desk.new.journal)) }
+    ensures cause { TellsFault DriveError.Device (faults_in D.device (store_of desk.old.journal)) (faults_in D.device (store_of desk.new.journal)) result }
     ensures never_output { IfErr result (λ error. error ≢ DriveError.Output) }
 {
     unless_failed(desk.flush())
+}
+
+// Writes a checkpoint of all that was accepted to the other disk, and settles it.
+fn checkpoint<S: Sign, D: StopDisk>(desk: &mut Desk<'_, S, D>) -> Result<(), DriveError>
+    requires stands { (script : ScriptDesk) × IsOf (node_of S.scheme desk.old.book.validator.setting) D.device script desk.old.book desk.old.journal }
+    requires pair { is_two (store_of desk.old.journal) ≡ true }
+
+    ensures setting { desk.new.book.validator.setting ≡ desk.old.book.validator.setting }
+    ensures ok { let node = node_of S.scheme desk.old.book.validator.setting in OnOk result (Follows node D.device (λ script. after node script settle_all) desk.old desk.new) }
+    ensures disks { is_two (store_of desk.new.journal) ≡ is_two (store_of desk.old.journal) }
+    ensures count { desk.new.book.accepted ≡ desk.old.book.accepted }
+    ensures err { let node = node_of S.scheme desk.old.book.validator.setting in IfErr result (λ error. BreaksOff node D.device settle_all desk.old error (store_of desk.new.journal)) }
+    ensures cause { TellsFault DriveError.Device (faults_in D.device (store_of desk.old.journal)) (faults_in D.device (store_of desk.new.journal)) result }
+    ensures never_output { IfErr result (λ error. error ≢ DriveError.Output) }
+{
+    unless_failed(desk.checkpoint())
 }
 
 // Writes the outputs that are due, which then wait no longer.
@@ -234,14 +283,17 @@ fn write_next<S: Sign, D: StopDisk, W: Write>(
     Ok(true)
 }
 
-// Ends with an error, and hands the disk back.
-fn fail<'a, S: Sign, D: StopDisk>(desk: Desk<'a, S, D>, error: DriveError) -> Failed<DriveError, D>
+// Ends with an error, and hands back what the desk was on.
+fn fail<'a, S: Sign, D: StopDisk>(
+    desk: Desk<'a, S, D>,
+    error: DriveError,
+) -> Failed<DriveError, Store<D>>
     ensures error { result.error ≡ error }
-    ensures disk { result.disk ≡ disk_of desk.entry.journal }
+    ensures disk { result.disk ≡ store_of desk.entry.journal }
 {
     Failed {
         error,
-        disk: desk.into_disk(),
+        disk: desk.into_store(),
     }
 }
 
@@ -258,7 +310,7 @@ fn unless_memory(answer: Result<Receipt, Refusal>) -> Result<(), DriveError>
     }
 }
 
-// Why a round fails where the desk was up.
+// Why a round or a checkpoint fails where the desk was up.
 fn unless_failed(answer: Result<u64, FlushError>) -> Result<(), DriveError>
     requires { IsErrOf answer FlushError.Down → ⊥ }
     ensures ok { OnOk result (IsOk answer) }
@@ -276,8 +328,8 @@ fn unless_failed(answer: Result<u64, FlushError>) -> Result<(), DriveError>
     }
 }
 
-// An opening that failed, with the disk.
-fn ended<D: Disk>(failed: Failed<JournalError, D>) -> Failed<DriveError, D>
+// An opening that failed, with what was to be opened.
+fn ended<D: Disk>(failed: Failed<JournalError, Store<D>>) -> Failed<DriveError, Store<D>>
     ensures error { result.error ≡ ended_by failed.error }
     ensures disk { result.disk ≡ failed.disk }
 {

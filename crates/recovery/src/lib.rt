@@ -4,7 +4,8 @@
 mod commands;
 mod driving;
 
-pub use driving::{Command, DriveError, drive};
+pub use driving::{Command, DriveError, drive, drive_pair};
 pub use opening::{
-    can_tell, reopen, told_stands_for, what_stands_is_told, worlds_are_told, write_configuration,
+    can_tell, checkpoint, reopen, reopen_pair, told_stands_for, what_stands_is_told,
+    worlds_are_told, write_configuration,
 };

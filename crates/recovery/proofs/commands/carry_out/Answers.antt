@@ -3,7 +3,9 @@ use borrow.Author.Rules.{in_lives}
 use Rattle.std.proofs.KnownBytes.{Keeps-refl}
 use Rattle.std.specs.Io.KnownBytes.{Appends}
 use Rattle.std.proofs.lemmas.Result.{err_from_is_err_and}
-use Rattle.journal.specs.Journal.{disk_of}
+use Rattle.journal.specs.Pairs.{store_of}
+use Rattle.journal.specs.Stores.{faults_in}
+use Rattle.recovery.specs.Script.{is_two}
 use Rattle.validator.specs.Setting.{ConfigView, node_of}
 use Rattle.spec_world.specs.Text.{Desk, after, due, without_due, frames}
 use Rattle.recovery.specs.Script.{said, IsOf}
@@ -44,8 +46,8 @@ returns-in-Err-clause-err g c = λ desk is.
     let node = node_of g.S.Sign.scheme c.args.config.now in
     let next = c.in_ok-desk.desk in
     let command = said c.args.command in
-    breaks_at node g.D.Disk.device desk command c.fail.result.error c.in-Err.error c.fail.result.disk (disk_of next.journal) c.fail.ensures.error
-    (c.fail.ensures.disk ∙ ap disk_of c.write_due.ensures.same)
+    breaks_at node g.D.Disk.device desk command c.fail.result.error c.in-Err.error c.fail.result.disk (store_of next.journal) c.fail.ensures.error
+    (c.fail.ensures.disk ∙ ap store_of c.write_due.ensures.same)
     (behind_breaks node g.D.Disk.device desk command next.book next.journal (c.in_ok-desk.ensures.ok desk is) c.in-Err.error c.in-Err.ensures.errors)
 
 pub returns-in-Err-clause-writes_part : goal.returns-in-Err-clause-writes_part
@@ -64,7 +66,7 @@ returns-in-Err-clause-cause g c = (
   tt,
   (
     λ device. absurd (not_device c.in-Err.error c.in-Err.ensures.errors (sym c.fail.ensures.error ∙ device)),
-    λ other. ap g.D.Disk.device.faults (c.fail.ensures.disk ∙ ap disk_of c.write_due.ensures.same) ∙ c.in_ok-desk.ensures.cause.0,
+    λ other. ap (faults_in g.D.Disk.device) (c.fail.ensures.disk ∙ ap store_of c.write_due.ensures.same) ∙ c.in_ok-desk.ensures.cause.0,
   ),
 )
 
@@ -73,3 +75,9 @@ branch-desk-requires g c κs = λ h. simp (in_lives, h.0.0, h.1.0, h.1.1.0, h.1.
 
 pub from_residual-requires : goal.from_residual-requires
 from_residual-requires g c κs = λ h. simp (in_lives, h.0.0, h.1.0, h.1.1.0, h.1.1.1.0, h.1.1.1.1.0) (search rules)
+
+pub returns-in-Err-clause-disks : goal.returns-in-Err-clause-disks
+returns-in-Err-clause-disks g c = (tt, ap is_two (c.fail.ensures.disk ∙ ap store_of c.write_due.ensures.same) ∙ c.in_ok-desk.ensures.disks.0)
+
+pub returns-in-Ok-clause-disks : goal.returns-in-Ok-clause-disks
+returns-in-Ok-clause-disks g c = (ap (λ j. is_two (store_of j)) c.write_due.ensures.same ∙ c.in_ok-desk.ensures.disks.0, tt)
