@@ -1,17 +1,16 @@
 -- What adding a group leaves of a journal with what was settled.
-use Rattle.std.proofs.Common.{◌≡◌, ℕ, ◌+◌, ◌-◌, ◌<◌, ◌≤◌, inl, inr, List, [], ◌++◌, length, map, drop, sym, ap, ◌∙◌, subst, arith, append_assoc, length-append, refl}
-use Rattle.std.specs.Prelude.{All, None, Option}
-use Rattle.std.specs.Option.{option_map_or}
+use Rattle.std.proofs.Common.{◌≡◌, ℕ, ◌+◌, ◌-◌, ◌<◌, ◌≤◌, inl, inr, List, [], ◌∷◌, ◌++◌, length, map, drop, Result, Ok, Err, sym, ap, ◌∙◌, subst, arith, append_assoc, length-append, refl}
+use Rattle.std.specs.Prelude.{All}
 use Rattle.std.proofs.lemmas.List.{append-nil, drop_at, length-map, map-append}
 use Rattle.diskmodel.specs.Disk.{Device}
-use Rattle.journal.specs.Areas.{alone, pair_of, stands_in}
-use Rattle.journal.specs.Format.{stands}
-use Rattle.journal.specs.Journal.{disk_of, spare_of, with_group, stands_with, EndsClosed, IsBeforeOrAfter}
-use Rattle.journal.specs.Pairs.{areas_of, spare_disk}
+use Rattle.journal.specs.Areas.{Areas, base_of, moved, moved_by, stands_at, stands_in}
+use Rattle.journal.specs.Format.{kept_at, kept, stands}
+use Rattle.journal.specs.Journal.{disk_of, with_group, stands_with, EndsClosed, IsAlive, IsBeforeOrAfter}
+use Rattle.journal.specs.Pairs.{areas_of, side_in}
 use Rattle.journal.specs.declared.journal.Journal.{Journal}
 use Rattle.journal.specs.declared.record.Record.{Record}
-use Rattle.journal.specs.declared.side.Side.TheVariants.{First}
-use Rattle.journal.specs.declared.spare.Spare.{Spare}
+use Rattle.journal.specs.declared.side.Side.{Side}
+use Rattle.journal.specs.declared.side.Side.TheVariants.{First, Second}
 use Rattle.spec_machine.specs.After.{after_all, IsLegalAfter}
 use Rattle.spec_machine.proofs.AfterAll.{after_append, after_joins}
 use Rattle.spec_model.specs.Histories.{History}
@@ -24,43 +23,51 @@ use Rattle.node_seats.specs.declared.view.Marked.{Marked}
 use Rattle.node_shared.specs.Home.{NodeView}
 use Rattle.sigface.specs.Scheme.{Scheme}
 use Rattle.validator.specs.Setting.{node_of}
-use Rattle.flusher.specs.Rounds.{HoldsAfter, KeepsEarlier, HoldsEither}
-use Rattle.spec_world.specs.World.{IsJournal, BeginsAs, as_fresh, as_checkpoint, Holds, as_journal}
-use Rattle.spec_world.proofs.Recovering.{gates_at, journal_grows, holds_same, stands_once}
+use Rattle.flusher.specs.Rounds.{areas_at, HoldsAfter, KeepsEarlier, HoldsEither}
+use Rattle.flusher.proofs.Reading.{areas_here, stays_pair, reads_file, reads_same, reads_with}
+use Rattle.spec_world.specs.World.{IsPair, IsJournal, BeginsAs, as_fresh, as_checkpoint, Holds, as_journal}
+use Rattle.spec_world.proofs.Recovering.{gates_at, same_at, journal_grows, holds_same, stands_once}
 
--- ---- one disk
+-- ---- an area with a group more
 
-pub stands_alone : (bytes : List ℕ) → stands_in (alone bytes) ≡ stands bytes
-unfolding stands_in
-stands_alone bytes = refl
+kept_moved : (base gate : ℕ) (group : List (List ℕ)) → map (moved_by base) (kept gate group) ≡ kept (base + gate) group
+kept_moved base gate [] = refl
+kept_moved base gate (bytes ∷ group) = ap (λ (l : List Record). kept_at (base + gate) bytes ∷ l) (kept_moved base gate group)
 
-pub areas_alone : {D : Type 0} (device : Device D) (journal : Journal D) → spare_of journal ≡ None → areas_of device journal ≡ alone (device.content (disk_of journal))
-areas_alone {D} device journal one =
-    let live = device.content (disk_of journal) in
-    ap (λ (s : Option (Spare D)). option_map_or (λ (spare : Spare D). pair_of spare.side live (device.content (spare_disk journal))) s (alone live)) one
+moved_with : (base gate : ℕ) (group : List (List ℕ)) (read : Result (List Record) ℕ) → moved base (with_group gate group read) ≡ with_group (base + gate) group (moved base read)
+moved_with base gate group (Ok records) =
+    ap Ok (map-append (moved_by base) records (kept gate group) ∙ ap (λ (l : List Record). map (moved_by base) records ++ l) (kept_moved base gate group))
+moved_with base gate group (Err place) = refl
 
--- a journal on one disk begins with its configuration alone, since no checkpoint stands on one
-record BeginsAlone (node : Node) (front : List (List ℕ)) (in_first : ℕ) (base : State) : Type 0 where
-  one_first : in_first ≡ 1
-  one_front : length front ≡ 1
-  on_any : (bytes : List ℕ) → BeginsAs node (alone bytes) front in_first base
+grows_at : (side : Side) (file left : List ℕ) (group : List (List ℕ)) → stands left ≡ stands_with file group
+    → stands_at side left ≡ with_group (base_of side + (length file - 1)) group (stands_at side file)
+grows_at First file left group is =
+    let same : length file - 1 ≡ 0 + (length file - 1) = omega arith in
+    is ∙ ap (λ (n : ℕ). with_group n group (stands file)) same
+grows_at Second file left group is = ap (moved (base_of Second)) is ∙ moved_with (base_of Second) (length file - 1) group (stands file)
 
-begins_alone : (node : Node) (bytes : List ℕ) (front : List (List ℕ)) (in_first : ℕ) (base : State) → BeginsAs node (alone bytes) front in_first base → BeginsAlone node front in_first base
-begins_alone node bytes front in_first base (as_fresh version can is first base_is) =
-    record { one_first = first; one_front = ap length is; on_any = λ other. as_fresh version can is first base_is }
-begins_alone node bytes front in_first base (as_checkpoint version generation data_kept two can written is first base_is) = absurd two
+-- a journal begins as another one of as many areas does
+begins_as : (node : Node) (areas other : Areas) (front : List (List ℕ)) (in_first : ℕ) (base : State) → (IsPair areas → IsPair other)
+    → BeginsAs node areas front in_first base → BeginsAs node other front in_first base
+begins_as node areas other front in_first base two (as_fresh version can is first base_is) = as_fresh version can is first base_is
+begins_as node areas other front in_first base two (as_checkpoint version generation data_kept is_pair can written is first base_is) =
+    as_checkpoint version generation data_kept (two is_pair) can written is first base_is
+
+front_long : (node : Node) (areas : Areas) (front : List (List ℕ)) (in_first : ℕ) (base : State) → BeginsAs node areas front in_first base → (1 ≤ in_first) × (in_first ≤ length front)
+front_long node areas front in_first base (as_fresh version can is first base_is) = (omega (arith, first), omega (arith, first, ap length is))
+front_long node areas front in_first base (as_checkpoint version generation data_kept two can written is first base_is) = (omega (arith, first), omega (arith, first, ap length is))
 
 -- with a group of the records of legal events more it is at the state after them
-holds_on : (node : Node) (file left : List ℕ) (held_state : State) (more : History) → Holds node (alone file) held_state → EndsClosed file
-    → stands left ≡ stands_with file (map record_of more) → IsLegalAfter node held_state more → Holds node (alone left) (after_all node held_state more)
-holds_on node file left held_state more held ends is after =
-    let begun = begins_alone node file held.front held.in_first held.base held.begins in
+holds_on : (node : Node) (areas other : Areas) (side : Side) (file left : List ℕ) (held_state : State) (more : History) → Holds node areas held_state → (IsPair areas → IsPair other)
+    → stands_in areas ≡ stands_at side file → stands_in other ≡ stands_at side left → EndsClosed file → stands left ≡ stands_with file (map record_of more)
+    → IsLegalAfter node held_state more → Holds node other (after_all node held_state more)
+holds_on node areas other side file left held_state more held two reads also ends is after =
+    let front_of = front_long node areas held.front held.in_first held.base held.begins in
     let records = map record_of held.events in
     let group = map record_of more in
-    let place = length file - 1 in
-    let same_place : 0 + place ≡ place = omega arith in
-    let long : held.in_first ≤ length (held.front ++ records) = omega (arith, begun.one_first, begun.one_front, length-append held.front records) in
-    let before : IsJournal (stands_in (alone file)) (held.front ++ records) held.in_first [] = record {
+    let place = base_of side + (length file - 1) in
+    let long : held.in_first ≤ length (held.front ++ records) = omega (arith, front_of.1, length-append held.front records) in
+    let before : IsJournal (stands_in areas) (held.front ++ records) held.in_first [] = record {
       records = held.journal.records;
       stands_for = held.journal.stands_for;
       are = held.journal.are ∙ sym (append-nil (held.front ++ records));
@@ -68,14 +75,14 @@ holds_on node file left held_state more held ends is after =
       first = held.journal.first;
       others = held.journal.others;
     } in
-    let grown = journal_grows (stands_in (alone file)) (stands_in (alone left)) (held.front ++ records) group held.in_first place before (omega (arith, begun.one_first)) long
-    (λ found stand. subst (λ (n : ℕ). All (λ (r : Record). r.gate < n) found) same_place (gates_at First file ends found (sym (stands_alone file) ∙ stand)))
-    (stands_alone left ∙ is ∙ ap (with_group place group) (sym (stands_alone file))) in
+    let grown = journal_grows (stands_in areas) (stands_in other) (held.front ++ records) group held.in_first place before front_of.0 long
+    (λ found stand. gates_at side file ends found (sym reads ∙ stand))
+    (also ∙ grows_at side file left group is ∙ ap (with_group place group) (sym reads)) in
     record {
       front = held.front;
       in_first = held.in_first;
       base = held.base;
-      begins = begun.on_any left;
+      begins = begins_as node areas other held.front held.in_first held.base two held.begins;
       events = held.events ++ more;
       journal = record {
         records = grown.records;
@@ -90,30 +97,33 @@ holds_on node file left held_state more held ends is after =
       leads = after_append node held.base held.events more ∙ ap (λ (s : State). after_all node s more) held.leads;
     }
 
-holds_still : (node : Node) (file left : List ℕ) (held_state : State) → stands left ≡ stands file → Holds node (alone file) held_state → Holds node (alone left) held_state
-holds_still node file left held_state same held = holds_same node (alone file) (alone left) held_state held (λ two. two) (stands_alone left ∙ same ∙ sym (stands_alone file))
-
--- ---- what is left
+-- ---- events more
 
 -- nothing was written
-pub still_holds : {S : Type 0} (scheme : Scheme S) (node : NodeView S) (settled taken : List Marked) (content left : List ℕ) → left ≡ content → HoldsAfter scheme node settled (alone content)
-    → HoldsEither scheme node settled taken content left
-still_holds scheme node settled taken content left is held = inl (record {
-  holds = subst (λ (bytes : List ℕ). HoldsAfter scheme node settled (alone bytes)) (sym is) held;
-  earlier = λ base there. subst (λ (bytes : List ℕ). Holds (node_of scheme node.setting) (alone bytes) (after_all (node_of scheme node.setting) base (events settled))) (sym is) there;
+pub still_holds : {S : Type 0} (scheme : Scheme S) (node : NodeView S) (settled taken : List Marked) (areas left : Areas) → left ≡ areas → HoldsAfter scheme node settled areas
+    → HoldsEither scheme node settled taken areas left
+still_holds scheme node settled taken areas left is held = inl (record {
+  holds = subst (HoldsAfter scheme node settled) (sym is) held;
+  earlier = λ base there. subst (λ (a : Areas). Holds (node_of scheme node.setting) a (after_all (node_of scheme node.setting) base (events settled))) (sym is) there;
 })
 
-module _ {S : Type 0} (scheme : Scheme S) (node : NodeView S) (settled taken : List Marked) (content : List ℕ) (begins : Begins settled taken) (ends : EndsClosed content)
-    (held : HoldsAfter scheme node settled (alone content)) (legal : IsLegalAfter (node_of scheme node.setting) held.base (events taken)) where
+pub holds_here : {S D : Type 0} (scheme : Scheme S) (device : Device D) (node : NodeView S) (settled taken : List Marked) (journal : Journal D)
+    → HoldsAfter scheme node settled (areas_of device journal) → (left : List ℕ) → left ≡ device.content (disk_of journal)
+    → HoldsEither scheme node settled taken (areas_of device journal) (areas_at device journal left)
+holds_here scheme device node settled taken journal held left is =
+    still_holds scheme node settled taken (areas_of device journal) (areas_at device journal left) (ap (areas_at device journal) is ∙ areas_here device journal) held
+
+module _ {S : Type 0} (scheme : Scheme S) (node : NodeView S) (settled taken : List Marked) (areas : Areas) (begins : Begins settled taken)
+    (held : HoldsAfter scheme node settled areas) (legal : IsLegalAfter (node_of scheme node.setting) held.base (events taken)) where
   abbrev member : Node
   member = node_of scheme node.setting
 
-  -- the events of the group
+  -- the events that were taken after what is settled
   abbrev pub more : History
   more = drop (length settled) (events taken)
 
   -- the state after what is settled
-  abbrev settled_after : State → State
+  abbrev pub settled_after : State → State
   settled_after base = after_all member base (events settled)
 
   parts : events taken ≡ events settled ++ events begins.rest
@@ -125,26 +135,60 @@ module _ {S : Type 0} (scheme : Scheme S) (node : NodeView S) (settled taken : L
   joined : events taken ≡ events settled ++ more
   joined = parts ∙ ap (λ (l : History). events settled ++ l) (sym more_is)
 
-  -- each state after which the disk has what is settled leads to the same one, so that the group is legal there
-  more_legal : (base : State) → Holds member (alone content) (settled_after base) → IsLegalAfter member (settled_after base) more
+  pub leads_on : (base : State) → after_all member base (events taken) ≡ after_all member (settled_after base) more
+  leads_on base = ap (after_all member base) joined ∙ after_append member base (events settled) more
+
+  -- each state after which the areas have what is settled leads to the same one
+  pub one_after : (base : State) → Holds member areas (settled_after base) → settled_after held.base ≡ settled_after base
+  one_after base there = stands_once member areas (settled_after base) (settled_after held.base) there (as_journal held.holds)
+
+  -- so that what was taken is legal there
+  pub more_legal : (base : State) → Holds member areas (settled_after base) → IsLegalAfter member (settled_after base) more
   more_legal base there =
-      let same : settled_after held.base ≡ settled_after base = stands_once member (alone content) (settled_after base) (settled_after held.base) there (as_journal held.holds) in
-      subst (λ (s : State). IsLegalAfter member s more) same
+      subst (λ (s : State). IsLegalAfter member s more) (one_after base there)
       ((after_joins member held.base (events settled) more).parts (subst (IsLegalAfter member held.base) joined legal)).1
 
-  keeps_settled : (left : List ℕ) → stands left ≡ stands content → KeepsEarlier scheme node settled settled content left
-  keeps_settled left same base there = holds_still member content left (settled_after base) same there
+  -- what is the journal with what was taken, from each state on after which there was what is settled, is so from the node's on
+  pub holds_after : (left : Areas) → KeepsEarlier scheme node settled taken areas left → HoldsAfter scheme node taken left
+  holds_after left earlier = record { base = held.base; is_base = held.is_base; legal = legal; holds = earlier held.base held.holds }
 
-  pub keeps_taken : (left : List ℕ) → stands left ≡ stands_with content (map record_of more) → KeepsEarlier scheme node settled taken content left
-  keeps_taken left is base there = subst (Holds member (alone left)) (sym (after_append member base (events settled) more) ∙ ap (after_all member base) (sym joined))
-      (holds_on member content left (settled_after base) more there ends is (more_legal base there))
+  -- areas that are read as these
+  pub still_settled : (left : Areas) → (IsPair areas → IsPair left) → stands_in left ≡ stands_in areas → HoldsEither scheme node settled taken areas left
+  still_settled left two same =
+      let earlier : KeepsEarlier scheme node settled settled areas left = λ base there. holds_same member areas left (settled_after base) there two same in
+      inl (record { holds = record { base = held.base; is_base = held.is_base; legal = held.legal; holds = earlier held.base held.holds }; earlier = earlier })
 
-  pub holds_taken : (left : List ℕ) → stands left ≡ stands_with content (map record_of more) → HoldsAfter scheme node taken (alone left)
-  holds_taken left is = record { base = held.base; is_base = held.is_base; legal = legal; holds = keeps_taken left is held.base held.holds }
+  pub all_taken : (left : Areas) → KeepsEarlier scheme node settled taken areas left → HoldsEither scheme node settled taken areas left
+  all_taken left earlier = inr (record { holds = holds_after left earlier; earlier = earlier })
 
-  pub holds_either : (left : List ℕ) → IsBeforeOrAfter content (map record_of more) left → HoldsEither scheme node settled taken content left
-  holds_either left (inl before) = inl (record {
-    holds = record { base = held.base; is_base = held.is_base; legal = held.legal; holds = keeps_settled left before held.base held.holds };
-    earlier = keeps_settled left before;
-  })
-  holds_either left (inr with_it) = inr (record { holds = holds_taken left with_it; earlier = keeps_taken left with_it })
+-- ---- what is left of a journal with a group more
+
+module _ {S D : Type 0} (scheme : Scheme S) (device : Device D) (node : NodeView S) (settled taken : List Marked) (journal : Journal D) (begins : Begins settled taken)
+    (alive : IsAlive device journal) (held : HoldsAfter scheme node settled (areas_of device journal)) (legal : IsLegalAfter (node_of scheme node.setting) held.base (events taken)) where
+  abbrev before : Areas
+  before = areas_of device journal
+
+  abbrev file : List ℕ
+  file = device.content (disk_of journal)
+
+  abbrev group : List (List ℕ)
+  group = map record_of (more scheme node settled taken before begins held legal)
+
+  pub keeps_taken : (left : List ℕ) → stands left ≡ stands_with file group → KeepsEarlier scheme node settled taken before (areas_at device journal left)
+  keeps_taken left is base there =
+      let member = node_of scheme node.setting in
+      let rest = more scheme node settled taken before begins held legal in
+      subst (Holds member (areas_at device journal left)) (sym (leads_on scheme node settled taken before begins held legal base))
+      (holds_on member before (areas_at device journal left) (side_in journal) file left (after_all member base (events settled)) rest there (stays_pair device journal left)
+      (reads_file device member (after_all member base (events settled)) journal alive there)
+      (reads_with device member (after_all member base (events settled)) journal alive there left group is)
+      alive.ends_closed is (more_legal scheme node settled taken before begins held legal base there))
+
+  pub holds_either : (left : List ℕ) → IsBeforeOrAfter file group left → HoldsEither scheme node settled taken before (areas_at device journal left)
+  holds_either left (inl same) =
+      let state_held = after_all (node_of scheme node.setting) held.base (events settled) in
+      still_settled scheme node settled taken before begins held legal (areas_at device journal left) (stays_pair device journal left)
+      (reads_same device (node_of scheme node.setting) state_held journal alive held.holds left same
+      ∙ same_at (side_in journal) file left same
+      ∙ sym (reads_file device (node_of scheme node.setting) state_held journal alive held.holds))
+  holds_either left (inr with_it) = all_taken scheme node settled taken before begins held legal (areas_at device journal left) (keeps_taken left with_it)

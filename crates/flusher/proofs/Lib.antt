@@ -1,3 +1,7 @@
+pub mod Telling
+pub mod Reading
 pub mod Adding
+pub mod Checkpointed
 pub mod Taking
+pub mod Flushing
 pub mod Collecting

@@ -1,6 +1,6 @@
 -- What a flush seat has taken, and what that comes to on a disk.
-use Rattle.std.proofs.Common.{◌≡◌, inl, inr, ℕ, ◌+◌, ◌<◌, List, ◌++◌, length, map, take, drop, refl, sym, ap, ◌∙◌, subst, arith}
-use Rattle.std.specs.Prelude.{Option, None, IsNone}
+use Rattle.std.proofs.Common.{◌≡◌, inl, inr, ℕ, true, false, Result, Ok, Err, ◌+◌, ◌<◌, List, ◌++◌, length, map, take, drop, refl, sym, ap, ◌∙◌, subst, arith}
+use Rattle.std.specs.Prelude.{◌⊎◌, ◌↔◌, Option, None, IsErrOf, IsNone}
 use Rattle.std.proofs.lemmas.List.{take_at, take-map, take-append-drop, length-take-le}
 use Rattle.journal.specs.Format.{group_bytes}
 use Rattle.journal.specs.declared.layout.TheConstants.{MAX_JOURNAL_BYTES}
@@ -14,9 +14,15 @@ use Rattle.spec_records.specs.Records.{record_of}
 use Rattle.node_seats.specs.Views.{events}
 use Rattle.node_seats.specs.declared.view.Marked.{Marked}
 use Rattle.node_seats.proofs.Beginnings.{begins_take, take_begins}
-use Rattle.node_shared.specs.Home.{NodeView, IsFlushOf, TakesNext, taken_by, group_of}
+use Rattle.node_shared.specs.Home.{NodeView, IsCheckpointAfter, IsFlushOf, TakesNext, taken_by, group_of}
 use Rattle.node_shared.specs.declared.flush_seat.FlushSeat.{FlushSeat}
-use Rattle.flusher.specs.Rounds.{records_behind, TakesLongest, HasNoRoom}
+use Rattle.book.specs.Checkpoints.{HasNoRoomFor}
+use Rattle.book.specs.declared.own.error.FlushError.{FlushError}
+use Rattle.book.specs.declared.own.error.FlushError.TheVariants as errors
+use Rattle.book.specs.declared.own.error.FlushError.TheVariants.{Full, Down}
+use Rattle.sigface.specs.Scheme.{Scheme}
+use Rattle.flusher.specs.Rounds.{journal_of, is_down, taken_in, records_behind, TakesLongest, TakesAll, GoesDown, HasNoRoom, TellsRoomToRewrite}
+use Rattle.flusher.specs.declared.flusher.Flusher.{Flusher}
 
 module _ {S : Type 0} (node : NodeView S) (flush : FlushSeat) (of : IsFlushOf node flush) where
   -- where no more is taken than is settled
@@ -99,3 +105,51 @@ takes_as seen settled other taken later same also takes =
 -- what is told of an option that is none
 pub is_none : {X : Type 0} (o : Option X) → o ≡ None → IsNone o
 is_none {X = X} o is = subst (λ (p : Option X). IsNone p) (sym is) refl
+
+-- what a checkpoint takes
+pub takes_all : {S : Type 0} (node : NodeView S) (flush : FlushSeat) → IsFlushOf node flush → (seen : List Marked) → Begins seen flush.seat.view.seen → taken_by flush ≡ flush.seat.view.seen
+    → TakesAll seen flush.seat.view.firm (taken_by flush)
+takes_all node flush of seen had all = record { had_seen = subst (Begins seen) (sym all) had; begins = settled_begins node flush of }
+
+pub takes_all_as : (seen settled other taken later : List Marked) → settled ≡ other → taken ≡ later → TakesAll seen settled taken → TakesAll seen other later
+takes_all_as seen settled other taken later same also takes =
+    subst (λ (l : List Marked). TakesAll seen other l) also (subst (λ (l : List Marked). TakesAll seen l taken) same takes)
+
+-- ---- what is answered
+
+-- no other error is Down
+never_down : (error : FlushError) → (error ≡ errors.Device) ⊎ (error ≡ Full) → ◌≡◌ {A = Result ℕ FlushError} (Err error) (Err Down) → ⊥
+never_down error (inl device) same = let bad : ◌≡◌ {A = Result ℕ FlushError} (Err errors.Device) (Err Down) = ap Err (sym device) ∙ same in cc
+never_down error (inr full) same = let bad : ◌≡◌ {A = Result ℕ FlushError} (Err Full) (Err Down) = ap Err (sym full) ∙ same in cc
+
+-- a call of a node that is up, which took it down
+pub goes_down : {D : Type 0} (before later : Flusher D) (result : Result ℕ FlushError) (error : FlushError) → result ≡ Err error → (error ≡ errors.Device) ⊎ (error ≡ Full)
+    → is_down before ≡ false → is_down later ≡ true → GoesDown before later result
+goes_down before later result error is which up fell = record {
+  down = (λ down. absurd (never_down error which (sym is ∙ down)), λ was. absurd (let bad : false ≡ true = sym up ∙ was in cc));
+  same = λ down. absurd (never_down error which (sym is ∙ down));
+  device = λ device. fell;
+  full = λ full. fell;
+  nothing_else = λ down. elim which [ inl device ↦ inl (is ∙ ap Err device) | inr full ↦ inr (inl (is ∙ ap Err full)) ];
+}
+
+-- and one that didn't
+pub stays_up : {D : Type 0} (before later : Flusher D) (count : ℕ) → is_down before ≡ false → is_down later ≡ false → GoesDown before later (Ok count)
+stays_up before later count up still = record {
+  down = (λ down. absurd (cc), λ was. absurd (let bad : false ≡ true = sym up ∙ was in cc));
+  same = λ down. absurd (cc);
+  device = λ device. absurd (cc);
+  full = λ full. absurd (cc);
+  nothing_else = λ down. absurd (let bad : false ≡ true = sym still ∙ down in cc);
+}
+
+-- what a checkpoint that was taken tells of the room for it
+pub tells_room : {S D : Type 0} (scheme : Scheme S) (node : NodeView S) (before later : Flusher D) (result : Result ℕ FlushError) (records : List (List ℕ)) (taken : List Marked) → taken_in later ≡ taken
+    → IsCheckpointAfter scheme node taken records → IsErrOf result Full ↔ HasNoRoomFor (journal_of before) records
+    → (IsErrOf result Full → journal_of later ≡ journal_of before) → TellsRoomToRewrite scheme node before later result
+tells_room scheme node before later result records taken is checkpoint full same = record {
+  records = records;
+  checkpoint = subst (λ (l : List Marked). IsCheckpointAfter scheme node l records) (sym is) checkpoint;
+  full = full;
+  same = same;
+}

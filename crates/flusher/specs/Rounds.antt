@@ -1,7 +1,8 @@
--- A flusher, and what its rounds do.
-use Rattle.std.specs.Prelude.{◌≡◌, ◌⊎◌, ◌↔◌, ℕ, ◌+◌, ◌<◌, false, Bool, List, length, map, drop, None, Result, IsErrOf, IsTrue, IfOk, OnOk, OnErr}
+-- A flusher, and what its rounds and checkpoints do.
+use Rattle.std.specs.Prelude.{◌≡◌, ◌⊎◌, ◌↔◌, ℕ, ◌+◌, ◌<◌, false, Bool, List, length, map, drop, Result, IsErrOf, IsTrue, IfOk, OnOk, OnErr}
+use Rattle.std.specs.Option.{option_map_or}
 use Rattle.diskmodel.specs.Disk.{Device}
-use Rattle.journal.specs.Areas.{Areas, alone}
+use Rattle.journal.specs.Areas.{Areas, alone, pair_of}
 use Rattle.journal.specs.Format.{group_bytes}
 use Rattle.journal.specs.Journal.{disk_of, spare_of, IsAlive}
 use Rattle.journal.specs.declared.journal.Journal.{Journal}
@@ -12,12 +13,13 @@ use Rattle.spec_model.specs.States.{State}
 use Rattle.wire.specs.Lists.{Begins}
 use Rattle.spec_records.specs.Records.{record_of}
 use Rattle.spec_world.specs.World.{Holds}
+use Rattle.book.specs.Checkpoints.{HasNoRoomFor}
 use Rattle.book.specs.Pending.{IsLongestBeginning}
 use Rattle.validator.specs.Setting.{node_of}
 use Rattle.node_seats.specs.Sights.{SeatView}
 use Rattle.node_seats.specs.Views.{events, IsSame}
 use Rattle.node_seats.specs.declared.view.Marked.{Marked}
-use Rattle.node_shared.specs.Home.{NodeView, IsBase, IsFlushOf, taken_by}
+use Rattle.node_shared.specs.Home.{NodeView, IsBase, IsFlushOf, IsCheckpointAfter, taken_by}
 use Rattle.node_shared.specs.declared.flush_seat.FlushSeat.{FlushSeat}
 use Rattle.book.specs.declared.own.error.FlushError.{FlushError}
 use Rattle.book.specs.declared.own.error.FlushError.TheVariants as errors
@@ -51,23 +53,27 @@ pub record HoldsAfter {S : Type 0} (scheme : Scheme S) (node : NodeView S) (mark
   pub legal : IsLegalAfter (node_of scheme node.setting) base (events marked)
   pub holds : Holds (node_of scheme node.setting) areas (after_all (node_of scheme node.setting) base (events marked))
 
--- where a disk was the node's journal with what was settled after some state, it has more of the node's events after that state now
-abbrev pub KeepsEarlier : {S : Type 0} → Scheme S → NodeView S → List Marked → List Marked → List ℕ → List ℕ → Type 0
+-- the bytes of a journal, with these in the area that is read
+abbrev pub areas_at : {D : Type 0} → Device D → Journal D → List ℕ → Areas
+areas_at device journal left = option_map_or (λ spare. pair_of spare.side left (device.content spare.disk)) (spare_of journal) (alone left)
+
+-- where areas were the node's journal with what was settled after some state, they have more of the node's events after that state now
+abbrev pub KeepsEarlier : {S : Type 0} → Scheme S → NodeView S → List Marked → List Marked → Areas → Areas → Type 0
 KeepsEarlier scheme node settled more before left =
     let member = node_of scheme node.setting in
-    (base : State) → Holds member (alone before) (after_all member base (events settled)) → Holds member (alone left) (after_all member base (events more))
+    (base : State) → Holds member before (after_all member base (events settled)) → Holds member left (after_all member base (events more))
 
--- the bytes of a disk are the node's journal with these events, after the same state as before
-pub record LeavesAfter {S : Type 0} (scheme : Scheme S) (node : NodeView S) (settled more : List Marked) (before left : List ℕ) : Type 0 where
-  pub holds : HoldsAfter scheme node more (alone left)
+-- areas are the node's journal with these events, after the same state as before
+pub record LeavesAfter {S : Type 0} (scheme : Scheme S) (node : NodeView S) (settled more : List Marked) (before left : Areas) : Type 0 where
+  pub holds : HoldsAfter scheme node more left
   pub earlier : KeepsEarlier scheme node settled more before left
 
--- A flusher is a node's: its seat is, and unless it took the node down it has taken no more than is settled, and its journal can be
--- added to and has exactly that.
+-- A flusher is a node's: its seat is, and unless it took the node down it has taken no more than is settled, no checkpoint is in flight, and
+-- its journal can be added to and has exactly that.
 pub record IsFlusherOf {S D : Type 0} (scheme : Scheme S) (device : Device D) (node : NodeView S) (flusher : Flusher D) : Type 0 where
   pub seat : IsFlushOf node (seat_of flusher)
-  pub alone : spare_of (journal_of flusher) ≡ None
   pub rests : is_down flusher ≡ false → (seat_of flusher).taken ≡ (seat_of flusher).settled
+  pub idle : is_down flusher ≡ false → (seat_of flusher).rewriting ≡ false
   pub alive : is_down flusher ≡ false → IsAlive device (journal_of flusher)
   pub holds : is_down flusher ≡ false → HoldsAfter scheme node (settled_in flusher) (areas_of device (journal_of flusher))
 
@@ -94,10 +100,17 @@ pub record TakesLongest (seen settled taken : List Marked) : Type 0 where
   pub within : Begins taken all
   pub takes : ((all ≡ settled) × (taken ≡ settled)) ⊎ IsGroupOf settled all taken
 
--- ---- what it leaves
+-- ---- what a checkpoint takes
 
--- the bytes of a disk are the node's journal with what was settled before the round, or with what the round took
-abbrev pub HoldsEither : {S : Type 0} → Scheme S → NodeView S → List Marked → List Marked → List ℕ → List ℕ → Type 0
+-- all that was accepted, which what a seat had seen and what is settled begin
+pub record TakesAll (seen settled taken : List Marked) : Type 0 where
+  pub had_seen : Begins seen taken
+  pub begins : Begins settled taken
+
+-- ---- what both leave
+
+-- areas are the node's journal with what was settled before the call, or with what the call took
+abbrev pub HoldsEither : {S : Type 0} → Scheme S → NodeView S → List Marked → List Marked → Areas → Areas → Type 0
 HoldsEither scheme node settled taken before left = LeavesAfter scheme node settled settled before left ⊎ LeavesAfter scheme node settled taken before left
 
 -- the group has no room after a journal of these bytes
@@ -107,7 +120,8 @@ pub record HasNoRoom (content : List ℕ) (settled taken : List Marked) : Type 0
 
 -- ---- what it answers
 
--- Of a round: it answers Down exactly where it is down, and changes nothing then. One that answers Device or Full takes it down.
+-- Of a round or a checkpoint: it answers Down exactly where the flusher is down, and changes nothing then. One that answers Device or Full
+-- takes it down.
 pub record GoesDown {D : Type 0} (before later : Flusher D) (result : Result ℕ FlushError) : Type 0 where
   pub down : IsErrOf result Down ↔ IsTrue (is_down before)
   pub same : IsErrOf result Down → later ≡ before
@@ -115,7 +129,7 @@ pub record GoesDown {D : Type 0} (before later : Flusher D) (result : Result ℕ
   pub full : IsErrOf result Full → IsTrue (is_down later)
   pub nothing_else : IsTrue (is_down later) → IsErrOf result errors.Device ⊎ IsErrOf result Full ⊎ IsErrOf result Down
 
--- Of the seat that it is made with: it is the same one, has seen and knows as settled what it did and perhaps more, and where the round
+-- Of the seat that it is made with: it is the same one, has seen and knows as settled what it did and perhaps more, and where the call
 -- takes the node down it knows of that.
 pub record IsToldOf (before later : SeatView) (result : Result ℕ FlushError) : Type 0 where
   pub same : IsSame before later
@@ -135,7 +149,24 @@ pub record TakesAndSettles {D : Type 0} (seat later_seat : SeatView) (before lat
   pub told : OnOk result (later_seat.view.firm ≡ taken_in later)
   pub not_settled : OnErr result (settled_in later ≡ settled_in before)
 
--- it answers Full exactly where the journal has no room for what it took, and leaves the journal then
+-- Of a checkpoint: it takes all of what had been accepted, and settles that, which the seat then knows. Where memory is refused it takes
+-- nothing; one that fails settles nothing.
+pub record TakesAllAndSettles {D : Type 0} (seat later_seat : SeatView) (before later : Flusher D) (result : Result ℕ FlushError) : Type 0 where
+  pub takes : IsErrOf result Down ⊎ IsErrOf result Memory ⊎ TakesAll seat.view.seen (settled_in before) (taken_in later)
+  pub memory : IsErrOf result Memory → (journal_of later ≡ journal_of before) × (taken_in later ≡ settled_in before)
+  pub settled : OnOk result (settled_in later ≡ taken_in later)
+  pub told : OnOk result (later_seat.view.firm ≡ taken_in later)
+  pub not_settled : OnErr result (settled_in later ≡ settled_in before)
+
+-- Of a checkpoint that was taken: these records are one of all that it took. It answers Full exactly where the journal has no room for it,
+-- and leaves the journal then.
+pub record TellsRoomToRewrite {S D : Type 0} (scheme : Scheme S) (node : NodeView S) (before later : Flusher D) (result : Result ℕ FlushError) : Type 0 where
+  pub records : List (List ℕ)
+  pub checkpoint : IsCheckpointAfter scheme node (taken_in later) records
+  pub full : IsErrOf result Full ↔ HasNoRoomFor (journal_of before) records
+  pub same : IsErrOf result Full → journal_of later ≡ journal_of before
+
+-- a round answers Full exactly where the journal has no room for what it took, and leaves the journal then
 pub record TellsRoom {D : Type 0} (device : Device D) (before later : Flusher D) (result : Result ℕ FlushError) : Type 0 where
   pub full : is_down before ≡ false → IsErrOf result Full ↔ HasNoRoom (device.content (disk_of (journal_of before))) (settled_in before) (taken_in later)
   pub same : IsErrOf result Full → journal_of later ≡ journal_of before

@@ -1,6 +1,6 @@
 //! The flusher.
 
-ghost use Rattle.std.specs.Prelude.{◌≡◌, ◌⊎◌, ◌↔◌, ◌+◌, ◌<◌, true, false, None, length, IfOk, IfErr, IsErrOf, OnOk, OnErr};
+ghost use Rattle.std.specs.Prelude.{◌≡◌, ◌⊎◌, ◌↔◌, ◌+◌, ◌<◌, true, false, length, IfOk, IfErr, IsErrOf, OnOk, OnErr};
 ghost use Rattle.diskmodel.specs.Disk.{AtEachMoment, TellsFault};
 ghost use Rattle.journal.specs.Format.{group_bytes};
 ghost use Rattle.journal.specs.Journal.{disk_of, spare_of, IsAlive};
@@ -13,7 +13,7 @@ ghost use Rattle.validator.specs.Setting.{node_of};
 ghost use Rattle.node_seats.specs.Plays.{with_down};
 ghost use Rattle.node_seats.specs.Views.{events};
 ghost use Rattle.node_shared.specs.Home.{IsBase, IsOf, IsFlushOf, group_of};
-ghost use Rattle.flusher.specs.Rounds.{journal_of, seat_of, is_down, settled_in, taken_in, IsFlusherOf, HoldsAfter, HoldsEither, KeepsEarlier, GoesDown, IsToldOf, TakesAndSettles, TellsRoom, StaysAsIs};
+ghost use Rattle.flusher.specs.Rounds.{journal_of, seat_of, is_down, settled_in, taken_in, areas_at, IsFlusherOf, HoldsAfter, HoldsEither, KeepsEarlier, GoesDown, IsToldOf, TakesAndSettles, TellsRoom, StaysAsIs};
 
 use book::FlushError;
 use diskmodel::Disk;
@@ -24,10 +24,10 @@ use std::sync::Wait;
 
 /// The journal of a node's disk, and the seat with which groups are taken for it and settled.
 pub struct Flusher<D: Disk> {
-    journal: Journal<D>,
-    seat: FlushSeat,
-    // Whether a round took the node down.
-    down: bool,
+    pub(crate) journal: Journal<D>,
+    pub(crate) seat: FlushSeat,
+    // Whether a round or a checkpoint took the node down.
+    pub(crate) down: bool,
 }
 
 impl<D: Disk + Drop> Drop for Flusher<D> {
@@ -88,11 +88,13 @@ impl<D: Disk> Flusher<D> {
         ensures settles { TakesAndSettles seat.old seat.new self.old self.new result }
         ensures room { TellsRoom D.device self.old self.new result }
         ensures cause { TellsFault FlushError.Device (D.device.faults (disk_of (journal_of self.old))) (D.device.faults (disk_of (journal_of self.new))) result }
+        // Of two disks it writes to one alone.
+        ensures spare { spare_of (journal_of self.new) ≡ spare_of (journal_of self.old) }
 
         // At each moment a stop leaves what was settled, or that with the group; and once it is settled that is so for good. What came
         // before stays as it was.
-        ensures any_moment { IsErrOf result FlushError.Down ⊎ AtEachMoment D.device (disk_of (journal_of self.old)) (disk_of (journal_of self.new)) (HoldsEither S.scheme node.now (settled_in self.old) (taken_in self.new) (D.device.content (disk_of (journal_of self.old)))) }
-        ensures earlier { OnOk result (KeepsEarlier S.scheme node.now (settled_in self.old) (settled_in self.new) (D.device.content (disk_of (journal_of self.old))) (D.device.content (disk_of (journal_of self.new)))) }
+        ensures any_moment { IsErrOf result FlushError.Down ⊎ AtEachMoment D.device (disk_of (journal_of self.old)) (disk_of (journal_of self.new)) (λ left. HoldsEither S.scheme node.now (settled_in self.old) (taken_in self.new) (areas_of D.device (journal_of self.old)) (areas_at D.device (journal_of self.old) left)) }
+        ensures earlier { OnOk result (KeepsEarlier S.scheme node.now (settled_in self.old) (settled_in self.new) (areas_of D.device (journal_of self.old)) (areas_of D.device (journal_of self.new))) }
     {
         if self.down {
             return Err(FlushError::Down);
@@ -132,15 +134,15 @@ impl<D: Disk> Flusher<D> {
         requires flush_seat { IsFlushOf node.now (seat_of self.old) }
         requires up { is_down self.old ≡ false }
         requires alive { IsAlive D.device (journal_of self.old) }
-        requires alone { spare_of (journal_of self.old) ≡ None }
+        requires idle { (seat_of self.old).rewriting ≡ false }
         requires holds { HoldsAfter S.scheme node.now (settled_in self.old) (areas_of D.device (journal_of self.old)) }
         requires legal { (base : State) → IsBase S.scheme node.now base → IsLegalAfter (node_of S.scheme node.now.setting) base (events (seat_of self.old).seat.view.seen) }
         requires group { group ≡ group_of (seat_of self.old) }
         requires of { IsOf node.now seat.old }
         ensures flusher { IsFlusherOf S.scheme D.device node.now self.new }
         ensures taken { taken_in self.new ≡ taken_in self.old }
-        ensures any_moment { AtEachMoment D.device (disk_of (journal_of self.old)) (disk_of (journal_of self.new)) (HoldsEither S.scheme node.now (settled_in self.old) (taken_in self.old) (D.device.content (disk_of (journal_of self.old)))) }
-        ensures earlier { OnOk result (KeepsEarlier S.scheme node.now (settled_in self.old) (taken_in self.old) (D.device.content (disk_of (journal_of self.old))) (D.device.content (disk_of (journal_of self.new)))) }
+        ensures any_moment { AtEachMoment D.device (disk_of (journal_of self.old)) (disk_of (journal_of self.new)) (λ left. HoldsEither S.scheme node.now (settled_in self.old) (taken_in self.old) (areas_of D.device (journal_of self.old)) (areas_at D.device (journal_of self.old) left)) }
+        ensures earlier { OnOk result (KeepsEarlier S.scheme node.now (settled_in self.old) (taken_in self.old) (areas_of D.device (journal_of self.old)) (areas_of D.device (journal_of self.new))) }
         ensures ok { IfOk result (λ count. (count ≡ length group) × (settled_in self.new ≡ taken_in self.old) × (is_down self.new ≡ false)) }
         ensures err { OnErr result ((settled_in self.new ≡ settled_in self.old) × (is_down self.new ≡ true)) }
         ensures seat { OnOk result (seat.new ≡ seat.old) }
@@ -148,6 +150,7 @@ impl<D: Disk> Flusher<D> {
         ensures errors { IfErr result (λ error. (error ≡ FlushError.Device) ⊎ (error ≡ FlushError.Full)) }
         ensures full { IsErrOf result FlushError.Full ↔ (MAX_JOURNAL_BYTES < length (D.device.content (disk_of (journal_of self.old))) + length (group_bytes group)) }
         ensures full_same { IsErrOf result FlushError.Full → journal_of self.new ≡ journal_of self.old }
+        ensures spare { spare_of (journal_of self.new) ≡ spare_of (journal_of self.old) }
         ensures cause { TellsFault FlushError.Device (D.device.faults (disk_of (journal_of self.old))) (D.device.faults (disk_of (journal_of self.new))) result }
     {
         let count = group.records_count();

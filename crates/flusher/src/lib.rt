@@ -1,6 +1,7 @@
 //! Who brings what a node accepted to its disk, beside the threads that use it.
 #![tactic(auto)]
 
+mod checkpointing;
 mod flusher;
 mod laws;
 

@@ -1,5 +1,5 @@
 -- Where a node begins after an opening.
-use Rattle.std.proofs.Common.{◌≡◌, ℕ, List, [], length, inr, sym, subst, ap, ◌∙◌, append-nil}
+use Rattle.std.proofs.Common.{◌≡◌, ℕ, false, List, [], length, inr, sym, subst, ap, ◌∙◌, append-nil}
 use Rattle.std.specs.Prelude.{None, Result, Ok, Err, IfOk, IfErr}
 use Rattle.diskmodel.specs.Disk.{AtEachMoment, Device}
 use Rattle.journal.specs.declared.error.Failed.{Failed}
@@ -15,7 +15,7 @@ use Rattle.validator.specs.Setting.{ConfigView, node_of}
 use Rattle.node_shared.specs.Home.{NodeView}
 use Rattle.flusher.specs.Rounds.{journal_of, seat_of, HoldsAfter, IsFlusherOf}
 use Rattle.flusher.specs.declared.flusher.Flusher.{Flusher}
-use Rattle.flusher.proofs.Adding.{areas_alone}
+use Rattle.flusher.proofs.Reading.{areas_alone}
 use Rattle.journal.specs.Journal.{disk_of, spare_of, IsAlive}
 use Rattle.journal.specs.declared.journal.Journal.{Journal}
 use Rattle.node_seats.specs.declared.view.Marked.{Marked}
@@ -42,9 +42,9 @@ holds_first scheme node bytes held =
 
 -- a flusher over that journal, whose seat has seen nothing
 pub flusher_first : {S D : Type 0} (scheme : Scheme S) (device : Device D) (node : NodeView S) (flusher : Flusher D) (journal : Journal D) (seat : FlushSeat) (setting : ConfigView S) (tables : Tables)
-    → node.setting ≡ setting → node.begun ≡ tables → journal_of flusher ≡ journal → seat_of flusher ≡ seat → IsFlushOf node seat → HasNothing seat.seat → seat.taken ≡ 0
+    → node.setting ≡ setting → node.begun ≡ tables → journal_of flusher ≡ journal → seat_of flusher ≡ seat → IsFlushOf node seat → HasNothing seat.seat → seat.taken ≡ 0 → seat.rewriting ≡ false
     → spare_of journal ≡ None → IsAlive device journal → HoldsAt (node_of scheme setting) (device.content (disk_of journal)) tables → IsFlusherOf scheme device node flusher
-flusher_first {S} {D} scheme device node flusher journal seat setting tables setting_is begun_is journal_is seat_is of nothing taken one_disk alive held =
+flusher_first {S} {D} scheme device node flusher journal seat setting tables setting_is begun_is journal_is seat_is of nothing taken idle one_disk alive held =
     let bytes = device.content (disk_of journal) in
     let here : HoldsAt (node_of scheme node.setting) bytes node.begun = subst (λ (t : Tables). HoldsAt (node_of scheme node.setting) bytes t) (sym begun_is)
     (subst (λ (s : ConfigView S). HoldsAt (node_of scheme s) bytes tables) (sym setting_is) held) in
@@ -53,8 +53,8 @@ flusher_first {S} {D} scheme device node flusher journal seat setting tables set
     (subst (λ (l : List Marked). HoldsAfter scheme node l (alone bytes)) (sym nothing.firm) (holds_first scheme node bytes here)) in
     record {
       seat = subst (IsFlushOf node) (sym seat_is) of;
-      alone = ap spare_of journal_is ∙ one_disk;
       rests = λ _. subst (λ (s : FlushSeat). s.taken ≡ s.settled) (sym seat_is) (taken ∙ sym (of.settled ∙ ap length nothing.firm));
+      idle = λ _. ap (λ (s : FlushSeat). s.rewriting) seat_is ∙ idle;
       alive = λ _. subst (IsAlive device) (sym journal_is) alive;
       holds = λ _. subst (λ (j : Journal D). HoldsAfter scheme node (seat_of flusher).seat.view.firm (areas_of device j)) (sym journal_is)
           (subst (λ (s : FlushSeat). HoldsAfter scheme node s.seat.view.firm (areas_of device journal)) (sym seat_is) first);

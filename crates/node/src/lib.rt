@@ -41,6 +41,7 @@ pub fn start<'a, S: Sign, D: Disk>(
     ensures nothing { IfOk result (λ started. HasNothing started.1) }
     ensures flusher { IfOk result (λ started. IsFlusherOf S.scheme D.device started.0 started.2) }
     ensures up { IfOk result (λ started. is_down started.2 ≡ false) }
+    ensures alone { IfOk result (λ started. spare_of (journal_of started.2) ≡ None) }
     ensures nothing_settled { IfOk result (λ started. (settled_in started.2 ≡ []) × (taken_in started.2 ≡ [])) }
     // The disk then has a journal of the node at each state for which the bytes stood.
     ensures kept { let node = node_of S.scheme config.now in IfOk result (λ started. KeepsStates node (D.device.content disk) (D.device.content (disk_of (journal_of started.2)))) }
@@ -70,6 +71,7 @@ fn begin<'a, S: Sign, D: Disk>(
     ensures nothing { IfOk result (λ started. HasNothing started.1) }
     ensures flusher { IfOk result (λ started. IsFlusherOf S.scheme D.device started.0 started.2) }
     ensures up { IfOk result (λ started. is_down started.2 ≡ false) }
+    ensures alone { IfOk result (λ started. spare_of (journal_of started.2) ≡ None) }
     ensures nothing_settled { IfOk result (λ started. (settled_in started.2 ≡ []) × (taken_in started.2 ≡ [])) }
     ensures journal { IfOk result (λ started. journal_of started.2 ≡ journal) }
     ensures err { IfErr result (λ failed. (failed.error ≡ JournalError.Memory) × (failed.disk ≡ disk_of journal)) }

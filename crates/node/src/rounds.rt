@@ -1,13 +1,14 @@
 //! What a thread flushes a node with.
 
-ghost use Rattle.std.specs.Prelude.{◌≡◌, ◌⊎◌, IsOk, IfOk, IsErrOf, OnOk};
+ghost use Rattle.std.specs.Prelude.{◌≡◌, ◌⊎◌, None, IsOk, IfOk, IsSome, IsErrOf, OnOk, OnErr};
 ghost use Rattle.diskmodel.specs.Disk.{AtEachMoment, TellsFault};
-ghost use Rattle.journal.specs.Journal.{disk_of};
+ghost use Rattle.journal.specs.Journal.{disk_of, spare_of};
+ghost use Rattle.journal.specs.Pairs.{HaveChangedPlaces, HaveKeptPlaces, areas_of, areas_with, generation_in, spare_disk, rewritten_disk, untouched_disk};
 ghost use Rattle.wire.specs.Lists.{Begins};
 ghost use Rattle.validator.specs.Setting.{node_of};
 ghost use Rattle.node_shared.specs.Calls.{IsBeside};
 ghost use Rattle.node_shared.specs.Home.{IsOf};
-ghost use Rattle.flusher.specs.Rounds.{journal_of, settled_in, taken_in, IsFlusherOf, HoldsEither, KeepsEarlier, GoesDown, IsToldOf, TakesAndSettles, TellsRoom, StaysAsIs};
+ghost use Rattle.flusher.specs.Rounds.{journal_of, settled_in, taken_in, areas_at, IsFlusherOf, HoldsEither, KeepsEarlier, GoesDown, IsToldOf, TakesAndSettles, TakesAllAndSettles, TellsRoom, TellsRoomToRewrite, StaysAsIs};
 
 use crate::caller::Caller;
 use diskmodel::Disk;
@@ -90,10 +91,30 @@ impl<'n, 'a, S: Sign, D: Disk> Rounds<'n, 'a, S, D> {
         ensures settles { TakesAndSettles self.old.seat self.new.seat self.old.flusher self.new.flusher result }
         ensures room { TellsRoom D.device self.old.flusher self.new.flusher result }
         ensures cause { TellsFault FlushError.Device (D.device.faults (disk_of (journal_of self.old.flusher))) (D.device.faults (disk_of (journal_of self.new.flusher))) result }
-        ensures any_moment { IsErrOf result FlushError.Down ⊎ AtEachMoment D.device (disk_of (journal_of self.old.flusher)) (disk_of (journal_of self.new.flusher)) (HoldsEither S.scheme self.old.node (settled_in self.old.flusher) (taken_in self.new.flusher) (D.device.content (disk_of (journal_of self.old.flusher)))) }
-        ensures earlier { OnOk result (KeepsEarlier S.scheme self.old.node (settled_in self.old.flusher) (settled_in self.new.flusher) (D.device.content (disk_of (journal_of self.old.flusher))) (D.device.content (disk_of (journal_of self.new.flusher)))) }
+        ensures spare { spare_of (journal_of self.new.flusher) ≡ spare_of (journal_of self.old.flusher) }
+        ensures any_moment { IsErrOf result FlushError.Down ⊎ AtEachMoment D.device (disk_of (journal_of self.old.flusher)) (disk_of (journal_of self.new.flusher)) (λ left. HoldsEither S.scheme self.old.node (settled_in self.old.flusher) (taken_in self.new.flusher) (areas_of D.device (journal_of self.old.flusher)) (areas_at D.device (journal_of self.old.flusher) left)) }
+        ensures earlier { OnOk result (KeepsEarlier S.scheme self.old.node (settled_in self.old.flusher) (settled_in self.new.flusher) (areas_of D.device (journal_of self.old.flusher)) (areas_of D.device (journal_of self.new.flusher))) }
     {
         self.flusher.round(rt, self.node, &mut self.seat)
+    }
+
+    /// A checkpoint, as the flusher's. Answers the journal's new generation.
+    pub fn checkpoint<R: Wait>(&mut self, rt: &R) -> Result<u64, FlushError>
+        requires pair { IsSome (spare_of (journal_of self.old.flusher)) }
+        ensures node { self.new.node ≡ self.old.node }
+        ensures down { GoesDown self.old.flusher self.new.flusher result }
+        ensures told { IsToldOf self.old.seat self.new.seat result }
+        ensures settles { TakesAllAndSettles self.old.seat self.new.seat self.old.flusher self.new.flusher result }
+        ensures answer { IfOk result (λ generation. generation ≡ generation_in (journal_of self.new.flusher)) }
+        ensures swapped { OnOk result (HaveChangedPlaces (journal_of self.old.flusher) (journal_of self.new.flusher)) }
+        ensures keeps { OnErr result (HaveKeptPlaces (journal_of self.old.flusher) (journal_of self.new.flusher)) }
+        ensures room { IsErrOf result FlushError.Down ⊎ IsErrOf result FlushError.Memory ⊎ TellsRoomToRewrite S.scheme self.old.node self.old.flusher self.new.flusher result }
+        ensures cause { TellsFault FlushError.Device (D.device.faults (spare_disk (journal_of self.old.flusher))) (D.device.faults (rewritten_disk result (journal_of self.new.flusher))) result }
+        ensures untouched { untouched_disk result (journal_of self.new.flusher) ≡ disk_of (journal_of self.old.flusher) }
+        ensures any_moment { IsErrOf result FlushError.Down ⊎ AtEachMoment D.device (spare_disk (journal_of self.old.flusher)) (rewritten_disk result (journal_of self.new.flusher)) (λ left. HoldsEither S.scheme self.old.node (settled_in self.old.flusher) (taken_in self.new.flusher) (areas_of D.device (journal_of self.old.flusher)) (areas_with D.device (journal_of self.old.flusher) left)) }
+        ensures earlier { OnOk result (KeepsEarlier S.scheme self.old.node (settled_in self.old.flusher) (settled_in self.new.flusher) (areas_of D.device (journal_of self.old.flusher)) (areas_of D.device (journal_of self.new.flusher))) }
+    {
+        self.flusher.checkpoint(rt, self.node, &mut self.seat)
     }
 
     /// A caller is then known to know as settled no more than is settled here, so that what it collected is in what a stop leaves.
@@ -108,8 +129,9 @@ impl<'n, 'a, S: Sign, D: Disk> Rounds<'n, 'a, S, D> {
         self.flusher.cover(rt, self.node, &mut caller.seat);
     }
 
-    /// Gives the disk back.
+    /// Gives the disk back, of a journal on one.
     pub fn into_disk(self) -> D
+        requires alone { spare_of (journal_of self.flusher) ≡ None }
         ensures { result ≡ disk_of (journal_of self.entry.flusher) }
     {
         let Rounds {

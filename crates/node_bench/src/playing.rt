@@ -7,7 +7,7 @@ use crate::rounds::Rounds;
 use crate::storing::empty_disk;
 use crate::task::Task;
 use crate::working::put_frame;
-use node_run::{Ending as RunEnding, run_over};
+use node_run::{Ending as RunEnding, Ran, run_over};
 use sigface::HashSign;
 use sim_script::member_list;
 use std::io::{self, Write};
@@ -34,7 +34,11 @@ pub fn run_stream<R: Threads + Wait + Sync>(
     let writer = Told { rt, fold: &told };
     let mut lines = Told { rt, fold: &errors };
     let member = (text.as_bytes(), OWN_NUMBER);
-    let (ending, _) = run_over(
+    let Ran {
+        ending,
+        disk: _,
+        writer: _,
+    } = run_over(
         rt,
         task.alloc,
         member,

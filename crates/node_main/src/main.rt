@@ -18,7 +18,7 @@ fn main(rt: HostRuntime) -> ExitCode {
     };
     let reader = Blocking::new(&rt, rt.stdin());
     let writer = Blocking::new(&rt, rt.stdout());
-    let status = run(&rt, rt.alloc(), &args, reader, writer, &mut errors);
+    let (status, _) = run(&rt, rt.alloc(), &args, reader, writer, &mut errors);
     ExitCode::from(status)
 }
 

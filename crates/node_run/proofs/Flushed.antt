@@ -46,6 +46,14 @@ nothing_left first seen settled taken later round is more takes size settled_all
     by (inr (inl memory)) = let bad : IsErrOf {T = ℕ} (Ok 0) flush.Memory = sym is ∙ memory in absurd cc
     by (inr (inr longest)) = nothing_more first seen settled taken later more longest none whole
 
+-- and it settles nothing more
+pub settles_none : (settled taken later : List Marked) (round : Result ℕ FlushError) → round ≡ Ok 0 → Begins settled taken
+    → IfOk round (λ count. length taken ≡ length settled + count) → OnOk round (later ≡ taken) → later ≡ settled
+settles_none settled taken later round is begins size settled_all =
+    let none : length taken ≡ length settled + 0 = subst (λ (it : Result ℕ FlushError). IfOk it (λ count. length taken ≡ length settled + count)) is size in
+    let whole : later ≡ taken = subst (λ (it : Result ℕ FlushError). OnOk it (later ≡ taken)) is settled_all in
+    whole ∙ sym (begins_whole settled taken begins (omega (arith, none)))
+
 -- what holds of a round that ends well
 pub of_ok : {P : Type 0} (round : Result ℕ FlushError) (count : ℕ) → round ≡ Ok count → OnOk round P → P
 of_ok {P} round count is holds = subst (λ (it : Result ℕ FlushError). OnOk it P) is holds

@@ -1,4 +1,5 @@
 mod Written
+mod Given
 mod Taken
 mod Proposed
 mod Brought

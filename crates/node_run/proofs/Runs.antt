@@ -1,20 +1,29 @@
 -- How a node's run over a disk ends.
-use Rattle.std.proofs.Common.{◌≡◌, ◌<◌, ℕ, Bool, true, false, List, [], Option, Some, None, refl, sym, ap, subst, ◌∙◌, inl, inr}
+use Rattle.std.proofs.Common.{◌≡◌, ◌<◌, ℕ, Bool, true, false, List, [], take, Option, Some, None, refl, sym, ap, subst, ◌∙◌, inl, inr}
+use Rattle.std.proofs.lemmas.Bool.{or_left}
+use Rattle.std.proofs.lemmas.List.{map-append}
+use Rattle.std.proofs.lemmas.List.Elements.{All-weaker}
 use Rattle.std.proofs.lemmas.Option.{none-some}
 use Rattle.std.specs.Option.{option_map_or}
 use Rattle.std.specs.Prelude.{◌≢◌, ◌⊎◌, Ok, IfSome, if◌then◌else◌}
 use Rattle.diskmodel.proofs.Clock.{weaker, joins}
 use Rattle.diskmodel.specs.Disk.{AtEachMoment, Device}
 use Rattle.admission.proofs.OneState.{one_state}
-use Rattle.flusher.specs.Rounds.{HoldsAfter}
+use Rattle.book.specs.Book.{GoesOutAfter}
+use Rattle.flusher.specs.Rounds.{journal_of, settled_in, HoldsAfter}
+use Rattle.flusher.specs.declared.flusher.Flusher.{Flusher}
 use Rattle.journal.specs.Areas.{Areas, alone}
+use Rattle.journal.specs.Journal.{disk_of}
 use Rattle.journal.specs.declared.error.JournalError.{JournalError}
 use Rattle.journal.specs.declared.error.JournalError.TheVariants as journal
 use Rattle.node_io.specs.Endings.{of_journal, ending_of, unless_journal, lacks_memory}
 use Rattle.node_io.specs.declared.ending.Ending.{Ending}
 use Rattle.node_io.specs.declared.ending.Ending.TheVariants as ends
 use Rattle.node_io.specs.declared.faults.Faults.{Faults}
+use Rattle.node_seats.proofs.Beginnings.{begins_trans, take_begins}
 use Rattle.node_seats.specs.Views.{events}
+use Rattle.node_seats.specs.declared.view.View.{View}
+use Rattle.wire.specs.Lists.{Begins}
 use Rattle.node_seats.specs.declared.view.Marked.{Marked}
 use Rattle.node_shared.specs.Home.{NodeView}
 use Rattle.opening.specs.Laws.{IsLeft, IsNoRefusal, KeepsStates}
@@ -22,14 +31,18 @@ use Rattle.opening.specs.Told.{told, StandsAt, Tells, IsToldAsOneOf}
 use Rattle.spec_machine.specs.After.{after_all, IsLegalAfter}
 use Rattle.spec_machine.proofs.AfterAll.{after_none}
 use Rattle.spec_model.specs.Nodes.{Node}
-use Rattle.spec_world.specs.World.{Holds}
+use Rattle.spec_model.specs.States.{State}
+use Rattle.spec_model.specs.Words.{Output}
+use Rattle.spec_world.specs.World.{Holds, StandsFor}
 use Rattle.validator.specs.Setting.{ConfigView, node_of}
 use Rattle.validator.specs.Standing.{AreAtSound}
 use Rattle.node_run.specs.Ends.{TellsRounds}
 use Rattle.wire.specs.declared.keys.Key.{Key}
 use Rattle.node_run.specs.Members.{IsConfigOf, RefusesOpening}
-use Rattle.node_run.specs.Runs.{HoldsMore, GoesOn, RunsOver, RunsAs}
-use Rattle.node_run.specs.Writing.{no_memory}
+use Rattle.node_run.proofs.Written.{written_weaker, wrote_nothing}
+use Rattle.node_run.specs.Runs.{HoldsMore, GoesOn, GoesOutAfterPrefix, AreSettled, NoneOrOnDisk, GivesOnly, IsOfLoss, RunsOver, RunsAs, is_all_written}
+use Rattle.node_run.specs.Writing.{no_memory, HasWritten, MayGo}
+use Rattle.node_run.specs.declared.ran.Ran.{Ran}
 use Rattle.sigface.specs.Scheme.{Scheme}
 
 -- ---- endings
@@ -71,6 +84,44 @@ opening_told journal.Device named is = some_same journal.Device named (ap fault_
 opening_told (journal.Damaged place) named is = some_same (journal.Damaged place) named (ap fault_in is)
 opening_told journal.ConfigMismatch named is = some_same journal.ConfigMismatch named (ap fault_in is)
 opening_told journal.Full named is = some_same journal.Full named (ap fault_in is)
+
+-- a run whose ending tells of no failed write had none
+wrote_all_unless : (fault : Option JournalError) (output : Bool) (other : Ending) → is_all_written (unless_journal fault (if output then ends.Output else other)) ≡ true → output ≡ false
+wrote_all_unless fault false other whole = refl
+wrote_all_unless None true other whole = absurd (let bad : false ≡ true = whole in cc)
+wrote_all_unless (Some journal.Memory) true other whole = absurd (let bad : false ≡ true = whole in cc)
+wrote_all_unless (Some journal.Device) true other whole = absurd (let bad : false ≡ true = whole in cc)
+wrote_all_unless (Some (journal.Damaged place)) true other whole = absurd (let bad : false ≡ true = whole in cc)
+wrote_all_unless (Some journal.ConfigMismatch) true other whole = absurd (let bad : false ≡ true = whole in cc)
+wrote_all_unless (Some journal.Full) true other whole = absurd (let bad : false ≡ true = whole in cc)
+
+wrote_all : (faults : Faults) → is_all_written (ending_of faults) ≡ true → faults.output ≡ false
+wrote_all faults whole = wrote_all_unless faults.journal faults.output _ whole
+
+-- one whose writer was lost tells of it
+loss_unless : (fault : Option JournalError) (output lacks : Bool) (other : Ending) → output ≡ false → lacks ≡ true
+    → IsOfLoss (unless_journal fault (if output then ends.Output else if lacks then ends.Memory else other))
+loss_unless fault true lacks other fine lacking = absurd (let bad : true ≡ false = fine in cc)
+loss_unless fault false false other fine lacking = absurd (let bad : false ≡ true = lacking in cc)
+loss_unless None false true other fine lacking = inl refl
+loss_unless (Some journal.Memory) false true other fine lacking = inl refl
+loss_unless (Some journal.Device) false true other fine lacking = inr (journal.Device, refl)
+loss_unless (Some (journal.Damaged place)) false true other fine lacking = inr (journal.Damaged place, refl)
+loss_unless (Some journal.ConfigMismatch) false true other fine lacking = inr (journal.ConfigMismatch, refl)
+loss_unless (Some journal.Full) false true other fine lacking = inr (journal.Full, refl)
+
+is_of_loss : (faults : Faults) → faults.output ≡ false → faults.memory ≡ true → IsOfLoss (ending_of faults)
+is_of_loss faults fine memory = loss_unless faults.journal faults.output (lacks_memory faults) _ fine (or_left faults.memory _ memory)
+
+some_is : {X : Type 0} (one other : X) → Some one ≡ Some other → one ≡ other
+some_is {X} one other is = ap (λ (o : Option X). option_map_or (λ (x : X). x) o one) is
+
+-- the events of a prefix are a prefix of the events
+events_begin : (front whole : List Marked) → Begins front whole → Begins (events front) (events whole)
+events_begin front whole begins = record {
+  rest = events begins.rest;
+  parts = ap (λ (l : List Marked). events l) begins.parts ∙ map-append (λ (one : Marked). one.event) front begins.rest;
+}
 
 abbrev IsOfRun : Node → List ℕ → JournalError → Type 0
 IsOfRun node before error = (error ≡ journal.Device) ⊎ (error ≡ journal.Full) ⊎ Tells error (told node before)
@@ -137,6 +188,37 @@ module _ {S D : Type 0} (scheme : Scheme S) (device : Device D) where
       ends_so : ending_of told_of ≡ ends.Memory
       ends_so = ap ending_of is
 
+  -- What bytes hold after more events of a node that began where the disk was read, they hold after the same events from the state as which it was
+  -- read.
+  goes_on : (shared : NodeView S) (node : Node) (disk now : D) (settled : List Marked) → node_of scheme shared.setting ≡ node
+      → StandsAt node (told node (device.content disk)) shared.begun → KeepsStates node (device.content disk) (device.content now) → settled ≡ []
+      → (bytes : List ℕ) (it : HoldsMore scheme shared settled (device.content now) bytes) → (on : GoesOn node (device.content disk) bytes) × (on.more ≡ events it.more)
+  goes_on shared node disk now settled of_node begins kept_all none bytes it =
+      let holds = it.leaves.holds in (
+        record {
+          base = holds.base;
+          is_told = is_told holds;
+          more = events it.more;
+          legal = subst (λ (n : Node). IsLegalAfter n holds.base (events it.more)) of_node holds.legal;
+          holds = subst (λ (n : Node). Holds n (alone bytes) (after_all n holds.base (events it.more))) of_node holds.holds;
+          earlier = λ began stands. subst (λ (n : Node). Holds n (alone bytes) (after_all n began (events it.more))) of_node (it.leaves.earlier began (first began stands));
+        },
+        refl,
+      )
+    where
+      -- the disk was told as each base
+      is_told : {marked : List Marked} {areas : Areas} → (it : HoldsAfter scheme shared marked areas) → told node (device.content disk) ≡ Ok it.base
+      is_told it =
+          let at = subst (λ (n : Node). AreAtSound n shared.begun it.base) of_node it.is_base in
+          begins.is_read ∙ ap Ok (one_state node shared.begun begins.state it.base begins.at.sound begins.at.at at.sound at.at)
+
+      first : (began : State) → StandsFor node (alone (device.content disk)) began
+          → Holds (node_of scheme shared.setting) (alone (device.content now)) (after_all (node_of scheme shared.setting) began (events settled))
+      first began stands =
+          let here = subst (λ (n : Node). Holds n (alone (device.content now)) began) (sym of_node) (kept_all began stands) in
+          let after = subst (Holds (node_of scheme shared.setting) (alone (device.content now))) (sym (after_none (node_of scheme shared.setting) began)) here in
+          subst (λ (l : List Marked). Holds (node_of scheme shared.setting) (alone (device.content now)) (after_all (node_of scheme shared.setting) began (events l))) (sym none) after
+
   -- it ran
   has_run : (shared : NodeView S) (node : Node) (disk now later : D) (told_of : Faults) → node_of scheme shared.setting ≡ node
       → StandsAt node (told node (device.content disk)) shared.begun → device.faults now ≡ device.faults disk
@@ -155,25 +237,8 @@ module _ {S D : Type 0} (scheme : Scheme S) (device : Device D) where
       which : (named : JournalError) → ending_of told_of ≡ ends.Journal named → (named ≡ journal.Device) ⊎ (named ≡ journal.Full)
       which named is = subst (λ (f : Option JournalError). IfSome f (λ error. (error ≡ journal.Device) ⊎ (error ≡ journal.Full))) (told_of_journal told_of named is) tells.which
 
-      -- the disk was told as each base
-      is_told : {marked : List Marked} {areas : Areas} → (it : HoldsAfter scheme shared marked areas) → told node (device.content disk) ≡ Ok it.base
-      is_told it =
-          let at = subst (λ (n : Node). AreAtSound n shared.begun it.base) of_node it.is_base in
-          begins.is_read ∙ ap Ok (one_state node shared.begun begins.state it.base begins.at.sound begins.at.at at.sound at.at)
-
       more : (bytes : List ℕ) → HoldsMore scheme shared [] (device.content now) bytes → May node disk bytes
-      more bytes it =
-          let holds = it.leaves.holds in
-          inr (record {
-            base = holds.base;
-            is_told = is_told holds;
-            more = events it.more;
-            legal = subst (λ (n : Node). IsLegalAfter n holds.base (events it.more)) of_node holds.legal;
-            holds = subst (λ (n : Node). Holds n (alone bytes) (after_all n holds.base (events it.more))) of_node holds.holds;
-            earlier = λ began stands. subst (λ (n : Node). Holds n (alone bytes) (after_all n began (events it.more))) of_node
-                (it.leaves.earlier began (subst (Holds (node_of scheme shared.setting) (alone (device.content now))) (sym (after_none (node_of scheme shared.setting) began))
-                (subst (λ (n : Node). Holds n (alone (device.content now)) began) (sym of_node) (kept_all began stands))));
-          })
+      more bytes it = inr (goes_on shared node disk now [] of_node begins kept_all refl bytes it).0
 
   -- its threads have ended
   pub ended : (shared : NodeView S) (node : Node) (disk now : D) (told_of : Faults) (left : Option D) → node_of scheme shared.setting ≡ node
@@ -186,11 +251,78 @@ module _ {S D : Type 0} (scheme : Scheme S) (device : Device D) where
   ended shared node disk now told_of (Some later) of_node begins same tells lost opening leaves kept_all =
       has_run shared node disk now later told_of of_node begins same tells opening leaves kept_all
 
+  -- ---- what it gave out
+
+  -- what might go out after settled events goes out after them from the state as which the disk was read
+  goes_out : (shared : NodeView S) (node : Node) (base : State) (view : View) → node_of scheme shared.setting ≡ node → AreAtSound node shared.begun base
+      → (output : Output) → MayGo scheme shared view output → GoesOutAfterPrefix node base (events view.firm) output
+  goes_out shared node base view of_node at output may =
+      let first = take may.count may.settled in
+      record {
+        events = events first;
+        begins = events_begin first view.firm (begins_trans first may.settled view.firm (take_begins may.count may.settled) may.begins);
+        goes_out = subst (λ (n : Node). GoesOutAfter n base (events first) output) of_node (may.put_out base (subst (λ (n : Node). AreAtSound n shared.begun base) (sym of_node) at));
+      }
+
+  -- what is settled on the disk is there from the state as which it was read
+  on_disk : (shared : NodeView S) (node : Node) (disk : D) (first : Flusher D) (left : D) → node_of scheme shared.setting ≡ node
+      → StandsAt node (told node (device.content disk)) shared.begun → KeepsStates node (device.content disk) (device.content (disk_of (journal_of first))) → settled_in first ≡ []
+      → (outputs : List Output) → AreSettled scheme device shared first left outputs → NoneOrOnDisk node device disk left outputs
+  on_disk shared node disk first left of_node begins kept_all none outputs it = inr (record {
+    base = begins.state;
+    is_read = begins.is_read;
+    settled = events it.view.firm;
+    each = All-weaker (MayGo scheme shared it.view) (GoesOutAfterPrefix node begins.state (events it.view.firm)) (goes_out shared node begins.state it.view of_node begins.at) outputs it.each;
+    on_disk = λ found may.
+        let holds = it.on_disk found may in
+        let on = goes_on shared node disk (disk_of (journal_of first)) (settled_in first) of_node begins kept_all none found holds.0 in
+        (on.0, subst (Begins (events it.view.firm)) (sym on.1) (events_begin it.view.firm holds.0.more holds.1));
+  })
+
+  -- what its threads wrote is on the disk
+  pub gives_only : {W : Type 0} (contents : W → Option (List ℕ)) (shared : NodeView S) (node : Node) (disk : D) (first : Flusher D) (writer : W)
+      (old : Option (List ℕ)) (ran : Ran D W) (told_of : Faults)
+      → node_of scheme shared.setting ≡ node → StandsAt node (told node (device.content disk)) shared.begun
+      → KeepsStates node (device.content disk) (device.content (disk_of (journal_of first))) → settled_in first ≡ [] → old ≡ contents writer → ran.ending ≡ ending_of told_of
+      → IfSome ran.disk (λ left. IfSome ran.writer (λ later. HasWritten (AreSettled scheme device shared first left) (told_of.output ≡ false) old (contents later)))
+      → (ran.writer ≡ None → (told_of.output ≡ false) × (told_of.memory ≡ true))
+      → GivesOnly node device contents disk writer ran
+  gives_only {W} contents shared node disk first writer old ran told_of of_node begins kept_all none same ends given lost = record {
+    written = by ran.disk ran.writer given;
+    lost = λ gone. let it = lost gone in subst IsOfLoss (sym ends) (is_of_loss told_of it.0 it.1);
+  }
+    where
+      by : (left : Option D) (back : Option W)
+          → IfSome left (λ left. IfSome back (λ later. HasWritten (AreSettled scheme device shared first left) (told_of.output ≡ false) old (contents later)))
+          → IfSome left (λ left. IfSome back (λ later. HasWritten (NoneOrOnDisk node device disk left) (is_all_written ran.ending ≡ true) (contents writer) (contents later)))
+      by None back given = tt
+      by (Some left) None given = tt
+      by (Some left) (Some later) given = subst (λ (o : Option (List ℕ)). HasWritten (NoneOrOnDisk node device disk left) (is_all_written ran.ending ≡ true) o (contents later)) same
+          (written_weaker (AreSettled scheme device shared first left) (NoneOrOnDisk node device disk left) (told_of.output ≡ false) (is_all_written ran.ending ≡ true) old (contents later)
+          (on_disk shared node disk first left of_node begins kept_all none) (λ whole. wrote_all told_of (subst (λ (e : Ending). is_all_written e ≡ true) ends whole)) given)
+
+-- nothing was written
+pub gives_nothing : {D W : Type 0} (node : Node) (device : Device D) (contents : W → Option (List ℕ)) (disk : D) (writer : W) (ran : Ran D W)
+    → (ran.writer ≡ Some writer) ⊎ ((ran.writer ≡ None) × (ran.ending ≡ ends.Memory)) → GivesOnly node device contents disk writer ran
+gives_nothing {D} {W} node device contents disk writer ran back = record {
+  written = by ran.disk ran.writer back;
+  lost = λ gone. elim back [ inl same ↦ absurd (none-some writer (sym gone ∙ same)) | inr none ↦ inl none.1 ];
+}
+  where
+    by : (left : Option D) (given : Option W) → (given ≡ Some writer) ⊎ ((given ≡ None) × (ran.ending ≡ ends.Memory))
+        → IfSome left (λ left. IfSome given (λ later. HasWritten (NoneOrOnDisk node device disk left) (is_all_written ran.ending ≡ true) (contents writer) (contents later)))
+    by None given back = tt
+    by (Some left) None back = tt
+    by (Some left) (Some later) (inl same) = subst
+        (λ (w : W). HasWritten (NoneOrOnDisk node device disk left) (is_all_written ran.ending ≡ true) (contents writer) (contents w)) (sym (some_is later writer same))
+        (wrote_nothing (NoneOrOnDisk node device disk left) (is_all_written ran.ending ≡ true) (contents writer) (inl refl))
+    by (Some left) (Some later) (inr none) = absurd (none-some later (sym none.0))
+
 -- a member whom a number names ran
-pub run_as : {O D : Type 0} (scheme : Scheme Key) (device : Device D)
-    (named : Option O) (bytes_of : O → List ℕ) (config : ConfigView Key) (disk : D) (ending : Ending) (left : Option D) → (text : List ℕ) → IfSome named (λ own. IsConfigOf text (bytes_of own) config)
-    → RunsOver (node_of scheme config) device disk ending left
-    → IfSome named (λ own. RefusesOpening (bytes_of own) ending ⊎ RunsAs scheme device (bytes_of own) ending)
-run_as scheme device None bytes_of config disk ending left text is_of ran = tt
-run_as scheme device (Some own) bytes_of config disk ending left text is_of ran =
-    inr (record { text = text; config = config; is_of = is_of; disk = disk; left = left; ran = ran })
+pub run_as : {O D W : Type 0} (scheme : Scheme Key) (device : Device D) (contents : W → Option (List ℕ))
+    (named : Option O) (bytes_of : O → List ℕ) (config : ConfigView Key) (disk : D) (writer : W) (ran : Ran D W) (text : List ℕ) → IfSome named (λ own. IsConfigOf text (bytes_of own) config)
+    → RunsOver (node_of scheme config) device disk ran.ending ran.disk → GivesOnly (node_of scheme config) device contents disk writer ran
+    → IfSome named (λ own. (RefusesOpening (bytes_of own) ran.ending × (ran.writer ≡ Some writer)) ⊎ RunsAs scheme device contents (bytes_of own) writer ran)
+run_as scheme device contents None bytes_of config disk writer ran text is_of runs gives = tt
+run_as scheme device contents (Some own) bytes_of config disk writer ran text is_of runs gives =
+    inr (record { text = text; config = config; is_of = is_of; disk = disk; runs = runs; gives = gives })

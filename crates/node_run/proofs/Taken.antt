@@ -67,7 +67,8 @@ submits_since scheme node event before mid later (Err refusal) number mine more 
 }
 
 -- a call has seen no less than before
-pub submits_more : {S : Type 0} (scheme : Scheme S) (node : NodeView S) (event : Event) (before later : View) (answer : Result Receipt Refusal) → Submits scheme node event before later answer → Begins before.seen later.seen
+pub submits_more : {S : Type 0} (scheme : Scheme S) (node : NodeView S) (event : Event) (before later : View) (answer : Result Receipt Refusal)
+    → Submits scheme node event before later answer → Begins before.seen later.seen
 submits_more scheme node event before later (Ok receipt) submits = by receipt.new refl
   where
     by : (b : Bool) → receipt.new ≡ b → Begins before.seen later.seen
@@ -113,7 +114,8 @@ submitted_since scheme node event before mid later told number mine more done = 
 }
 
 -- no certificate has to be looked for
-pub other_goes : {S : Type 0} (scheme : Scheme S) (node : NodeView S) (event : Event) (before : CallerView S) → certificate_digest_in event.message ≡ None → MayBeSubmitted scheme node event before before
+pub other_goes : {S : Type 0} (scheme : Scheme S) (node : NodeView S) (event : Event) (before : CallerView S) → certificate_digest_in event.message ≡ None
+    → MayBeSubmitted scheme node event before before
 other_goes scheme node event before none = record {
   looked = before.seat.view.seen;
   more = begins_same before.seat.view.seen;
@@ -123,7 +125,8 @@ other_goes scheme node event before none = record {
 
 -- what lacked no parent when the caller looked may go
 pub ready_goes : {S : Type 0} (scheme : Scheme S) (node : NodeView S) (event : Event) (before later : CallerView S) → Begins before.seat.view.seen later.seat.view.seen
-    → ((base : State) → IsBase scheme node base → is_missing_parents (answered (node_of scheme node.setting) (seen_in (node_of scheme node.setting) base later.seat) event) ≡ false) → MayBeSubmitted scheme node event before later
+    → ((base : State) → IsBase scheme node base → is_missing_parents (answered (node_of scheme node.setting) (seen_in (node_of scheme node.setting) base later.seat) event) ≡ false)
+    → MayBeSubmitted scheme node event before later
 ready_goes scheme node event before later more lacks_none = record {
   looked = later.seat.view.seen;
   more = more;
@@ -132,7 +135,8 @@ ready_goes scheme node event before later more lacks_none = record {
 }
 
 -- a look counts for a call that goes on after it
-pub goes_yet : {S : Type 0} (scheme : Scheme S) (node : NodeView S) (event : Event) (before mid later : CallerView S) → MayBeSubmitted scheme node event before mid → Begins mid.seat.view.seen later.seat.view.seen
+pub goes_yet : {S : Type 0} (scheme : Scheme S) (node : NodeView S) (event : Event) (before mid later : CallerView S) → MayBeSubmitted scheme node event before mid
+    → Begins mid.seat.view.seen later.seat.view.seen
     → MayBeSubmitted scheme node event before later
 goes_yet scheme node event before mid later goes more = record {
   looked = goes.looked;

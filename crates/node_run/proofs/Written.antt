@@ -1,9 +1,11 @@
 -- What goes to a node's writer, output by output.
-use Rattle.std.proofs.Common.{◌≡◌, ℕ, Bool, true, false, List, [], ◌∷◌, ◌++◌, Option, refl, sym, ap, subst, ◌∙◌, append-nil, append_assoc, inl, inr}
+use Rattle.std.proofs.Common.{◌≡◌, ℕ, Bool, true, false, List, [], ◌∷◌, ◌++◌, Option, None, Some, refl, sym, ap, subst, ◌∙◌, append-nil, append_assoc, inl, inr}
 use Rattle.std.specs.Prelude.{◌||◌}
 use Rattle.std.proofs.lemmas.Bool.{or_left, or_right, or_parts}
+use Rattle.std.specs.Io.Buffered.{writer_buffer, writer_contents, writer_inner}
 use Rattle.std.specs.List.{flat_map}
-use Rattle.std.specs.Io.KnownBytes.{Keeps, Appends}
+use Rattle.std.specs.declared.io.buffered.BufWriter.{BufWriter}
+use Rattle.std.specs.Io.KnownBytes.{Keeps, Appends, append_known}
 use Rattle.std.proofs.KnownBytes.{Keeps-refl, Keeps-trans, Appends-trans, Appends-kept}
 use Rattle.std.proofs.lemmas.List.Concat.{flat_map-append}
 use Rattle.std.proofs.lemmas.List.Elements.{All-nil, All-append, All-push, All-weaker}
@@ -23,7 +25,7 @@ use Rattle.node_shared.specs.Home.{NodeView, IsBase}
 use Rattle.sigface.specs.Scheme.{Scheme}
 use Rattle.validator.specs.Setting.{node_of}
 use Rattle.wire.specs.Outputs.{frame_of}
-use Rattle.node_run.specs.Writing.{AppendsSome, is_over, Puts, MayGo, WritesOnly}
+use Rattle.node_run.specs.Writing.{AppendsSome, HoldsPart, is_over, Puts, MayGo, HasWritten, WritesOnly}
 use Rattle.wire_write.proofs.Appending.{keeps_appends}
 use Rattle.wire_write.specs.Frames.{AppendsLess}
 
@@ -265,3 +267,79 @@ goes_now scheme node view output may put = record {
   within = put.settled;
   put_out = put.goes_out;
 }
+
+-- ---- the writer that is given back
+
+known_nothing_more : (known : Option (List ℕ)) → append_known known [] ≡ known
+known_nothing_more None = refl
+known_nothing_more (Some xs) = ap Some (append-nil xs)
+
+-- a new buffer holds what its writer does
+pub new_contents : {W A : Type 0} (contents : W → Option (List ℕ)) (buffered : BufWriter W A) (writer : W) → writer_inner buffered ≡ writer → writer_buffer buffered ≡ []
+    → writer_contents contents buffered ≡ contents writer
+new_contents contents buffered writer inner empty =
+    ap (λ w. append_known (contents w) (writer_buffer buffered)) inner ∙ ap (λ bytes. append_known (contents writer) bytes) empty ∙ known_nothing_more (contents writer)
+
+-- all of a buffer was written
+pub keeps_part : (old new : Option (List ℕ)) → Keeps old new → HoldsPart old new []
+keeps_part None new keeps = tt
+keeps_part (Some xs) None keeps = absurd keeps
+keeps_part (Some xs) (Some ys) keeps = record { rest = []; parts = ap (λ (l : List ℕ). l ++ []) (sym keeps) }
+
+-- these bytes of it weren't
+pub lacks_part : (old inner : Option (List ℕ)) (buffer : List ℕ) → Keeps old (append_known inner buffer) → HoldsPart old inner []
+lacks_part None inner buffer keeps = tt
+lacks_part (Some xs) None buffer keeps = absurd keeps
+lacks_part (Some xs) (Some ys) buffer keeps = record { rest = buffer; parts = append-nil xs ∙ sym keeps }
+
+part_after : (old cur new : Option (List ℕ)) (part rest bytes : List ℕ) → bytes ≡ part ++ rest → Appends old cur part → HoldsPart cur new [] → HoldsPart old new bytes
+part_after None cur new part rest bytes is appends holds = tt
+part_after (Some xs) None new part rest bytes is appends holds = absurd appends
+part_after (Some xs) (Some ys) None part rest bytes is appends holds = absurd holds
+part_after (Some xs) (Some ys) (Some zs) part rest bytes is appends holds = record {
+  rest = holds.rest ++ rest;
+  parts =
+      ap (λ (l : List ℕ). xs ++ l) is ∙ sym (append_assoc xs part rest) ∙ ap (λ (l : List ℕ). l ++ rest) (sym appends ∙ sym (append-nil ys) ∙ holds.parts)
+      ∙ append_assoc zs holds.rest rest;
+}
+
+-- what went to a sink, and what of that its writer holds
+pub has_written : (May : Output → Type 0) (IsWhole : Type 0) (before later : Faults) (old cur new : Option (List ℕ)) → WritesOnly May before later old cur
+    → HoldsPart cur new [] → (IsWhole → (later.output ≡ false) × Keeps cur new) → HasWritten (All May) IsWhole old new
+has_written May IsWhole before later old cur new only part whole = record {
+  outputs = only.outputs;
+  right = only.each;
+  part = part_after old cur new only.some.part only.some.begins.rest (flat_map frame_of only.outputs) only.some.begins.parts only.some.appends part;
+  whole = λ is. Appends-kept old cur new (flat_map frame_of only.outputs) (only.written (whole is).0) (whole is).1;
+}
+
+-- of outputs of which more holds
+pub written_weaker : (Right Wider : List Output → Type 0) (IsWhole WasWhole : Type 0) (old new : Option (List ℕ)) → ((outputs : List Output) → Right outputs → Wider outputs)
+    → (WasWhole → IsWhole) → HasWritten Right IsWhole old new → HasWritten Wider WasWhole old new
+written_weaker Right Wider IsWhole WasWhole old new wider was it = record {
+  outputs = it.outputs;
+  right = wider it.outputs it.right;
+  part = it.part;
+  whole = λ is. it.whole (was is);
+}
+
+-- nothing was written
+pub wrote_nothing : (Right : List Output → Type 0) (IsWhole : Type 0) (at : Option (List ℕ)) → Right [] → HasWritten Right IsWhole at at
+wrote_nothing Right IsWhole at right = record {
+  outputs = [];
+  right = right;
+  part = keeps_part at at (Keeps-refl at);
+  whole = λ is. keeps_appends at at (Keeps-refl at);
+}
+
+-- the other faults at the end are as before
+pub faults_at_end : (before mid later : Faults) → mid ≡ record before { output = mid.output; memory = mid.memory } → later ≡ record mid { output = later.output }
+    → later ≡ record before { output = later.output; memory = later.memory }
+faults_at_end before mid later first same =
+    let memory : later.memory ≡ mid.memory = ap (λ (faults : Faults). faults.memory) same in
+    others_yet before mid later first (same ∙ ap (λ (it : Bool). record mid { output = later.output; memory = it }) (sym memory))
+
+-- the writer had not failed before
+pub fine_before : (before later : Bool) → (before ≡ true → later ≡ true) → later ≡ false → before ≡ false
+fine_before true later stays fine = let bad : true ≡ false = sym (stays refl) ∙ fine in absurd cc
+fine_before false later stays fine = refl

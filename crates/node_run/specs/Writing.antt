@@ -1,5 +1,5 @@
 -- What goes to a node's writer.
-use Rattle.std.specs.Prelude.{◌≤◌, length, take, ◌≡◌, ◌⊎◌, ◌||◌, ℕ, Bool, true, false, List, ◌++◌, Option, None, All}
+use Rattle.std.specs.Prelude.{◌≤◌, length, take, ◌≡◌, ◌⊎◌, ◌||◌, ℕ, Bool, true, false, List, ◌++◌, Option, None, Some, ⊤, All}
 use Rattle.std.specs.List.{flat_map}
 use Rattle.std.specs.Io.KnownBytes.{Keeps, Appends}
 use Rattle.wire.specs.Lists.{Begins}
@@ -73,3 +73,17 @@ pub record WritesOnly (May : Output → Type 0) (before later : Faults) (old new
   pub written : later.output ≡ false → Appends old new (flat_map frame_of outputs)
   pub some : AppendsSome old new (flat_map frame_of outputs)
   pub others : later ≡ record before { output = later.output; memory = later.memory }
+
+-- what a writer holds is a prefix of what it held with these bytes after it, where that is known
+abbrev pub HoldsPart : Option (List ℕ) → Option (List ℕ) → List ℕ → Type 0
+HoldsPart None new bytes = ⊤
+HoldsPart (Some xs) None bytes = ⊥
+HoldsPart (Some xs) (Some ys) bytes = Begins ys (xs ++ bytes)
+
+-- What a writer holds at the end is what it held with frames of outputs after it, one after the other, of all of which this holds. Only where
+-- this isn't so of how it ended the last of the frames may be missing or cut short.
+pub record HasWritten (AreRight : List Output → Type 0) (IsWhole : Type 0) (old new : Option (List ℕ)) : Type 0 where
+  pub outputs : List Output
+  pub right : AreRight outputs
+  pub part : HoldsPart old new (flat_map frame_of outputs)
+  pub whole : IsWhole → Appends old new (flat_map frame_of outputs)

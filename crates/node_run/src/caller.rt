@@ -4,6 +4,7 @@ ghost use Rattle.std.specs.Prelude.{◌≡◌, None, Err, true, false, IsSome, I
 ghost use Rattle.header.specs.Digested.{certificate_digest_in};
 ghost use Rattle.header.specs.Checks.{fault_of, accepts_all};
 ghost use Rattle.wire.specs.Lists.{Begins};
+ghost use Rattle.flusher.specs.Rounds.{settled_in, StaysAsIs};
 ghost use Rattle.spec_machine.specs.Machine.{answered, is_missing_parents};
 ghost use Rattle.spec_model.specs.States.{State};
 ghost use Rattle.node_seats.specs.Views.{IsSame};
@@ -16,8 +17,9 @@ ghost use Rattle.node.specs.Callers.{StaysWith};
 ghost use Rattle.validator.specs.Setting.{node_of};
 ghost use Rattle.node_run.specs.Taking.{Handles, HandlesAgain, IsSubmitted, IsProposed, LacksParents, MayBeSubmitted, OnlyLooks, is_told_new};
 
+use diskmodel::Disk;
 use header::{Checked, check, passes, recheck};
-use node::Refusal;
+use node::{Refusal, Rounds};
 use node_io::Told;
 use sigface::{HashVerify, Sign};
 use std::alloc::AllocError;
@@ -159,6 +161,15 @@ impl<'n, 'a, S: Sign> Caller<'n, 'a, S> {
             return Err(Told::Refused(Refusal::Down));
         }
         Ok(())
+    }
+
+    /// What this caller knows as settled is then known to be settled in the node's rounds, so that what it collected is on their disk.
+    pub(crate) fn cover<D: Disk, R: Wait>(&mut self, rt: &R, rounds: &mut Rounds<'n, 'a, S, D>)
+        requires node { self.old.node ≡ rounds.old.node }
+        ensures stays { StaysAsIs rounds.old.flusher rounds.new.flusher }
+        ensures covers { Begins self.old.seat.view.firm (settled_in rounds.new.flusher) }
+    {
+        rounds.cover(rt, &mut self.node);
     }
 
     /// The next output that may go out.

@@ -2,12 +2,13 @@
 
 ghost use Rattle.std.specs.Prelude.{◌≡◌, ◌↔◌, true, false, Some, None, IsSome, IsTrue};
 ghost use Rattle.diskmodel.specs.Disk.{AtEachMoment};
-ghost use Rattle.journal.specs.Journal.{disk_of};
+ghost use Rattle.journal.specs.Areas.{alone};
+ghost use Rattle.journal.specs.Journal.{disk_of, spare_of};
 ghost use Rattle.wire.specs.Lists.{Begins};
 ghost use Rattle.validator.specs.Setting.{node_of};
 ghost use Rattle.flusher.specs.Rounds.{journal_of, is_down, settled_in, taken_in, HasNoRoom, KeepsEarlier, TakesLongest};
 ghost use Rattle.node_run.specs.Ends.{faults_behind, TellsRounds, TellsJournal};
-ghost use Rattle.node_run.specs.Runs.{HoldsMore};
+ghost use Rattle.node_run.specs.Runs.{HoldsMore, LeavesSettled};
 
 use crate::bell::Bell;
 use diskmodel::Disk;
@@ -25,11 +26,16 @@ pub(crate) fn flush_all<S: Sign, D: Disk, R: Wait>(
     pending: &Bell,
     settled: &Bell,
 ) -> Faults
+    // The journal is on one disk.
+    requires alone { spare_of (journal_of rounds.old.flusher) ≡ None }
     ensures journal { TellsJournal (D.device.faults (disk_of (journal_of rounds.old.flusher))) (D.device.faults (disk_of (journal_of rounds.new.flusher))) (is_down rounds.old.flusher) (is_down rounds.new.flusher) result.journal (HasNoRoom (D.device.content (disk_of (journal_of rounds.new.flusher))) (settled_in rounds.new.flusher) (taken_in rounds.new.flusher)) }
     ensures others { (result.output ≡ false) × (result.input ≡ false) }
     ensures node { rounds.new.node ≡ rounds.old.node }
+    ensures alone { spare_of (journal_of rounds.new.flusher) ≡ None }
     // A stop at any moment leaves what was settled, and perhaps more after it.
     ensures any_moment { is_down rounds.old.flusher ≡ false → AtEachMoment D.device (disk_of (journal_of rounds.old.flusher)) (disk_of (journal_of rounds.new.flusher)) (HoldsMore S.scheme rounds.old.node (settled_in rounds.old.flusher) (D.device.content (disk_of (journal_of rounds.old.flusher)))) }
+    // At the end it leaves all that is settled.
+    ensures at_end { is_down rounds.old.flusher ≡ false → LeavesSettled S.scheme D.device rounds.old.node rounds.old.flusher (settled_in rounds.new.flusher) (disk_of (journal_of rounds.new.flusher)) }
 {
     let mut faults = Faults::none();
     for _ in rt.forever() {
@@ -49,6 +55,7 @@ fn flush_pending<S: Sign, D: Disk, R: Wait>(
     rounds: &mut Rounds<'_, '_, S, D>,
     settled: &Bell,
 ) -> Faults
+    requires alone { spare_of (journal_of rounds.old.flusher) ≡ None }
     ensures rounds { TellsRounds (D.device.faults (disk_of (journal_of rounds.old.flusher))) (D.device.faults (disk_of (journal_of rounds.new.flusher))) result.journal }
 
     // A round that takes the node down is told as the journal's fault: the disk's, or that the group has no place.
@@ -63,10 +70,12 @@ fn flush_pending<S: Sign, D: Disk, R: Wait>(
     ensures memory { result.memory ≡ true → taken_in rounds.new.flusher ≡ settled_in rounds.new.flusher }
     ensures others { (result.output ≡ false) × (result.input ≡ false) }
     ensures node { rounds.new.node ≡ rounds.old.node }
+    ensures alone { spare_of (journal_of rounds.new.flusher) ≡ None }
     ensures more { Begins (settled_in rounds.old.flusher) (settled_in rounds.new.flusher) }
     // What came before stays as it was.
-    ensures earlier { is_down rounds.new.flusher ≡ false → KeepsEarlier S.scheme rounds.old.node (settled_in rounds.old.flusher) (settled_in rounds.new.flusher) (D.device.content (disk_of (journal_of rounds.old.flusher))) (D.device.content (disk_of (journal_of rounds.new.flusher))) }
+    ensures earlier { is_down rounds.new.flusher ≡ false → KeepsEarlier S.scheme rounds.old.node (settled_in rounds.old.flusher) (settled_in rounds.new.flusher) (alone (D.device.content (disk_of (journal_of rounds.old.flusher)))) (alone (D.device.content (disk_of (journal_of rounds.new.flusher)))) }
     ensures any_moment { is_down rounds.old.flusher ≡ false → AtEachMoment D.device (disk_of (journal_of rounds.old.flusher)) (disk_of (journal_of rounds.new.flusher)) (HoldsMore S.scheme rounds.old.node (settled_in rounds.old.flusher) (D.device.content (disk_of (journal_of rounds.old.flusher)))) }
+    ensures at_end { is_down rounds.old.flusher ≡ false → LeavesSettled S.scheme D.device rounds.old.node rounds.old.flusher (settled_in rounds.new.flusher) (disk_of (journal_of rounds.new.flusher)) }
 {
     for _ in rt.forever() {
         let round = rounds.round(rt);

@@ -9,6 +9,7 @@ mod due;
 mod flushing;
 mod intake;
 mod member;
+mod ran;
 mod reading;
 mod running;
 mod starting;
@@ -16,4 +17,5 @@ mod threads;
 mod writing;
 
 pub use node_io::Ending;
+pub use ran::Ran;
 pub use running::{run, run_over};

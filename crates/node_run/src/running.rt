@@ -4,11 +4,13 @@ ghost use Rattle.std.specs.Prelude.{◌≡◌, ◌≢◌, ◌⊎◌, Some, IfSom
 ghost use Rattle.wire.specs.declared.keys.Key.{Key};
 ghost use Rattle.validator.specs.Setting.{ConfigView, node_of};
 ghost use Rattle.node_io.specs.Endings.{status_of};
-ghost use Rattle.node_io.specs.declared.ending.Ending.{Ending as Ended};
 ghost use Rattle.node_run.specs.Members.{IsConfigOf, RefusesConfig, RefusesOpening};
-ghost use Rattle.node_run.specs.Runs.{RunsOver, RunsAs};
+ghost use Rattle.node_run.specs.Runs.{RunsOver, GivesOnly, RunsAs};
+ghost use Rattle.disk_file.specs.declared.disk.FileDisk.{FileDisk};
+ghost use Rattle.node_run.specs.declared.ran.Ran.{Ran};
 
 use crate::member::run_member;
+use crate::ran::Ran;
 use crate::starting::{config_of, open_all};
 use disk_file::FileDisk;
 use diskmodel::Disk;
@@ -22,8 +24,8 @@ use std::sync::Wait;
 use std::thread::Threads;
 
 /// Runs a node. The arguments are a committee file, the own number and a journal file. Frames are read until they end, refusals go to
-/// the errors, a line each, and outputs to the writer. Answers the exit status; where that isn't 0 the last line of the errors
-/// says why.
+/// the errors, a line each, and outputs to the writer. Answers the exit status, and the writer, if it wasn't lost; where the status
+/// isn't 0 the last line of the errors says why.
 pub fn run<R, I, W, E>(
     rt: &R,
     alloc: Global,
@@ -31,23 +33,27 @@ pub fn run<R, I, W, E>(
     reader: I,
     writer: W,
     errors: &mut E,
-) -> u8
+) -> (u8, Option<W>)
 where
     R: Files<File = File> + AllocGlobal + Threads + Wait + Sync,
     I: Read + Drop,
     W: Write + Drop + Send,
     E: Write,
-    ensures arguments { length args.now ≢ 3 → result ≡ 2 }
-    // Either the ending says why nothing was opened, or the member of that number ran over a disk.
-    ensures ending { (ending : Ended) × (result ≡ status_of ending) × IfSome (slice_get args.now 1) (λ own. RefusesOpening (string_bytes own) ending
-        ⊎ RunsAs ⟦<HashSign as Sign>⟧.scheme ⟦<FileDisk as Disk>⟧.device (string_bytes own) ending) }
+    ensures arguments { length args.now ≢ 3 → (result.0 ≡ 2) × (result.1 ≡ Some writer) }
+    // Either the ending says why nothing was opened, and nothing was written, or the member of that number ran over a disk.
+    ensures ending { (ran : Ran FileDisk W) × (result.0 ≡ status_of ran.ending) × (result.1 ≡ ran.writer) × IfSome (slice_get args.now 1) (λ own. (RefusesOpening (string_bytes own) ran.ending × (ran.writer ≡ Some writer))
+        ⊎ RunsAs ⟦<HashSign as Sign>⟧.scheme ⟦<FileDisk as Disk>⟧.device W.contents (string_bytes own) writer ran) }
 {
-    let ending = run_named(rt, alloc, args, reader, writer, errors);
+    let Ran {
+        ending,
+        disk: _,
+        writer,
+    } = run_named(rt, alloc, args, reader, writer, errors);
     ending.write_to(errors);
-    ending.status()
+    (ending.status(), writer)
 }
 
-// Runs a node that the arguments name. Answers how that ended.
+// Runs a node that the arguments name.
 fn run_named<R, I, W, E>(
     rt: &R,
     alloc: Global,
@@ -55,26 +61,38 @@ fn run_named<R, I, W, E>(
     reader: I,
     writer: W,
     errors: &mut E,
-) -> Ending
+) -> Ran<FileDisk, W>
 where
     R: Files<File = File> + AllocGlobal + Threads + Wait + Sync,
     I: Read + Drop,
     W: Write + Drop + Send,
     E: Write,
-    ensures arguments { length args.now ≢ 3 → result ≡ Ending.Usage }
-    ensures named { IfSome (slice_get args.now 1) (λ own. RefusesOpening (string_bytes own) result
-        ⊎ RunsAs ⟦<HashSign as Sign>⟧.scheme ⟦<FileDisk as Disk>⟧.device (string_bytes own) result) }
+    ensures arguments { length args.now ≢ 3 → (result.ending ≡ Ending.Usage) × (result.writer ≡ Some writer) }
+    ensures named { IfSome (slice_get args.now 1) (λ own. (RefusesOpening (string_bytes own) result.ending × (result.writer ≡ Some writer))
+        ⊎ RunsAs ⟦<HashSign as Sign>⟧.scheme ⟦<FileDisk as Disk>⟧.device W.contents (string_bytes own) writer result) }
 {
     let (config, disk) = match open_all(rt, alloc, args) {
         Ok(opened) => opened,
-        Err(ending) => return ending,
+        Err(ending) => return not_run(ending, None, writer),
     };
-    let (ending, _) = run_member(rt, alloc, &config, disk, reader, writer, errors);
-    ending
+    run_member(rt, alloc, &config, disk, reader, writer, errors)
 }
 
-/// The same over a disk, with the text of the committee file and the own number. Answers how the run ended, and the disk, if it was
-/// opened and not lost with a thread that couldn't be made.
+// What a run gives back that could not be opened.
+fn not_run<D, W>(ending: Ending, disk: Option<D>, writer: W) -> Ran<D, W>
+    ensures ending { result.ending ≡ ending }
+    ensures disk { result.disk ≡ disk }
+    ensures writer { result.writer ≡ Some writer }
+{
+    Ran {
+        ending,
+        disk,
+        writer: Some(writer),
+    }
+}
+
+/// The same over a disk, with the text of the committee file and the own number. Answers how the run ended, the disk, if it was
+/// opened and not lost with a thread that couldn't be made, and the writer, if it wasn't lost so or where an allocation failed.
 pub fn run_over<R, D, I, W, E>(
     rt: &R,
     alloc: Global,
@@ -83,22 +101,24 @@ pub fn run_over<R, D, I, W, E>(
     reader: I,
     writer: W,
     errors: &mut E,
-) -> (Ending, Option<D>)
+) -> Ran<D, W>
 where
     R: Threads + Wait + Sync,
     D: Disk + Drop + Send,
     I: Read + Drop,
     W: Write + Drop + Send,
     E: Write,
-    // Either the text and the number make a configuration, with which it runs; or the ending says why not, and the disk is as it was.
-    ensures { ((config : ConfigView Key) × IsConfigOf named.entry.0.now named.entry.1.now config × RunsOver (node_of ⟦<HashSign as Sign>⟧.scheme config) D.device disk result.0 result.1)
-        ⊎ (RefusesConfig named.entry.0.now named.entry.1.now result.0 × (result.1 ≡ Some disk)) }
+    // Either the text and the number make a configuration, with which it runs, and what it wrote is on the disk; or the ending says why
+    // not, and the disk and the writer are as they were.
+    ensures { ((config : ConfigView Key) × IsConfigOf named.entry.0.now named.entry.1.now config × RunsOver (node_of ⟦<HashSign as Sign>⟧.scheme config) D.device disk result.ending result.disk
+        × GivesOnly (node_of ⟦<HashSign as Sign>⟧.scheme config) D.device W.contents disk writer result)
+        ⊎ (RefusesConfig named.entry.0.now named.entry.1.now result.ending × (result.disk ≡ Some disk) × (result.writer ≡ Some writer)) }
 {
     let (text, own) = named;
-    let (ending, disk) = match config_of(alloc, text, own) {
+    let ran = match config_of(alloc, text, own) {
         Ok(config) => run_member(rt, alloc, &config, disk, reader, writer, errors),
-        Err(ending) => (ending, Some(disk)),
+        Err(ending) => not_run(ending, Some(disk), writer),
     };
-    ending.write_to(errors);
-    (ending, disk)
+    ran.ending.write_to(errors);
+    ran
 }

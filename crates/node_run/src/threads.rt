@@ -1,15 +1,16 @@
 //! The threads of a node.
 
-ghost use Rattle.std.specs.Prelude.{◌≡◌, Bool, false, None, IfOk, IfSome};
+ghost use Rattle.std.specs.Prelude.{◌≡◌, Bool, true, false, [], None, IfOk, IfSome};
+ghost use Rattle.std.specs.Io.Buffered.{writer_buffer, writer_contents, writer_inner};
 ghost use Rattle.diskmodel.specs.Disk.{AtEachMoment};
-ghost use Rattle.journal.specs.Journal.{disk_of};
+ghost use Rattle.journal.specs.Journal.{disk_of, spare_of};
 ghost use Rattle.flusher.specs.Rounds.{journal_of, is_down, settled_in};
-ghost use Rattle.validator.specs.Setting.{node_of};
+ghost use Rattle.wire.specs.Lists.{Begins};
 ghost use Rattle.node_io.specs.Endings.{behind_input};
 ghost use Rattle.node_io.specs.declared.input.End.{End};
 ghost use Rattle.node_run.specs.Ends.{TellsRounds};
-ghost use Rattle.node_run.specs.Runs.{HoldsMore};
-ghost use Rattle.node_run.specs.Writing.{no_faults, no_memory};
+ghost use Rattle.node_run.specs.Runs.{HoldsMore, AreSettled};
+ghost use Rattle.node_run.specs.Writing.{no_faults, no_memory, HasWritten};
 
 use crate::bell::{Bell, Bells};
 use crate::beside::{Work, do_beside};
@@ -24,12 +25,12 @@ use node_io::{Faults, Input};
 use sigface::Sign;
 use std::alloc::{AllocError, Global};
 use std::io::{BufWriter, Read, Write};
-use std::marker::PhantomData;
+use std::marker::{Model, PhantomData};
 use std::sync::Wait;
 use std::thread::Threads;
 use validator::Config;
 
-// What the thread does that flushes: it gives the disk back.
+// What the thread does that flushes a journal on one disk: it gives its rounds back.
 #[derive(Drop)]
 struct Flushing<'n, 'a, S: Sign, D: Disk> {
     rounds: Rounds<'n, 'a, S, D>,
@@ -38,24 +39,41 @@ struct Flushing<'n, 'a, S: Sign, D: Disk> {
     config: PhantomData<&'a Config<S>>,
 }
 
-impl<'n, 'a, R: Wait, S: Sign, D: Disk> Work<R, (Faults, D)> for Flushing<'n, 'a, S, D> {
-    ghost use Rattle.validator.specs.Setting.{node_of};
+impl<'n, 'a, S: Sign, D: Disk> Model for Flushing<'n, 'a, S, D> {
+    ghost use Rattle.std.specs.Prelude.{◌≡◌, None};
+    ghost use Rattle.std.specs.Coded.{codes};
+    ghost use Rattle.votebook.specs.contracts.book.VoteBook as votes;
+    ghost use Rattle.flusher.specs.Rounds.{journal_of};
+    ghost use Rattle.journal.specs.Journal.{spare_of};
+    ghost use Rattle.node.specs.Callers.{RoundsView};
+
+    ghost Value = { RoundsView S D };
+
+    ghost coded = { Prim.hlevel (codes, S.code, D.code, votes.the_row.coded) };
+
+    ghost view = { λ f. f.rounds };
+
+    ghost invariant = { λ f. spare_of (journal_of f.rounds.flusher) ≡ None };
+}
+
+impl<'n, 'a, R: Wait, S: Sign, D: Disk + Drop> Work<R, (Faults, Rounds<'n, 'a, S, D>)>
+    for Flushing<'n, 'a, S, D> {
     ghost use Rattle.node_run.specs.Runs.{HasFlushed};
 
-    ghost does = { λ work result. HasFlushed S.scheme D.device work.rounds.node work.rounds.flusher result.0 result.1 };
+    ghost does = { λ work result. HasFlushed S.scheme D.device work result.1 result.0 };
 
-    fn work(self, rt: &R) -> (Faults, D) {
+    fn work(self, rt: &R) -> (Faults, Rounds<'n, 'a, S, D>) {
         let Flushing {
             mut rounds,
             bells,
             config: _,
         } = self;
         let faults = flush_all(rt, &mut rounds, &bells.pending, &bells.settled);
-        (faults, rounds.into_disk())
+        (faults, rounds)
     }
 }
 
-// What the thread does that writes: it gives its sink back.
+// What the thread does that writes: it gives its writer back, and what it called the node with.
 #[derive(Drop)]
 struct Writing<'n, 'a, S: Sign, W: Write + Drop> {
     caller: Caller<'n, 'a, S>,
@@ -63,24 +81,38 @@ struct Writing<'n, 'a, S: Sign, W: Write + Drop> {
     settled: &'n Bell,
 }
 
-impl<'n, 'a, R: Wait, S: Sign, W: Write + Drop> Work<R, Sink<W>> for Writing<'n, 'a, S, W> {
+// What comes of that.
+#[derive(Drop)]
+struct Wrote<'n, 'a, S: Sign, W> {
+    caller: Caller<'n, 'a, S>,
+    writer: W,
+    faults: Faults,
+}
+
+impl<'n, 'a, R: Wait, S: Sign, W: Write + Drop> Work<R, Wrote<'n, 'a, S, W>>
+    for Writing<'n, 'a, S, W> {
+    ghost use Rattle.std.specs.Prelude.{◌≡◌, All, false};
     ghost use Rattle.std.specs.Io.Buffered.{writer_contents};
-    ghost use Rattle.node_seats.specs.declared.view.View.{View};
-    ghost use Rattle.wire.specs.Lists.{Begins};
-    ghost use Rattle.validator.specs.Setting.{node_of};
-    ghost use Rattle.node_run.specs.Writing.{MayGo, WritesOnly};
+    ghost use Rattle.node.specs.Callers.{StaysWith};
+    ghost use Rattle.node_run.specs.Writing.{HasWritten, MayGo};
 
-    ghost does = { λ work sink. (view : View) × Begins work.caller.seat.view.firm view.firm
-        × WritesOnly (MayGo S.scheme work.caller.node view) work.sink.faults sink.faults (writer_contents W.contents work.sink.writer) (writer_contents W.contents sink.writer) };
+    ghost does = { λ work result. StaysWith work.caller result.caller
+        × HasWritten (All (MayGo S.scheme work.caller.node result.caller.seat.view)) (result.faults.output ≡ false) (writer_contents W.contents work.sink.writer) (W.contents result.writer)
+        × (result.faults ≡ record work.sink.faults { output = result.faults.output; memory = result.faults.memory }) };
 
-    fn work(self, rt: &R) -> Sink<W> {
+    fn work(self, rt: &R) -> Wrote<'n, 'a, S, W> {
         let Writing {
             mut caller,
             mut sink,
             settled,
         } = self;
         write_outputs(rt, &mut caller, &mut sink, settled);
-        sink
+        let (faults, writer) = sink.finish();
+        Wrote {
+            caller,
+            writer,
+            faults,
+        }
     }
 }
 
@@ -136,6 +168,8 @@ impl<'n, 'a, 'e, S: Sign, I: Read + Drop, W: Write + Drop, E: Write> Desks<'n, '
         requires setting { rounds.old.node.setting ≡ config.now }
         ensures same { rounds.new ≡ rounds.old }
         ensures faults { IfOk result (λ desks. desks.writing.sink.faults ≡ no_faults) }
+        ensures node { IfOk result (λ desks. desks.writing.caller.node ≡ rounds.old.node) }
+        ensures writer { IfOk result (λ desks. (writer_inner desks.writing.sink.writer ≡ writer) × (writer_buffer desks.writing.sink.writer ≡ [])) }
     {
         Ok(Desks {
             reading: Reading {
@@ -154,7 +188,9 @@ impl<'n, 'a, 'e, S: Sign, I: Read + Drop, W: Write + Drop, E: Write> Desks<'n, '
     }
 }
 
-fn buffered<W: Write + Drop>(alloc: Global, writer: W) -> Result<BufWriter<W>, AllocError> {
+fn buffered<W: Write + Drop>(alloc: Global, writer: W) -> Result<BufWriter<W>, AllocError>
+    ensures { IfOk result (λ buffered. (writer_inner buffered ≡ writer) × (writer_buffer buffered ≡ [])) }
+{
     match BufWriter::new(alloc, writer) {
         Ok(writer) => Ok(writer),
         Err(_) => Err(AllocError),
@@ -162,12 +198,12 @@ fn buffered<W: Write + Drop>(alloc: Global, writer: W) -> Result<BufWriter<W>, A
 }
 
 /// Reads in this thread, and flushes and writes in two others, until all has been read, flushed and written. Answers what went wrong,
-/// and the disk, if it wasn't lost with a thread that couldn't be made.
+/// the disk, if it wasn't lost with a thread that couldn't be made, and the writer, if none was lost so.
 pub(crate) fn run_threads<'n, 'a, 'e, R, S, D, I, W, E>(
     rt: &R,
     rounds: Rounds<'n, 'a, S, D>,
     desks: Desks<'n, 'a, 'e, S, I, W, E>,
-) -> (Faults, Option<D>)
+) -> (Faults, Option<D>, Option<W>)
 where
     R: Threads + Wait + Sync,
     S: Sign + Send + Sync + Drop,
@@ -175,11 +211,18 @@ where
     I: Read + Drop,
     W: Write + Drop + Send,
     E: Write,
-    requires { desks.writing.sink.faults ≡ no_faults }
+    requires faults { desks.writing.sink.faults ≡ no_faults }
+    // The journal is on one disk.
+    requires alone { spare_of (journal_of rounds.flusher) ≡ None }
+    requires node { desks.writing.caller.node ≡ rounds.node }
     ensures told { IfSome result.1 (λ left. TellsRounds (D.device.faults (disk_of (journal_of rounds.entry.flusher))) (D.device.faults left) result.0.journal) }
     ensures lost { result.1 ≡ None → result.0 ≡ no_memory }
+    // A writer that is lost is reported as want of memory.
+    ensures unwritten { result.2 ≡ None → (result.0.output ≡ false) × (result.0.memory ≡ true) }
     // A stop at any moment leaves what was settled, and perhaps more after it.
     ensures any_moment { is_down rounds.entry.flusher ≡ false → IfSome result.1 (λ left. AtEachMoment D.device (disk_of (journal_of rounds.entry.flusher)) left (HoldsMore S.scheme rounds.entry.node (settled_in rounds.entry.flusher) (D.device.content (disk_of (journal_of rounds.entry.flusher))))) }
+    // What was written is on the disk.
+    ensures given { is_down rounds.entry.flusher ≡ false → IfSome result.1 (λ left. IfSome result.2 (λ later. HasWritten (AreSettled S.scheme D.device rounds.entry.node rounds.entry.flusher left) (result.0.output ≡ false) (writer_contents W.contents desks.entry.writing.sink.writer) (W.contents later))) }
 {
     let Desks {
         reading,
@@ -192,15 +235,46 @@ where
         config: PhantomData,
     };
     let close = || bells.pending.close(rt);
-    let Some((flushed, others)) = read_beside(rt, flushing, writing, reading, close) else {
-        return (Faults::of_memory(), None);
+    let Some(((flushed, rounds), others)) = read_beside(rt, flushing, writing, reading, close)
+    else {
+        return (Faults::of_memory(), None, None);
     };
-    let beside = match others {
-        Some((sink, read)) => read.and(sink.faults()),
-        None => Faults::of_memory(),
+    let Some((wrote, read)) = others else {
+        return (
+            Faults::of_memory().and(flushed),
+            Some(rounds.into_disk()),
+            None,
+        );
     };
-    let (faults, disk) = flushed;
-    (beside.and(faults), Some(disk))
+    let faults = read.and(wrote.faults).and(flushed);
+    let (disk, writer) = give_back(rt, rounds, wrote);
+    (faults, Some(disk), Some(writer))
+}
+
+// The disk, and the writer, whose outputs are then known to be on that disk.
+fn give_back<'n, 'a, R, S, D, W>(
+    rt: &R,
+    mut rounds: Rounds<'n, 'a, S, D>,
+    wrote: Wrote<'n, 'a, S, W>,
+) -> (D, W)
+where
+    R: Wait,
+    S: Sign,
+    D: Disk + Drop,
+    W: Write + Drop,
+    requires alone { spare_of (journal_of rounds.flusher) ≡ None }
+    requires node { wrote.caller.node ≡ rounds.node }
+    ensures disk { result.0 ≡ disk_of (journal_of rounds.entry.flusher) }
+    ensures writer { result.1 ≡ wrote.entry.writer }
+    ensures covers { Begins wrote.entry.caller.seat.view.firm (settled_in rounds.entry.flusher) }
+{
+    let Wrote {
+        mut caller,
+        writer,
+        faults: _,
+    } = wrote;
+    caller.cover(rt, &mut rounds);
+    (rounds.into_disk(), writer)
 }
 
 // The same, of which the third work is the one that reads: the prover searches too long for the lifetimes of all three at once.

@@ -1,13 +1,13 @@
 //! The thread that writes what goes out.
 
-ghost use Rattle.std.specs.Prelude.{◌≡◌, true, false};
+ghost use Rattle.std.specs.Prelude.{◌≡◌, [], true, false};
 ghost use Rattle.std.specs.Io.Buffered.{writer_contents};
 ghost use Rattle.std.specs.Io.KnownBytes.{Keeps};
 ghost use Rattle.wire.specs.Lists.{Begins};
 ghost use Rattle.node_seats.specs.Views.{IsSame};
 ghost use Rattle.node.specs.Callers.{StaysWith};
 ghost use Rattle.wire.specs.Outputs.{frame_of};
-ghost use Rattle.node_run.specs.Writing.{no_faults, Puts, MayGo, WritesNext, WritesOnly};
+ghost use Rattle.node_run.specs.Writing.{no_faults, HoldsPart, Puts, MayGo, WritesNext, WritesOnly};
 
 use crate::bell::Bell;
 use crate::caller::Caller;
@@ -102,11 +102,26 @@ impl<W: Write + Drop> Sink<W> {
         }
     }
 
-    /// What went wrong.
-    pub(crate) fn faults(&self) -> Faults
-        ensures { result ≡ self.now.faults }
+    /// Gives the writer back, with all that was put, and says what went wrong. Where the writer fails it may lack the last bytes of that.
+    pub(crate) fn finish(self) -> (Faults, W)
+        ensures faults { result.0 ≡ record self.faults { output = result.0.output } }
+        ensures broken { self.faults.output ≡ true → result.0.output ≡ true }
+        ensures part { HoldsPart (writer_contents W.contents self.writer) (W.contents result.1) [] }
+        ensures whole { result.0.output ≡ false → Keeps (writer_contents W.contents self.writer) (W.contents result.1) }
     {
-        self.faults
+        let Sink {
+            alloc: _,
+            writer,
+            mut faults,
+        } = self;
+        match writer.into_inner() {
+            Ok(writer) => (faults, writer),
+            Err(error) => {
+                faults.output = true;
+                let (writer, _) = error.into_inner().into_parts();
+                (faults, writer)
+            }
+        }
     }
 
     // Puts the frame of an output after what was written, and lets go of it.

@@ -1,5 +1,5 @@
 -- A flush seat that is tied to a book at home, and what it settles.
-use Rattle.std.proofs.Common.{◌≡◌, ◌≤◌, ℕ, List, length, take, refl, sym, ap, ◌∙◌, subst, arith}
+use Rattle.std.proofs.Common.{◌≡◌, ◌≤◌, ℕ, Bool, false, List, length, take, refl, sym, ap, ◌∙◌, subst, arith}
 use Rattle.std.proofs.lemmas.List.{length-map, length-take-le}
 use Rattle.wire.specs.Lists.{Begins}
 use Rattle.node_seats.specs.Sights.{SeatView}
@@ -7,7 +7,7 @@ use Rattle.node_seats.specs.Views.{events, IsSame}
 use Rattle.node_seats.specs.declared.view.Marked.{Marked}
 use Rattle.node_seats.proofs.Beginnings.{begins_length, begins_whole, take_begins}
 use Rattle.node_seats.proofs.Same.{same_then}
-use Rattle.std.specs.Prelude.{None}
+use Rattle.std.specs.Prelude.{is_some}
 use Rattle.book.specs.Book.{BookView}
 use Rattle.sigface.specs.Scheme.{Scheme}
 use Rattle.node_shared.specs.Calls.{SettlesTaken}
@@ -22,9 +22,10 @@ firm_same one other count begins first second = sym (begins_whole one other begi
 
 -- a seat that knows just what the book's seat does, and numbers that are the book's
 pub tied_with : {S : Type 0} (shared : NodeView S) (scheme : Scheme S) (seat : SeatView) (book : BookView S) → IsAtHome scheme shared seat book
-    → (mine : SeatView) (settled taken : ℕ) → IsOf shared mine → mine.view.seen ≡ seat.view.seen → mine.view.firm ≡ seat.view.firm → Begins mine.view.firm mine.view.seen
-    → settled ≤ taken → book.settled ≡ settled → book.taken ≡ taken → book.rewriting ≡ None → IsTied shared seat book (record { seat = mine; settled = settled; taken = taken })
-tied_with shared scheme seat book home mine settled taken of_node seen firm begins rising settled_is taken_is alone =
+    → (mine : SeatView) (settled taken : ℕ) (rewriting : Bool) → IsOf shared mine → mine.view.seen ≡ seat.view.seen → mine.view.firm ≡ seat.view.firm → Begins mine.view.firm mine.view.seen
+    → settled ≤ taken → book.settled ≡ settled → book.taken ≡ taken → is_some book.rewriting ≡ rewriting
+    → IsTied shared seat book (record { seat = mine; settled = settled; taken = taken; rewriting = rewriting })
+tied_with shared scheme seat book home mine settled taken rewriting of_node seen firm begins rising settled_is taken_is rewriting_is =
     let stood = home.stands home.somewhere.0 home.somewhere.1 in
     let firm_size = length-map seat.view.firm (λ (one : Marked). one.event) in
     let seen_size = length-map seat.view.seen (λ (one : Marked). one.event) in
@@ -41,15 +42,15 @@ tied_with shared scheme seat book home mine settled taken of_node seen firm begi
       firm = firm;
       settled = settled_is;
       taken = taken_is;
-      alone = alone;
+      rewriting = rewriting_is;
     }
 
 -- a flush seat whose seat then knows all that it had taken as settled
 pub settles_taken : {S : Type 0} (shared : NodeView S) (flush : FlushSeat) → IsFlushOf shared flush → (mid other : SeatView) → IsSame flush.seat mid → mid.view.seen ≡ flush.seat.view.seen
-    → mid.view.firm ≡ taken_by flush → other ≡ mid → SettlesTaken shared flush (record { seat = other; settled = flush.taken; taken = flush.taken })
+    → mid.view.firm ≡ taken_by flush → other ≡ mid → SettlesTaken shared flush (record { seat = other; settled = flush.taken; taken = flush.taken; rewriting = false })
 settles_taken shared flush of mid other same seen firm other_is =
     let size : length (taken_by flush) ≡ flush.taken = length-take-le flush.taken flush.seat.view.seen of.seen in
-    subst (λ (s : SeatView). SettlesTaken shared flush (record { seat = s; settled = flush.taken; taken = flush.taken })) (sym other_is) (record {
+    subst (λ (s : SeatView). SettlesTaken shared flush (record { seat = s; settled = flush.taken; taken = flush.taken; rewriting = false })) (sym other_is) (record {
       flush_of = record {
         of_node = of_same shared flush.seat mid of.of_node same;
         settled = sym size ∙ ap length (sym firm);
@@ -62,18 +63,24 @@ settles_taken shared flush of mid other same seen firm other_is =
       firm = firm;
       settled = refl;
       taken = refl;
+      idle = refl;
     })
+
+-- a flush seat that has taken as much, and has seen more, has taken the same
+pub taken_from : {S : Type 0} (shared : NodeView S) (before mid : FlushSeat) → IsFlushOf shared before → mid.taken ≡ before.taken → Begins before.seat.view.seen mid.seat.view.seen
+    → taken_by mid ≡ taken_by before
+taken_from shared before mid of taken seen =
+    ap (λ (n : ℕ). take n mid.seat.view.seen) taken ∙ same_front before.seat.view.seen mid.seat.view.seen before.taken seen of.seen
 
 -- so it is from a flush seat on that had taken as much, and had seen no more
 pub settles_from : {S : Type 0} (shared : NodeView S) (before mid later : FlushSeat) → IsFlushOf shared before → IsSame before.seat mid.seat → mid.taken ≡ before.taken
     → Begins before.seat.view.seen mid.seat.view.seen → SettlesTaken shared mid later → SettlesTaken shared before later
 settles_from shared before mid later of same taken seen settles =
-    let front : taken_by mid ≡ taken_by before =
-    ap (λ (n : ℕ). take n mid.seat.view.seen) taken ∙ same_front before.seat.view.seen mid.seat.view.seen before.taken seen of.seen in
     record {
       flush_of = settles.flush_of;
       same = same_then before.seat mid.seat later.seat same settles.same;
-      firm = settles.firm ∙ front;
+      firm = settles.firm ∙ taken_from shared before mid of taken seen;
       settled = settles.settled ∙ taken;
       taken = settles.taken ∙ taken;
+      idle = settles.idle;
     }

@@ -1,12 +1,12 @@
 -- What a call of a shared node does to the seats that it is made with.
-use Rattle.std.specs.Prelude.{◌≡◌, true, List, [], ℕ, Option, IsNone, Result, IfOk, IfSome, OnErr}
+use Rattle.std.specs.Prelude.{◌≡◌, true, false, List, [], ℕ, Option, IsNone, Result, IfOk, IfSome, OnOk, OnErr}
 use Rattle.wire.specs.Lists.{Begins}
 use Rattle.spec_machine.specs.After.{IsLegalAfter}
 use Rattle.spec_model.specs.States.{State}
 use Rattle.validator.specs.Setting.{node_of}
 use Rattle.node_seats.specs.Sights.{SeatView}
 use Rattle.node_seats.specs.Views.{events, HasOwn, IsSame}
-use Rattle.node_shared.specs.Home.{NodeView, IsBase, IsOf, IsFlushOf, TakesNext, taken_by}
+use Rattle.node_shared.specs.Home.{NodeView, IsBase, IsOf, IsFlushOf, TakesNext, IsCheckpointAfter, taken_by}
 use Rattle.node_shared.specs.declared.flush_seat.FlushSeat.{FlushSeat}
 use Rattle.sigface.specs.Scheme.{Scheme}
 
@@ -71,15 +71,23 @@ pub record Takes {E : Type 0} (before later : FlushSeat) (result : Result (Optio
   pub group : IfOk result (λ found. IfSome found (λ group. TakesNext later group))
   pub err : OnErr result (later.taken ≡ before.taken)
 
--- all that it had taken is settled
+-- what it took for a checkpoint: all that it has seen, of which these records are one; or nothing, where an allocation failed
+pub record TakesAll {S E : Type 0} (scheme : Scheme S) (node : NodeView S) (before later : FlushSeat) (result : Result (List (List ℕ)) E) : Type 0 where
+  pub all : OnOk result ((taken_by later ≡ later.seat.view.seen) × (later.rewriting ≡ true))
+  pub checkpoint : IfOk result (λ records. IsCheckpointAfter scheme node (taken_by later) records)
+  pub err : OnErr result ((later.taken ≡ before.taken) × (later.rewriting ≡ false))
+
+-- all that it had taken is settled, and nothing is in flight
 pub record SettlesTaken {S : Type 0} (node : NodeView S) (before later : FlushSeat) : Type 0 where
   pub flush_of : IsFlushOf node later
   pub same : IsSame before.seat later.seat
   pub firm : later.seat.view.firm ≡ taken_by before
   pub settled : later.settled ≡ before.taken
   pub taken : later.taken ≡ before.taken
+  pub idle : later.rewriting ≡ false
 
 -- it counts as it did
 pub record CountsAs (before later : FlushSeat) : Type 0 where
   pub settled : later.settled ≡ before.settled
   pub taken : later.taken ≡ before.taken
+  pub rewriting : later.rewriting ≡ before.rewriting

@@ -1,5 +1,5 @@
 -- A shared node, its seats, and the book under its lock.
-use Rattle.std.specs.Prelude.{◌≡◌, ◌≤◌, ℕ, ◌+◌, List, length, map, take, drop, None, IfSome, true}
+use Rattle.std.specs.Prelude.{◌≡◌, ◌≤◌, ℕ, ◌+◌, List, length, map, take, drop, is_some, IfSome, true}
 use Rattle.atomic_table.specs.Seated.{TableId}
 use Rattle.admission.specs.declared.tables.Tables.{Tables}
 use Rattle.spec_machine.specs.After.{after_all}
@@ -14,7 +14,7 @@ use Rattle.node_seats.specs.Sights.{SeatView}
 use Rattle.node_seats.specs.Views.{events}
 use Rattle.node_seats.specs.declared.view.Marked.{Marked}
 use Rattle.node_seats.specs.declared.view.View.{View}
-use Rattle.book.specs.Book.{BookView, Run, Stands}
+use Rattle.book.specs.Book.{BookView, Run, Stands, IsCheckpoint}
 use Rattle.book.specs.Pending.{IsLongestBeginning}
 use Rattle.node_shared.specs.declared.flush_seat.FlushSeat.{FlushSeat}
 use Rattle.sigface.specs.Scheme.{Scheme}
@@ -30,6 +30,12 @@ pub record NodeView (S : Type 0) : Type 0 where
 -- one (`Node::limits_hold`, `admission::one_state`)
 abbrev pub IsBase : {S : Type 0} → Scheme S → NodeView S → State → Type 0
 IsBase scheme node base = AreAtSound (node_of scheme node.setting) node.begun base
+
+-- from each base of a node on these records are a checkpoint of the state after these events
+abbrev pub IsCheckpointAfter : {S : Type 0} → Scheme S → NodeView S → List Marked → List (List ℕ) → Type 0
+IsCheckpointAfter scheme node marked records =
+    let member = node_of scheme node.setting in
+    (base : State) → IsBase scheme node base → IsCheckpoint member (after_all member base (events marked)) records
 
 -- a seat is one of a node's: it is at its words, is no one that another took in, and knows its number
 pub record IsOf {S : Type 0} (node : NodeView S) (seat : SeatView) : Type 0 where
@@ -86,12 +92,12 @@ pub record IsAtHome {S : Type 0} (scheme : Scheme S) (node : NodeView S) (seat :
   pub down : book.down ≡ true → seat.view.down ≡ true
   pub whole : RewritesAllTaken book
 
--- A flush seat is tied to a book at home and its seat: it knows just what that one does, and counts as the book does, of which no rewriting is
--- in flight.
+-- A flush seat is tied to a book at home and its seat: it knows just what that one does, and counts as the book does, which has a rewriting in
+-- flight exactly where the seat says so.
 pub record IsTied {S : Type 0} (node : NodeView S) (seat : SeatView) (book : BookView S) (flush : FlushSeat) : Type 0 where
   pub flush_of : IsFlushOf node flush
   pub seen : flush.seat.view.seen ≡ seat.view.seen
   pub firm : flush.seat.view.firm ≡ seat.view.firm
   pub settled : book.settled ≡ flush.settled
   pub taken : book.taken ≡ flush.taken
-  pub alone : book.rewriting ≡ None
+  pub rewriting : is_some book.rewriting ≡ flush.rewriting

@@ -2,12 +2,14 @@
 
 use node_seats::Seat;
 
-/// The seat with which groups are taken and settled. There is one of a node.
+/// The seat with which groups and checkpoints are taken and settled. There is one of a node.
 pub struct FlushSeat {
     pub(crate) seat: Seat,
     // How many of the events that it has seen are settled, and how many are taken.
     pub(crate) settled: u64,
     pub(crate) taken: u64,
+    // Whether a checkpoint of all that is taken is in flight.
+    pub(crate) rewriting: bool,
 }
 
 impl Drop for FlushSeat {
@@ -16,6 +18,7 @@ impl Drop for FlushSeat {
             seat: _,
             settled: _,
             taken: _,
+            rewriting: _,
         } = self;
     }
 }

@@ -1,20 +1,20 @@
 //! What a node hands over for its disk, and what it is told of that.
 
-ghost use Rattle.std.specs.Prelude.{◌≡◌, ◌≤◌, true, None};
+ghost use Rattle.std.specs.Prelude.{◌≡◌, ◌≤◌, true, false, is_some};
 ghost use Rattle.wire.specs.Lists.{Begins};
 ghost use Rattle.spec_machine.specs.After.{IsLegalAfter};
 ghost use Rattle.spec_model.specs.States.{State};
 ghost use Rattle.validator.specs.Setting.{node_of};
 ghost use Rattle.node_seats.specs.Views.{events, IsSame};
 ghost use Rattle.node_seats.specs.Plays.{with_down};
-ghost use Rattle.node_shared.specs.Calls.{Looked, Learned, Stays, Takes, SettlesTaken, CountsAs};
-ghost use Rattle.node_shared.specs.Home.{IsBase, IsOf, IsAtHome, IsFlushOf, IsTied, group_of};
+ghost use Rattle.node_shared.specs.Calls.{Looked, Learned, Stays, Takes, TakesAll, SettlesTaken, CountsAs};
+ghost use Rattle.node_shared.specs.Home.{IsBase, IsOf, IsAtHome, IsFlushOf, IsTied, IsCheckpointAfter, taken_by, group_of};
 
 use crate::flush_seat::FlushSeat;
 use crate::home::Locked;
 use crate::node::Node;
 use book::Book;
-use journal::{Group, Synced};
+use journal::{Group, Snapshot, Synced};
 use node_seats::{Anything, Seat};
 use sigface::Sign;
 use std::alloc::AllocError;
@@ -32,11 +32,13 @@ impl<'a, S: Sign> Node<'a, S> {
     ) -> Result<Option<Group>, AllocError>
         requires flush { IsFlushOf self.now flush.old }
         requires rests { flush.old.taken ≡ flush.old.settled }
+        requires idle { flush.old.rewriting ≡ false }
         requires of { IsOf self.now seat.old }
         ensures flush { IsFlushOf self.now flush.new }
         ensures flush_same { IsSame flush.old.seat flush.new.seat }
         ensures flush_firm { flush.new.seat.view.firm ≡ flush.old.seat.view.firm }
         ensures flush_settled { flush.new.settled ≡ flush.old.settled }
+        ensures flush_idle { flush.new.rewriting ≡ false }
         ensures looked { Looked S.scheme self.now seat.old seat.new }
         ensures seen { Begins seat.new.view.seen flush.new.seat.view.seen }
         ensures legal { (base : State) → IsBase S.scheme self.now base → IsLegalAfter (node_of S.scheme self.now.setting) base (events flush.new.seat.view.seen) }
@@ -56,10 +58,46 @@ impl<'a, S: Sign> Node<'a, S> {
         unreachable!()
     }
 
-    /// Says that what is taken is on the disk, all of which is then settled.
+    /// Takes all that was accepted, with what the seat had seen, for a checkpoint of the state after it. Threads may submit events
+    /// meanwhile; until the checkpoint is settled no group can be taken. `AllocError` where an allocation failed: nothing was taken then.
+    pub fn take_all<R: Wait>(
+        &self,
+        rt: &R,
+        flush: &mut FlushSeat,
+        seat: &mut Seat,
+    ) -> Result<Snapshot, AllocError>
+        requires flush { IsFlushOf self.now flush.old }
+        requires rests { flush.old.taken ≡ flush.old.settled }
+        requires idle { flush.old.rewriting ≡ false }
+        requires of { IsOf self.now seat.old }
+        ensures flush { IsFlushOf self.now flush.new }
+        ensures flush_same { IsSame flush.old.seat flush.new.seat }
+        ensures flush_firm { flush.new.seat.view.firm ≡ flush.old.seat.view.firm }
+        ensures flush_settled { flush.new.settled ≡ flush.old.settled }
+        ensures looked { Looked S.scheme self.now seat.old seat.new }
+        ensures seen { Begins seat.new.view.seen flush.new.seat.view.seen }
+        ensures legal { (base : State) → IsBase S.scheme self.now base → IsLegalAfter (node_of S.scheme self.now.setting) base (events flush.new.seat.view.seen) }
+        ensures takes { TakesAll S.scheme self.now flush.old flush.new result }
+    {
+        self.meet(seat, &mut flush.seat);
+        for _ in rt.forever() {
+            let (turn, mut home) = self.lock.acquire(rt);
+            let locked = &mut *home;
+            if self.tie(rt, locked, flush) {
+                let snapshot = self.take_all_tied(locked, flush);
+                self.lock.release(turn, home);
+                return snapshot;
+            }
+            self.lock.release(turn, home);
+        }
+        unreachable!()
+    }
+
+    /// Says that what is taken is on the disk: the group, or where a checkpoint is in flight, that. All that is taken is then settled.
     pub fn settle<R: Wait>(&self, rt: &R, flush: &mut FlushSeat, synced: Synced)
         requires flush { IsFlushOf self.now flush.old }
-        requires synced { synced ≡ group_of flush.old }
+        requires group { flush.old.rewriting ≡ false → synced ≡ group_of flush.old }
+        requires checkpoint { flush.old.rewriting ≡ true → IsCheckpointAfter S.scheme self.now (taken_by flush.old) synced }
         ensures settles { SettlesTaken self.now flush.old flush.new }
     {
         for _ in rt.forever() {
@@ -139,9 +177,12 @@ impl<'a, S: Sign> Node<'a, S> {
         requires home { IsAtHome S.scheme self.now locked.old.seat locked.old.book }
         requires tied { IsTied self.now locked.old.seat locked.old.book flush.old }
         requires rests { flush.old.taken ≡ flush.old.settled }
+        requires idle { flush.old.rewriting ≡ false }
         ensures home { IsAtHome S.scheme self.now locked.new.seat locked.new.book }
+        ensures tied { IsTied self.now locked.new.seat locked.new.book flush.new }
         ensures flush { IsFlushOf self.now flush.new }
         ensures same { (flush.new.seat ≡ flush.old.seat) × (flush.new.settled ≡ flush.old.settled) }
+        ensures idle { flush.new.rewriting ≡ false }
         ensures takes { Takes flush.old flush.new result }
     {
         let Some(group) = locked.book.take()? else {
@@ -149,6 +190,27 @@ impl<'a, S: Sign> Node<'a, S> {
         };
         flush.taken = locked.book.taken();
         Ok(Some(group))
+    }
+
+    fn take_all_tied(
+        &self,
+        locked: &mut Locked<'a, S>,
+        flush: &mut FlushSeat,
+    ) -> Result<Snapshot, AllocError>
+        requires home { IsAtHome S.scheme self.now locked.old.seat locked.old.book }
+        requires tied { IsTied self.now locked.old.seat locked.old.book flush.old }
+        requires rests { flush.old.taken ≡ flush.old.settled }
+        requires idle { flush.old.rewriting ≡ false }
+        ensures home { IsAtHome S.scheme self.now locked.new.seat locked.new.book }
+        ensures tied { IsTied self.now locked.new.seat locked.new.book flush.new }
+        ensures flush { IsFlushOf self.now flush.new }
+        ensures same { (flush.new.seat ≡ flush.old.seat) × (flush.new.settled ≡ flush.old.settled) }
+        ensures takes { TakesAll S.scheme self.now flush.old flush.new result }
+    {
+        let snapshot = locked.book.take_all()?;
+        flush.taken = locked.book.taken();
+        flush.rewriting = true;
+        Ok(snapshot)
     }
 
     fn settle_tied<R: Wait>(
@@ -160,8 +222,10 @@ impl<'a, S: Sign> Node<'a, S> {
     )
         requires home { IsAtHome S.scheme self.now locked.old.seat locked.old.book }
         requires tied { IsTied self.now locked.old.seat locked.old.book flush.old }
-        requires synced { synced ≡ group_of flush.old }
+        requires group { flush.old.rewriting ≡ false → synced ≡ group_of flush.old }
+        requires checkpoint { flush.old.rewriting ≡ true → IsCheckpointAfter S.scheme self.now (taken_by flush.old) synced }
         ensures home { IsAtHome S.scheme self.now locked.new.seat locked.new.book }
+        ensures tied { IsTied self.now locked.new.seat locked.new.book flush.new }
         ensures settles { SettlesTaken self.now flush.old flush.new }
     {
         locked.book.settle(synced);
@@ -170,12 +234,13 @@ impl<'a, S: Sign> Node<'a, S> {
         self.words
             .catch_up_firm::<Anything, R>(rt, &mut locked.seat, &mut flush.seat, flush.taken);
         flush.settled = flush.taken;
+        flush.rewriting = false;
     }
 }
 
-// Whether a flush seat counts as a book does, which has no rewriting in flight.
+// Whether a flush seat counts as a book does, and says rightly whether a rewriting is in flight.
 fn counts_as<S: Sign>(book: &Book<'_, S>, flush: &FlushSeat) -> bool
-    ensures { result ≡ true → (book.now.settled ≡ flush.now.settled) × (book.now.taken ≡ flush.now.taken) × (book.now.rewriting ≡ None) }
+    ensures { result ≡ true → (book.now.settled ≡ flush.now.settled) × (book.now.taken ≡ flush.now.taken) × (is_some book.now.rewriting ≡ flush.now.rewriting) }
 {
     if book.settled() != flush.settled {
         return false;
@@ -183,5 +248,5 @@ fn counts_as<S: Sign>(book: &Book<'_, S>, flush: &FlushSeat) -> bool
     if book.taken() != flush.taken {
         return false;
     }
-    !book.is_rewriting()
+    book.is_rewriting() == flush.rewriting
 }

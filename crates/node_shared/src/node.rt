@@ -1,6 +1,6 @@
 //! The node.
 
-ghost use Rattle.std.specs.Prelude.{◌≡◌, IsOk, IfOk};
+ghost use Rattle.std.specs.Prelude.{◌≡◌, false, IsOk, IfOk};
 ghost use Rattle.validator.specs.Setting.{node_of};
 ghost use Rattle.validator.specs.Standing.{StandSomewhere};
 ghost use Rattle.node_shared.specs.Calls.{HasNothing, IsBeside};
@@ -59,6 +59,7 @@ impl<'a, S: Sign> Node<'a, S> {
         ensures nothing { IfOk result (λ made. HasNothing made.1) }
         ensures flush_seat { IfOk result (λ made. IsFlushOf made.0 made.2) }
         ensures flush_nothing { IfOk result (λ made. HasNothing made.2.seat × (made.2.taken ≡ 0)) }
+        ensures flush_idle { IfOk result (λ made. made.2.rewriting ≡ false) }
     {
         validator.limits_hold();
         let (words, mut own) = Words::new(alloc, &validator)?;
@@ -71,6 +72,7 @@ impl<'a, S: Sign> Node<'a, S> {
             seat: flush,
             settled: 0,
             taken: 0,
+            rewriting: false,
         };
         Ok((Node { words, lock }, seat, flush_seat))
     }

@@ -25,9 +25,9 @@ loop-preserved g c =
     done.full) in
     let output : c.and-faults.result.output ≡ false = search rules in
     let input : c.and-faults.result.input ≡ false = search rules in
-    let leaves = all_on g.S.Sign.scheme g.D.Disk.device c.args.rounds.now.node c.loop.rounds.node first mid now c.loop.invariant.5 c.loop.invariant.6 c.loop.invariant.7
-    (λ down. (done.stays down).1) done.any_moment done.earlier in
-    (tt, tt, output, input, told, done.node ∙ c.loop.invariant.5, begins_trans (settled_in first) (settled_in mid) (settled_in now) c.loop.invariant.6 done.more, inr leaves)
+    let leaves = all_on g.S.Sign.scheme g.D.Disk.device c.args.rounds.now.node c.loop.rounds.node first mid now c.loop.invariant.5 c.loop.invariant.6 c.loop.invariant.8
+    (λ down. (done.stays down).1) done.any_moment done.at_end done.earlier in
+    (tt, tt, output, input, told, done.node ∙ c.loop.invariant.5, begins_trans (settled_in first) (settled_in mid) (settled_in now) c.loop.invariant.6 done.more, done.alone, inr leaves)
 
 pub returns-then-not-may_go_on-clause-journal : goal.returns-then-not-may_go_on-clause-journal
 returns-then-not-may_go_on-clause-journal g c =
@@ -48,4 +48,10 @@ pub returns-then-not-may_go_on-clause-any_moment : goal.returns-then-not-may_go_
 returns-then-not-may_go_on-clause-any_moment g c = λ up.
     let done = c.flush_pending.ensures in
     (all_on g.S.Sign.scheme g.D.Disk.device c.args.rounds.now.node c.loop.rounds.node c.args.rounds.now.flusher c.loop.rounds.flusher c.flush_pending.new.rounds.flusher
-    c.loop.invariant.5 c.loop.invariant.6 c.loop.invariant.7 (λ down. (done.stays down).1) done.any_moment done.earlier up).0
+    c.loop.invariant.5 c.loop.invariant.6 c.loop.invariant.8 (λ down. (done.stays down).1) done.any_moment done.at_end done.earlier up).0
+
+pub returns-then-not-may_go_on-clause-at_end : goal.returns-then-not-may_go_on-clause-at_end
+returns-then-not-may_go_on-clause-at_end g c = λ up.
+    let done = c.flush_pending.ensures in
+    (all_on g.S.Sign.scheme g.D.Disk.device c.args.rounds.now.node c.loop.rounds.node c.args.rounds.now.flusher c.loop.rounds.flusher c.flush_pending.new.rounds.flusher
+    c.loop.invariant.5 c.loop.invariant.6 c.loop.invariant.8 (λ down. (done.stays down).1) done.any_moment done.at_end done.earlier up).1

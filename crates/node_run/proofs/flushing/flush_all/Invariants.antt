@@ -1,6 +1,7 @@
 use Rattle.std.proofs.Common.{◌≡◌, false}
 use Rattle.wire.specs.Lists.{Begins}
-use Rattle.journal.specs.Journal.{disk_of}
+use Rattle.std.specs.Prelude.{None}
+use Rattle.journal.specs.Journal.{disk_of, spare_of}
 use Rattle.flusher.specs.Rounds.{journal_of, is_down, settled_in, taken_in, HasNoRoom}
 use Rattle.node_run.specs.Ends.{TellsJournal}
 use Rattle.node_run.proofs.Moments.{AllSoFar}
@@ -15,4 +16,5 @@ invariant-loop g l =
     (HasNoRoom (g.D.Disk.device.content (disk_of (journal_of now))) (settled_in now) (taken_in now))
     × (l.rounds.node ≡ l.initial.rounds.node)
     × Begins (settled_in first) (settled_in now)
+    × (spare_of (journal_of now) ≡ None)
     × AllSoFar g.S.Sign.scheme g.D.Disk.device l.initial.rounds.node first now

@@ -1,6 +1,6 @@
 use Rattle.std.proofs.Common.{◌≡◌}
-use Rattle.std.specs.Prelude.{IsTrue}
-use Rattle.journal.specs.Journal.{disk_of}
+use Rattle.std.specs.Prelude.{None, IsTrue}
+use Rattle.journal.specs.Journal.{disk_of, spare_of}
 use Rattle.wire.specs.Lists.{Begins}
 use Rattle.flusher.specs.Rounds.{journal_of, is_down, settled_in}
 use Rattle.node_run.proofs.Moments.{SoFar}
@@ -15,4 +15,5 @@ invariant-loop g l =
     × (IsTrue (is_down l.initial.rounds.flusher) → l.rounds.flusher ≡ l.initial.rounds.flusher)
     × (l.rounds.node ≡ l.initial.rounds.node)
     × Begins (settled_in l.initial.rounds.flusher) (settled_in l.rounds.flusher)
+    × (spare_of (journal_of l.rounds.flusher) ≡ None)
     × SoFar g.S.Sign.scheme g.D.Disk.device l.initial.rounds.node l.initial.rounds.flusher l.rounds.flusher

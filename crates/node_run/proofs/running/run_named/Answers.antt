@@ -6,5 +6,5 @@ pub returns-clause-named : goal.returns-clause-named
 returns-clause-named g c =
     let opened = c.in-Ok.opened in
     let member = c.in-Ok.ensures.member in
-    let ran = c.run_member-ending in
-    run_as _ _ (slice_get c.args.args.now 1) string_bytes opened.0 opened.1 ran.result.0 ran.result.1 member.0 member.1 ran.ensures
+    let ran = c.run_member in
+    run_as _ _ g.W.Write.contents (slice_get c.args.args.now 1) string_bytes opened.0 opened.1 c.args.writer ran.result member.0 member.1 ran.ensures.runs ran.ensures.gives

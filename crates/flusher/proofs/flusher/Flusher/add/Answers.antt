@@ -1,80 +1,66 @@
 use Rattle.std.proofs.Common.{◌≡◌, true, false, List, ℕ, sym, ◌∙◌, subst}
-use Rattle.journal.specs.Areas.{alone}
-use Rattle.journal.specs.Format.{stands}
-use Rattle.journal.specs.Journal.{disk_of, stands_with, IsBeforeOrAfter}
+use Rattle.journal.specs.Journal.{disk_of, IsBeforeOrAfter}
+use Rattle.journal.specs.Pairs.{areas_of}
 use Rattle.node_seats.specs.declared.view.Marked.{Marked}
 use Rattle.validator.specs.Setting.{node_of}
 use Rattle.node_shared.specs.Home.{taken_by}
-use Rattle.flusher.specs.Rounds.{HoldsAfter, HoldsEither}
-use Rattle.flusher.proofs.Adding.{areas_alone, keeps_taken, holds_taken, holds_either}
+use Rattle.flusher.specs.Rounds.{areas_at, HoldsAfter}
+use Rattle.flusher.proofs.Flushing.{Either, either_with, keeps_with, taken_there}
+use Rattle.flusher.proofs.Reading.{not_new}
 use Rattle.diskmodel.proofs.Clock.{weaker}
-use Rattle.flusher.proofs.Taking.{settled_begins, group_behind, taken_legal}
 use Rattle.flusher.proofs.flusher.Flusher.add.Goals as goal
+
+-- a journal at a state has its first group
+pub append-requires-clause-first : goal.append-requires-clause-first
+append-requires-clause-first g c = λ some empty. absurd
+    (not_new g.D.Disk.device (node_of g.S.Sign.scheme c.args.node.now.setting) _ c.args.self.now.journal some c.requires.alive c.requires.holds.holds empty)
+
+pub settle-requires-clause-group : goal.settle-requires-clause-group
+settle-requires-clause-group g c = λ idle. c.in-Ok.ensures.synced ∙ c.requires.group
+
+pub settle-requires-clause-checkpoint : goal.settle-requires-clause-checkpoint
+settle-requires-clause-checkpoint g c = λ rewriting. absurd (let bad : false ≡ true = sym c.requires.idle ∙ rewriting in cc)
 
 pub returns-in-Ok-clause-flusher : goal.returns-in-Ok-clause-flusher
 returns-in-Ok-clause-flusher g c =
-    let node = node_of g.S.Sign.scheme c.args.node.now.setting in
     let flush = c.args.self.now.seat in
-    let of = c.requires.flush_seat in
-    let file = g.D.Disk.device.content (disk_of c.args.self.now.journal) in
-    let held = subst (HoldsAfter g.S.Sign.scheme c.args.node.now flush.seat.view.firm) (areas_alone g.D.Disk.device c.args.self.now.journal c.requires.alone) c.requires.holds in
-    let legal = taken_legal c.args.node.now flush of node held.base (c.requires.legal held.base held.is_base) in
-    let later = g.D.Disk.device.content (disk_of c.append.new.self) in
-    let one_disk = c.append.ensures.spare ∙ c.requires.alone in
+    let settles = c.settle.ensures.settles in
+    let keeps = keeps_with g.S.Sign.scheme g.D.Disk.device c.args.node.now flush c.args.self.now.journal c.requires.flush_seat c.requires.holds c.requires.legal c.requires.alive
+    c.args.group c.requires.group c.append.new.self c.append.ensures.spare c.in-Ok.ensures.records in
     record {
-      seat = c.settle.ensures.settles.flush_of;
-      alone = one_disk;
-      rests = λ up. c.settle.ensures.settles.taken ∙ sym c.settle.ensures.settles.settled;
+      seat = settles.flush_of;
+      rests = λ up. settles.taken ∙ sym settles.settled;
+      idle = λ up. settles.idle;
       alive = λ up. c.in-Ok.ensures.alive;
-      holds = λ up. subst (HoldsAfter g.S.Sign.scheme c.args.node.now c.settle.new.flush.seat.view.firm) (sym (areas_alone g.D.Disk.device c.append.new.self one_disk))
-          (subst (λ (l : List Marked). HoldsAfter g.S.Sign.scheme c.args.node.now l (alone later)) (sym c.settle.ensures.settles.firm)
-          (holds_taken g.S.Sign.scheme c.args.node.now flush.seat.view.firm (taken_by flush) file (settled_begins c.args.node.now flush of) c.requires.alive.ends_closed held legal later
-          (subst (λ (group : List (List ℕ)). stands later ≡ stands_with file group) (c.requires.group ∙ group_behind c.args.node.now flush of) c.in-Ok.ensures.records)));
+      holds = λ up. subst (λ (l : List Marked). HoldsAfter g.S.Sign.scheme c.args.node.now l (areas_of g.D.Disk.device c.append.new.self)) (sym settles.firm)
+          (taken_there g.S.Sign.scheme g.D.Disk.device c.args.node.now flush c.args.self.now.journal c.requires.flush_seat c.requires.holds c.requires.legal
+          (areas_of g.D.Disk.device c.append.new.self) keeps);
     }
 
 pub returns-in-Ok-clause-any_moment : goal.returns-in-Ok-clause-any_moment
 returns-in-Ok-clause-any_moment g c =
-    let node = node_of g.S.Sign.scheme c.args.node.now.setting in
-    let flush = c.args.self.now.seat in
-    let of = c.requires.flush_seat in
-    let file = g.D.Disk.device.content (disk_of c.args.self.now.journal) in
-    let held = subst (HoldsAfter g.S.Sign.scheme c.args.node.now flush.seat.view.firm) (areas_alone g.D.Disk.device c.args.self.now.journal c.requires.alone) c.requires.holds in
-    let legal = taken_legal c.args.node.now flush of node held.base (c.requires.legal held.base held.is_base) in
-    weaker g.D.Disk.device (disk_of c.args.self.now.journal) (disk_of c.append.new.self)
-    (HoldsEither g.S.Sign.scheme c.args.node.now flush.seat.view.firm (taken_by flush) file) (IsBeforeOrAfter file c.args.group) c.append.ensures.any_moment
-    (λ left is. holds_either g.S.Sign.scheme c.args.node.now flush.seat.view.firm (taken_by flush) file (settled_begins c.args.node.now flush of) c.requires.alive.ends_closed held legal left
-    (subst (λ (group : List (List ℕ)). IsBeforeOrAfter file group left) (c.requires.group ∙ group_behind c.args.node.now flush of) is))
+    weaker g.D.Disk.device (disk_of c.args.self.now.journal) (disk_of c.append.new.self) _
+    (IsBeforeOrAfter (g.D.Disk.device.content (disk_of c.args.self.now.journal)) c.args.group) c.append.ensures.any_moment
+    (either_with g.S.Sign.scheme g.D.Disk.device c.args.node.now c.args.self.now.seat c.args.self.now.journal c.requires.flush_seat c.requires.holds c.requires.legal c.requires.alive
+    c.args.group c.requires.group)
 
 pub returns-in-Ok-clause-earlier : goal.returns-in-Ok-clause-earlier
 returns-in-Ok-clause-earlier g c =
-    let node = node_of g.S.Sign.scheme c.args.node.now.setting in
-    let flush = c.args.self.now.seat in
-    let of = c.requires.flush_seat in
-    let file = g.D.Disk.device.content (disk_of c.args.self.now.journal) in
-    let held = subst (HoldsAfter g.S.Sign.scheme c.args.node.now flush.seat.view.firm) (areas_alone g.D.Disk.device c.args.self.now.journal c.requires.alone) c.requires.holds in
-    let legal = taken_legal c.args.node.now flush of node held.base (c.requires.legal held.base held.is_base) in
-    let later = g.D.Disk.device.content (disk_of c.append.new.self) in
-    keeps_taken g.S.Sign.scheme c.args.node.now flush.seat.view.firm (taken_by flush) file (settled_begins c.args.node.now flush of) c.requires.alive.ends_closed held legal later
-    (subst (λ (group : List (List ℕ)). stands later ≡ stands_with file group) (c.requires.group ∙ group_behind c.args.node.now flush of) c.in-Ok.ensures.records)
+    keeps_with g.S.Sign.scheme g.D.Disk.device c.args.node.now c.args.self.now.seat c.args.self.now.journal c.requires.flush_seat c.requires.holds c.requires.legal c.requires.alive
+    c.args.group c.requires.group c.append.new.self c.append.ensures.spare c.in-Ok.ensures.records
 
 pub returns-in_default-clause-flusher : goal.returns-in_default-clause-flusher
 returns-in_default-clause-flusher g c = record {
   seat = c.requires.flush_seat;
-  alone = c.append.ensures.spare ∙ c.requires.alone;
   rests = λ up. let bad : true ≡ false = up in absurd cc;
+  idle = λ up. let bad : true ≡ false = up in absurd cc;
   alive = λ up. let bad : true ≡ false = up in absurd cc;
   holds = λ up. let bad : true ≡ false = up in absurd cc;
 }
 
 pub returns-in_default-clause-any_moment : goal.returns-in_default-clause-any_moment
 returns-in_default-clause-any_moment g c =
-    let node = node_of g.S.Sign.scheme c.args.node.now.setting in
-    let flush = c.args.self.now.seat in
-    let of = c.requires.flush_seat in
-    let file = g.D.Disk.device.content (disk_of c.args.self.now.journal) in
-    let held = subst (HoldsAfter g.S.Sign.scheme c.args.node.now flush.seat.view.firm) (areas_alone g.D.Disk.device c.args.self.now.journal c.requires.alone) c.requires.holds in
-    let legal = taken_legal c.args.node.now flush of node held.base (c.requires.legal held.base held.is_base) in
-    weaker g.D.Disk.device (disk_of c.args.self.now.journal) (disk_of c.append.new.self)
-    (HoldsEither g.S.Sign.scheme c.args.node.now flush.seat.view.firm (taken_by flush) file) (IsBeforeOrAfter file c.args.group) c.append.ensures.any_moment
-    (λ left is. holds_either g.S.Sign.scheme c.args.node.now flush.seat.view.firm (taken_by flush) file (settled_begins c.args.node.now flush of) c.requires.alive.ends_closed held legal left
-    (subst (λ (group : List (List ℕ)). IsBeforeOrAfter file group left) (c.requires.group ∙ group_behind c.args.node.now flush of) is))
+    weaker g.D.Disk.device (disk_of c.args.self.now.journal) (disk_of c.append.new.self) _
+    (IsBeforeOrAfter (g.D.Disk.device.content (disk_of c.args.self.now.journal)) c.args.group) c.append.ensures.any_moment
+    (either_with g.S.Sign.scheme g.D.Disk.device c.args.node.now c.args.self.now.seat c.args.self.now.journal c.requires.flush_seat c.requires.holds c.requires.legal c.requires.alive
+    c.args.group c.requires.group)

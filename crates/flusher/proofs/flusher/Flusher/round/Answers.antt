@@ -5,9 +5,9 @@ use Rattle.node_seats.specs.Plays.{with_down}
 use Rattle.node_seats.proofs.Beginnings.{begins_same, begins_trans}
 use Rattle.node_seats.proofs.Same.{same_then}
 use Rattle.node_shared.specs.Home.{IsFlushOf, taken_by}
-use Rattle.flusher.specs.Rounds.{IsFlusherOf, HoldsAfter, HoldsEither, KeepsEarlier}
+use Rattle.flusher.specs.Rounds.{areas_at, IsFlusherOf, HoldsAfter, HoldsEither, KeepsEarlier}
 use Rattle.flusher.specs.declared.flusher.Flusher.{Flusher}
-use Rattle.flusher.proofs.Adding.{areas_alone, still_holds}
+use Rattle.flusher.proofs.Adding.{holds_here}
 use Rattle.diskmodel.proofs.Clock.{started}
 use Rattle.diskmodel.specs.Disk.{AtEachMoment}
 use Rattle.journal.specs.Journal.{disk_of}
@@ -86,8 +86,8 @@ returns-clause-flusher g c =
       | in-None w ↦
           subst (λ f. IsFlusherOf g.S.Sign.scheme g.D.Disk.device c.args.node.now f) (sym w.self-is) (record {
             seat = c.in-Ok.ensures.flush;
-            alone = had.alone;
             rests = λ up. (c.in-Ok.ensures.takes.none (is_none _ w.in-None.is)).0 ∙ had.rests up ∙ sym c.in-Ok.ensures.flush_settled;
+            idle = λ up. c.in-Ok.ensures.flush_idle;
             alive = had.alive;
             holds = λ up. subst (λ f. HoldsAfter g.S.Sign.scheme c.args.node.now f (areas_of g.D.Disk.device c.args.self.now.journal))
                 (sym c.in-Ok.ensures.flush_firm) (had.holds up);
@@ -133,14 +133,10 @@ returns-in_err-count-in-Some-clause-told g c =
 pub returns-in-Err-clause-any_moment : goal.returns-in-Err-clause-any_moment
 returns-in-Err-clause-any_moment g c =
     let had = c.requires.flusher in
-    let device = g.D.Disk.device in
     let disk = disk_of c.args.self.now.journal in
-    let settled = c.args.self.now.seat.seat.view.firm in
-    let taken = taken_by c.take.new.flush in
-    let held = subst (HoldsAfter g.S.Sign.scheme c.args.node.now settled) (areas_alone device c.args.self.now.journal had.alone) (had.holds (search rules)) in
-    inr (started device disk (HoldsEither g.S.Sign.scheme c.args.node.now settled taken (device.content disk))
-    (λ left now. still_holds g.S.Sign.scheme c.args.node.now settled taken (device.content disk) left
-    ((had.alive (search rules)).firm left (g.met.D.Disk.only_now disk left now)) held))
+    inr (started g.D.Disk.device disk _
+    (λ left now. holds_here g.S.Sign.scheme g.D.Disk.device c.args.node.now c.args.self.now.seat.seat.view.firm (taken_by c.take.new.flush) c.args.self.now.journal (had.holds (search rules)) left
+    ((had.alive (search rules)).firm left (g.met.D.Disk.only_now disk left now))))
 
 pub returns-clause-any_moment : goal.returns-clause-any_moment
 returns-clause-any_moment g c =
@@ -148,11 +144,12 @@ returns-clause-any_moment g c =
     let device = g.D.Disk.device in
     let scheme = g.S.Sign.scheme in
     let node = c.args.node.now in
-    let disk = disk_of c.args.self.now.journal in
+    let journal = c.args.self.now.journal in
+    let disk = disk_of journal in
     let settled = c.args.self.now.seat.seat.view.firm in
     let taken = taken_by c.tell_settled.new.flush in
-    let held = subst (HoldsAfter scheme node settled) (areas_alone device c.args.self.now.journal had.alone) (had.holds (search rules)) in
-    let leaves = λ (f : Flusher g.row.D.Denot) (s t : List Marked). AtEachMoment device disk (disk_of f.journal) (HoldsEither scheme node s t (device.content disk)) in
+    let leaves = λ (f : Flusher g.row.D.Denot) (s t : List Marked).
+    AtEachMoment device disk (disk_of f.journal) (λ left. HoldsEither scheme node s t (areas_of device journal) (areas_at device journal left)) in
     elim c.match-found.branch [
       | in-Some+in_ok-count-in-Some w ↦
           let is : taken ≡ taken_by c.take.new.flush =
@@ -162,18 +159,16 @@ returns-clause-any_moment g c =
           (subst (λ t. leaves w.add.new.self c.take.new.flush.seat.view.firm t) (sym is) w.in_ok-count-in-Some.ensures.any_moment)))
       | in-None w ↦
           inr (subst (λ (f : Flusher g.row.D.Denot). leaves f settled taken) (sym w.self-is)
-          (started device disk (HoldsEither scheme node settled taken (device.content disk))
-          (λ left now. still_holds scheme node settled taken (device.content disk) left
-          ((had.alive (search rules)).firm left (g.met.D.Disk.only_now disk left now)) held)))
+          (started device disk _
+          (λ left now. holds_here scheme device node settled taken journal (had.holds (search rules)) left ((had.alive (search rules)).firm left (g.met.D.Disk.only_now disk left now)))))
     ]
 
 pub returns-clause-earlier : goal.returns-clause-earlier
 returns-clause-earlier g c =
     let device = g.D.Disk.device in
     let node = c.args.node.now in
-    let content = device.content (disk_of c.args.self.now.journal) in
     let settled = c.args.self.now.seat.seat.view.firm in
-    let keeps = λ (f : Flusher g.row.D.Denot) (s t : List Marked). KeepsEarlier g.S.Sign.scheme node s t content (device.content (disk_of f.journal)) in
+    let keeps = λ (f : Flusher g.row.D.Denot) (s t : List Marked). KeepsEarlier g.S.Sign.scheme node s t (areas_of device c.args.self.now.journal) (areas_of device f.journal) in
     let told = ap (λ (f : FlushSeat). f.seat.view.firm) c.tell_settled.ensures.flush in
     elim c.match-found.branch [
       | in-Some+in_ok-count-in-Some w ↦
@@ -186,3 +181,12 @@ returns-clause-earlier g c =
           subst (λ (f : Flusher g.row.D.Denot). keeps f settled c.tell_settled.new.flush.seat.view.firm) (sym w.self-is)
           (subst (λ t. keeps c.args.self.now settled t) (sym is) (λ base there. there))
     ]
+
+pub returns-in_err-count-in-Some-clause-any_moment : goal.returns-in_err-count-in-Some-clause-any_moment
+returns-in_err-count-in-Some-clause-any_moment g c =
+    let device = g.D.Disk.device in
+    let journal = c.args.self.now.journal in
+    let leaves = λ (s t : List Marked).
+    AtEachMoment device (disk_of journal) (disk_of c.add.new.self.journal) (λ left. HoldsEither g.S.Sign.scheme c.args.node.now s t (areas_of device journal) (areas_at device journal left)) in
+    inr (subst (λ s. leaves s (taken_by c.add.new.self.seat)) c.in-Ok.ensures.flush_firm
+    (subst (leaves c.take.new.flush.seat.view.firm) (sym c.in_err-count-in-Some.ensures.taken) c.in_err-count-in-Some.ensures.any_moment))

@@ -1,9 +1,10 @@
-use Rattle.std.proofs.Common.{rules, ◌∙◌, sym, subst}
+use Rattle.std.proofs.Common.{rules, List, ◌∙◌, sym, subst}
 use borrow.Author.Rules.{in_lives}
-use Rattle.node_shared.specs.Home.{IsTied}
+use Rattle.node_seats.specs.declared.view.Marked.{Marked}
+use Rattle.node_shared.specs.Home.{IsCheckpointAfter, IsTied}
 use Rattle.node_seats.proofs.Beginnings.{begins_trans}
 use Rattle.node_seats.proofs.Same.{same_then}
-use Rattle.node_shared.proofs.Tied.{settles_from}
+use Rattle.node_shared.proofs.Tied.{settles_from, taken_from}
 use Rattle.node_shared.proofs.node.Node.settle.Goals as goal
 
 pub loop-preserved : goal.loop-preserved
@@ -15,8 +16,9 @@ loop-preserved g c =
       same_then c.args.flush.now.seat c.loop.flush.seat c.tie.new.flush.seat until.2 tied.same,
       tied.counts.settled ∙ until.3,
       tied.counts.taken ∙ until.4,
-      begins_trans c.args.flush.now.seat.view.firm c.loop.flush.seat.view.firm c.tie.new.flush.seat.view.firm until.5 tied.firm,
-      begins_trans c.args.flush.now.seat.view.seen c.loop.flush.seat.view.seen c.tie.new.flush.seat.view.seen until.6 tied.seen,
+      tied.counts.rewriting ∙ until.5,
+      begins_trans c.args.flush.now.seat.view.firm c.loop.flush.seat.view.firm c.tie.new.flush.seat.view.firm until.6 tied.firm,
+      begins_trans c.args.flush.now.seat.view.seen c.loop.flush.seat.view.seen c.tie.new.flush.seat.view.seen until.7 tied.seen,
     )
 
 pub acquire-turn-requires : goal.acquire-turn-requires
@@ -48,5 +50,14 @@ returns-then-tie g c =
     record {
       settles = settles_from c.args.self.now c.args.flush.now c.tie.new.flush c.settle_tied.new.flush c.requires.flush
           (same_then c.args.flush.now.seat c.loop.flush.seat c.tie.new.flush.seat until.2 tied.same) (tied.counts.taken ∙ until.4)
-          (begins_trans c.args.flush.now.seat.view.seen c.loop.flush.seat.view.seen c.tie.new.flush.seat.view.seen until.6 tied.seen) c.settle_tied.ensures.settles;
+          (begins_trans c.args.flush.now.seat.view.seen c.loop.flush.seat.view.seen c.tie.new.flush.seat.view.seen until.7 tied.seen) c.settle_tied.ensures.settles;
     }
+
+pub settle_tied-requires-clause-checkpoint : goal.settle_tied-requires-clause-checkpoint
+settle_tied-requires-clause-checkpoint g c = λ rewriting.
+    let until = c.loop.invariant in
+    let tied = c.tie.ensures in
+    subst (λ (l : List Marked). IsCheckpointAfter g.S.Sign.scheme c.args.self.now l c.args.synced)
+    (sym (taken_from c.args.self.now c.args.flush.now c.tie.new.flush c.requires.flush (tied.counts.taken ∙ until.4)
+    (begins_trans c.args.flush.now.seat.view.seen c.loop.flush.seat.view.seen c.tie.new.flush.seat.view.seen until.7 tied.seen)))
+    (c.requires.checkpoint (sym (tied.counts.rewriting ∙ until.5) ∙ rewriting))

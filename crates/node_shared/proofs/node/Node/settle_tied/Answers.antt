@@ -6,12 +6,12 @@ use Rattle.node_shared.proofs.node.Node.settle_tied.Goals as goal
 pub settle-requires : goal.settle-requires
 settle-requires g c =
     settles_next c.args.self.now g.S.Sign.scheme c.args.locked.now.seat c.args.locked.now.book c.args.flush.now c.requires.home c.requires.tied
-    c.args.synced c.requires.synced
+    c.args.synced c.requires.group c.requires.checkpoint
 
 pub returns-clause-home : goal.returns-clause-home
 returns-clause-home g c =
     home_settled c.args.self.now g.S.Sign.scheme c.args.locked.now.seat c.args.locked.now.book c.args.flush.now c.requires.home c.requires.tied
-    c.args.synced c.requires.synced c.settle.new.self _ (search rules) (ap (λ b. b.down) c.settle.ensures.rest) (ap (λ b. b.rewriting) c.settle.ensures.rest) c.settle.ensures.stands (search rules) (search rules) (search rules)
+    c.args.synced c.requires.group c.requires.checkpoint c.settle.new.self _ (search rules) (ap (λ b. b.down) c.settle.ensures.rest) (ap (λ b. b.rewriting) c.settle.ensures.rest) c.settle.ensures.stands (search rules) (search rules) (search rules)
 
 pub returns-clause-settles : goal.returns-clause-settles
 returns-clause-settles g c =

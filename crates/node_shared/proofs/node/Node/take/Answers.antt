@@ -18,7 +18,7 @@ pub returns-then-tie-clause-flush_firm : goal.returns-then-tie-clause-flush_firm
 returns-then-tie-clause-flush_firm g c =
     let kept = c.take_tied-found.ensures.same in
     let settled = kept.1 ∙ c.tie.ensures.counts.settled ∙ c.loop.invariant.4 in
-    let began = begins_trans c.meet.new.second.view.firm c.loop.flush.seat.view.firm c.tie.new.flush.seat.view.firm c.loop.invariant.6 c.tie.ensures.firm in
+    let began = begins_trans c.meet.new.second.view.firm c.loop.flush.seat.view.firm c.tie.new.flush.seat.view.firm c.loop.invariant.7 c.tie.ensures.firm in
     firm_same c.args.flush.now.seat.view.firm c.take_tied-found.new.flush.seat.view.firm c.args.flush.now.settled
     (subst (λ l. Begins l c.take_tied-found.new.flush.seat.view.firm) c.meet.ensures.second.firm
     (subst (λ s. Begins c.meet.new.second.view.firm s.view.firm) (sym kept.0) began))
@@ -28,7 +28,7 @@ pub returns-then-tie-clause-seen : goal.returns-then-tie-clause-seen
 returns-then-tie-clause-seen g c =
     subst (λ s. Begins c.meet.new.first.view.seen s.view.seen) (sym c.take_tied-found.ensures.same.0)
     (begins_trans c.meet.new.first.view.seen c.loop.flush.seat.view.seen c.tie.new.flush.seat.view.seen
-    (begins_trans c.meet.new.first.view.seen c.meet.new.second.view.seen c.loop.flush.seat.view.seen c.meet.ensures.meets c.loop.invariant.7) c.tie.ensures.seen)
+    (begins_trans c.meet.new.first.view.seen c.meet.new.second.view.seen c.loop.flush.seat.view.seen c.meet.ensures.meets c.loop.invariant.8) c.tie.ensures.seen)
 
 pub loop-preserved : goal.loop-preserved
 loop-preserved g c =
@@ -40,8 +40,9 @@ loop-preserved g c =
       same_then c.meet.new.second c.loop.flush.seat c.tie.new.flush.seat until.3 tied.same,
       tied.counts.settled ∙ until.4,
       tied.counts.taken ∙ until.5,
-      begins_trans c.meet.new.second.view.firm c.loop.flush.seat.view.firm c.tie.new.flush.seat.view.firm until.6 tied.firm,
-      begins_trans c.meet.new.second.view.seen c.loop.flush.seat.view.seen c.tie.new.flush.seat.view.seen until.7 tied.seen,
+      tied.counts.rewriting ∙ until.6,
+      begins_trans c.meet.new.second.view.firm c.loop.flush.seat.view.firm c.tie.new.flush.seat.view.firm until.7 tied.firm,
+      begins_trans c.meet.new.second.view.seen c.loop.flush.seat.view.seen c.tie.new.flush.seat.view.seen until.8 tied.seen,
     )
 
 pub acquire-turn-requires : goal.acquire-turn-requires

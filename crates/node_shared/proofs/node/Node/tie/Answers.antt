@@ -1,4 +1,5 @@
 use Rattle.std.proofs.Common.{sym, ap, ◌∙◌, subst}
+use Rattle.std.specs.Prelude.{is_some}
 use Rattle.wire.specs.Lists.{Begins}
 use Rattle.node_seats.proofs.Beginnings.{begins_trans}
 use Rattle.node_shared.proofs.Tied.{tied_with}
@@ -13,7 +14,8 @@ returns-clause-tied g c = λ so.
     let seen = c.see_all.ensures in
     let locked = seen.locked ∙ known.locked in
     let counts = c.counts_as.ensures so in
-    tied_with c.args.self.now g.S.Sign.scheme c.args.locked.now.seat c.args.locked.now.book c.requires.home c.see_all.new.seat c.args.flush.now.settled c.args.flush.now.taken seen.looked.of_node
+    tied_with c.args.self.now g.S.Sign.scheme c.args.locked.now.seat c.args.locked.now.book c.requires.home c.see_all.new.seat c.args.flush.now.settled c.args.flush.now.taken c.args.flush.now.rewriting
+    seen.looked.of_node
     (seen.seen ∙ ap (λ l. l.seat.view.seen) known.locked) (seen.looked.firm ∙ known.firm)
     (begins_trans _ _ _ (subst (λ l. Begins l c.know_all.new.seat.view.seen) (sym seen.looked.firm) known.learned.within) seen.looked.more)
-    c.requires.rising (ap (λ l. l.book.settled) (sym locked) ∙ counts.0) (ap (λ l. l.book.taken) (sym locked) ∙ counts.1) (ap (λ l. l.book.rewriting) (sym locked) ∙ counts.2)
+    c.requires.rising (ap (λ l. l.book.settled) (sym locked) ∙ counts.0) (ap (λ l. l.book.taken) (sym locked) ∙ counts.1) (ap (λ l. is_some l.book.rewriting) (sym locked) ∙ counts.2)

@@ -1,0 +1,14 @@
+//! What a run gives back.
+
+use node_io::Ending;
+
+/// How a run ended, and what it gives back.
+#[derive(Drop)]
+pub struct Ran<D, W> {
+    /// How it ended.
+    pub ending: Ending,
+    /// The disk. None where it was lost with a thread that couldn't be made.
+    pub disk: Option<D>,
+    /// The writer. None where it was lost with a thread that couldn't be made, or an allocation failed before there were threads.
+    pub writer: Option<W>,
+}

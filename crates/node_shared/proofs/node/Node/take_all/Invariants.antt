@@ -1,0 +1,15 @@
+use Rattle.std.proofs.Common.{◌≡◌}
+use Rattle.wire.specs.Lists.{Begins}
+use Rattle.node_seats.specs.Views.{IsSame}
+use Rattle.node_shared.proofs.node.Node.take_all.Given as goal
+
+abbrev pub invariant-loop : goal.invariant-loop
+invariant-loop g l =
+    (goal.iterator-loop g).can_next l.iterator' × (goal.iterator-loop g).is_finite l.iterator'
+    × (l.seat ≡ l.initial.seat)
+    × IsSame l.initial.flush.seat l.flush.seat
+    × (l.flush.settled ≡ l.initial.flush.settled)
+    × (l.flush.taken ≡ l.initial.flush.taken)
+    × (l.flush.rewriting ≡ l.initial.flush.rewriting)
+    × Begins l.initial.flush.seat.view.firm l.flush.seat.view.firm
+    × Begins l.initial.flush.seat.view.seen l.flush.seat.view.seen
