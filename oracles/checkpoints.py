@@ -3,14 +3,14 @@
 
     oracles/checkpoints.py > CASES
     oracles/checkpoints.py --changes > CASES
-    oracles/checkpoints.py --every-change > CASES
+    oracles/checkpoints.py --histories > CASES
     oracles/checkpoints.py --plays > CASES
     oracles/checkpoints.py --memory > CASES
 
 The records are those of docs/FORMATS.md. `test_checkpoints` plays these cases. A list is judged in two ways that share nothing: its format by
-reading each record, its soundness by what the node of oracles/histories.py holds of what was read. With --changes and --every-change one byte
-of a list is changed, with --plays validators are loaded from lists and given events, and with --memory there is a list for allocations that
-fail.
+reading each record, its soundness by what the node of oracles/histories.py holds of what was read. With --changes one byte of a list is
+changed, with --plays validators are loaded from lists and given events, with --histories they are loaded along histories, and with --memory
+there is a list for allocations that fail.
 """
 import collections
 import sys
@@ -387,7 +387,12 @@ def formats():
     assert load(committee, []) == at(0)
     for other in (Committee(own=1), Committee(depth=49), Committee(batches=1), Committee(stakes=(1, 1, 1, 2)), Committee(stakes=(1,) * 7)):
         loads(committee, vote, front=other.configuration(), expected=at(0))
-    loads(committee, vote, front=b'', expected=at(0))
+    text = committee.configuration()
+    loads(committee, vote, front=changed(text, 14 + 3 * 32, 9), expected=at(0), comment='another key')
+    loads(committee, vote, front=changed(text, 7, WORKERS + 1), expected=at(0), comment='another number of workers')
+    loads(committee, vote, front=head(1), expected=at(0), comment='a head')
+    loads(committee, vote, front=vote, expected=at(0), comment='a record of the state')
+    loads(committee, vote, front=b'', expected=at(0), comment='an empty record')
     loads(committee, vote, front=committee.configuration() + b'\0', expected=at(0))
     loads(committee, vote, front=committee.configuration(3), expected=at(0))
     unlike = Committee(stakes=(1, 1, 1, 2))
@@ -445,7 +450,12 @@ def counts(committee):
     loads(committee, b'\3' + u32(2) + digest(7), expected=at(1))
     loads(committee, b'\x08' + u32(2) + u64(5), expected=at(1))
     loads(committee, b'\4\0' + u16(3) + mine[4:], expected=at(1))
-    loads(committee, own[:-68] + u16(2) + own[-66:], expected=at(1))
+    loads(committee, mine[:-10] + u32(2) + mine[-6:], expected=at(1), comment='transactions')
+    loads(committee, own[:-68] + u16(2) + own[-66:], expected=at(1), comment='votes on an own header')
+    loads(committee, own[:13] + u16(4) + own[15:], expected=at(1), comment='its parents')
+    loads(committee, held[:-200] + u16(4) + held[-198:], expected=at(1), comment='votes of a certificate')
+    loads(committee, held[:-200] + u16(2) + held[-198:], expected=at(1), comment='fewer than there are')
+    loads(committee, held[:13] + u16(4) + held[15:], expected=at(1), comment='its parents')
     case('the mark')
     loads(committee, b'\4\2' + mine[2:], expected=at(1), comment='02')
     loads(committee, b'\4\1' + mine[2:], expected='Ok')
@@ -649,16 +659,17 @@ def changed(record, index, value):
     return record[:index] + bytes([value]) + record[index + 1:]
 
 
-def changes(committee, *records, places, has):
-    """How often which answer comes where a byte of a record at one of these places is changed to a value that this has."""
+def changes(committee, *records, has):
+    """How often which answer comes where a byte of a list is changed to a value that this has."""
     whole, counts = [committee.configuration()] + list(records), collections.Counter()
-    for place in places:
-        for index, byte in enumerate(whole[place]):
+    assert load(committee, whole) == 'Ok'
+    for place, record in enumerate(whole):
+        for index, byte in enumerate(record):
             for value in (value for value in range(256) if has(byte, value)):
-                counts[load(committee, whole[:place] + [changed(whole[place], index, value)] + whole[place + 1:])] += 1
+                counts[load(committee, whole[:place] + [changed(record, index, value)] + whole[place + 1:])] += 1
     for record in records:
         print('record : ' + spelled(record))
-    print('%s %s' % ('change-values' if has is is_other else 'change-bits', ' '.join(map(str, places))))
+    print('change-values' if has is is_other else 'change-bits')
     print('> lists: %d' % sum(counts.values()))
     for answer in ['Ok', *(at(place) for place in range(len(whole))), WHOLE]:
         if counts[answer]:
@@ -673,40 +684,33 @@ def is_one_bit(byte, value):
     return (byte ^ value).bit_count() == 1
 
 
-def few_changes():
-    """Short records with each other value, long ones with one bit changed."""
-    committee, stakes, records = Committee(), Committee((3, 1, 1, 1)), one_supporter()
-    own, batches, held = short_records()
-    case('a configuration, a vote, and an own header with a vote', committee)
-    changes(committee, *own, places=[0, 1], has=is_other)
-    changes(committee, *own, places=[2], has=is_one_bit)
-    case('an own batch with acknowledgements and the mark, and a batch of a peer', committee)
-    changes(committee, *batches, places=[1, 2], has=is_other)
-    case('a certificate', committee)
-    changes(committee, held, places=[1], has=is_one_bit)
-    case('a leader with its order, its supporter, and the coins', stakes)
-    changes(stakes, *records, places=[6], has=is_other)
-    changes(stakes, *records, places=[1, 5], has=is_one_bit)
-
-
 def every_change():
-    """All of them with each other value."""
-    committee, stakes, records = Committee(), Committee((3, 1, 1, 1)), one_supporter()
-    own, batches, held = short_records()
+    """Each byte of three checkpoints changed to each other value; and one bit of a longer one."""
+    committee, two, stakes = Committee(), Committee((4, 4, 1, 1)), Committee((3, 1, 1, 1))
+    own, batches = short_records()
     case('a configuration, a vote, and an own header with a vote', committee)
-    changes(committee, *own, places=[0, 1, 2], has=is_other)
+    changes(committee, *own, has=is_other)
     case('an own batch with acknowledgements and the mark, a batch of a peer, and a certificate', committee)
-    changes(committee, *batches, held, places=[1, 2, 3], has=is_other)
+    changes(committee, *batches, has=is_other)
+    case('a leader with its order, its supporter, and the coins, where members 0 and 1 are a quorum', two)
+    changes(two, *two_certify(), has=is_other)
     case('a leader with its order, its supporter, and the coins', stakes)
-    changes(stakes, *records, places=[1, 5, 6], has=is_other)
-    changes(stakes, *records, places=range(len(records) + 1), has=is_one_bit)
+    changes(stakes, *one_supporter(), has=is_one_bit)
 
 
 def short_records():
-    """A vote and an own header with a vote, two batches, a certificate."""
+    """A vote and an own header with a vote; two batches and a certificate."""
     own, mine, other = Ledger().header(0, 1), batch_body(0, b'ab'), batch_body(1, b'cd')
-    return ([vote_record(1, 1, digest(7)), header_record(own, [1])], [batch_record(mine, [1, 2], True), batch_record(other)],
-            certificate_record(Ledger().header(1, 1)))
+    return ([vote_record(1, 1, digest(7)), header_record(own, [1])],
+            [batch_record(mine, [1, 2], True), batch_record(other), certificate_record(Ledger().header(1, 1))])
+
+
+def two_certify():
+    """A leader of wave 1 and its order, where the stakes 4, 4, 1, 1 let members 0 and 1 certify: two certificates of round 1, one of 2."""
+    ledger = Ledger()
+    first = [ledger.header(author, 1, ['g0', 'g1']) for author in (0, 1)]
+    second = ledger.header(0, 2, ['c0.1', 'c1.1'])
+    return [order_piece([first[0].certificate])] + [certificate_record(one, [0, 1]) for one in first + [second]] + [coins_piece([0])]
 
 
 def one_supporter():
@@ -914,15 +918,22 @@ HEAD = """# crates: spec_checkpoint ref_checkpoint checkpoint validator
 
 HEAD_OF_CHANGES = """# crates: ref_checkpoint checkpoint validator
 # Lists of a checkpoint's records in which one byte is changed, and how often loading them is answered what:
-# `oracles/checkpoints.py --changes` writes these cases. change-values: each byte of the records at these places is changed to
-# each other value, change-bits: to each that differs in one bit; the configuration is at place 0. See checkpoints.cases for
-# the other commands. `oracles/checkpoints.py --every-change` writes longer ones, for the proved program: with each other value of all."""
+# `oracles/checkpoints.py --changes` writes these cases. change-values: each byte of the list, of which the configuration is the
+# first record, is changed to each other value, change-bits: to each that differs in one bit. See checkpoints.cases for the other
+# commands."""
 
 HEAD_OF_PLAYS = """# crates: checkpoint validator
 # Validators that are loaded from lists of a checkpoint's records, and given events: `oracles/checkpoints.py --plays` writes
 # these cases. event: one more event, or what it is formed of. play: what they are answered after the list, and where it is asked
 # for, the records that the validator keeps then, and an area that is rewritten to its checkpoint; play-new: the same from the
 # genesis on. See checkpoints.cases for the other commands."""
+
+HEAD_OF_HISTORIES = """# crates: checkpoint validator
+# Histories of events, with what each is answered and what is then kept and ordered: `oracles/checkpoints.py --histories` writes
+# these cases. They are the histories of test_parts. Before every fifth event one more validator is loaded from the records of the
+# one that takes all events, and takes the next fifty, or as many as there are: it has to answer as that one does, and to have the
+# same records after them. loads: how many validators were loaded in all histories, how many took fifty events, and how many answers
+# the loaded ones gave."""
 
 HEAD_OF_MEMORY = """# crates: checkpoint validator
 # A validator that is loaded from records of every kind: `oracles/checkpoints.py --memory` writes this case. `every-allocation` plays
@@ -935,10 +946,31 @@ def memory():
     Events(committee, *records).tell(kept=records)
 
 
+# The histories, and between how many events a validator is loaded that takes so many.
+HISTORIES = ['3 2 300', '3 50 300', '9 2 300', '46 2 200 3,1,1,1', '87 3 200 5,4,3,2,1,1,1']
+BETWEEN_LOADS, TAKEN_BY_LOADED = 5, 50
+
+
+def all_histories():
+    """The histories, and how many validators are loaded along them."""
+    left = []
+    for line in HISTORIES:
+        start, depth, events, *stakes = line.split()
+        weights = list(map(int, (stakes or ['1,1,1,1'])[0].split(',')))
+        drawn = histories.history(int(start), int(depth), int(events), histories.Committee(weights))
+        print()
+        histories.tell_title(drawn, int(depth), stakes, line)
+        histories.tell_all(drawn, int(depth), stakes)
+        left += [drawn.given - place for place in range(0, drawn.given, BETWEEN_LOADS)]
+    print('\n== how many validators were loaded')
+    print('loads\n> loaded %d, with %d events %d, answers %d' % (
+        len(left), TAKEN_BY_LOADED, sum(events >= TAKEN_BY_LOADED for events in left), sum(min(events, TAKEN_BY_LOADED) for events in left)))
+
+
 FILES = {
     '': (HEAD, examples, formats, batches, votes, headers, certificates, wholes),
-    '--changes': (HEAD_OF_CHANGES, few_changes),
-    '--every-change': (HEAD_OF_CHANGES, every_change),
+    '--changes': (HEAD_OF_CHANGES, every_change),
+    '--histories': (HEAD_OF_HISTORIES, all_histories),
     '--plays': (HEAD_OF_PLAYS, all_plays),
     '--memory': (HEAD_OF_MEMORY, memory),
 }

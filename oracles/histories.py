@@ -648,6 +648,18 @@ def of_lines(lines, depth, committee):
     return drawn
 
 
+def tell_title(drawn, depth, words, arguments):
+    """The title of a case, and what it comes to: it is drawn with these arguments."""
+    node = drawn.node
+    title = ['a random history of %d events' % node.events, 'depth %d' % depth] + ['stakes ' + word for word in words]
+    print('== %s, start value %d' % (', '.join(title), drawn.start))
+    print('# drawn by oracles/histories.py ' + arguments)
+    print('# round %d, floor %d, greatest wave with support %d, leaders %d, ordered %d'
+          % (node.round(), node.floor(), node.top() or 0, len(node.chain()), len(node.order())))
+    for word in sorted(drawn.seen):
+        print('# %s: %d' % (word, drawn.seen[word]))
+
+
 def tell_all(drawn, depth, words):
     """The case of the definitions: each event with what it is answered."""
     print('set depth %d' % depth)
@@ -703,14 +715,7 @@ def main():
         import checkpoints
         records_of = checkpoints.Committee(stakes, OWN, depth).records_of
     drawn = history(start, depth, events, Committee(stakes), between, records_of)
-    node = drawn.node
-    title = ['a random history of %d events' % node.events, 'depth %d' % depth] + ['stakes ' + word for word in words]
-    print('== %s, start value %d' % (', '.join(title), start))
-    print('# drawn by oracles/histories.py ' + ' '.join(sys.argv[1:]))
-    print('# round %d, floor %d, greatest wave with support %d, leaders %d, ordered %d'
-          % (node.round(), node.floor(), node.top() or 0, len(node.chain()), len(node.order())))
-    for word in sorted(drawn.seen):
-        print('# %s: %d' % (word, drawn.seen[word]))
+    tell_title(drawn, depth, words, ' '.join(sys.argv[1:]))
     if plays:
         tell_play(drawn, depth, words, numbers[0])
     else:

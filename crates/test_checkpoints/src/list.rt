@@ -31,7 +31,7 @@ impl List<'_> {
                 Ok(false)
             }
             _ => {
-                self.change(name, words, answer)?;
+                self.change(name, answer)?;
                 Ok(false)
             }
         }
@@ -63,22 +63,14 @@ impl List<'_> {
         }
     }
 
-    /// Answers how often which answer comes where one byte of the records at these places is changed.
-    fn change(&self, name: &str, words: &str, answer: &mut String) -> Told {
+    /// Answers how often which answer comes where one byte of the list is changed.
+    fn change(&self, name: &str, answer: &mut String) -> Told {
         let change = match name {
             "change-values" => Change::Values,
             "change-bits" => Change::Bits,
             _ => return Ok(bad(answer)),
         };
-        let places = places_of(self.alloc, words)?;
-        change_bytes(
-            self.alloc,
-            self.member,
-            change,
-            self.records,
-            &places,
-            answer,
-        )
+        change_bytes(self.alloc, self.member, change, self.records, answer)
     }
 }
 
@@ -105,20 +97,11 @@ fn is_written_alike(
     Ok(true)
 }
 
-/// That a play was made, unless memory was refused.
-fn told(played: Result<(), FormError>, answer: &mut String) -> Told {
+/// That something was played, unless memory was refused.
+pub fn told(played: Result<(), FormError>, answer: &mut String) -> Told {
     match played {
         Ok(()) => Ok(()),
         Err(FormError::Memory) => Err(AllocError),
         Err(_) => Ok(bad(answer)),
     }
-}
-
-/// The places of these words.
-fn places_of(alloc: Global, words: &str) -> Result<Vec<usize>, AllocError> {
-    let mut places = Vec::new(alloc);
-    for word in words.split_whitespace() {
-        places.push(word.parse().unwrap_or(0))?;
-    }
-    Ok(places)
 }

@@ -3,16 +3,19 @@
 #![tactic(auto)]
 
 mod area;
+mod cases;
 mod changing;
+mod histories;
 mod list;
 mod lists;
 mod loading;
+mod migrating;
 mod nodes;
 mod playing;
 mod records;
 mod telling;
 
-use lists::Lists;
+use cases::Cases;
 use std::fs;
 use std::io::{self, BufRead, Write};
 use std::process::ExitCode;
@@ -38,11 +41,11 @@ fn tested(rt: &HostRuntime) -> Result<bool, Ending> {
 /// Plays the file of this name.
 fn is_right(rt: &HostRuntime, name: &str) -> Result<bool, Ending> {
     let text = fs::read(rt, name)?;
-    let mut lists = Lists::new(rt.alloc());
+    let mut cases = Cases::new(rt.alloc());
     let mut player = Player::new(rt.alloc(), name, text.as_slice(), io::writer(rt));
-    play_each(rt, &mut player, &mut lists)?;
+    play_each(rt, &mut player, &mut cases)?;
     let right = player.end()?;
-    tell_same(rt, name, lists.written_alike())?;
+    tell_same(rt, name, cases.written_alike())?;
     Ok(right)
 }
 
@@ -61,7 +64,7 @@ fn tell_same(rt: &HostRuntime, name: &str, same: u64) -> Result<(), Ending> {
 fn play_each<I, W>(
     rt: &HostRuntime,
     player: &mut Player<I, W>,
-    lists: &mut Lists,
+    cases: &mut Cases,
 ) -> Result<(), Ending>
 where
     I: BufRead + Drop,
@@ -71,22 +74,25 @@ where
         if !player.advance()? {
             break;
         }
-        play(rt, player, lists)?;
+        play(rt, player, cases)?;
     }
     Ok(())
 }
 
-/// Plays a title or a command.
-fn play<I, W>(rt: &HostRuntime, player: &mut Player<I, W>, lists: &mut Lists) -> Result<(), Ending>
+/// Plays a title, a command, or all events of a history.
+fn play<I, W>(rt: &HostRuntime, player: &mut Player<I, W>, cases: &mut Cases) -> Result<(), Ending>
 where
     I: BufRead + Drop,
     W: Write + Drop,
 {
     if player.is_title() {
-        lists.begin();
+        cases.begin()?;
         return Ok(());
     }
+    if cases.begins_events(player.command()) {
+        return cases.play_events(rt, player);
+    }
     let mut answer = String::new(rt.alloc());
-    lists.obey(player.command(), &mut answer)?;
+    cases.obey(player.command(), &mut answer)?;
     player.answered(answer.as_str())
 }

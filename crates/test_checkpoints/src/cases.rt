@@ -1,0 +1,116 @@
+//! The cases of a file: lists of records, and histories.
+
+use crate::histories::{Counts, History, Setup};
+use crate::list::told;
+use crate::lists::Lists;
+use std::alloc::Global;
+use std::io::{BufRead, Write};
+use test_cases::{Ending, Player, Told};
+
+/// The command after which the events of a history stand, up to the next title.
+const EVENTS: &str = "tell outputs";
+
+/// What the cases are put to.
+#[derive(Drop)]
+pub struct Cases {
+    lists: Lists,
+    setup: Setup,
+    counts: Counts,
+}
+
+impl Cases {
+    /// As before the first case.
+    pub fn new(alloc: Global) -> Cases {
+        Cases {
+            lists: Lists::new(alloc),
+            setup: Setup::new(alloc),
+            counts: Counts::new(),
+        }
+    }
+
+    /// How many lists with records of a state were read, and written again as they were.
+    pub fn written_alike(&self) -> u64 {
+        self.lists.written_alike()
+    }
+
+    /// Begins a case.
+    pub fn begin(&mut self) -> Told {
+        self.lists.begin();
+        self.setup.begin()
+    }
+
+    /// Carries out a command, and adds the lines that it answers.
+    pub fn obey(&mut self, command: &str, answer: &mut String) -> Told {
+        let (name, _) = command.split_once(' ').unwrap_or((command, ""));
+        match name {
+            "set" | "stakes" => self.setup.obey(command, answer),
+            "loads" => self.counts.tell(answer),
+            _ => self.lists.obey(command, answer),
+        }
+    }
+
+    /// Whether the events of a history come after this command.
+    pub fn begins_events(&self, command: &str) -> bool {
+        command == EVENTS
+    }
+
+    /// Plays the events of a history, up to the title of the next case, and begins that.
+    pub fn play_events<I, W>(
+        &mut self,
+        rt: &HostRuntime,
+        player: &mut Player<I, W>,
+    ) -> Result<(), Ending>
+    where
+        I: BufRead + Drop,
+        W: Write + Drop,
+    {
+        let Some(member) = self.setup.member()? else {
+            return player.answered("bad case\n");
+        };
+        let Ok(mut history) = History::new(rt.alloc(), &member.config, self.counts) else {
+            return Err(Ending::Memory);
+        };
+        play_each(rt, player, &mut history)?;
+        let mut answer = String::new(rt.alloc());
+        history.end(&mut answer)?;
+        self.counts = history.counts();
+        player.answered(answer.as_str())?;
+        self.begin()?;
+        Ok(())
+    }
+}
+
+/// Plays each command up to the next title. The loop owns nothing, as in `main.rt`.
+fn play_each<I, W>(
+    rt: &HostRuntime,
+    player: &mut Player<I, W>,
+    history: &mut History<'_>,
+) -> Result<(), Ending>
+where
+    I: BufRead + Drop,
+    W: Write + Drop,
+{
+    for _ in 0..u64::MAX {
+        if !player.advance()? || player.is_title() {
+            break;
+        }
+        play(rt, player, history)?;
+    }
+    Ok(())
+}
+
+/// Plays a command.
+fn play<I, W>(
+    rt: &HostRuntime,
+    player: &mut Player<I, W>,
+    history: &mut History<'_>,
+) -> Result<(), Ending>
+where
+    I: BufRead + Drop,
+    W: Write + Drop,
+{
+    let mut answer = String::new(rt.alloc());
+    let obeyed = history.obey(player.command(), &mut answer);
+    told(obeyed, &mut answer)?;
+    player.answered(answer.as_str())
+}

@@ -1,0 +1,13 @@
+//! Histories of events. A validator takes them; on the way more of them are loaded from its records, and have to answer the
+//! next events as it does.
+
+mod answers;
+mod counts;
+mod history;
+mod labelled;
+mod loaded;
+mod setup;
+
+pub use counts::Counts;
+pub use history::History;
+pub use setup::Setup;

@@ -1,0 +1,49 @@
+//! How many validators were loaded along the histories of a file, and what they took.
+
+use test_cases::Told;
+
+/// How many events a loaded validator takes, where its history has as many.
+pub const EVENTS: u64 = 50;
+
+/// How many validators were loaded, how many of them took all their events, and how many answers they gave.
+#[derive(Clone, Copy)]
+pub struct Counts {
+    loaded: u64,
+    whole: u64,
+    answers: u64,
+}
+
+impl Counts {
+    /// None.
+    pub fn new() -> Counts {
+        Counts {
+            loaded: 0,
+            whole: 0,
+            answers: 0,
+        }
+    }
+
+    /// Counts a validator that was loaded.
+    pub fn load(&mut self) {
+        self.loaded = self.loaded.saturating_add(1);
+    }
+
+    /// Counts a loaded validator that took all its events.
+    pub fn end(&mut self) {
+        self.whole = self.whole.saturating_add(1);
+    }
+
+    /// Counts so many answers of loaded validators.
+    pub fn answer(&mut self, answers: u64) {
+        self.answers = self.answers.saturating_add(answers);
+    }
+
+    /// Tells them.
+    pub fn tell(&self, answer: &mut String) -> Told {
+        let (loaded, whole, answers) = (self.loaded, self.whole, self.answers);
+        writeln!(
+            answer,
+            "loaded {loaded}, with {EVENTS} events {whole}, answers {answers}"
+        )
+    }
+}

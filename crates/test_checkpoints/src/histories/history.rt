@@ -1,0 +1,155 @@
+//! A history: a validator that takes its events, and those that were loaded from its records on the way.
+
+use crate::histories::answers::{answered, looked};
+use crate::histories::counts::Counts;
+use crate::histories::labelled::label_genesis;
+use crate::histories::loaded::Loaded;
+use crate::loading::{kept_records, loaded, tell_error};
+use sigface::HashSign;
+use sim_script::{Command, FormError, Labels, define_batch, define_header, parse};
+use std::alloc::{AllocError, Global};
+use test_cases::Told;
+use validator::{Config, LoadError, Validator};
+
+/// After so many events a validator is loaded, each time.
+const BETWEEN: u64 = 5;
+
+/// A validator that takes events, and those that were loaded from its records, the oldest first.
+#[derive(Drop)]
+pub struct History<'c> {
+    alloc: Global,
+    config: &'c Config<HashSign>,
+    labels: Labels,
+    validator: Validator<'c, HashSign>,
+    loaded: Vec<Loaded<'c>>,
+    counts: Counts,
+    /// How many events came.
+    events: u64,
+    /// How many of them were new.
+    new: u64,
+}
+
+impl<'c> History<'c> {
+    /// No events yet, where so many validators were loaded before.
+    pub fn new(
+        alloc: Global,
+        config: &'c Config<HashSign>,
+        counts: Counts,
+    ) -> Result<History<'c>, FormError> {
+        let mut labels = Labels::new(alloc);
+        label_genesis(alloc, &mut labels, config.committee().size())?;
+        Ok(History {
+            alloc,
+            config,
+            labels,
+            validator: Validator::new(alloc, config)?,
+            loaded: Vec::new(alloc),
+            counts,
+            events: 0,
+            new: 0,
+        })
+    }
+
+    /// How many validators were loaded so far.
+    pub fn counts(&self) -> Counts {
+        self.counts
+    }
+
+    /// Carries out a command, and adds the lines that it answers.
+    pub fn obey(&mut self, command: &str, answer: &mut String) -> Result<(), FormError> {
+        let (name, _) = command.split_once(' ').unwrap_or((command, ""));
+        match name {
+            "floor" | "round" | "order" | "propose" => Ok(self.look(name, answer)?),
+            "flush" => Ok(writeln!(answer, "settled {}", self.new)?),
+            "pack" | "form" => self.define(command),
+            _ => self.take(command, answer),
+        }
+    }
+
+    fn define(&mut self, command: &str) -> Result<(), FormError> {
+        match parse(command.as_bytes()) {
+            Some(Command::Pack(pack)) => define_batch(self.alloc, &mut self.labels, &pack),
+            Some(Command::Form(form)) => define_header(self.alloc, &mut self.labels, &form),
+            _ => Err(FormError::BadCommand),
+        }
+    }
+
+    /// Tells what the validator has. Each that was loaded has to have the same.
+    fn look(&self, name: &str, answer: &mut String) -> Told {
+        let told = looked(self.alloc, &self.labels, &self.validator, name)?;
+        answer.push_str(told.as_str())?;
+        for one in &self.loaded {
+            one.look(&self.labels, name, told.as_str(), answer)?;
+        }
+        Ok(())
+    }
+
+    /// Gives the event of a line to all. Before every so many events one more is loaded.
+    fn take(&mut self, line: &str, answer: &mut String) -> Result<(), FormError> {
+        if self.events % BETWEEN == 0 {
+            self.load(answer)?;
+        }
+        let told = answered(
+            self.alloc,
+            &self.labels,
+            &mut self.validator,
+            line,
+            self.new,
+        )?;
+        answer.push_str(told.lines.as_str())?;
+        self.take_loaded(line, told.lines.as_str(), answer)?;
+        self.events = self.events.saturating_add(1);
+        self.new = self.new.saturating_add(u64::from(told.is_new));
+        Ok(self.end_first(answer)?)
+    }
+
+    /// Gives the event of a line, which is answered so, to those that were loaded.
+    fn take_loaded(
+        &mut self,
+        line: &str,
+        told: &str,
+        answer: &mut String,
+    ) -> Result<(), FormError> {
+        for one in &mut self.loaded {
+            one.take(&self.labels, line, self.new, told, answer)?;
+        }
+        self.counts.answer(self.loaded.len() as u64);
+        Ok(())
+    }
+
+    /// Loads one more validator from the records.
+    fn load(&mut self, answer: &mut String) -> Told {
+        match loaded(self.alloc, self.config, &kept_records(&self.validator)?) {
+            Err(LoadError::Memory) => Err(AllocError),
+            Err(error) => {
+                tell_error(error, answer)?;
+                answer.push_str(" is what loading is answered\n")
+            }
+            Ok(validator) => {
+                self.counts.load();
+                let one = Loaded::new(self.alloc, validator, self.events);
+                Ok(self.loaded.push(one)?)
+            }
+        }
+    }
+
+    /// Ends the oldest of those that were loaded, if it took all its events.
+    fn end_first(&mut self, answer: &mut String) -> Told {
+        match self.loaded.first() {
+            Some(first) if first.is_done() => {}
+            _ => return Ok(()),
+        }
+        let first = self.loaded.remove(0);
+        self.counts.end();
+        first.compare_records(&kept_records(&self.validator)?, answer)
+    }
+
+    /// Ends the history: compares the records of those that were loaded and have not taken all their events.
+    pub fn end(&self, answer: &mut String) -> Told {
+        let records = kept_records(&self.validator)?;
+        for one in &self.loaded {
+            one.compare_records(&records, answer)?;
+        }
+        Ok(())
+    }
+}

@@ -1,0 +1,50 @@
+//! What a history is of: member 0 of a committee.
+
+use crate::nodes::{Member, member_of};
+use sim_script::BATCHES;
+use std::alloc::{AllocError, Global};
+use test_cases::{Told, bad};
+
+/// The depth and the stakes of the committee of a history.
+#[derive(Drop)]
+pub struct Setup {
+    alloc: Global,
+    depth: u64,
+    stakes: String,
+}
+
+impl Setup {
+    /// As before the first case.
+    pub fn new(alloc: Global) -> Setup {
+        Setup {
+            alloc,
+            depth: 0,
+            stakes: String::new(alloc),
+        }
+    }
+
+    /// Begins a case, with four members of equal stakes.
+    pub fn begin(&mut self) -> Told {
+        self.stakes.clear();
+        self.stakes.push_str("1,1,1,1")
+    }
+
+    /// `set depth` and `stakes`.
+    pub fn obey(&mut self, command: &str, answer: &mut String) -> Told {
+        if let Some(stakes) = command.strip_prefix("stakes ") {
+            self.stakes.clear();
+            return self.stakes.push_str(stakes);
+        }
+        match command.strip_prefix("set depth ") {
+            Some(depth) => Ok(self.depth = depth.parse().unwrap_or(0)),
+            None => Ok(bad(answer)),
+        }
+    }
+
+    /// The member that takes the events, if there is such a committee.
+    pub fn member(&self) -> Result<Option<Member>, AllocError> {
+        let (depth, stakes) = (self.depth, self.stakes.as_str());
+        let words = format!(in self.alloc; "0 {depth} {BATCHES} {stakes}")?;
+        member_of(self.alloc, words.as_str())
+    }
+}
