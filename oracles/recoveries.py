@@ -382,6 +382,10 @@ class Run:
     def carry_out(self, command):
         if command == 'flush':
             self.flush()
+        elif command == 'checkpoint':
+            # It settles all that is pending, as do as many groups as it takes: what is read then is the same state.
+            while self.settled < len(self.accepted):
+                self.flush()
         elif command == 'stop':
             self.open()
         else:
@@ -507,6 +511,14 @@ class Cases:
             self.put(' '.join(('plain', *behind)), 'the same text' + shown(run.written))
         return run
 
+    def pair(self, *after):
+        run = self.run(*after)
+        assert run.error is None
+        self.put(' '.join(('pair', *after)), 'the same text' + shown(run.written), self.setting.open(run.file)[0])
+
+    def pair_failing(self, call):
+        self.put('pair ' + call, 'each call failed in turn')
+
     def drive_failing(self, call):
         run = self.run()
         answers = ['2 Device' + shown(run.written[:before]) for name, before in run.calls if name == call] + [run.told()]
@@ -524,7 +536,8 @@ class Cases:
 
     def drive_filling(self):
         text = self.run().written
-        self.put('drive x' + text.hex(), '0: 6 Output, filled', '%d: carried out, filled' % len(text))
+        for word in ('drive', 'pair'):
+            self.put(word + ' x' + text.hex(), '0: 6 Output, filled', '%d: carried out, filled' % len(text))
 
 
 CONFIG = configuration()
@@ -738,6 +751,8 @@ def in_three_ways(cases, title, *commands, setting=Setting()):
     cases.tell(*commands)
     cases.drive()
     cases.drive('stop')
+    for after in (('stop',), ('flush', 'stop'), ('checkpoint',), ('checkpoint', 'stop')):
+        cases.pair(*after)
     return cases.drive('flush', 'stop')
 
 
@@ -773,6 +788,8 @@ def longer_scripts(cases):
     events, _ = leader_by_one()
     in_three_ways(cases, 'an order of two leaders', *events, 'flush')
     cases.drive_failing('write')
+    for call in ('sync', 'read', 'write', 'cut'):
+        cases.pair_failing(call)
     events, made = late_certificates()
     late = events[17], record(3, header_message(made['c33']))
     in_three_ways(cases, 'an order over late certificates', *events, 'flush', *late, setting=Setting(depth=2))

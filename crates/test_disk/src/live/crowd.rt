@@ -1,6 +1,8 @@
 //! Three threads that submit to one node, while a fourth flushes.
 
-ghost use Rattle.std.specs.Prelude.{◌≡◌};
+ghost use Rattle.std.specs.Prelude.{◌≡◌, None};
+ghost use Rattle.flusher.specs.Rounds.{journal_of};
+ghost use Rattle.journal.specs.Journal.{spare_of};
 ghost use Rattle.node_shared.specs.Home.{IsOf};
 
 use crate::committees::{FOUR, own_config};
@@ -88,7 +90,8 @@ fn submit_beside<'a, R>(
 ) -> Result<MemDisk, Ending>
 where
     R: Threads + Wait + Sync,
-    requires { rounds.node.setting ≡ config.now }
+    requires setting { rounds.node.setting ≡ config.now }
+    requires alone { spare_of (journal_of rounds.flusher) ≡ None }
 {
     let caller = rounds.caller(config)?;
     let (told, flushed) = thread::join(
@@ -173,7 +176,9 @@ fn submit<R: Wait>(
 fn flush_all<R: Wait>(
     rt: &R,
     mut rounds: Rounds<'_, '_, HashSign, MemDisk>,
-) -> Result<MemDisk, Ending> {
+) -> Result<MemDisk, Ending>
+    requires { spare_of (journal_of rounds.flusher) ≡ None }
+{
     let mut settled = 0;
     for _ in 0..TURNS {
         let count = rounds.round(rt)?;

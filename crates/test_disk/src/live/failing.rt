@@ -1,6 +1,8 @@
 //! Rounds in which a call of the disk fails.
 
-ghost use Rattle.std.specs.Prelude.{◌≡◌};
+ghost use Rattle.std.specs.Prelude.{◌≡◌, None};
+ghost use Rattle.flusher.specs.Rounds.{journal_of};
+ghost use Rattle.journal.specs.Journal.{spare_of};
 
 use crate::committees::{FOUR, own_config};
 use crate::live::ending::Ending;
@@ -110,7 +112,9 @@ fn play_with<'a, R: Wait>(
     plan: Plan,
     answer: &mut String,
 ) -> Result<bool, Ending>
-    requires { rounds.old.node.setting ≡ config.now }
+    requires setting { rounds.old.node.setting ≡ config.now }
+    requires alone { spare_of (journal_of rounds.old.flusher) ≡ None }
+    ensures alone { spare_of (journal_of rounds.new.flusher) ≡ None }
 {
     let mut caller = rounds.caller(config)?;
     rounds.cover(rt, &mut caller);
@@ -126,7 +130,10 @@ fn play<R: Wait>(
     caller: &mut Caller<'_, '_, HashSign>,
     plan: Plan,
     answer: &mut String,
-) -> Result<(), Ending> {
+) -> Result<(), Ending>
+    requires alone { spare_of (journal_of rounds.old.flusher) ≡ None }
+    ensures alone { spare_of (journal_of rounds.new.flusher) ≡ None }
+{
     match plan {
         Plan::Down => {
             switch.fail(CallKind::Sync, 1)?;
@@ -148,7 +155,10 @@ fn tell_down<R: Wait>(
     rounds: &mut Rounds<'_, '_, HashSign, MemDisk>,
     caller: &mut Caller<'_, '_, HashSign>,
     answer: &mut String,
-) -> Result<(), Ending> {
+) -> Result<(), Ending>
+    requires alone { spare_of (journal_of rounds.old.flusher) ≡ None }
+    ensures alone { spare_of (journal_of rounds.new.flusher) ≡ None }
+{
     tell_submit(rt, alloc, caller, answer)?;
     tell_round(rt, rounds, answer);
     tell_round(rt, rounds, answer);
@@ -172,11 +182,10 @@ fn tell_submit<R: Wait>(
     Ok(())
 }
 
-fn tell_round<R: Wait>(
-    rt: &R,
-    rounds: &mut Rounds<'_, '_, HashSign, MemDisk>,
-    answer: &mut String,
-) {
+fn tell_round<R: Wait>(rt: &R, rounds: &mut Rounds<'_, '_, HashSign, MemDisk>, answer: &mut String)
+    requires alone { spare_of (journal_of rounds.old.flusher) ≡ None }
+    ensures alone { spare_of (journal_of rounds.new.flusher) ≡ None }
+{
     match rounds.round(rt) {
         Ok(count) => put_number(answer, "settled", count),
         Err(error) => put_shown(answer, "fault ", &error, "\n"),

@@ -22,7 +22,7 @@ pub fn run_files<R: Files<File = File> + AllocGlobal + Threads + Wait + Sync>(
         args.push(String::from_str(alloc, word)?)?;
     }
     let mut errors = Vec::new(alloc);
-    let status = run(rt, alloc, &args, io::empty(), io::sink(), &mut errors);
+    let (status, _) = run(rt, alloc, &args, io::empty(), io::sink(), &mut errors);
     tell_errors(&errors, answer);
     put_number(answer, "status", status as u64);
     Ok(())

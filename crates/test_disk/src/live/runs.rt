@@ -8,7 +8,7 @@ use crate::live::words::{Told, bad, call_of, joined, put_count, put_len};
 use crate::memory::{disk_with, failing_disk};
 use diskmodel::{CallKind, MemDisk};
 use node_io::Blocking;
-use node_run::run_over;
+use node_run::{Ran, run_over};
 use std::alloc::{AllocError, Global};
 use std::collections::VecDeque;
 use std::fs::File;
@@ -172,7 +172,11 @@ fn run_steps<R: Threads + Wait + Sync>(
     let reader = Blocking::new(&NoClock, Steps::new(rt, seen, steps));
     let writer = Blocking::new(&NoClock, Output { rt, seen });
     let mut lines = Lines { rt, seen };
-    let (ending, disk) = run_over(rt, alloc, member, disk, reader, writer, &mut lines);
+    let Ran {
+        ending,
+        disk,
+        writer: _,
+    } = run_over(rt, alloc, member, disk, reader, writer, &mut lines);
     (ending.status(), disk)
 }
 

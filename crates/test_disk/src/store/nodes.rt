@@ -41,6 +41,7 @@ impl Node {
             "node" => self.set_up(words, answer),
             "plain" => self.tell_plain(words, answer),
             "drive" => self.drive(words, answer),
+            "pair" => self.drive_pair(words, answer),
             "file" => self.lay(words, answer),
             "event" => self.add_event(words, answer),
             "batches" => self.add_batches(words, answer),
@@ -57,6 +58,7 @@ impl Node {
         match name {
             _ if !words.is_empty() => told_bad(answer),
             "flush" => self.add(Line::Flush),
+            "checkpoint" => self.add(Line::Checkpoint),
             "stop" => self.add(Line::Stop),
             "open" => openings::open(self.alloc, &self.setting.config, &self.file, answer),
             _ => told_bad(answer),
@@ -140,6 +142,17 @@ impl Node {
     fn tell_plain(&self, words: &[Word], answer: &mut String) -> Told {
         let behind = lines_of(self.alloc, words)?;
         texts::tell(&self.script(&behind), &self.setting.node, answer)
+    }
+
+    /// The same on two disks, beside the plain program, or with calls of a kind that fail on each disk.
+    fn drive_pair(&self, words: &[Word], answer: &mut String) -> Told {
+        let behind = lines_of(self.alloc, words)?;
+        let script = self.script(&behind);
+        match words {
+            [Word::Call(kind)] => script.tell_failing_on_two(*kind, answer),
+            [Word::Bytes(text)] => script.tell_rooms_on_two(text, answer),
+            _ => texts::tell_pair(&script, &self.setting.node, answer),
+        }
     }
 
     fn script<'a>(&'a self, behind: &'a [Line]) -> Script<'a> {

@@ -5,7 +5,7 @@ use crate::store::disks::tell_left;
 use crate::store::journals::put_error;
 use crate::store::words::{Told, put, put_bytes, put_count};
 use diskmodel::MemDisk;
-use recovery::reopen;
+use recovery::{reopen, reopen_pair};
 use sigface::HashSign;
 use std::alloc::{AllocError, Global};
 use validator::{Config, Validator};
@@ -51,6 +51,24 @@ pub fn opened(
             failed.disk
         }
     }
+}
+
+/// Opens a node on two disks, and tells what comes of it.
+pub fn tell_pair(
+    alloc: Global,
+    config: &Config<HashSign>,
+    first: MemDisk,
+    second: MemDisk,
+    answer: &mut String,
+) {
+    match reopen_pair(alloc, config, first, second) {
+        Ok((validator, journal)) => {
+            tell_node(&validator, answer);
+            let _ = journal.into_store();
+        }
+        Err(failed) => put_error(answer, failed.error),
+    }
+    put(answer, "\n");
 }
 
 /// The round, the length of the order, and the votes of the first rounds, by author and round.

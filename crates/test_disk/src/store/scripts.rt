@@ -1,7 +1,7 @@
 //! Scripts of commands, and what a node writes for them.
 
-ghost use Rattle.std.specs.Prelude.{All, IfOk, IfSome};
-ghost use Rattle.recovery.specs.Script.{Passes};
+ghost use Rattle.std.specs.Prelude.{Bool, false, All, IfOk, IfSome};
+ghost use Rattle.recovery.specs.Script.{Passes, CarriesOut};
 
 use crate::memory::{disk_with, failing_disk};
 use crate::store::headers::message_in;
@@ -11,7 +11,7 @@ use book::MAX_ACCEPTED;
 use diskmodel::{CallKind, MemDisk};
 use header::check;
 use journal::Failed;
-use recovery::{Command, DriveError, drive};
+use recovery::{Command, DriveError, drive, drive_pair, reopen_pair};
 use sha2::{Digest, Sha256};
 use sigface::{HashSign, HashVerify};
 use std::alloc::{AllocError, Global};
@@ -32,15 +32,17 @@ pub enum Line {
     /// A message comes in from a sender.
     Event { sender: Author, message: Vec<u8> },
     Flush,
+    Checkpoint,
     Stop,
 }
 
-/// The flushes and stops among these words.
+/// The flushes, checkpoints and stops among these words.
 pub fn lines_of(alloc: Global, words: &[Word]) -> Result<Vec<Line>, AllocError> {
     let mut lines = Vec::new(alloc);
     for word in words {
         match word {
             Word::Flush => lines.push(Line::Flush)?,
+            Word::Checkpoint => lines.push(Line::Checkpoint)?,
             Word::Stop => lines.push(Line::Stop)?,
             _ => {}
         }
@@ -50,6 +52,9 @@ pub fn lines_of(alloc: Global, words: &[Word]) -> Result<Vec<Line>, AllocError> 
 
 /// The disk after all commands, or that where they ended early, with the reason.
 pub type Driven = Result<MemDisk, Failed<DriveError, MemDisk>>;
+
+/// The same of two disks.
+pub type DrivenOnTwo = Result<(MemDisk, MemDisk), Failed<DriveError, (MemDisk, MemDisk)>>;
 
 /// Commands that a node carries out, one after the other, on a disk with a file.
 #[derive(Clone, Copy)]
@@ -84,6 +89,45 @@ impl Script<'_> {
         Ok(())
     }
 
+    /// Carries all out on two disks where a call of this kind fails on one of them: the first one, the second one and so on. Tells
+    /// whether each ended so, and whether a node was opened again on what was left.
+    pub fn tell_failing_on_two(&self, kind: CallKind, answer: &mut String) -> Told {
+        for is_second in [false, true] {
+            for count in 1..CALLS {
+                let (one, other) = (self.failing(kind, count)?, self.disk()?);
+                let (first, second) = if is_second {
+                    (other, one)
+                } else {
+                    (one, other)
+                };
+                let mut written = Vec::new(self.alloc);
+                match self.run_on_two(first, second, &mut written)? {
+                    Some(Err(failed)) => self.tell_again(failed, answer),
+                    _ => break,
+                }
+            }
+        }
+        put(answer, "each call failed in turn\n");
+        Ok(())
+    }
+
+    /// Tells what is wrong with how a script ended whose disk failed: nothing where it says so, and a node opens on what is left.
+    fn tell_again(&self, failed: Failed<DriveError, (MemDisk, MemDisk)>, answer: &mut String) {
+        let Failed { error, disk } = failed;
+        if error != DriveError::Device {
+            tell_error(error, answer);
+        }
+        let (first, second) = disk;
+        if reopen_pair(self.alloc, self.config, first, second).is_err() {
+            put(answer, "not opened again, ");
+        }
+    }
+
+    /// An empty disk of which a call fails.
+    fn failing(&self, kind: CallKind, count: u64) -> Result<MemDisk, AllocError> {
+        failing_disk(self.alloc, self.file, kind, count)
+    }
+
     /// Tells what is written to a writer that fails after so many bytes, for each number of bytes of the text. A line is
     /// told wherever the answer becomes another one.
     pub fn tell_rooms(&self, text: &[u8], answer: &mut String) -> Told {
@@ -93,6 +137,29 @@ impl Script<'_> {
             put_other(answer, room as u64, told, &mut before);
         }
         Ok(())
+    }
+
+    /// The same on two disks.
+    pub fn tell_rooms_on_two(&self, text: &[u8], answer: &mut String) -> Told {
+        let mut before = String::new(self.alloc);
+        for room in 0..=text.len() {
+            let told = self.told_room_on_two(room, text)?;
+            put_other(answer, room as u64, told, &mut before);
+        }
+        Ok(())
+    }
+
+    /// What is told there where the writer takes so many bytes of the text.
+    fn told_room_on_two(&self, room: usize, text: &[u8]) -> Result<String, AllocError> {
+        let mut taker = Taker::new(self.alloc, room);
+        let mut told = String::new(self.alloc);
+        match self.run_on_two(self.disk()?, disk_with(self.alloc, &[])?, &mut taker)? {
+            None => put(&mut told, "bad case"),
+            Some(Ok(_disks)) => put(&mut told, "carried out"),
+            Some(Err(failed)) => tell_error(failed.error, &mut told),
+        }
+        put(&mut told, filled(text.get(..room), &taker.bytes));
+        Ok(told)
     }
 
     /// What is told where the writer takes so many bytes of the text.
@@ -173,7 +240,7 @@ impl Script<'_> {
         writer: &mut W,
     ) -> Result<Option<Driven>, AllocError> {
         let lines = self.spaced_lines()?;
-        match commands_of(self.alloc, self.config, &lines)? {
+        match commands_of(self.alloc, self.config, &lines, false)? {
             Some(commands) => Ok(self.carry_out(disk, commands, writer)),
             None => Ok(None),
         }
@@ -186,26 +253,60 @@ impl Script<'_> {
         commands: Vec<Command>,
         writer: &mut W,
     ) -> Option<Driven>
-        requires { All (Passes self.now.config.now.charter) commands.items }
+        requires passed { All (Passes self.now.config.now.charter) commands.items }
+        requires on_one { All (CarriesOut false) commands.items }
     {
         if commands.len() as u64 > MAX_ACCEPTED {
             return None;
         }
         Some(drive(self.alloc, self.config, disk, commands, writer))
     }
+
+    /// Carries out all commands on two disks; nothing where a message can't come in.
+    pub fn run_on_two<W: Write>(
+        &self,
+        first: MemDisk,
+        second: MemDisk,
+        writer: &mut W,
+    ) -> Result<Option<DrivenOnTwo>, AllocError> {
+        let lines = self.spaced_lines()?;
+        match commands_of(self.alloc, self.config, &lines, true)? {
+            Some(commands) => Ok(self.carry_out_on_two(first, second, commands, writer)),
+            None => Ok(None),
+        }
+    }
+
+    /// The same for these commands; nothing where they are too many.
+    fn carry_out_on_two<W: Write>(
+        &self,
+        first: MemDisk,
+        second: MemDisk,
+        commands: Vec<Command>,
+        writer: &mut W,
+    ) -> Option<DrivenOnTwo>
+        requires { All (Passes self.now.config.now.charter) commands.items }
+    {
+        if commands.len() as u64 > MAX_ACCEPTED {
+            return None;
+        }
+        let (alloc, config) = (self.alloc, self.config);
+        Some(drive_pair(alloc, config, first, second, commands, writer))
+    }
 }
 
-/// The commands of these lines, if each message can come in.
+/// The commands of these lines, on two disks or on one, if each message can come in.
 fn commands_of(
     alloc: Global,
     config: &Config<HashSign>,
     lines: &[&Line],
+    two: bool,
 ) -> Result<Option<Vec<Command>>, AllocError>
     ensures passed { IfOk result (λ found. IfSome found (λ commands. All (Passes config.now.charter) commands.items)) }
+    ensures on_disks { IfOk result (λ found. IfSome found (λ commands. All (CarriesOut two) commands.items)) }
 {
     let mut commands = Vec::new(alloc);
     for line in lines {
-        match command_of(alloc, config, line)? {
+        match command_of(alloc, config, line, two)? {
             Some(command) => commands.push(command)?,
             None => return Ok(None),
         }
@@ -213,16 +314,21 @@ fn commands_of(
     Ok(Some(commands))
 }
 
+/// A checkpoint is one of two disks.
 fn command_of(
     alloc: Global,
     config: &Config<HashSign>,
     line: &Line,
+    two: bool,
 ) -> Result<Option<Command>, AllocError>
     ensures passed { IfOk result (λ found. IfSome found (Passes config.now.charter)) }
+    ensures on_disks { IfOk result (λ found. IfSome found (CarriesOut two)) }
 {
     match line {
         Line::Event { sender, message } => event_of(alloc, config, *sender, message),
         Line::Flush => Ok(Some(Command::Flush)),
+        Line::Checkpoint if two => Ok(Some(Command::Checkpoint)),
+        Line::Checkpoint => Ok(None),
         Line::Stop => Ok(Some(Command::Stop)),
     }
 }
@@ -235,6 +341,7 @@ fn event_of(
     bytes: &[u8],
 ) -> Result<Option<Command>, AllocError>
     ensures passed { IfOk result (λ found. IfSome found (Passes config.now.charter)) }
+    ensures on_disks { (two : Bool) → IfOk result (λ found. IfSome found (CarriesOut two)) }
 {
     let Some(message) = message_in(alloc, bytes)? else {
         return Ok(None);

@@ -1,6 +1,8 @@
 //! The text of a script by the plain program, beside what a node writes.
 
+use crate::memory::disk_with;
 use crate::store::headers::message_in;
+use crate::store::openings;
 use crate::store::scripts::{Line, Script, tell_text};
 use crate::store::words::{Told, bad, put, told_bad};
 use diskmodel::MemDisk;
@@ -19,6 +21,20 @@ pub fn tell(script: &Script, node: &Node<HashSign>, answer: &mut String) -> Told
     let mut written = Vec::new(script.alloc);
     match script.run(script.disk()?, &mut written)? {
         Some(Ok(_)) => tell_text_of(script, node, &written, answer),
+        _ => told_bad(answer),
+    }
+}
+
+/// The same of a node on two disks, and what both are read as then.
+pub fn tell_pair(script: &Script, node: &Node<HashSign>, answer: &mut String) -> Told {
+    let alloc = script.alloc;
+    let mut written = Vec::new(alloc);
+    match script.run_on_two(script.disk()?, disk_with(alloc, &[])?, &mut written)? {
+        Some(Ok((first, second))) => {
+            tell_text_of(script, node, &written, answer)?;
+            openings::tell_pair(alloc, script.config, first, second, answer);
+            Ok(())
+        }
         _ => told_bad(answer),
     }
 }
@@ -113,6 +129,7 @@ fn command_of(alloc: Global, line: &Line) -> Result<Option<Command>, AllocError>
             None => Ok(None),
         },
         Line::Flush => Ok(Some(Command::Flush)),
+        Line::Checkpoint => Ok(Some(Command::Checkpoint)),
         Line::Stop => Ok(Some(Command::Stop)),
     }
 }

@@ -14,6 +14,7 @@ pub enum Word {
     Bytes(Vec<u8>),
     Call(CallKind),
     Flush,
+    Checkpoint,
     Stop,
     Bad,
 }
@@ -41,6 +42,7 @@ fn word_of(alloc: Global, word: &str) -> Result<Word, AllocError> {
 fn named(word: &str) -> Word {
     match word {
         "flush" => Word::Flush,
+        "checkpoint" => Word::Checkpoint,
         "stop" => Word::Stop,
         _ => match call_of(word) {
             Some(call) => Word::Call(call),
