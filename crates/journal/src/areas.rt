@@ -130,10 +130,10 @@ fn rest_area<D: Disk>(disk: &mut D, shut: bool) -> Result<(), JournalError>
     ensures errors { IfErr result (λ error. error ≡ JournalError.Device) }
     ensures cause { TellsFault JournalError.Device (D.device.faults disk.old) (D.device.faults disk.new) result }
 {
+    disk.end_reading();
     if shut {
         return shut_area(disk);
     }
-    disk.end_reading();
     Ok(())
 }
 
