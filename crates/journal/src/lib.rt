@@ -37,7 +37,7 @@ pub use layout::{
 };
 pub use reader::Reader;
 pub use reading::stands;
-pub use record::Record;
+pub use record::{Record, RecordRef};
 pub use side::Side;
 pub use snapshot::Snapshot;
 pub use store::Store;

@@ -5,7 +5,7 @@ ghost use Rattle.std.proofs.Common.{sym, ap, ◌∙◌, append_assoc};
 ghost use Rattle.std.proofs.lemmas.List.{append-nil};
 ghost use Rattle.journal.specs.declared.record.Record.{Record};
 
-use crate::record::Record;
+use crate::record::{Record, RecordRef};
 use std::alloc::{AllocError, Global};
 
 /// What takes the records of a journal, group by group, while it is opened.
@@ -14,8 +14,8 @@ pub trait Reader {
     ghost takes: { Self → List Record → Self → Type 0 };
 
     /// Takes the records of the next group.
-    fn take(&mut self, alloc: Global, group: Vec<Record>) -> Result<(), AllocError>
-        ensures { OnOk result (takes self.old group.items self.new) };
+    fn take(&mut self, alloc: Global, group: Vec<RecordRef<'_>>) -> Result<(), AllocError>
+        ensures { OnOk result (takes self.old group.entry.items self.new) };
 
     /// It stays as it is by taking none.
     ghost takes_none: { (one : Self) → takes one [] one };
@@ -31,7 +31,11 @@ impl Reader for Vec<Record> {
 
     ghost takes_more = { λ one other third records more first then. then ∙ ap (λ (l : List Record). l ++ more) first ∙ append_assoc one.items records more };
 
-    fn take(&mut self, _alloc: Global, mut group: Vec<Record>) -> Result<(), AllocError> {
-        self.append(&mut group)
+    fn take(&mut self, alloc: Global, group: Vec<RecordRef<'_>>) -> Result<(), AllocError> {
+        for one in &group {
+            let record = one.kept(alloc)?;
+            self.push(record)?;
+        }
+        Ok(())
     }
 }

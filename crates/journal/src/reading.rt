@@ -9,9 +9,9 @@ ghost use Rattle.journal.specs.declared.layout.TheConstants.{SECOND_AREA};
 use crate::configuration::{head_in, shaped_version};
 use crate::error::JournalError;
 use crate::layout::{CLOSED, LENGTH_BYTES, MAX_GROUP_BYTES, MAX_GROUP_RECORDS};
-use crate::record::Record;
+use crate::reader::Reader;
+use crate::record::{Record, RecordRef};
 use crate::side::Side;
-use diskmodel::KeptBytes;
 use std::alloc::{AllocError, Global};
 
 /// What the bytes of a journal stand for: the records of the groups whose gates are open, from the
@@ -60,10 +60,10 @@ fn walk_from(alloc: Global, bytes: &[u8], base: u64) -> Result<(Vec<Record>, u64
         let Some(body) = body_at(&bytes[gate + 1..]) else {
             return Err(JournalError::Damaged(place));
         };
-        let Some(mut group) = group_of(alloc, body, place)? else {
+        let Some(group) = group_of(alloc, body, place)? else {
             return Err(JournalError::Damaged(place));
         };
-        records.append(&mut group)?;
+        records.take(alloc, group)?;
         gate += 1 + LENGTH_BYTES + body.len();
     }
     Ok((records, gate as u64))
@@ -95,17 +95,19 @@ fn first_generation(alloc: Global, bytes: &[u8]) -> Result<Option<u64>, AllocErr
 
 // The generation of an area with these records in its first group.
 #[tactic(auto, unfolding(crate::specs::Areas::generation_of))]
-fn generation_of(records: &[Record]) -> Option<u64>
+fn generation_of(records: &[RecordRef<'_>]) -> Option<u64>
     ensures { result ≡ generation_of (map (λ one. one.bytes) records.now) }
 {
     if records.is_empty() || records.len() > 2 {
         return None;
     }
-    shaped_version(records[0].bytes.as_slice())?;
+    let first = &records[0];
+    shaped_version(first.bytes)?;
     if records.len() == 1 {
         Some(0)
     } else {
-        head_in(records[1].bytes.as_slice())
+        let second = &records[1];
+        head_in(second.bytes)
     }
 }
 
@@ -136,11 +138,11 @@ pub(crate) fn body_at(bytes: &[u8]) -> Option<&[u8]>
 // The records of a body, with the place of its gate, if it is a list of whole records and not too
 // many.
 #[tactic(auto, unfolding(crate::specs::Format::group_of))]
-pub(crate) fn group_of(
+pub(crate) fn group_of<'b>(
     alloc: Global,
-    body: &[u8],
+    body: &'b [u8],
     gate: u64,
-) -> Result<Option<Vec<Record>>, AllocError>
+) -> Result<Option<Vec<RecordRef<'b>>>, AllocError>
     ensures { IfOk result (λ found. option_map (λ records. records.items) found ≡ option_map (kept gate) (group_of body.now)) }
 {
     let Some(records) = records_of(alloc, body, gate)? else {
@@ -153,29 +155,23 @@ pub(crate) fn group_of(
 }
 
 // The records of a body, with the place of its gate, if it is a list of whole records.
-fn records_of(alloc: Global, body: &[u8], gate: u64) -> Result<Option<Vec<Record>>, AllocError>
+fn records_of<'b>(
+    alloc: Global,
+    body: &'b [u8],
+    gate: u64,
+) -> Result<Option<Vec<RecordRef<'b>>>, AllocError>
     ensures { IfOk result (λ found. option_map (λ records. records.items) found ≡ option_map (kept gate) (records_of body.now)) }
 {
     let mut records = Vec::new(alloc);
     let mut rest = body;
     while !rest.is_empty() {
-        let Some((record, after)) = split_record(rest) else {
+        let Some((bytes, after)) = split_record(rest) else {
             return Ok(None);
         };
-        let bytes = copy_of(alloc, record)?;
-        records.push(Record { bytes, gate })?;
+        records.push(RecordRef { bytes, gate })?;
         rest = after;
     }
     Ok(Some(records))
-}
-
-// The same bytes once more.
-fn copy_of(alloc: Global, bytes: &[u8]) -> Result<KeptBytes, AllocError>
-    ensures { IfOk result (λ copy. copy ≡ bytes.now) }
-{
-    let mut copy = Vec::with_capacity(alloc, bytes.len())?;
-    copy.extend_from_slice(bytes)?;
-    Ok(KeptBytes::from_vec(copy))
 }
 
 // The record at the front of the bytes, and the bytes behind it, if it is whole.

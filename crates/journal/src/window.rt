@@ -1,18 +1,18 @@
 //! Reading the groups of a file through a window on it.
 
-ghost use Rattle.std.specs.Prelude.{◌≡◌, ◌≢◌, ◌+◌, ◌<◌, ◌≤◌, [], ℕ, List, length, Ok, IfOk, IfErr, IfSome, IsNone, IsTrue, OnOk, vec_len};
+ghost use Rattle.std.specs.Prelude.{◌≡◌, ◌≢◌, ◌+◌, ◌<◌, ◌≤◌, [], ℕ, List, length, Ok, IfOk, IfErr, IsTrue, false, OnOk, vec_len};
 ghost use Rattle.diskmodel.specs.Disk.{TellsFault};
 ghost use Rattle.journal.specs.Format.{FailsAs, ScansTo, walk, with_front};
 ghost use Rattle.journal.specs.Areas.{stands_at};
 ghost use Rattle.journal.specs.Reader.{TakesAll, TakesTo};
 ghost use Rattle.journal.specs.declared.layout.TheConstants.{SECOND_AREA};
+ghost use Rattle.journal.specs.declared.record.Record.{Record};
 ghost use Rattle.journal.specs.Window.{IsWindow, HasNext, IsOnlyRead, left_from};
 
 use crate::error::JournalError;
 use crate::layout::{CLOSED, LENGTH_BYTES, SECOND_AREA, WINDOW_BYTES};
 use crate::reader::Reader;
 use crate::reading::{body_at, group_of};
-use crate::record::Record;
 use crate::side::Side;
 use diskmodel::Disk;
 use std::alloc::{AllocError, Global};
@@ -62,32 +62,33 @@ impl Window {
         ensures only_read { IsOnlyRead D.device disk.old disk.new }
         ensures cause { TellsFault JournalError.Device (D.device.faults disk.old) (D.device.faults disk.new) result }
     {
-        while let Some(group) = self.next(alloc, disk, base)? {
-            reader.take(alloc, group)?;
-        }
+        while self.next(alloc, disk, base, reader)? {}
         Ok(())
     }
 
-    // Reads the next group, if its gate is open.
-    pub(crate) fn next<D: Disk>(
+    // Hands the next group to a reader, if its gate is open, and says whether it is.
+    fn next<D: Disk, R: Reader>(
         &mut self,
         alloc: Global,
         disk: &mut D,
         base: u64,
-    ) -> Result<Option<Vec<Record>>, JournalError>
+        reader: &mut R,
+    ) -> Result<bool, JournalError>
         requires window { IsWindow (D.device.content disk.old) self.old }
         requires base { base ≤ SECOND_AREA }
         ensures window { OnOk result (IsWindow (D.device.content disk.old) self.new) }
-        ensures later { IfOk result (λ found. IfSome found (λ group. self.old.gate < self.new.gate)) }
-        ensures group { let file = D.device.content disk.old in IfOk result (λ found. IfSome found (λ group. left_from base self.old.gate file ≡ with_front group.items (left_from base self.new.gate file))) }
-        ensures end { IfOk result (λ found. IsNone found → (self.new.gate ≡ self.old.gate) × (left_from base self.old.gate (D.device.content disk.old) ≡ Ok ([], base + self.old.gate))) }
+        ensures later { IfOk result (λ found. IsTrue found → self.old.gate < self.new.gate) }
+        ensures group { let file = D.device.content disk.old in IfOk result (λ found. IsTrue found → (group : List Record) × R.takes reader.old group reader.new
+            × (left_from base self.old.gate file ≡ with_front group (left_from base self.new.gate file))) }
+        ensures end { IfOk result (λ found. found ≡ false → (self.new.gate ≡ self.old.gate) × (reader.new ≡ reader.old)
+            × (left_from base self.old.gate (D.device.content disk.old) ≡ Ok ([], base + self.old.gate))) }
         ensures err { IfErr result (λ error. error ≢ JournalError.Device → FailsAs error (left_from base self.old.gate (D.device.content disk.old))) }
         ensures only_read { IsOnlyRead D.device disk.old disk.new }
         ensures cause { TellsFault JournalError.Device (D.device.faults disk.old) (D.device.faults disk.new) result }
     {
         self.reach(disk)?;
         if self.bytes[self.read] == CLOSED {
-            return Ok(None);
+            return Ok(false);
         }
         let place = base + self.gate;
         let Some(body) = body_at(&self.bytes[self.read + 1..]) else {
@@ -97,9 +98,10 @@ impl Window {
             return Err(JournalError::Damaged(place));
         };
         let size = 1 + LENGTH_BYTES + body.len();
+        reader.take(alloc, group)?;
         self.read += size;
         self.gate += size as u64;
-        Ok(Some(group))
+        Ok(true)
     }
 
     // Has the next gate and the group behind it, if there is a whole one.

@@ -83,7 +83,7 @@ pub(crate) fn replay<'a, S: Sign>(
 {
     let mut validator = Validator::new(alloc, config)?;
     for one in records {
-        is_text(one);
+        is_text(one.bytes.as_slice(), one.gate);
         take_event(alloc, &mut validator, one)?;
     }
     Ok(validator)

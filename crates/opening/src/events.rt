@@ -12,7 +12,7 @@ ghost use Rattle.opening.specs.Told.{IsText, event_in, if_passed, read_event, St
 use crate::configuration::are_bytes;
 use committee::Committee;
 use header::{Checked, recheck};
-use journal::{JournalError, Record};
+use journal::JournalError;
 use sigface::Sign;
 use std::alloc::{AllocError, Global};
 use validator::{Config, Refusal, Step, Validator};
@@ -70,20 +70,21 @@ fn unread(error: WireError) -> Result<Option<Checked>, AllocError>
 pub(crate) fn take_event<S: Sign>(
     alloc: Global,
     validator: &mut Validator<'_, S>,
-    one: &Record,
+    bytes: &[u8],
+    place: u64,
 ) -> Result<(), JournalError>
     ensures setting { validator.new.setting ≡ validator.old.setting }
     ensures ok { let node = node_of S.scheme validator.old.setting in OnOk result ((state : State) → AreAtSound node validator.old.tables state
-        → StandsAt node (read_event node state one.now) validator.new.tables) }
+        → StandsAt node (read_event node state (record { bytes = bytes.now; gate = place })) validator.new.tables) }
     ensures err { let node = node_of S.scheme validator.old.setting in IfErr result (λ error. (state : State) → AreAtSound node validator.old.tables state
-        → FailsAs error (read_event node state one.now)) }
+        → FailsAs error (read_event node state (record { bytes = bytes.now; gate = place }))) }
 {
-    let found = event_of(alloc, validator.committee(), one.bytes.as_slice())?;
+    let found = event_of(alloc, validator.committee(), bytes)?;
     let Some(event) = found else {
-        return Err(JournalError::Damaged(one.gate));
+        return Err(JournalError::Damaged(place));
     };
     let step = validator.step(event);
-    only_new(step, one.gate)
+    only_new(step, place)
 }
 
 // What came of an event has to be new; else its group, at this place, is damaged, but where memory was refused.
@@ -99,9 +100,9 @@ fn only_new(step: Result<Step, Refusal>, gate: u64) -> Result<(), JournalError>
     }
 }
 
-/// What holds of a record: it has bytes. The call does nothing.
-pub fn is_text(kept: &Record)
-    ensures { IsText kept.now }
+/// What holds of a record with these bytes, in the group of this gate: it has bytes. The call does nothing.
+pub fn is_text(bytes: &[u8], gate: u64)
+    ensures { IsText (record { bytes = bytes.now; gate = gate }) }
 {
-    are_bytes(kept.bytes.as_slice());
+    are_bytes(bytes);
 }

@@ -9,7 +9,7 @@ ghost use Rattle.opening.specs.PairReplays.{HasTakenPair, TakesMorePair};
 
 use crate::events::is_text;
 use crate::reached::{Reached, after_event, after_first, after_second, after_state, loaded};
-use journal::{JournalError, Record, Version, shaped_version};
+use journal::{JournalError, RecordRef, Version, shaped_version};
 use sigface::Sign;
 use std::alloc::{AllocError, Global};
 use std::mem;
@@ -68,26 +68,30 @@ impl<'a, S: Sign> PairReplay<'a, S> {
     }
 
     // Takes these records.
-    pub(crate) fn take_all(&mut self, alloc: Global, records: &[Record]) -> Result<(), AllocError>
+    pub(crate) fn take_all(
+        &mut self,
+        alloc: Global,
+        records: &[RecordRef<'_>],
+    ) -> Result<(), AllocError>
         ensures { OnOk result (TakesMorePair S.scheme self.old records.now self.new) }
     {
         for one in records {
-            self.take_one(alloc, one)?;
+            self.take_one(alloc, one.bytes, one.gate)?;
         }
         Ok(())
     }
 
     // Takes one record more.
-    fn take_one(&mut self, alloc: Global, one: &Record) -> Result<(), AllocError>
+    fn take_one(&mut self, alloc: Global, bytes: &[u8], place: u64) -> Result<(), AllocError>
         ensures config { self.new.config.now ≡ self.old.config.now }
-        ensures taken { OnOk result ((before : List Record) → HasTakenPair S.scheme self.old before → HasTakenPair S.scheme self.new (before ++ one.now ∷ [])) }
+        ensures taken { OnOk result ((before : List Record) → HasTakenPair S.scheme self.old before → HasTakenPair S.scheme self.new (before ++ (record { bytes = bytes.now; gate = place }) ∷ [])) }
     {
-        is_text(one);
+        is_text(bytes, place);
         let reached = mem::replace(&mut self.reached, Reached::Empty);
         if let Reached::Empty = &reached {
-            self.version = shaped_version(one.bytes.as_slice());
+            self.version = shaped_version(bytes);
         }
-        self.reached = next(alloc, self.config, reached, one)?;
+        self.reached = next(alloc, self.config, reached, bytes, place)?;
         Ok(())
     }
 }
@@ -97,16 +101,19 @@ fn next<'a, S: Sign>(
     alloc: Global,
     config: &'a Config<S>,
     reached: Reached<'a, S>,
-    one: &Record,
+    bytes: &[u8],
+    place: u64,
 ) -> Result<Reached<'a, S>, AllocError>
     ensures { IfOk result (λ later. (records : List Record) → All IsText records → HasReached S.scheme config.now records reached.entry
-        → HasReached S.scheme config.now (records ++ one.now ∷ []) later) }
+        → HasReached S.scheme config.now (records ++ (record { bytes = bytes.now; gate = place }) ∷ []) later) }
 {
     match reached {
-        Reached::Empty => after_first(alloc, config, one),
-        Reached::Configured(version, gate) => after_second(alloc, config, version, gate, one),
-        Reached::Checkpoint(loading, gates) => after_state(alloc, loading, gates, one),
-        Reached::Standing(validator) => after_event(alloc, validator, one),
+        Reached::Empty => after_first(alloc, config, bytes, place),
+        Reached::Configured(version, gate) => after_second(
+            alloc, config, version, gate, bytes, place,
+        ),
+        Reached::Checkpoint(loading, gates) => after_state(alloc, loading, gates, bytes, place),
+        Reached::Standing(validator) => after_event(alloc, validator, bytes, place),
         Reached::Failed(fault) => Ok(Reached::Failed(fault)),
     }
 }

@@ -1,6 +1,6 @@
 //! What a reader of a journal on two disks has come to, record by record.
 
-ghost use Rattle.std.specs.Prelude.{◌≡◌, ◌++◌, ◌∷◌, [], List, All, IfOk, IfErr};
+ghost use Rattle.std.specs.Prelude.{◌≡◌, ℕ, ◌++◌, ◌∷◌, [], List, All, IfOk, IfErr};
 ghost use Rattle.journal.specs.Format.{FailsAs};
 ghost use Rattle.journal.specs.declared.record.Record.{Record};
 ghost use Rattle.spec_checkpoint.specs.Loading.{at_record};
@@ -12,7 +12,7 @@ ghost use Rattle.opening.specs.PairReplayed.{IsConfigured, IsLoadingTo, IsStandi
 use crate::events::{EVENT, is_text, take_event};
 use crate::reopening::is_own;
 use checkpoint::configuration_record;
-use journal::{JournalError, Record, Version, shaped_version};
+use journal::{JournalError, Version, shaped_version};
 use sigface::Sign;
 use std::alloc::{AllocError, Global};
 use validator::{Config, LoadError, Loading, Validator};
@@ -36,16 +36,16 @@ pub(crate) enum Reached<'a, S: Sign> {
 pub(crate) fn after_first<'a, S: Sign>(
     alloc: Global,
     config: &'a Config<S>,
-    one: &Record,
+    bytes: &[u8],
+    place: u64,
 ) -> Result<Reached<'a, S>, AllocError>
-    ensures { IfOk result (HasReached S.scheme config.now (one.now ∷ [])) }
+    ensures { IfOk result (HasReached S.scheme config.now ((record { bytes = bytes.now; gate = place }) ∷ [])) }
 {
-    let bytes = one.bytes.as_slice();
     let Some(version) = shaped_version(bytes) else {
-        return Ok(Reached::Failed(JournalError::Damaged(one.gate)));
+        return Ok(Reached::Failed(JournalError::Damaged(place)));
     };
     if is_own(alloc, config, version, bytes)? {
-        Ok(Reached::Configured(version, one.gate))
+        Ok(Reached::Configured(version, place))
     } else {
         Ok(Reached::Failed(JournalError::ConfigMismatch))
     }
@@ -57,19 +57,20 @@ pub(crate) fn after_second<'a, S: Sign>(
     config: &'a Config<S>,
     version: Version,
     gate: u64,
-    one: &Record,
+    bytes: &[u8],
+    place: u64,
 ) -> Result<Reached<'a, S>, AllocError>
     ensures { IfOk result (λ reached. (records : List Record) → All IsText records → IsConfigured S.scheme config.now records version gate
-        → HasReached S.scheme config.now (records ++ one.now ∷ []) reached) }
+        → HasReached S.scheme config.now (records ++ (record { bytes = bytes.now; gate = place }) ∷ []) reached) }
 {
     spec_checkpoint::fails_at_first();
-    if one.gate == gate {
+    if place == gate {
         let own = configuration_record(alloc, version, config.committee(), config.own())?;
         let loading = Loading::begin(alloc, config);
         put(loading, Vec::new(alloc), own.as_slice(), gate)
     } else {
         let validator = Validator::new(alloc, config)?;
-        after_event(alloc, validator, one)
+        after_event(alloc, validator, bytes, place)
     }
 }
 
@@ -78,18 +79,19 @@ pub(crate) fn after_state<'a, S: Sign>(
     alloc: Global,
     loading: Loading<'a, S>,
     gates: Vec<u64>,
-    one: &Record,
+    bytes: &[u8],
+    place: u64,
 ) -> Result<Reached<'a, S>, AllocError>
     ensures { IfOk result (λ reached. (records : List Record) → All IsText records → IsLoadingTo S.scheme loading.entry.setting records loading.entry gates.items
-        → HasReached S.scheme loading.entry.setting (records ++ one.now ∷ []) reached) }
+        → HasReached S.scheme loading.entry.setting (records ++ (record { bytes = bytes.now; gate = place }) ∷ []) reached) }
 {
     spec_checkpoint::fails_at_first();
-    is_text(one);
-    if !is_event(one) {
-        return put(loading, gates, one.bytes.as_slice(), one.gate);
+    is_text(bytes, place);
+    if !is_event(bytes) {
+        return put(loading, gates, bytes, place);
     }
     match loaded(loading, gates) {
-        Ok(validator) => after_event(alloc, validator, one),
+        Ok(validator) => after_event(alloc, validator, bytes, place),
         Err(JournalError::Memory) => Err(AllocError),
         Err(fault) => Ok(Reached::Failed(fault)),
     }
@@ -99,12 +101,13 @@ pub(crate) fn after_state<'a, S: Sign>(
 pub(crate) fn after_event<'a, S: Sign>(
     alloc: Global,
     mut validator: Validator<'a, S>,
-    one: &Record,
+    bytes: &[u8],
+    place: u64,
 ) -> Result<Reached<'a, S>, AllocError>
-    ensures { IfOk result (λ reached. (records : List Record) → IsStandingBefore S.scheme validator.entry.setting records one.now validator.entry
-        → HasReached S.scheme validator.entry.setting (records ++ one.now ∷ []) reached) }
+    ensures { IfOk result (λ reached. (records : List Record) → IsStandingBefore S.scheme validator.entry.setting records (record { bytes = bytes.now; gate = place }) validator.entry
+        → HasReached S.scheme validator.entry.setting (records ++ (record { bytes = bytes.now; gate = place }) ∷ []) reached) }
 {
-    match take_event(alloc, &mut validator, one) {
+    match take_event(alloc, &mut validator, bytes, place) {
         Ok(()) => Ok(Reached::Standing(validator)),
         Err(JournalError::Memory) => Err(AllocError),
         Err(fault) => Ok(Reached::Failed(fault)),
@@ -178,10 +181,10 @@ fn first_gate(gates: &[u64]) -> u64
 }
 
 // Whether a record's kind is an event's.
-fn is_event(one: &Record) -> bool
-    ensures { result ≡ is_event_of one.now }
+fn is_event(bytes: &[u8]) -> bool
+    ensures { (place : ℕ) → result ≡ is_event_of (record { bytes = bytes.now; gate = place }) }
 {
-    match one.bytes.as_slice().first() {
+    match bytes.first() {
         Some(kind) => *kind == EVENT,
         None => false,
     }

@@ -8,7 +8,7 @@ ghost use Rattle.opening.specs.Replays.{HasTaken, TakesMore};
 
 use crate::pair_replay::PairReplay;
 use crate::replay::Replay;
-use journal::{Reader, Record};
+use journal::{Reader, RecordRef};
 use sigface::Sign;
 use std::alloc::{AllocError, Global};
 
@@ -22,7 +22,7 @@ impl<'a, S: Sign> Reader for Replay<'a, S> {
       taken = λ before has. subst (HasTaken S.scheme third) (append_assoc before records more) (then.taken (before ++ records) (first.taken before has));
     } };
 
-    fn take(&mut self, alloc: Global, group: Vec<Record>) -> Result<(), AllocError> {
+    fn take(&mut self, alloc: Global, group: Vec<RecordRef<'_>>) -> Result<(), AllocError> {
         self.take_all(alloc, &group)
     }
 }
@@ -37,7 +37,7 @@ impl<'a, S: Sign> Reader for PairReplay<'a, S> {
       taken = λ before has. subst (HasTakenPair S.scheme third) (append_assoc before records more) (then.taken (before ++ records) (first.taken before has));
     } };
 
-    fn take(&mut self, alloc: Global, group: Vec<Record>) -> Result<(), AllocError> {
+    fn take(&mut self, alloc: Global, group: Vec<RecordRef<'_>>) -> Result<(), AllocError> {
         self.take_all(alloc, &group)
     }
 }

@@ -8,7 +8,7 @@ ghost use Rattle.opening.specs.Replays.{HasTaken, TakesMore};
 
 use crate::events::{is_text, take_event};
 use crate::reopening::is_own;
-use journal::{JournalError, Record, shaped_version};
+use journal::{JournalError, RecordRef, shaped_version};
 use sigface::Sign;
 use std::alloc::{AllocError, Global};
 use validator::{Config, Validator};
@@ -71,50 +71,54 @@ impl<'a, S: Sign> Replay<'a, S> {
     }
 
     // Takes these records.
-    pub(crate) fn take_all(&mut self, alloc: Global, records: &[Record]) -> Result<(), AllocError>
+    pub(crate) fn take_all(
+        &mut self,
+        alloc: Global,
+        records: &[RecordRef<'_>],
+    ) -> Result<(), AllocError>
         ensures { OnOk result (TakesMore S.scheme self.old records.now self.new) }
     {
         for one in records {
-            self.take_one(alloc, one)?;
+            self.take_one(alloc, one.bytes, one.gate)?;
         }
         Ok(())
     }
 
     // Takes one record more.
-    fn take_one(&mut self, alloc: Global, one: &Record) -> Result<(), AllocError>
+    fn take_one(&mut self, alloc: Global, bytes: &[u8], place: u64) -> Result<(), AllocError>
         ensures config { self.new.config.now ≡ self.old.config.now }
-        ensures taken { OnOk result ((before : List Record) → HasTaken S.scheme self.old before → HasTaken S.scheme self.new (before ++ one.now ∷ [])) }
+        ensures taken { OnOk result ((before : List Record) → HasTaken S.scheme self.old before → HasTaken S.scheme self.new (before ++ (record { bytes = bytes.now; gate = place }) ∷ [])) }
     {
         if self.is_empty() {
-            self.take_first(alloc, one)
+            self.take_first(alloc, bytes, place)
         } else {
-            self.take_next(alloc, one)
+            self.take_next(alloc, bytes, place)
         }
     }
 
     // Takes the first record.
-    fn take_first(&mut self, alloc: Global, one: &Record) -> Result<(), AllocError>
+    fn take_first(&mut self, alloc: Global, bytes: &[u8], place: u64) -> Result<(), AllocError>
         requires { self.old.first ≡ None }
         ensures config { self.new.config.now ≡ self.old.config.now }
-        ensures taken { OnOk result ((before : List Record) → HasTaken S.scheme self.old before → HasTaken S.scheme self.new (before ++ one.now ∷ [])) }
+        ensures taken { OnOk result ((before : List Record) → HasTaken S.scheme self.old before → HasTaken S.scheme self.new (before ++ (record { bytes = bytes.now; gate = place }) ∷ [])) }
     {
-        self.first = Some(one.gate);
-        if let Some(fault) = own_fault(alloc, self.config, one)? {
+        self.first = Some(place);
+        if let Some(fault) = own_fault(alloc, self.config, bytes, place)? {
             self.reached = Err(fault);
         }
         Ok(())
     }
 
     // Takes a record after the first one. After a fault nothing more is replayed.
-    fn take_next(&mut self, alloc: Global, one: &Record) -> Result<(), AllocError>
+    fn take_next(&mut self, alloc: Global, bytes: &[u8], place: u64) -> Result<(), AllocError>
         requires { self.old.first ≢ None }
         ensures config { self.new.config.now ≡ self.old.config.now }
-        ensures taken { OnOk result ((before : List Record) → HasTaken S.scheme self.old before → HasTaken S.scheme self.new (before ++ one.now ∷ [])) }
+        ensures taken { OnOk result ((before : List Record) → HasTaken S.scheme self.old before → HasTaken S.scheme self.new (before ++ (record { bytes = bytes.now; gate = place }) ∷ [])) }
     {
-        is_text(one);
-        self.alone &= one.gate > 0;
+        is_text(bytes, place);
+        self.alone &= place > 0;
         match &mut self.reached {
-            Ok(validator) => match take_event(alloc, validator, one) {
+            Ok(validator) => match take_event(alloc, validator, bytes, place) {
                 Ok(()) => Ok(()),
                 Err(JournalError::Memory) => Err(AllocError),
                 Err(fault) => {
@@ -131,14 +135,14 @@ impl<'a, S: Sign> Replay<'a, S> {
 fn own_fault<S: Sign>(
     alloc: Global,
     config: &Config<S>,
-    one: &Record,
+    bytes: &[u8],
+    place: u64,
 ) -> Result<Option<JournalError>, AllocError>
-    ensures fault { IfOk result (λ fault. fault ≡ own_fault (node_of S.scheme config.now) one.now) }
+    ensures fault { IfOk result (λ fault. fault ≡ own_fault (node_of S.scheme config.now) (record { bytes = bytes.now; gate = place })) }
     ensures never { IfOk result (λ fault. IfSome fault (λ error. (error ≢ JournalError.Memory) × (error ≢ JournalError.Device) × (error ≢ JournalError.Full))) }
 {
-    let bytes = one.bytes.as_slice();
     let Some(version) = shaped_version(bytes) else {
-        return Ok(Some(JournalError::Damaged(one.gate)));
+        return Ok(Some(JournalError::Damaged(place)));
     };
     if is_own(alloc, config, version, bytes)? {
         Ok(None)

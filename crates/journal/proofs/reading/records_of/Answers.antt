@@ -11,12 +11,12 @@ returns-in_default c =
     body_none c.args.gate c.loop-rest.records.items c.loop-rest.rest.now _ c.loop-rest.invariant some c.in_default.ensures
 
 pub loop-rest-smaller : goal.loop-rest-smaller
-loop-rest-smaller c = body_shorter c.loop-rest.rest.now c.in-Some.record.now c.in-Some.after.now c.in-Some.ensures
+loop-rest-smaller c = body_shorter c.loop-rest.rest.now c.in-Some.bytes.now c.in-Some.after.now c.in-Some.ensures
 
 pub loop-rest-preserved : goal.loop-rest-preserved
 loop-rest-preserved c =
-    body_more c.args.gate c.loop-rest.records.items c.push.new.self.items c.loop-rest.rest.now c.in-Some.record.now c.in-Some.after.now _ c.loop-rest.invariant c.in-Some.ensures
-    (c.in_ok-push.ensures.items ∙ ap (λ (bytes : List ℕ). c.loop-rest.records.items ++ kept_at c.args.gate bytes ∷ []) c.in_ok-bytes.ensures)
+    body_more c.args.gate c.loop-rest.records.items c.push.new.self.items c.loop-rest.rest.now c.in-Some.bytes.now c.in-Some.after.now _ c.loop-rest.invariant c.in-Some.ensures
+    c.in_ok-push.ensures.items
 
 pub returns : goal.returns
 returns c =

@@ -34,7 +34,7 @@ loop-gate-preserved c =
           ap (λ (l : List Record). with_front l
           (walk (c.args.base + (c.loop-gate.gate + (5 + length c.in-Some.body.now))) 0
           (drop (c.loop-gate.gate + (5 + length c.in-Some.body.now)) c.args.bytes.now)))
-          (c.in_ok-append.ensures.items ∙ ap (λ (l : List Record). c.loop-gate.records.items ++ l) group.2)
+          (c.in_ok-take.ensures ∙ ap (λ (l : List Record). c.loop-gate.records.items ++ l) group.2)
           ∙ file_more c.args.base c.args.bytes.now c.loop-gate.gate c.loop-gate.invariant.inside c.loop-gate.records.items _ c.loop-gate.invariant.found
           c.in-Some.body.now group.0 c.loop-gate-test.true is_body group.1;
     }

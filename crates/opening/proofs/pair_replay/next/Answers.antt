@@ -1,4 +1,5 @@
 use Rattle.std.proofs.Common.{◌∷◌, [], ◌++◌, sym, subst}
+use Rattle.journal.specs.declared.record.Record.{Record}
 use Rattle.validator.specs.Setting.{ConfigView}
 use Rattle.opening.specs.PairReplayed.{IsStandingBefore, HasReached}
 use Rattle.opening.specs.declared.reached.Reached.{Reached}
@@ -10,7 +11,7 @@ pub returns-in-Standing : goal.returns-in-Standing
 returns-in-Standing g c =
     ok_weaker c.after_event.result _ _
     (λ later goes records texts has.
-    let one = c.args.one.now in
+    let one : Record = record { bytes = c.args.bytes.now; gate = c.args.place } in
     let validator = c.in-Standing.validator in
     let is = subst (λ (r : Reached g.row.S.Denot). HasReached g.S.Sign.scheme c.args.config.now records r) c.in-Standing.is has in
     subst (λ (s : ConfigView g.row.S.Denot). HasReached g.S.Sign.scheme s (records ++ one ∷ []) later) is.set
@@ -20,5 +21,5 @@ returns-in-Standing g c =
 
 pub returns-in-Failed : goal.returns-in-Failed
 returns-in-Failed g c records texts has =
-    stayed g.S.Sign.scheme c.args.config.now records c.args.one.now c.in-Failed.fault
+    stayed g.S.Sign.scheme c.args.config.now records (record { bytes = c.args.bytes.now; gate = c.args.place }) c.in-Failed.fault
     (subst (λ (r : Reached g.row.S.Denot). HasReached g.S.Sign.scheme c.args.config.now records r) c.in-Failed.is has)

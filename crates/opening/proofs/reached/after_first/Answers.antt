@@ -7,12 +7,12 @@ use Rattle.opening.proofs.reached.after_first.Goals as goal
 
 pub returns-in_default : goal.returns-in_default
 returns-in_default g c =
-    began_shapeless g.S.Sign.scheme c.args.config.now c.args.one.now (ap shaped_version (sym c.as_slice-bytes.ensures) ∙ sym c.shaped_version.ensures ∙ c.in_default.is)
+    began_shapeless g.S.Sign.scheme c.args.config.now (record { bytes = c.args.bytes.now; gate = c.args.place }) (sym c.shaped_version.ensures ∙ c.in_default.is)
 
 pub returns-else-branch : goal.returns-else-branch
 returns-else-branch g c =
     let node = node_of g.S.Sign.scheme c.args.config.now in
     let version = c.in-Some.version in
-    began_other g.S.Sign.scheme c.args.config.now c.args.one.now version
-    (ap shaped_version (sym c.as_slice-bytes.ensures) ∙ sym c.shaped_version.ensures ∙ c.in-Some.is)
-    (ap (λ (bytes : List ℕ). is_own node bytes version) (sym c.as_slice-bytes.ensures) ∙ sym c.in_ok-is_own.ensures ∙ c.if-branch.false)
+    began_other g.S.Sign.scheme c.args.config.now (record { bytes = c.args.bytes.now; gate = c.args.place }) version
+    (sym c.shaped_version.ensures ∙ c.in-Some.is)
+    (sym c.in_ok-is_own.ensures ∙ c.if-branch.false)

@@ -1,4 +1,4 @@
-use Rattle.std.proofs.Common.{◌+◌, ℕ, List, length, arith, ap, ◌∙◌, sym, drop, [], Ok}
+use Rattle.std.proofs.Common.{refl, ◌+◌, ℕ, List, length, arith, ap, ◌∙◌, sym, drop, [], Ok}
 use Rattle.std.proofs.lemmas.List.{take_rest, get_or_read}
 use Rattle.journal.specs.declared.record.Record.{Record}
 use Rattle.journal.specs.Format.{body_at, with_front}
@@ -15,6 +15,7 @@ returns-then-index-eq-CLOSED-clause-end g c none =
     let has : HasNext file w = c.in_ok-reach.ensures.has in
     let gate = get_or_read w.bytes.items w.read c.index.result.now has.some c.index.ensures 0 in (
       c.in_ok-reach.ensures.gate,
+      refl,
       ap (λ (n : ℕ). left_from c.args.base n file) (sym c.in_ok-reach.ensures.gate) ∙ next_closed c.args.base file w is has (sym gate ∙ c.if-index-eq-CLOSED.true)
           ∙ ap (λ (n : ℕ). Ok ([], c.args.base + n)) c.in_ok-reach.ensures.gate,
     )
@@ -74,7 +75,7 @@ returns-clause-window g c =
     next_moved c.args.base file w is has c.in-Some.body.now found
 
 pub returns-clause-group : goal.returns-clause-group
-returns-clause-group g c =
+returns-clause-group g c more =
     let file = g.D.Disk.device.content c.args.disk.now in
     let w = c.reach.new.self in
     let is : IsWindow file w = c.in_ok-reach.ensures.window in
@@ -82,7 +83,10 @@ returns-clause-group g c =
     let gate = get_or_read w.bytes.items w.read c.index.result.now has.some c.index.ensures 0 in
     let found = c.in-Some.ensures ∙ ap body_at (take_rest c.deref.result.now (w.read + 1) ∙ ap (drop (w.read + 1)) c.deref.ensures.value) in
     let group = group_found (c.args.base + w.gate) c.in-Some-2.group.items _ (rw c.in-Some-2.is at c.in_ok-group.ensures) in
-    let after = left_from c.args.base (w.gate + (5 + length c.in-Some.body.now)) file in
-    ap (λ (n : ℕ). left_from c.args.base n file) (sym c.in_ok-reach.ensures.gate)
-    ∙ next_more c.args.base file w is has c.in-Some.body.now found group.0 (λ shut. c.if-index-eq-CLOSED.false (gate ∙ shut)) group.1
-    ∙ ap (λ (l : List Record). with_front l after) (sym group.2)
+    let after = left_from c.args.base (w.gate + (5 + length c.in-Some.body.now)) file in (
+      c.in-Some-2.group.items,
+      c.in_ok-take.ensures,
+      ap (λ (n : ℕ). left_from c.args.base n file) (sym c.in_ok-reach.ensures.gate)
+          ∙ next_more c.args.base file w is has c.in-Some.body.now found group.0 (λ shut. c.if-index-eq-CLOSED.false (gate ∙ shut)) group.1
+          ∙ ap (λ (l : List Record). with_front l after) (sym group.2),
+    )

@@ -4,21 +4,19 @@ use Rattle.journal.specs.Window.{left_from}
 use Rattle.journal.proofs.Walks.{with_front-append}
 use Rattle.journal.proofs.window.Window.read_on.Goals as goal
 
-pub loop-group-preserved : goal.loop-group-preserved
-loop-group-preserved g c =
-    let file = g.D.Disk.device.content c.args.disk.now in
-    let before = c.loop-group.invariant.taken in
-    let group = c.in-Some.group.items in
-    let next : left_from c.args.base c.loop-group.self.gate file ≡ with_front group (left_from c.args.base c.next.new.self.gate file) =
-    subst (λ (l : List ℕ). left_from c.args.base c.loop-group.self.gate l ≡ with_front group (left_from c.args.base c.next.new.self.gate l)) c.loop-group.invariant.only_read.content
-    (rw c.in-Some.is at c.in_ok-group.ensures.group) in
+pub loop-preserved : goal.loop-preserved
+loop-preserved g c =
+    let before = c.loop.invariant.taken in
+    let more = c.in_ok-next.ensures.group c.if-branch.true in
+    let next : left_from c.args.base c.loop.self.gate (g.D.Disk.device.content c.args.disk.now) ≡ with_front more.0 (left_from c.args.base c.next.new.self.gate (g.D.Disk.device.content c.args.disk.now)) =
+    subst (λ (l : List ℕ). left_from c.args.base c.loop.self.gate l ≡ with_front more.0 (left_from c.args.base c.next.new.self.gate l)) c.loop.invariant.only_read.content more.2 in
     record {
       window = search rules;
       only_read = search rules;
       faults = search rules;
       taken = (
-        before.0 ++ group,
-        g.met.R.Reader.takes_more c.args.reader.now c.loop-group.reader c.take.new.self before.0 group before.1 c.in_ok-take.ensures,
-        with_front-append before.0 group (left_from c.args.base c.next.new.self.gate file) ∙ ap (with_front before.0) (sym next) ∙ before.2,
+        before.0 ++ more.0,
+        g.met.R.Reader.takes_more c.args.reader.now c.loop.reader c.next.new.reader before.0 more.0 before.1 more.1,
+        with_front-append before.0 more.0 (left_from c.args.base c.next.new.self.gate (g.D.Disk.device.content c.args.disk.now)) ∙ ap (with_front before.0) (sym next) ∙ before.2,
       );
     }

@@ -14,7 +14,8 @@ loop-one-preserved g c =
     record {
       config = c.take_one.ensures.config ∙ c.loop-one.invariant.config;
       taken = λ before has. subst (HasTaken g.S.Sign.scheme c.take_one.new.self) (append_assoc before (take at records) (one ∷ []) ∙ ap (λ (l : List Record). before ++ l) (sym more))
-          (c.in_ok-take_one.ensures.taken (before ++ take at records) (c.loop-one.invariant.taken before has));
+          (subst (λ (found : Record). HasTaken g.S.Sign.scheme c.take_one.new.self ((before ++ take at records) ++ found ∷ [])) c.one.view_is
+          (c.in_ok-take_one.ensures.taken (before ++ take at records) (c.loop-one.invariant.taken before has)));
     }
 
 pub returns : goal.returns

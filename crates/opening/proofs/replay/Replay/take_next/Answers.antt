@@ -10,7 +10,7 @@ use Rattle.opening.proofs.replay.Replay.take_next.Goals as goal
 pub returns-in-Ok-take_event-clause-taken : goal.returns-in-Ok-take_event-clause-taken
 returns-in-Ok-take_event-clause-taken g c before has =
     let was = c.args.self.now in
-    took g.S.Sign.scheme was.config.now c.args.one.now was.alone was.first c.requires before c.in-Ok.validator c.take_event.new.validator
+    took g.S.Sign.scheme was.config.now (record { bytes = c.args.bytes.now; gate = c.args.place }) was.alone was.first c.requires before c.in-Ok.validator c.take_event.new.validator
     (subst (λ (reached : Result (ValidatorView g.row.S.Denot) JournalError). HasReplayed g.S.Sign.scheme was.config.now was.first was.alone reached before) c.in-Ok.is has)
     c.take_event.ensures.setting c.is_text.ensures c.in-Ok-take_event.ensures.ok
 
@@ -20,7 +20,7 @@ returns-in-Err-take_event g c =
     let other : c.in-Err-take_event.fault ≢ errors.Memory = search rules in
     record {
       config = refl;
-      taken = λ before has. failed g.S.Sign.scheme was.config.now c.args.one.now was.alone was.first c.requires before c.in-Ok.validator c.in-Err-take_event.fault
+      taken = λ before has. failed g.S.Sign.scheme was.config.now (record { bytes = c.args.bytes.now; gate = c.args.place }) was.alone was.first c.requires before c.in-Ok.validator c.in-Err-take_event.fault
           (subst (λ (reached : Result (ValidatorView g.row.S.Denot) JournalError). HasReplayed g.S.Sign.scheme was.config.now was.first was.alone reached before) c.in-Ok.is has)
           other c.in-Err-take_event.ensures.err;
     }
@@ -28,7 +28,7 @@ returns-in-Err-take_event g c =
 pub returns-in-Err-clause-taken : goal.returns-in-Err-clause-taken
 returns-in-Err-clause-taken g c before has =
     let was = c.args.self.now in
-    subst (λ (reached : Result (ValidatorView g.row.S.Denot) JournalError). HasReplayed g.S.Sign.scheme was.config.now was.first (was.alone && nat_lt 0 c.args.one.now.gate) reached
-    (before ++ c.args.one.now ∷ [])) (sym c.in-Err.is)
-    (stayed g.S.Sign.scheme was.config.now c.args.one.now was.alone was.first c.requires before c.in-Err.field-0
+    subst (λ (reached : Result (ValidatorView g.row.S.Denot) JournalError). HasReplayed g.S.Sign.scheme was.config.now was.first (was.alone && nat_lt 0 c.args.place) reached
+    (before ++ (record { bytes = c.args.bytes.now; gate = c.args.place }) ∷ [])) (sym c.in-Err.is)
+    (stayed g.S.Sign.scheme was.config.now (record { bytes = c.args.bytes.now; gate = c.args.place }) was.alone was.first c.requires before c.in-Err.field-0
     (subst (λ (reached : Result (ValidatorView g.row.S.Denot) JournalError). HasReplayed g.S.Sign.scheme was.config.now was.first was.alone reached before) c.in-Err.is has))
