@@ -75,6 +75,11 @@ def checkpoint(records, generation):
     return area([records[0], head(generation)], *packed(records[1:]))
 
 
+def rewriting(file):
+    """The calls that make an area this file, whatever it has."""
+    return [("write", 0, CLOSED), ("sync",), ("cut", 1), ("sync",), ("write", 1, file[1:]), ("sync",), ("write", 0, OPEN), ("sync",)]
+
+
 # ---- how files are read
 
 class Damaged(Exception):
@@ -352,7 +357,7 @@ class Cases:
             told.append(line)
             if done < 8:
                 failed.append("call %d: 2 Device, then %s 1" % (done + 1, self.found(opening, ended, live, spare.content)))
-                spare.make(*self.rewriting(file)[done])
+                spare.make(*rewriting(file)[done])
         self.put("stops %d" % (1 - opening.live), *told)
         self.put("failures", *failed)
 
@@ -369,7 +374,7 @@ class Cases:
             assert set(found) == ({"old"} if done < 7 else {"new"} if done == 8 else {"old", "new"})
             told.append("after call %d: openings %d" % (done, len(found)) + "".join(", " + one for one in ("old", "new") if one in found))
             if done < 8:
-                spare.make(*self.rewriting(file)[done])
+                spare.make(*rewriting(file)[done])
         self.put("seconds %d" % (1 - opening.live), *told)
 
     def twice(self, opening, ended, live, spare, fill):
@@ -385,9 +390,6 @@ class Cases:
             if side != opening.live:
                 disk.make(name, *rest)
         return found
-
-    def rewriting(self, file):
-        return [("write", 0, CLOSED), ("sync",), ("cut", 1), ("sync",), ("write", 1, file[1:]), ("sync",), ("write", 0, OPEN), ("sync",)]
 
     def found(self, opening, ended, live, left):
         answer = Opening(*((live, left) if opening.live == 0 else (left, live))).answer

@@ -5,12 +5,11 @@
     oracles/checkpoints.py --changes > CASES
     oracles/checkpoints.py --histories > CASES
     oracles/checkpoints.py --plays > CASES
-    oracles/checkpoints.py --memory > CASES
 
 The records are those of docs/FORMATS.md. `test_checkpoints` plays these cases. A list is judged in two ways that share nothing: its format by
 reading each record, its soundness by what the node of oracles/histories.py holds of what was read. With --changes one byte of a list is
-changed, with --plays validators are loaded from lists and given events, with --histories they are loaded along histories, and with --memory
-there is a list for allocations that fail.
+changed, with --plays validators are loaded from lists and given events, and with --histories they are loaded along histories. The cases for
+allocations that fail are made by oracles/migrations.py --memory.
 """
 import collections
 import sys
@@ -935,10 +934,6 @@ HEAD_OF_HISTORIES = """# crates: checkpoint validator
 # same records after them. loads: how many validators were loaded in all histories, how many took fifty events, and how many answers
 # the loaded ones gave."""
 
-HEAD_OF_MEMORY = """# crates: checkpoint validator
-# A validator that is loaded from records of every kind: `oracles/checkpoints.py --memory` writes this case. `every-allocation` plays
-# it with each allocation failing in turn. See loaded.cases for the commands."""
-
 
 def memory():
     committee, records = Committee(), every_kind()
@@ -972,7 +967,6 @@ FILES = {
     '--changes': (HEAD_OF_CHANGES, every_change),
     '--histories': (HEAD_OF_HISTORIES, all_histories),
     '--plays': (HEAD_OF_PLAYS, all_plays),
-    '--memory': (HEAD_OF_MEMORY, memory),
 }
 
 

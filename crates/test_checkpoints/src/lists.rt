@@ -1,8 +1,8 @@
 //! The commands of a case, which spell lists of records.
 
 use crate::list::List;
-use crate::migrating::{Areas, tell_failing, tell_opened};
 use crate::nodes::{Member, member_of};
+use crate::pairs::Pair;
 use crate::records::{bytes_in, configuration_record, head_record};
 use header::Node;
 use sigface::HashSign;
@@ -16,8 +16,8 @@ pub struct Lists {
     member: Option<Member>,
     records: Vec<Vec<u8>>,
     events: Vec<String>,
-    /// Those of a journal on two disks.
-    areas: Areas,
+    /// The areas of a journal on two disks.
+    pair: Pair,
     /// How many lists with records of a state were read, and written again as they were, over all cases.
     written_alike: u64,
 }
@@ -30,7 +30,7 @@ impl Lists {
             member: None,
             records: Vec::new(alloc),
             events: Vec::new(alloc),
-            areas: Areas::none(alloc),
+            pair: Pair::new(alloc),
             written_alike: 0,
         }
     }
@@ -43,6 +43,7 @@ impl Lists {
     /// Begins a case.
     pub fn begin(&mut self) {
         self.member = None;
+        self.pair.begin();
         self.clear();
     }
 
@@ -60,8 +61,7 @@ impl Lists {
             "record" => self.add_record(words, answer),
             "event" => Ok(self.events.push(String::from_str(self.alloc, words)?)?),
             "record-of-configuration" | "record-of-head" => self.spell(name, words, answer),
-            "first" | "second" => self.set_area(name, words, answer),
-            "open" | "open-failing" => self.open(name, answer),
+            _ if self.pair.has(name) => self.pair.obey(&self.member, name, words, answer),
             _ => self.end(name, words, answer),
         }
     }
@@ -82,28 +82,6 @@ impl Lists {
             None => bad(answer),
         }
         Ok(())
-    }
-
-    /// The bytes of an area, after a colon.
-    fn set_area(&mut self, name: &str, words: &str, answer: &mut String) -> Told {
-        let digits = words.strip_prefix(":").unwrap_or(words);
-        match (name, bytes_in(self.alloc, digits)?) {
-            ("first", Some(bytes)) => self.areas.first = bytes,
-            ("second", Some(bytes)) => self.areas.second = bytes,
-            _ => bad(answer),
-        }
-        Ok(())
-    }
-
-    /// Opens both areas, with no call failing or with each in turn.
-    fn open(&self, name: &str, answer: &mut String) -> Told {
-        match (name, &self.member) {
-            ("open", Some(member)) => tell_opened(self.alloc, member, &self.areas, answer),
-            ("open-failing", Some(member)) => {
-                tell_failing(self.alloc, member, &self.areas, answer)
-            }
-            _ => Ok(bad(answer)),
-        }
     }
 
     /// Ends the list by this command, and begins the next one.

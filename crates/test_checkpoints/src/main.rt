@@ -3,16 +3,20 @@
 #![tactic(auto)]
 
 mod area;
+mod areas;
 mod cases;
 mod changing;
+mod disks;
 mod histories;
 mod list;
 mod lists;
 mod loading;
 mod migrating;
 mod nodes;
+mod pairs;
 mod playing;
 mod records;
+mod stopping;
 mod telling;
 
 use cases::Cases;

@@ -1,0 +1,185 @@
+//! Both disks of a journal in memory, and what a stop of the machine leaves of them.
+
+use crate::areas::Areas;
+use diskmodel::{Call, CallKind, Disk, MemDisk, StopDisk, Switch};
+use std::alloc::{AllocError, Global};
+use test_cases::Told;
+
+/// Both disks.
+#[derive(Drop)]
+pub struct Disks {
+    pub first: MemDisk,
+    pub second: MemDisk,
+}
+
+impl Disks {
+    /// Disks that have these bytes, all of them synced.
+    pub fn of(alloc: Global, areas: &Areas) -> Result<Disks, AllocError> {
+        Ok(Disks {
+            first: MemDisk::new(alloc, areas.first.to_vec(alloc)?)?,
+            second: MemDisk::new(alloc, areas.second.to_vec(alloc)?)?,
+        })
+    }
+
+    /// The same, of which the call with this number of its kind fails. Those of both disks are counted.
+    pub fn failing(
+        alloc: Global,
+        areas: &Areas,
+        kind: CallKind,
+        number: u64,
+    ) -> Result<Disks, AllocError> {
+        let switch = Switch::new(alloc)?;
+        let first = MemDisk::with_switch(alloc, areas.first.to_vec(alloc)?, &switch)?;
+        let second = MemDisk::with_switch(alloc, areas.second.to_vec(alloc)?, &switch)?;
+        let _ = switch.fail(kind, number);
+        Ok(Disks { first, second })
+    }
+
+    /// The same disks once more, which had these bytes at first.
+    pub fn again(&self, alloc: Global, areas: &Areas) -> Result<Disks, AllocError> {
+        let mut disks = Disks::of(alloc, areas)?;
+        repeat(&mut disks.first, self.first.calls());
+        repeat(&mut disks.second, self.second.calls());
+        Ok(disks)
+    }
+
+    /// The disk of an area.
+    pub fn of_area(&self, is_second: bool) -> &MemDisk {
+        if is_second { &self.second } else { &self.first }
+    }
+
+    /// Stops the machine, which leaves these bytes of an area, and of the other one what a read gives. Says whether it may.
+    pub fn stop(&mut self, is_second: bool, bytes: Vec<u8>) -> bool {
+        if is_second {
+            self.first.stop();
+            stops_with(&mut self.second, bytes)
+        } else {
+            self.second.stop();
+            stops_with(&mut self.first, bytes)
+        }
+    }
+}
+
+/// Makes calls of a disk that had the same bytes.
+fn repeat(disk: &mut MemDisk, calls: &[Call]) {
+    for call in calls {
+        make(disk, call);
+    }
+}
+
+fn make(disk: &mut MemDisk, call: &Call) {
+    match call {
+        Call::Wrote { place, bytes } => write(disk, *place, bytes.as_slice()),
+        Call::Cut(length) => cut(disk, *length),
+        Call::Synced => {
+            let _ = disk.sync();
+        }
+        Call::Stopped(_) => {}
+    }
+}
+
+fn write(disk: &mut MemDisk, place: u64, bytes: &[u8]) {
+    if place <= disk.bytes().len() as u64 {
+        let _ = disk.write_at(place, bytes);
+    }
+}
+
+fn cut(disk: &mut MemDisk, length: u64) {
+    if length <= disk.bytes().len() as u64 {
+        let _ = disk.cut(length);
+    }
+}
+
+fn stops_with(disk: &mut MemDisk, bytes: Vec<u8>) -> bool {
+    let can = disk.can_leave(&bytes);
+    disk.choose(bytes);
+    disk.stop();
+    can
+}
+
+/// What a stop leaves where bytes were written or cut since the last sync.
+#[derive(Clone, Copy)]
+pub enum Fill {
+    /// What a read gives.
+    Keep,
+    /// What the last sync left.
+    Lose,
+    /// This byte.
+    Torn(u8),
+}
+
+/// How many fills are tried.
+pub const FILL_COUNT: usize = 6;
+
+/// Each fill that is tried, with its name.
+pub const FILLS: [(Fill, &str); FILL_COUNT] = [
+    (Fill::Keep, "keep"),
+    (Fill::Lose, "lose"),
+    (Fill::Torn(0), "00"),
+    (Fill::Torn(1), "01"),
+    (Fill::Torn(0x37), "37"),
+    (Fill::Torn(0xff), "ff"),
+];
+
+/// What a stop may leave of a disk with this fill. Where all is synced, nothing is lost or torn.
+pub fn outcomes(alloc: Global, disk: &MemDisk, fill: Fill) -> Result<Vec<Vec<u8>>, AllocError> {
+    let mut outcomes = Vec::new(alloc);
+    match fill {
+        Fill::Keep => outcomes.push(disk.bytes().to_vec(alloc)?)?,
+        Fill::Lose if !is_firm(disk) => outcomes.push(disk.firm().to_vec(alloc)?)?,
+        Fill::Torn(byte) if !is_firm(disk) => add_torn(alloc, disk, byte, &mut outcomes)?,
+        _ => {}
+    }
+    Ok(outcomes)
+}
+
+/// Whether all of a disk is synced.
+fn is_firm(disk: &MemDisk) -> bool {
+    let length = disk.bytes().len() as u64;
+    disk.bytes() == disk.firm() && (0..length).all(|place| !disk.is_written(place))
+}
+
+/// Adds what may be left of each length that is tried, in which this byte stands wherever what was synced may be lost.
+fn add_torn(alloc: Global, disk: &MemDisk, byte: u8, outcomes: &mut Vec<Vec<u8>>) -> Told {
+    for length in lengths(alloc, disk)? {
+        let left = torn(alloc, disk, byte, length)?;
+        if disk.can_leave(&left) {
+            outcomes.push(left)?;
+        }
+    }
+    Ok(())
+}
+
+/// The lengths that are tried of what is left of a disk: that of the last sync, the one that a read gives, and half of the greater one.
+fn lengths(alloc: Global, disk: &MemDisk) -> Result<Vec<usize>, AllocError> {
+    let (synced, read) = (disk.firm().len(), disk.bytes().len());
+    let mut lengths = Vec::new(alloc);
+    add_once(&mut lengths, synced)?;
+    add_once(&mut lengths, read)?;
+    add_once(&mut lengths, synced.max(read) / 2)?;
+    Ok(lengths)
+}
+
+fn add_once(lengths: &mut Vec<usize>, length: usize) -> Told {
+    if !lengths.contains(&length) {
+        lengths.push(length)?;
+    }
+    Ok(())
+}
+
+/// Bytes of this length, in which this one stands wherever the disk may have lost what was synced.
+fn torn(alloc: Global, disk: &MemDisk, byte: u8, length: usize) -> Result<Vec<u8>, AllocError> {
+    let mut bytes = Vec::new(alloc);
+    for place in 0..length {
+        bytes.push(left_at(disk, byte, place))?;
+    }
+    Ok(bytes)
+}
+
+/// A byte that has to stay, or this one.
+fn left_at(disk: &MemDisk, byte: u8, place: usize) -> u8 {
+    if place >= disk.bytes().len() || disk.is_written(place as u64) {
+        return byte;
+    }
+    disk.firm().get(place).copied().unwrap_or(byte)
+}

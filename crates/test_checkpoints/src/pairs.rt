@@ -1,0 +1,93 @@
+//! The commands that say what both areas of a journal have, and those that open them.
+
+use crate::areas::{Areas, add_batches};
+use crate::migrating::{tell_lengths, tell_opened};
+use crate::nodes::Member;
+use crate::records::bytes_in;
+use crate::stopping::Trial;
+use std::alloc::Global;
+use test_cases::{Told, bad};
+
+/// The areas that the commands so far have set.
+#[derive(Drop)]
+pub struct Pair {
+    alloc: Global,
+    areas: Areas,
+}
+
+impl Pair {
+    /// As before the first case.
+    pub fn new(alloc: Global) -> Pair {
+        Pair {
+            alloc,
+            areas: Areas::none(alloc),
+        }
+    }
+
+    /// Begins a case.
+    pub fn begin(&mut self) {
+        self.areas = Areas::none(self.alloc);
+    }
+
+    /// Whether a command is one of these.
+    pub fn has(&self, name: &str) -> bool {
+        match name {
+            "first" | "second" | "batches" => true,
+            "open" | "open-failing" | "open-stopping" | "open-cut" => true,
+            _ => false,
+        }
+    }
+
+    /// Carries out a command for this node, and adds the lines that it answers.
+    pub fn obey(
+        &mut self,
+        member: &Option<Member>,
+        name: &str,
+        words: &str,
+        answer: &mut String,
+    ) -> Told {
+        match (name, member) {
+            ("first" | "second", _) => self.set(name, words, answer),
+            ("batches", _) => self.add(words, answer),
+            (_, Some(member)) => self.open(member, name, words, answer),
+            _ => Ok(bad(answer)),
+        }
+    }
+
+    /// The bytes of an area, after a colon.
+    fn set(&mut self, name: &str, words: &str, answer: &mut String) -> Told {
+        let digits = words.strip_prefix(":").unwrap_or(words);
+        match (name, bytes_in(self.alloc, digits)?) {
+            ("first", Some(bytes)) => self.areas.first = bytes,
+            ("second", Some(bytes)) => self.areas.second = bytes,
+            _ => bad(answer),
+        }
+        Ok(())
+    }
+
+    /// Adds a group to an area: its name, the number of the first batch, and how many they are.
+    fn add(&mut self, words: &str, answer: &mut String) -> Told {
+        let words: Vec<&str> = words.split(' ').collect(self.alloc)?;
+        let [name, from, count] = words.as_slice() else {
+            return Ok(bad(answer));
+        };
+        match (*name, from.parse::<u32>(), count.parse::<u32>()) {
+            ("first", Ok(from), Ok(count)) => add_batches(&mut self.areas.first, from, count),
+            ("second", Ok(from), Ok(count)) => add_batches(&mut self.areas.second, from, count),
+            _ => Ok(bad(answer)),
+        }
+    }
+
+    /// Opens both areas: with no call failing, with each in turn, with stops, or with an area cut to each length.
+    fn open(&self, member: &Member, name: &str, words: &str, answer: &mut String) -> Told {
+        let (alloc, areas) = (self.alloc, &self.areas);
+        match (name, words) {
+            ("open", "") => tell_opened(alloc, member, areas, answer),
+            ("open-failing", "") => Trial::new(alloc, member, areas)?.tell_failing(answer),
+            ("open-stopping", "") => Trial::new(alloc, member, areas)?.tell_stopping(answer),
+            ("open-cut", "first") => tell_lengths(alloc, member, areas, false, answer),
+            ("open-cut", "second") => tell_lengths(alloc, member, areas, true, answer),
+            _ => Ok(bad(answer)),
+        }
+    }
+}
