@@ -516,8 +516,17 @@ class Cases:
         assert run.error is None
         self.put(' '.join(('pair', *after)), 'the same text' + shown(run.written), self.setting.open(run.file)[0])
 
-    def pair_failing(self, call):
-        self.put('pair ' + call, 'each call failed in turn')
+    def pair_failing(self, call, *after):
+        self.put(' '.join(('pair', call, *after)), 'each call failed in turn')
+
+    def pair_filling(self, *after):
+        text = self.run(*after).written
+        self.put(' '.join(('pair', 'x' + text.hex(), *after)), '0: 6 Output, filled', '%d: carried out, filled' % len(text))
+
+    def checkpoints_failing(self):
+        for call in ('sync', 'read', 'write', 'cut'):
+            self.pair_failing(call, 'checkpoint')
+        self.pair_filling('checkpoint')
 
     def drive_failing(self, call):
         run = self.run()
@@ -785,14 +794,17 @@ def scripts(cases):
 def longer_scripts(cases):
     votes = [record(voter, vote_message(PLAIN_HEADER, voter)) for voter in (1, 2, 3)]
     in_three_ways(cases, 'a certificate of the node\'s own', record(0, header_message(PLAIN_HEADER)), votes[0], *votes[:2], 'flush', votes[2])
+    cases.checkpoints_failing()
     events, _ = leader_by_one()
     in_three_ways(cases, 'an order of two leaders', *events, 'flush')
     cases.drive_failing('write')
     for call in ('sync', 'read', 'write', 'cut'):
         cases.pair_failing(call)
+    cases.checkpoints_failing()
     events, made = late_certificates()
     late = events[17], record(3, header_message(made['c33']))
     in_three_ways(cases, 'an order over late certificates', *events, 'flush', *late, setting=Setting(depth=2))
+    cases.checkpoints_failing()
     own = [record(0, batch_message(OWN_BATCH))] + [record(member, ack_message(OWN_BATCH, member)) for member in (1, 2)]
     named = Header('m', 0, 1, GENESIS, [OWN_BATCH])
     in_three_ways(cases, 'batches, and headers that name them', *own, own[0], record(2, batch_message(BATCH)), record(0, header_message(named)),

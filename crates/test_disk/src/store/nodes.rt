@@ -144,13 +144,14 @@ impl Node {
         texts::tell(&self.script(&behind), &self.setting.node, answer)
     }
 
-    /// The same on two disks, beside the plain program, or with calls of a kind that fail on each disk.
+    /// The same on two disks, beside the plain program, or with calls of a kind that fail on each disk. Words after the kind or the
+    /// bytes are what is done after each command there too.
     fn drive_pair(&self, words: &[Word], answer: &mut String) -> Told {
         let behind = lines_of(self.alloc, words)?;
         let script = self.script(&behind);
-        match words {
-            [Word::Call(kind)] => script.tell_failing_on_two(*kind, answer),
-            [Word::Bytes(text)] => script.tell_rooms_on_two(text, answer),
+        match words.first() {
+            Some(Word::Call(kind)) => script.tell_failing_on_two(*kind, answer),
+            Some(Word::Bytes(text)) => script.tell_rooms_on_two(text, answer),
             _ => texts::tell_pair(&script, &self.setting.node, answer),
         }
     }
