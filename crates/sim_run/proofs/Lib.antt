@@ -1,1 +1,3 @@
+mod Beginning
+mod Keeping
 mod Possible

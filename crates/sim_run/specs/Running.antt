@@ -1,5 +1,5 @@
 -- What the parts of a running node are to each other.
-use Rattle.std.specs.Prelude.{◌≡◌, None}
+use Rattle.std.specs.Prelude.{◌≡◌, IsSome}
 use Rattle.flusher.specs.Rounds.{IsFlusherOf, journal_of}
 use Rattle.flusher.specs.declared.flusher.Flusher.{Flusher}
 use Rattle.journal.specs.Journal.{spare_of}
@@ -9,9 +9,9 @@ use Rattle.validator.specs.Setting.{ConfigView}
 use Rattle.diskmodel.specs.Disk.{Device}
 use Rattle.sigface.specs.Scheme.{Scheme}
 
--- a node is of a configuration, with a seat of its own and a flusher of its own, whose journal is on one disk
+-- a node is of a configuration, with a seat of its own and a flusher of its own, whose journal is on two disks
 pub record AreOne {S D : Type 0} (scheme : Scheme S) (device : Device D) (config : ConfigView S) (node : NodeView S) (seat : SeatView) (flusher : Flusher D) : Type 0 where
   pub set : node.setting ≡ config
   pub of_node : IsOf node seat
   pub flushes : IsFlusherOf scheme device node flusher
-  pub alone : spare_of (journal_of flusher) ≡ None
+  pub pair : IsSome (spare_of (journal_of flusher))

@@ -21,7 +21,9 @@ pub enum Answer {
     Refused(Refusal),
     /// So many records were settled.
     Settled(u64),
-    /// The round failed.
+    /// The journal was rewritten to a checkpoint of this generation.
+    Generation(u64),
+    /// The round or the checkpoint failed.
     Fault(FlushError),
     /// Nothing goes out.
     OutNone,

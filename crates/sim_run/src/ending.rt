@@ -18,7 +18,7 @@ pub enum Ending {
     InputOutput,
     /// The script has more lines than are counted.
     TooLong,
-    /// A group was written to its end, though the disk was told to fail a sync of it.
+    /// A group or a checkpoint was written to its end, though the machine was to stop before a sync of it.
     Unstopped,
 }
 

@@ -40,6 +40,7 @@ fn obey<R: Wait>(
         Command::Pack(pack) => answer_to(define_batch(alloc, labels, &pack)),
         Command::Form(form) => answer_to(define_header(alloc, labels, &form)),
         Command::Flush => Ok(flush(rt, running)),
+        Command::Checkpoint => Ok(checkpoint(rt, running)),
         Command::Order => order(rt, running),
         Command::Fail { call, count } => {
             running.fail(kind_of(call), count)?;
@@ -69,6 +70,13 @@ fn look<R: Wait>(rt: &R, running: &mut Running<'_>, command: &Command<'_>) -> Op
 fn flush<R: Wait>(rt: &R, running: &mut Running<'_>) -> Answer {
     match running.flush(rt) {
         Ok(count) => Answer::Settled(count),
+        Err(error) => Answer::Fault(error),
+    }
+}
+
+fn checkpoint<R: Wait>(rt: &R, running: &mut Running<'_>) -> Answer {
+    match running.checkpoint(rt) {
+        Ok(generation) => Answer::Generation(generation),
         Err(error) => Answer::Fault(error),
     }
 }

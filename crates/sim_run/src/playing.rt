@@ -3,11 +3,11 @@
 use crate::answer::Answer;
 use crate::ending::Ending;
 use crate::gathered::Gathered;
+use crate::machine::Machine;
 use crate::obeying::step;
-use crate::running::Running;
+use crate::running::{Disks, Running};
 use crate::script_lines::Script;
 use crate::settings::Settings;
-use diskmodel::{MemDisk, Switch};
 use sim_script::{Command, Labels};
 use std::alloc::Global;
 use std::io::{self, Read, Write};
@@ -50,9 +50,9 @@ pub fn run<R: Wait, I: Read + Drop, W: Write, E: Write>(
     }
 }
 
-/// The journal's disk after a script, or nothing where the script isn't run to its end.
-pub fn disk_after<R: Wait>(rt: &R, alloc: Global, script: &[u8]) -> Option<MemDisk> {
-    Some(left_by(rt, alloc, script)?.disk)
+/// Both disks of the journal after a script, or nothing where the script isn't run to its end.
+pub fn disks_after<R: Wait>(rt: &R, alloc: Global, script: &[u8]) -> Option<Disks> {
+    Some(left_by(rt, alloc, script)?.disks)
 }
 
 /// The vote that may go out next after a script; nothing where it is another output or none, or the script isn't run to its end.
@@ -98,10 +98,10 @@ fn tell_bad_line<E: Write>(alloc: Global, errors: &mut E, number: u64) {
     }
 }
 
-/// What a script leaves: the journal's disk, and the output that may go out next.
+/// What a script leaves: both disks of the journal, and the output that may go out next.
 #[derive(Drop)]
 struct Left {
-    disk: MemDisk,
+    disks: Disks,
     output: Option<Output>,
 }
 
@@ -113,16 +113,18 @@ fn play<R: Wait, I: Read + Drop, W: Write>(
     writer: &mut W,
     gathered: &mut Gathered,
 ) -> Result<Left, Ending> {
-    let switch = Switch::new(alloc)?;
-    let disk = MemDisk::with_switch(alloc, Vec::new(alloc), &switch)?;
+    let machine = Machine::new(alloc)?;
+    let disks = (machine.empty_disk(alloc)?, machine.empty_disk(alloc)?);
     let Some(settings) = read_settings(alloc, script, writer, gathered)? else {
-        return Ok(Left { disk, output: None });
+        return Ok(Left {
+            disks,
+            output: None,
+        });
     };
     let Some(config) = settings.config(alloc)? else {
         return Err(Ending::BadCommand);
     };
-    let disk = settings.begun(alloc, &config, disk)?;
-    let running = Running::open(alloc, &config, &switch, disk)?;
+    let running = Running::begin(alloc, &config, settings.version(), &machine, disks)?;
     obey_all(rt, alloc, running, script, writer, gathered)
 }
 
@@ -202,6 +204,6 @@ fn tell<I: Read + Drop, W: Write>(
 // What the node leaves.
 fn left_of<R: Wait>(rt: &R, mut running: Running<'_>) -> Left {
     let output = running.collect(rt);
-    let disk = running.into_disk();
-    Left { disk, output }
+    let disks = running.into_disks();
+    Left { disks, output }
 }

@@ -2,15 +2,20 @@
 
 ghost use Rattle.std.specs.Prelude.{◌≡◌, None, IfOk};
 ghost use Rattle.header.specs.Checks.{fault_of, accepts_all};
+ghost use Rattle.sim_run.specs.Running.{AreOne};
 
 use crate::answer::Answer;
 use crate::ending::Ending;
+use crate::machine::Machine;
+use crate::starting::{Started, start, start_in_first_version};
+use crate::stopping::StoppingDisk;
 use crate::stops::{losing, tearing};
 use committee::Committee;
-use diskmodel::{CallKind, Disk, MemDisk, StopDisk, Switch};
+use diskmodel::{CallKind, Disk, MemDisk, StopDisk};
 use header::Checked;
-use journal::{Journal, JournalError};
-use node::{FlushError, Flusher, Node, Refusal, Seat, start};
+use journal::{Journal, JournalError, Record, Version};
+use node::{FlushError, Flusher, Node, Refusal, Seat};
+use opening::EVENT;
 use sigface::{HashSign, Sign};
 use sim_script::Stopping;
 use std::alloc::Global;
@@ -27,15 +32,21 @@ const BODY_SYNC: u64 = 1;
 
 const GATE_SYNC: u64 = 2;
 
-/// A node of a configuration, on a disk with a switch.
+/// The sync of a checkpoint's first gate. Before it come those of the closed gate, of the cut and of the groups.
+const CHECKPOINT_SYNC: u64 = 4;
+
+/// Both disks of a machine: that of the first area, and that of the second.
+pub type Disks = (MemDisk, MemDisk);
+
+/// A node of a configuration, on both disks of a machine.
 #[derive(Drop)]
 pub struct Running<'a> {
     config: &'a Config<HashSign>,
-    switch: &'a Switch,
+    machine: &'a Machine,
     node: Node<'a, HashSign>,
     seat: Seat,
-    flusher: Flusher<MemDisk>,
-    // Whether a round took the node down.
+    flusher: Flusher<StoppingDisk<'a>>,
+    // Whether a round or a checkpoint took the node down.
     is_down: bool,
 }
 
@@ -48,29 +59,61 @@ impl<'a> Model for Running<'a> {
 
     ghost view = { λ r. r.config.now };
 
-    ghost invariant = { λ r. AreOne ⟦<HashSign as Sign>⟧.scheme ⟦<MemDisk as Disk>⟧.device r.config.now r.node r.seat r.flusher };
+    ghost invariant = { λ r. AreOne ⟦<HashSign as Sign>⟧.scheme ⟦<StoppingDisk<'static> as Disk>⟧.device r.config.now r.node r.seat r.flusher };
 }
 
 impl<'a> Running<'a> {
-    /// The node of a configuration after what is on a disk.
+    /// The node of a configuration after what is on both disks of a machine.
     pub fn open(
         alloc: Global,
         config: &'a Config<HashSign>,
-        switch: &'a Switch,
-        disk: MemDisk,
+        machine: &'a Machine,
+        disks: Disks,
     ) -> Result<Running<'a>, Ending>
         ensures { IfOk result (λ running. running ≡ config.now) }
     {
-        match start(alloc, config, disk) {
-            Ok((node, seat, flusher)) => Ok(Running {
-                config,
-                switch,
-                node,
-                seat,
-                flusher,
-                is_down: false,
-            }),
-            Err(failed) => Err(Ending::from(failed.error)),
+        let (first, second) = disks_of(machine, disks);
+        let started = start(alloc, config, first, second)?;
+        Ok(Running::new(config, machine, started))
+    }
+
+    /// The node of a configuration on both disks of a machine, which are empty. Its journal begins in this version.
+    pub fn begin(
+        alloc: Global,
+        config: &'a Config<HashSign>,
+        version: Version,
+        machine: &'a Machine,
+        disks: Disks,
+    ) -> Result<Running<'a>, Ending>
+        ensures { IfOk result (λ running. running ≡ config.now) }
+    {
+        match version {
+            Version::First => {
+                let (first, second) = disks_of(machine, disks);
+                let started = start_in_first_version(alloc, config, first, second)?;
+                Ok(Running::new(config, machine, started))
+            }
+            Version::Second => Running::open(alloc, config, machine, disks),
+        }
+    }
+
+    // With what was started for this configuration.
+    fn new(
+        config: &'a Config<HashSign>,
+        machine: &'a Machine,
+        started: Started<'a, HashSign, StoppingDisk<'a>>,
+    ) -> Running<'a>
+        requires { AreOne ⟦<HashSign as Sign>⟧.scheme ⟦<StoppingDisk<'static> as Disk>⟧.device config.now started.0 started.1 started.2 }
+        ensures { result ≡ config.now }
+    {
+        let (node, seat, flusher) = started;
+        Running {
+            config,
+            machine,
+            node,
+            seat,
+            flusher,
+            is_down: false,
         }
     }
 
@@ -124,22 +167,37 @@ impl<'a> Running<'a> {
 
     /// Tells the call of this kind and number, from now on, to fail.
     pub fn fail(&self, call: CallKind, count: u64) -> Result<(), Ending> {
-        self.switch.fail(call, count)?;
-        Ok(())
+        self.machine.fail(call, count)
     }
 
     /// One round of the flusher.
     pub fn flush<R: Wait>(&mut self, rt: &R) -> Result<u64, FlushError> {
         let flushed = self.flusher.round(rt, &self.node, &mut self.seat);
-        if let Err(FlushError::Device | FlushError::Full) = flushed {
-            self.is_down = true;
-        }
+        self.note(&flushed);
         flushed
     }
 
-    /// Gives the journal's disk back.
-    pub fn into_disk(self) -> MemDisk {
-        self.flusher.into_journal().into_disk()
+    /// Rewrites the journal to a checkpoint of all that was accepted; answers its generation.
+    #[tactic(auto, using(crate::proofs::Keeping::pair_kept))]
+    pub fn checkpoint<R: Wait>(&mut self, rt: &R) -> Result<u64, FlushError> {
+        let rewritten = self.flusher.checkpoint(rt, &self.node, &mut self.seat);
+        self.note(&rewritten);
+        rewritten
+    }
+
+    // Notes where a round or a checkpoint took the node down.
+    fn note(&mut self, outcome: &Result<u64, FlushError>)
+        ensures { self.new ≡ self.old }
+    {
+        if let Err(FlushError::Device | FlushError::Full) = outcome {
+            self.is_down = true;
+        }
+    }
+
+    /// Gives both disks of the journal back.
+    pub fn into_disks(self) -> Disks {
+        let (first, second) = self.flusher.into_journal().into_disks();
+        (first.into_memory(), second.into_memory())
     }
 
     /// Stops the machine and opens the node again; answers how many records of events were found.
@@ -151,46 +209,81 @@ impl<'a> Running<'a> {
     ) -> Result<(Running<'a>, u64), Ending>
         ensures { IfOk result (λ opened. opened.0 ≡ self.entry) }
     {
-        let (config, switch) = (self.config, self.switch);
-        let mut disk = self.stopping_disk(rt, alloc, stopping)?;
-        disk.stop();
-        let (events, disk) = count_events(alloc, disk)?;
-        let running = Running::open(alloc, config, switch, disk)?;
+        let (config, machine) = (self.config, self.machine);
+        let (mut first, mut second) = self.stopping_disks(rt, alloc, stopping)?;
+        first.stop();
+        second.stop();
+        let (events, disks) = count_events(alloc, (first, second))?;
+        let running = Running::open(alloc, config, machine, disks)?;
         Ok((running, events))
     }
 
-    // The disk, of which the next stop leaves what this kind of stop does.
-    fn stopping_disk<R: Wait>(
+    // Both disks, of which the next stop leaves what this kind of stop does.
+    fn stopping_disks<R: Wait>(
         self,
         rt: &R,
         alloc: Global,
         stopping: Stopping,
-    ) -> Result<MemDisk, Ending> {
+    ) -> Result<Disks, Ending> {
         match stopping {
-            Stopping::Lose => Ok(losing(alloc, self.into_disk())?),
-            Stopping::Keep => Ok(self.into_disk()),
-            Stopping::Body => self.interrupted(rt, alloc, BODY_SYNC, TORN_BYTE),
-            Stopping::Gate(byte) => self.interrupted(rt, alloc, GATE_SYNC, byte),
+            Stopping::Keep => Ok(self.into_disks()),
+            Stopping::Lose => {
+                let (first, second) = self.into_disks();
+                Ok((losing(alloc, first)?, losing(alloc, second)?))
+            }
+            Stopping::Body => self.interrupted_round(rt, alloc, BODY_SYNC, TORN_BYTE),
+            Stopping::Gate(byte) => self.interrupted_round(rt, alloc, GATE_SYNC, byte),
+            Stopping::Checkpoint(byte) => self.interrupted_checkpoint(rt, alloc, byte),
         }
     }
 
-    // The disk in the midst of a round, at this sync of it, or where a call before it fails. The next stop leaves this byte
-    // wherever one was written since the sync before. With nothing to write the disk is as it was.
-    fn interrupted<R: Wait>(
+    // Both disks in the midst of a round, right before this sync of it, or at a call before it that fails. With nothing to write they are
+    // as they were.
+    fn interrupted_round<R: Wait>(
         mut self,
         rt: &R,
         alloc: Global,
         sync: u64,
         byte: u8,
-    ) -> Result<MemDisk, Ending> {
+    ) -> Result<Disks, Ending> {
         if self.is_down || self.accepted() == self.synced() {
-            return Ok(self.into_disk());
+            return Ok(self.into_disks());
         }
-        let told = self.switch.fail(CallKind::Sync, sync)?;
+        self.machine.stop_before(sync);
         let flushed = self.flush(rt);
-        self.switch.take_back(told);
-        match flushed {
-            Err(FlushError::Device) => Ok(tearing(alloc, self.into_disk(), byte)?),
+        self.torn(alloc, flushed, byte)
+    }
+
+    // Both disks in the midst of a checkpoint, right before the sync of its first gate, or at a call before it that fails. On a node that
+    // is down they are as they were.
+    fn interrupted_checkpoint<R: Wait>(
+        mut self,
+        rt: &R,
+        alloc: Global,
+        byte: u8,
+    ) -> Result<Disks, Ending> {
+        if self.is_down {
+            return Ok(self.into_disks());
+        }
+        self.machine.stop_before(CHECKPOINT_SYNC);
+        let rewritten = self.checkpoint(rt);
+        self.torn(alloc, rewritten, byte)
+    }
+
+    // Both disks after a round or a checkpoint that the machine's stop has ended. The next stop leaves this byte wherever one was written
+    // since the sync before.
+    fn torn(
+        self,
+        alloc: Global,
+        ended: Result<u64, FlushError>,
+        byte: u8,
+    ) -> Result<Disks, Ending> {
+        self.machine.stop_before(0);
+        match ended {
+            Err(FlushError::Device) => {
+                let (first, second) = self.into_disks();
+                Ok((tearing(alloc, first, byte)?, tearing(alloc, second, byte)?))
+            }
             Err(FlushError::Full) => Err(Ending::Fault(JournalError::Full)),
             Err(FlushError::Memory) => Err(Ending::Memory),
             Ok(_) | Err(FlushError::Down) => Err(Ending::Unstopped),
@@ -198,13 +291,28 @@ impl<'a> Running<'a> {
     }
 }
 
-// How many events a disk's journal has, after the record of the configuration.
-fn count_events(alloc: Global, disk: MemDisk) -> Result<(u64, MemDisk), Ending> {
-    match Journal::open(alloc, disk) {
+// Both disks, as those of a machine that can stop.
+fn disks_of(machine: &Machine, disks: Disks) -> (StoppingDisk<'_>, StoppingDisk<'_>) {
+    let (first, second) = disks;
+    (
+        StoppingDisk::new(first, machine),
+        StoppingDisk::new(second, machine),
+    )
+}
+
+// How many records of events the journal on both disks has, in the area that is read.
+fn count_events(alloc: Global, disks: Disks) -> Result<(u64, Disks), Ending> {
+    let (first, second) = disks;
+    match Journal::open_pair(alloc, first, second) {
         Ok((journal, records)) => {
-            let events = (records.len() as u64).saturating_sub(1);
-            Ok((events, journal.into_disk()))
+            let events = records.iter().filter(is_event).count() as u64;
+            Ok((events, journal.into_disks()))
         }
         Err(failed) => Err(Ending::from(failed.error)),
     }
+}
+
+// Whether a record is an event's.
+fn is_event(record: &&Record) -> bool {
+    record.bytes.as_slice().first() == Some(&EVENT)
 }

@@ -1,11 +1,9 @@
 //! What a script may set: the limits and the stakes of the committee of four, of which the simulator is member 0, and the
 //! version of its first journal.
 
-use crate::ending::Ending;
 use committee::{Committee, CommitteeError};
-use diskmodel::MemDisk;
-use journal::{Journal, Version};
-use opening::{can_tell, write_configuration};
+use journal::Version;
+use opening::can_tell;
 use sigface::HashSign;
 use sim_script::{BATCHES, DEPTH, OWN, Setting, committee_file, signer};
 use std::alloc::{AllocError, Global};
@@ -66,21 +64,8 @@ impl Settings {
         }
     }
 
-    /// The empty disk on which the node opens first. In the first version it gets the journal's first group before that,
-    /// since an opening would write the second.
-    pub fn begun(
-        &self,
-        alloc: Global,
-        config: &Config<HashSign>,
-        disk: MemDisk,
-    ) -> Result<MemDisk, Ending> {
-        if self.version == Version::Second || !can_tell(Version::First, config.committee()) {
-            return Ok(disk);
-        }
-        let (mut journal, records) = Journal::open(alloc, disk).map_err(|failed| failed.error)?;
-        if records.is_empty() {
-            write_configuration(alloc, Version::First, config, &mut journal)?;
-        }
-        Ok(journal.into_disk())
+    /// The version in which the first journal is written.
+    pub fn version(&self) -> Version {
+        self.version
     }
 }

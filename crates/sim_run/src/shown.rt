@@ -16,6 +16,7 @@ pub fn add_line(lines: &mut String, labels: &Labels, answer: &Answer) -> Result<
         Answer::Unchecked(error) => writeln!(lines, "unchecked {error}"),
         Answer::Refused(refusal) => writeln!(lines, "refused {refusal}"),
         Answer::Settled(count) => writeln!(lines, "settled {count}"),
+        Answer::Generation(generation) => writeln!(lines, "generation {generation}"),
         Answer::Fault(error) => writeln!(lines, "fault {error}"),
         Answer::OutNone => lines.push_str("out none\n"),
         Answer::Out(output) => add_output(lines, labels, output),

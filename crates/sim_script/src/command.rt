@@ -72,6 +72,8 @@ pub enum Stopping {
     Body,
     /// While a group's gate is written; the gate holds this byte.
     Gate(u8),
+    /// While the first gate of a checkpoint is written; the gate holds this byte.
+    Checkpoint(u8),
 }
 
 /// A command.
@@ -97,6 +99,8 @@ pub enum Command<'a> {
     Coin { wave: u64, value: u64 },
     /// One round of the flusher.
     Flush,
+    /// Rewrites the journal to a checkpoint of all that was accepted.
+    Checkpoint,
     /// The next output that may go out.
     Collect,
     /// The order of the settled records.
@@ -146,6 +150,7 @@ pub fn parse(line: &[u8]) -> Option<Command<'_>> {
 fn plain(word: &str) -> Option<Command<'static>> {
     match word {
         "flush" => Some(Command::Flush),
+        "checkpoint" => Some(Command::Checkpoint),
         "collect" => Some(Command::Collect),
         "order" => Some(Command::Order),
         "round" => Some(Command::Round),
@@ -184,8 +189,17 @@ fn with_two<'a>(word: &str, first: &'a str, second: &'a str) -> Option<Command<'
             call: call_of(first)?,
             count: number(second)?,
         }),
-        "stop" if first == "gate" => Some(Command::Stop(Stopping::Gate(hex_byte(second)?))),
+        "stop" => Some(Command::Stop(torn_stopping_of(first, second)?)),
         _ => event_of(word, first, second),
+    }
+}
+
+// A stop inside the write of a gate, which then holds a byte.
+fn torn_stopping_of(word: &str, byte: &str) -> Option<Stopping> {
+    match word {
+        "gate" => Some(Stopping::Gate(hex_byte(byte)?)),
+        "checkpoint" => Some(Stopping::Checkpoint(hex_byte(byte)?)),
+        _ => None,
     }
 }
 

@@ -6,7 +6,7 @@ use crate::live::scripts::Script;
 use crate::live::words::{Told, bad, put, put_count, put_len, put_number, put_shown, put_text};
 use header::check;
 use sigface::HashVerify;
-use sim_run::{disk_after, run, vote_after};
+use sim_run::{disks_after, run, vote_after};
 use std::alloc::Global;
 use std::cell::Cell;
 use std::sync::Wait;
@@ -95,10 +95,13 @@ fn count<R: Wait>(rt: &R, alloc: Global, script: &Script, answer: &mut String) {
     put_shown(answer, ", at most as many calls: ", &few, "\n");
 }
 
-// How many bytes the journal has after the script.
+// How many bytes each area of the journal has after the script.
 fn journal<R: Wait>(rt: &R, alloc: Global, script: &Script, answer: &mut String) {
-    match disk_after(rt, alloc, &script.bytes) {
-        Some(disk) => put_len(answer, disk.bytes()),
+    match disks_after(rt, alloc, &script.bytes) {
+        Some((first, second)) => {
+            put_len(answer, first.bytes());
+            put_len(answer, second.bytes());
+        }
         None => put(answer, "not played to its end\n"),
     }
 }
