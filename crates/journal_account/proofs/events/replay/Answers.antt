@@ -1,4 +1,4 @@
-use Rattle.std.proofs.Common.{subst, ◌∙◌, arith}
+use Rattle.std.proofs.Common.{List, ℕ, subst, ◌∙◌, arith}
 use Rattle.std.specs.Prelude.{All}
 use Rattle.std.proofs.lemmas.List.{take_all, drop_all}
 use Rattle.std.proofs.lemmas.List.Elements.{All-nil, All-more}
@@ -32,7 +32,8 @@ loop-one-preserved g c =
           → StandsAt (node_of g.S.Sign.scheme s) (read_event (node_of g.S.Sign.scheme s) state one) c.take_event.new.validator.tables)
           c.loop-one.invariant.setting c.in_ok-take_event.ensures.ok)
           c.loop-one.invariant.reached;
-      texts = All-more IsText c.args.records.now c.loop-one.one-index one (omega arith) c.loop-one.invariant.texts (subst IsText c.one-item.is c.is_text.ensures);
+      texts = All-more IsText c.args.records.now c.loop-one.one-index one (omega arith) c.loop-one.invariant.texts
+          (subst IsText c.one-item.is (subst (λ (l : List ℕ). IsText (record { bytes = l; gate = one.gate })) c.as_slice.ensures c.is_text.ensures));
     }
 
 pub returns-in_err-take_event-clause-err : goal.returns-in_err-take_event-clause-err
