@@ -46,13 +46,17 @@ pub record IsTold (party : Party) (body : HeaderBody) : Type 0 where
   pub told : Contains (bodies_in (party.settled member)) body
 
 -- no two different texts of such headers share a digest: not two headers' own, not two certificates', and not one of each
-pub record NoClash (party : Party) : Type 0 where
-  pub headers : (one other : HeaderBody) → IsTold party one → IsTold party other
+pub record HaveNoClash (Told : HeaderBody → Type 0) : Type 0 where
+  pub headers : (one other : HeaderBody) → Told one → Told other
       → sha256 (header_text one) ≡ sha256 (header_text other) → header_text one ≡ header_text other
-  pub certificates : (one other : HeaderBody) → IsTold party one → IsTold party other
+  pub certificates : (one other : HeaderBody) → Told one → Told other
       → sha256 (certificate_text one) ≡ sha256 (certificate_text other) → certificate_text one ≡ certificate_text other
-  pub both : (one other : HeaderBody) → IsTold party one → IsTold party other
+  pub both : (one other : HeaderBody) → Told one → Told other
       → sha256 (header_text one) ≡ sha256 (certificate_text other) → header_text one ≡ certificate_text other
+
+-- of the headers of which honest members' settled histories tell
+abbrev pub NoClash : Party → Type 0
+NoClash party = HaveNoClash (IsTold party)
 
 -- ---- signatures
 
