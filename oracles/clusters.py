@@ -5,7 +5,7 @@
 
 In the first lists four nodes come to one order: that of the certificates c10 to c13 of round 1, and of rounds 2 to 5 those of members
 0, 1 and 2. The leader of wave 1, c11, is supported by c20 alone, which is too few; c30, the leader of wave 2, reaches it. The first list
-goes round by round. In the second a machine stops behind each part of a round. The others are drawn from the start values below: any
+goes round by round. In the second a machine stops behind each part of a round. The third is the first, applied at once. The others are drawn from the start values below: any
 output may be delivered to any node, early, late or again; calls of a disk fail, and machines stop, with what they haven't settled.
 In the last lists there are three nodes, and a member that shows two faces. Behind each move one of any two orders begins the other.
 What is expected is computed by the plain rules of oracles/histories.py, over all that a node accepted and over what is settled of that.
@@ -251,6 +251,36 @@ class List:
         print('\n'.join(self.lines))
 
 
+class Plan(List):
+    """The same moves, which are planned, and applied all at once to a cluster that is opened for them."""
+
+    def __init__(self, title, nodes, headers):
+        self.plan, self.forms = [], []
+        super().__init__(title, nodes, headers)
+        self.lines = ['', '== ' + title] + self.forms
+
+    def form(self, header):
+        super().form(header)
+        self.forms.append(self.lines[-1])
+
+    def propose(self, own):
+        """Nothing is asked before all moves are applied."""
+
+    def look(self, own):
+        """Nor is this."""
+
+    def tell(self, command, answer):
+        self.plan.append('plan ' + command)
+
+    def ends(self):
+        """What the nodes have given out in the end."""
+        self.lines += self.plan + ['play %d' % len(self.nodes)]
+        for own in self.nodes:
+            self.lines += ['order %d' % own, '> ' + ' '.join(['order'] + self.members[own].order)]
+            self.lines += ['outputs %d' % own, '> outputs %d' % len(self.members[own].outputs)]
+        print('\n'.join(self.lines))
+
+
 # ---- lists that go round by round
 
 def new_outputs(moves, seen, kind):
@@ -290,8 +320,8 @@ def play_round(moves, round_, seen, behind):
     behind(moves)
 
 
-def by_rounds(title, behind):
-    moves, seen = List(title, MEMBERS, headers()), [0] * len(MEMBERS)
+def by_rounds(title, behind, kind=List):
+    moves, seen = kind(title, MEMBERS, headers()), [0] * len(MEMBERS)
     for round_ in range(1, len(ROUNDS) + 1):
         play_round(moves, round_, seen, behind)
         if round_ % 2 == 1 and round_ > 1:
@@ -484,6 +514,7 @@ def main():
     print('# Nodes, moved by a list of moves. `oracles/clusters.py` wrote the moves, and computes what each is answered.')
     by_rounds('four nodes come to one order', lambda moves: None)
     by_rounds('four nodes that stop by turns come to the same order', Stops())
+    by_rounds('a cluster to which the first list is applied at once comes to it too', lambda moves: None, Plan)
     for start in STARTS:
         Honest(start).play()
     for start in STARTS:

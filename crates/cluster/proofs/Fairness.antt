@@ -11,7 +11,7 @@ use Rattle.header.specs.Checks.{fault_of}
 use Rattle.spec_cluster.proofs.Unforged.{vote_unforged, certificate_unforged}
 use Rattle.spec_cluster.specs.Cluster.{Cluster, Worlds, Turn, AreMembers, IsReached}
 use Rattle.spec_cluster.specs.Premises.{signed_by_giver, has_signed, NoForgery, HasCoin, IsFair, Fair}
-use Rattle.spec_laws.proofs.Lists.{Contains-nothing, Contains-cases}
+use Rattle.spec_laws.proofs.Lists.{Contains-nothing, Contains-cases, Contains-first}
 use Rattle.spec_model.specs.Nodes.{Node}
 use Rattle.spec_model.specs.Slots.{same_digest}
 use Rattle.spec_model.specs.Words.{Author, Digest, Event, Message, Output}
@@ -21,7 +21,7 @@ use Rattle.spec_world.specs.World.{World, Waiting, Outgoing, put_out, read, Give
 use Rattle.wire.specs.declared.message.Message.TheVariants as message
 use Rattle.wire.specs.declared.output.Output.TheVariants as output
 use Rattle.cluster.specs.Answers.{Deed, TakesIn, MakesRound, Stops, Does}
-use Rattle.cluster.specs.Applying.{handed_in, signed_by, NoneForged, StandsAmong}
+use Rattle.cluster.specs.Applying.{event_asked, was_taken, handed_in, signed_by, NoneForged, StandsAmong}
 use Rattle.cluster.specs.Cluster.{message_at, asked_in}
 use Rattle.cluster.specs.Member.{MemberView, going_out}
 use Rattle.cluster.specs.Outputs.{message_of, output_in, outputs_in}
@@ -150,54 +150,57 @@ module _ {S D : Type 0} (device : Device D) where
               let found = joined_of (λ (one : Given). output_in one.outgoing) (worlds from.0).given out (subst (λ (l : List Output). Contains l out) (sym among.stands.out.outputs) inside) in
               given_fair from.0 honest found.0 found.1 out (is_put_out found.0.outgoing out found.2) m same
 
-      module _ (own : Node) (charter : own.charter ≡ cluster.charter) where
+      module _ (own : Node) (charter : own.charter ≡ cluster.charter) (events : List Event) where
         takes_may : (event : Event) (applied : Applied) (deed : Deed S D) → TakesIn own cluster.accepts event applied deed
-            → (fault_of cluster.charter cluster.accepts event ≡ None → IsFair cluster value worlds (accept event)) → MayLead cluster value worlds deed.moves
-        takes_may event (Took ticket new) deed takes fair =
+            → (was_taken applied ≡ true → fault_of cluster.charter cluster.accepts event ≡ None → IsFair cluster value worlds (accept event))
+            → (was_taken applied ≡ true → Contains events event) → MayLead cluster value events worlds deed.moves
+        takes_may event (Took ticket new) deed takes fair within =
             let passed : fault_of cluster.charter cluster.accepts event ≡ None = subst (λ c. fault_of c cluster.accepts event ≡ None) charter takes.passed in
-            subst (MayLead cluster value worlds) (sym takes.by) (passed, fair passed, tt)
-        takes_may event (Refused why) deed takes fair = subst (MayLead cluster value worlds) (sym takes.by) tt
-        takes_may event (Unchecked error) deed takes fair = subst (MayLead cluster value worlds) (sym takes.by) tt
-        takes_may event (Settled count) deed takes fair = absurd takes
-        takes_may event (Fault error) deed takes fair = absurd takes
-        takes_may event (Reopened count) deed takes fair = absurd takes
+            subst (MayLead cluster value events worlds) (sym takes.by) (passed, fair refl passed, within refl, tt)
+        takes_may event (Refused why) deed takes fair within = subst (MayLead cluster value events worlds) (sym takes.by) tt
+        takes_may event (Unchecked error) deed takes fair within = subst (MayLead cluster value events worlds) (sym takes.by) tt
+        takes_may event (Settled count) deed takes fair within = absurd takes
+        takes_may event (Fault error) deed takes fair within = absurd takes
+        takes_may event (Reopened count) deed takes fair within = absurd takes
 
-        -- the moves that are made of a fair move of the cluster
-        module _ (applied : Applied) (deed : Deed S D) where
+        -- the moves that are made of a fair move of the cluster, where what was taken of its request is among the events
+        module _ (applied : Applied) (deed : Deed S D) (request : Request)
+            (within : was_taken applied ≡ true → (event : Event) → Contains (event_asked (Some request)) event → Contains events event) where
           -- that takes an event in
-          taken_may : (request : Request) (event : Event) → ◌≡◌ {A = Option Request} (Some (Take event.sender event.message)) (Some request) → Does own device cluster.accepts request applied deed
-              → (fault_of cluster.charter cluster.accepts event ≡ None → IsFair cluster value worlds (accept event)) → MayLead cluster value worlds deed.moves
-          taken_may request event is does fair =
+          taken_may : (event : Event) → ◌≡◌ {A = Option Request} (Some (Take event.sender event.message)) (Some request) → Does own device cluster.accepts request applied deed
+              → (was_taken applied ≡ true → fault_of cluster.charter cluster.accepts event ≡ None → IsFair cluster value worlds (accept event)) → MayLead cluster value events worlds deed.moves
+          taken_may event is does fair =
               takes_may event applied deed (subst (λ (r : Request). Does own device cluster.accepts r applied deed) (sym (same_Some (Take event.sender event.message) request is)) does) fair
+              (λ taken. within taken event (subst (λ (r : Option Request). Contains (event_asked r) event) is (Contains-first [] event)))
 
-          pub does_may : (move : moves.Move) (request : Request) → asked_in members move ≡ Some request → Does own device cluster.accepts request applied deed
+          pub does_may : (move : moves.Move) → asked_in members move ≡ Some request → Does own device cluster.accepts request applied deed
               → ((event : Event) → handed_in cluster members move ≡ Some event → fault_of cluster.charter cluster.accepts event ≡ None
-              → NoneForged cluster members event.message × HasCoin value event.message)
-              → MayLead cluster value worlds deed.moves
-          does_may (Deliver from output to) request asked does fair = by_message (message_at members from output) refl asked
+              → was_taken applied ≡ true → NoneForged cluster members event.message × HasCoin value event.message)
+              → MayLead cluster value events worlds deed.moves
+          does_may (Deliver from output to) asked does fair = by_message (message_at members from output) refl asked
             where
-              by_message : (found : Option Message) → message_at members from output ≡ found → option_map (λ message. Take from message) found ≡ Some request → MayLead cluster value worlds deed.moves
+              by_message : (found : Option Message) → message_at members from output ≡ found → option_map (λ message. Take from message) found ≡ Some request → MayLead cluster value events worlds deed.moves
               by_message None is so = absurd (none-some request so)
               by_message (Some message) is so = by_sender (cluster.honest from.0) refl
                 where
                   event : Event
                   event = record { sender = from; message = message }
 
-                  by_sender : (honest : Bool) → cluster.honest from.0 ≡ honest → MayLead cluster value worlds deed.moves
-                  by_sender true honest = taken_may request event so does (λ passed. sent_fair from honest output message is)
+                  by_sender : (honest : Bool) → cluster.honest from.0 ≡ honest → MayLead cluster value events worlds deed.moves
+                  by_sender true honest = taken_may event so does (λ taken passed. sent_fair from honest output message is)
                   by_sender false off =
-                      taken_may request event so does
-                      (λ passed. fair_there event (fair event (ap (λ (b : Bool). cond b None (option_map (λ (m : Message). record { sender = from; message = m }) (message_at members from output))) off
-                      ∙ ap (option_map (λ (m : Message). record { sender = from; message = m })) is) passed))
-          does_may (Give to sender given) request asked does fair =
+                      taken_may event so does
+                      (λ taken passed. fair_there event (fair event (ap (λ (b : Bool). cond b None (option_map (λ (m : Message). record { sender = from; message = m }) (message_at members from output))) off
+                      ∙ ap (option_map (λ (m : Message). record { sender = from; message = m })) is) passed taken))
+          does_may (Give to sender given) asked does fair =
               let event : Event = record { sender = sender; message = given } in
-              taken_may request event asked does (λ passed. fair_there event (fair event refl passed))
-          does_may (Coin from coin) request asked does fair =
+              taken_may event asked does (λ taken passed. fair_there event (fair event refl passed taken))
+          does_may (Coin from coin) asked does fair =
               let event : Event = record { sender = from; message = message.Coin coin } in
-              taken_may request event asked does (λ passed. fair_there event (fair event refl passed))
-          does_may (Flush from) request asked does fair =
-              plain_may cluster value worlds deed.moves
+              taken_may event asked does (λ taken passed. fair_there event (fair event refl passed taken))
+          does_may (Flush from) asked does fair =
+              plain_may cluster value events worlds deed.moves
               (round_plain own applied deed (subst (λ (r : Request). Does own device cluster.accepts r applied deed) (sym (same_Some Round request asked)) does))
-          does_may (step.Stop from) request asked does fair =
-              plain_may cluster value worlds deed.moves
+          does_may (step.Stop from) asked does fair =
+              plain_may cluster value events worlds deed.moves
               (stops_plain own applied deed (subst (λ (r : Request). Does own device cluster.accepts r applied deed) (sym (same_Some Stop request asked)) does))

@@ -4,6 +4,7 @@ pub mod Turning
 pub mod Counting
 pub mod Members
 pub mod Places
+pub mod Played
 pub mod Acting
 pub mod InTurn
 pub mod Fairness

@@ -1,10 +1,10 @@
 -- Moves that were applied to a cluster one after the other, what is assumed of them, and what its honest members then agree on.
-use Rattle.std.specs.Prelude.{◌≡◌, ℕ, Bool, true, false, List, [], ◌∷◌, Option, Some, None, Contains, Result, option_map, if◌then◌else◌}
+use Rattle.std.specs.Prelude.{◌≡◌, ◌≢◌, ℕ, ◌&&◌, Bool, true, false, List, [], ◌∷◌, map, flat_map, Option, Some, None, All, Contains, Result, Ok, Err, option_map, if◌then◌else◌}
 use Rattle.std.specs.List.{list_any}
 use Rattle.std.specs.Option.{option_map_or}
 use Rattle.header.specs.Checks.{Accepts, fault_of, is_signed}
 use Rattle.spec_accord.specs.Accord.{Agree}
-use Rattle.spec_accord.specs.Members.{Signed, signed_in}
+use Rattle.spec_accord.specs.Members.{HaveNoClash, Signed, bodies_in, signed_in}
 use Rattle.spec_cluster.specs.Agreement.{AreAgreed}
 use Rattle.spec_cluster.specs.Cluster as spec
 use Rattle.spec_cluster.specs.Premises.{FewFaulty, NoTwoTexts, HasCoin, Fair, signed_by_giver}
@@ -14,28 +14,66 @@ use Rattle.spec_model.specs.Words.{Author, Digest, Event, Message}
 use Rattle.spec_world.specs.Runs.{first_bytes}
 use Rattle.spec_world.specs.Steps.{IsRun}
 use Rattle.spec_world.specs.World.{World, put_out, alone_on, run_on}
-use Rattle.validator.specs.Setting.{node_of}
+use Rattle.validator.specs.Setting.{ConfigView, node_of}
 use Rattle.wire.specs.declared.message.Message.TheVariants as message
-use Rattle.cluster.specs.Cluster.{at, actor, message_at, IsApplied}
+use Rattle.cluster.specs.Cluster.{at, actor, asked_in, message_at, IsApplied}
 use Rattle.cluster.specs.Member.{MemberView, StandsAt}
 use Rattle.cluster.specs.declared.error.ClusterError.{ClusterError}
+use Rattle.cluster.specs.declared.error.ClusterError.TheVariants as errors
 use Rattle.cluster.specs.declared.moves.Applied.{Applied}
+use Rattle.cluster.specs.declared.moves.Applied.TheVariants.{Took}
 use Rattle.cluster.specs.declared.moves.Move.{Move}
 use Rattle.cluster.specs.declared.moves.Move.TheVariants.{Deliver, Give, Coin}
+use Rattle.cluster.specs.declared.moves.Request.{Request}
+use Rattle.cluster.specs.declared.moves.Request.TheVariants.{Take}
 use Rattle.diskmodel.specs.Disk.{Device}
 use Rattle.sigface.specs.Scheme.{Scheme}
 
 -- ---- moves that were applied
 
--- these moves lead from some members to others, whatever each was answered, and of each of them it holds, of the members before it, what is
--- assumed of a move
-abbrev pub MovesLead : {S D : Type 0} → Scheme S → Device D → Accepts → (List (MemberView S D) → Move → Type 0) → List (MemberView S D) → List Move → List (MemberView S D) → Type 0
-MovesLead scheme device accepts Assumed before [] later = before ≡ later
-MovesLead {S} {D} scheme device accepts Assumed before (step ∷ steps) later =
-    (next : List (MemberView S D)) × (answer : Result Applied ClusterError) × Assumed before step × IsApplied scheme device accepts before step next answer
-    × MovesLead scheme device accepts Assumed next steps later
+-- a move that was applied: the members before it, what it was answered, and the members after it
+pub record Step (S D : Type 0) : Type 0 where
+  pub before : List (MemberView S D)
+  pub move : Move
+  pub answer : Result Applied ClusterError
+  pub later : List (MemberView S D)
 
--- ---- what is assumed of a move
+-- these moves lead from some members to others, one after the other, whatever each was answered
+abbrev pub StepsLead : {S D : Type 0} → Scheme S → Device D → Accepts → List (MemberView S D) → List (Step S D) → List (MemberView S D) → Type 0
+StepsLead scheme device accepts first [] last = first ≡ last
+StepsLead scheme device accepts first (step ∷ steps) last =
+    (step.before ≡ first) × IsApplied scheme device accepts step.before step.move step.later step.answer × StepsLead scheme device accepts step.later steps last
+
+-- ---- what honest members took
+
+-- the event that a move gives to the node that it moves, if it gives one
+abbrev pub event_asked : Option Request → List Event
+event_asked (Some (Take sender given)) = record { sender = sender; message = given } ∷ []
+event_asked other = []
+
+-- a node that answers so took what it was given
+abbrev pub was_taken : Applied → Bool
+was_taken (Took ticket new) = true
+was_taken other = false
+
+-- one whose cluster answers so did, or may have: want of memory may come after it
+abbrev pub may_have_taken : Result Applied ClusterError → Bool
+may_have_taken (Ok applied) = was_taken applied
+may_have_taken (Err errors.Memory) = true
+may_have_taken other = false
+
+-- the events that honest members were given by these moves, and took, or may have
+abbrev pub taken_at : {S D : Type 0} → (ℕ → Bool) → Step S D → List Event
+taken_at honest step = if honest (actor step.move).0 && may_have_taken step.answer then event_asked (asked_in step.before step.move) else []
+
+abbrev pub taken_by : {S D : Type 0} → (ℕ → Bool) → List (Step S D) → List Event
+taken_by honest steps = flat_map (λ step. taken_at honest step) steps
+
+-- ---- what is assumed of these moves
+
+-- of the texts of headers and certificates in the events that honest members took, no two different ones share a digest
+abbrev pub HaveNoClashTaken : {S D : Type 0} → (ℕ → Bool) → List (Step S D) → Type 0
+HaveNoClashTaken honest steps = HaveNoClash (λ body. Contains (bodies_in (taken_by honest steps)) body)
 
 -- the event that a move hands in from outside, if it hands one in: what an honest member put out, and is delivered, is none of these
 abbrev pub handed_in : {S D : Type 0} → spec.Cluster → List (MemberView S D) → Move → Option Event
@@ -55,11 +93,11 @@ abbrev pub NoneForged : {S D : Type 0} → spec.Cluster → List (MemberView S D
 NoneForged cluster members message = (vote : Signed) → Contains (signed_in message) vote → cluster.honest vote.signer.0 ≡ true
     → is_signed cluster.charter cluster.accepts vote.signer vote.digest vote.signature ≡ true → signed_by members vote.signer vote.digest ≡ true
 
--- of what is handed in from outside to an honest member, and passes the checks, no vote is forged, and a coin has its wave's one value,
--- also where it is then refused
-abbrev pub IsFairMove : {S D : Type 0} → spec.Cluster → (ℕ → ℕ) → List (MemberView S D) → Move → Type 0
-IsFairMove cluster value members step = (event : Event) → handed_in cluster members step ≡ Some event → cluster.honest (actor step).0 ≡ true
-    → fault_of cluster.charter cluster.accepts event ≡ None → NoneForged cluster members event.message × HasCoin value event.message
+-- of what is handed in from outside to an honest member, passes the checks and is taken, no vote is forged, and a coin has its wave's one
+-- value
+abbrev pub IsFairStep : {S D : Type 0} → spec.Cluster → (ℕ → ℕ) → Step S D → Type 0
+IsFairStep cluster value step = (event : Event) → handed_in cluster step.before step.move ≡ Some event → cluster.honest (actor step.move).0 ≡ true
+    → fault_of cluster.charter cluster.accepts event ≡ None → may_have_taken step.answer ≡ true → NoneForged cluster step.before event.message × HasCoin value event.message
 
 -- ---- where the honest members stand
 
@@ -85,20 +123,48 @@ pub record BeginsAmong {S D : Type 0} (scheme : Scheme S) (device : Device D) (m
 
 -- ---- what they agree on
 
+-- of any two honest members' longest given orders one begins the other
+abbrev pub HonestOrdersAgree : {S D : Type 0} → (ℕ → Bool) → List (MemberView S D) → Type 0
+HonestOrdersAgree {S} {D} honest members = (number also : Author) (one other : MemberView S D) → honest number.0 ≡ true → honest also.0 ≡ true
+    → at members number ≡ Some one → at members also ≡ Some other → Agree one.out.order other.out.order
+
 -- The honest members stand at worlds to which fair turns led. Where no two different texts that they settled share a digest, these are
--- agreed, and of any two honest members' longest given orders one begins the other.
+-- agreed, and so are their orders.
 pub record AreInAccord {S D : Type 0} (scheme : Scheme S) (device : Device D) (members : List (MemberView S D)) (cluster : spec.Cluster) (value : ℕ → ℕ) : Type 0 where
   pub worlds : spec.Worlds
   pub turns : List spec.Turn
   pub reached : spec.IsReached cluster (Fair cluster value) turns worlds
   pub stand : (number : Author) → cluster.honest number.0 ≡ true → StandsAmong scheme device members number (cluster.node number.0) (worlds number.0)
   pub agreed : NoTwoTexts cluster worlds → AreAgreed cluster worlds
-  pub orders : NoTwoTexts cluster worlds → (number also : Author) (one other : MemberView S D) → cluster.honest number.0 ≡ true → cluster.honest also.0 ≡ true
-      → at members number ≡ Some one → at members also ≡ Some other → Agree one.out.order other.out.order
+  pub orders : NoTwoTexts cluster worlds → HonestOrdersAgree cluster.honest members
 
 -- Whichever members are honest: where these began as a cluster does, the others weigh no more than is tolerated, and fair moves led to
--- these members, whatever each move was answered, the honest ones are in accord.
+-- these members, whatever each move was answered, the honest ones are in accord; and where no two different texts in what these took share
+-- a digest, their orders agree.
 abbrev pub GivenOrdersAgree : {S D : Type 0} → Scheme S → Device D → Accepts → List (MemberView S D) → Type 0
-GivenOrdersAgree {S} {D} scheme device accepts members = (cluster : spec.Cluster) (value : ℕ → ℕ) (first : List (MemberView S D)) (steps : List Move) → cluster.accepts ≡ accepts
+GivenOrdersAgree {S} {D} scheme device accepts members = (cluster : spec.Cluster) (value : ℕ → ℕ) (first : List (MemberView S D)) (steps : List (Step S D)) → cluster.accepts ≡ accepts
     → ((number : Author) → cluster.honest number.0 ≡ true → BeginsAmong scheme device first cluster number) → FewFaulty cluster
-    → MovesLead scheme device accepts (IsFairMove cluster value) first steps members → AreInAccord scheme device members cluster value
+    → StepsLead scheme device accepts first steps members → All (IsFairStep cluster value) steps
+    → AreInAccord scheme device members cluster value × (HaveNoClashTaken cluster.honest steps → HonestOrdersAgree cluster.honest members)
+
+-- ---- a cluster that was opened and moved
+
+-- the member of a number is among these, and is set up as the cluster says
+pub record IsAmong {S D : Type 0} (scheme : Scheme S) (members : List (MemberView S D)) (cluster : spec.Cluster) (number : Author) : Type 0 where
+  pub member : MemberView S D
+  pub is : at members number ≡ Some member
+  pub set_up : node_of scheme member.setting ≡ cluster.node number.0
+  pub charter : member.setting.charter ≡ cluster.charter
+
+-- Moves led to these members from new ones with these settings, which are there and have given nothing out. Whichever of them are honest:
+-- where the others weigh no more than is tolerated, the moves were fair, and no two different texts in what honest ones took share a digest,
+-- the orders that these gave out agree.
+pub record ArePlayed {S D : Type 0} (scheme : Scheme S) (device : Device D) (accepts : Accepts) (settings : List (ConfigView S)) (moves : List Move) (members : List (MemberView S D)) : Type 0 where
+  pub first : List (MemberView S D)
+  pub set_up : map (λ member. member.setting) first ≡ settings
+  pub new : All (λ member. (member.desk ≢ None) × (member.out.outputs ≡ []) × (member.out.order ≡ [])) first
+  pub steps : List (Step S D)
+  pub made : map (λ step. step.move) steps ≡ moves
+  pub lead : StepsLead scheme device accepts first steps members
+  pub agree : (cluster : spec.Cluster) (value : ℕ → ℕ) → cluster.accepts ≡ accepts → ((number : Author) → cluster.honest number.0 ≡ true → IsAmong scheme first cluster number)
+      → FewFaulty cluster → All (IsFairStep cluster value) steps → HaveNoClashTaken cluster.honest steps → HonestOrdersAgree cluster.honest members

@@ -9,10 +9,10 @@ impl<'a, S: Sign, D: StopDisk, V: Verify> Cluster<'a, S, D, V> {
     ghost use Rattle.cluster.specs.Applying.{GivenOrdersAgree};
 
     /// Whichever nodes are honest, whatever moves were applied, and whatever each of them was answered: where the honest
-    /// nodes began on empty disks, the others weigh no more than is tolerated, what honest ones were given from outside had
-    /// no forged vote of an honest one, a wave's coin had one value, and no two different texts of headers and certificates
-    /// that honest nodes settled share a digest, of the orders that any two honest nodes gave out one begins the other. The
-    /// call does nothing.
+    /// nodes began on empty disks, the others weigh no more than is tolerated, what honest ones took from outside had
+    /// no forged vote of an honest one, and a wave's coin had one value, the honest nodes are in accord; and where no two
+    /// different texts of headers and certificates that honest nodes took share a digest, of the orders that any two honest
+    /// nodes gave out one begins the other. The call does nothing.
     pub fn orders_agree(&self)
         ensures { GivenOrdersAgree S.scheme D.device (V.accepts self.now.verifier) self.now.members }
     {

@@ -8,6 +8,7 @@ mod delivering;
 mod error;
 mod member;
 mod moves;
+mod playing;
 mod routing;
 mod running;
 mod threads;

@@ -10,7 +10,7 @@ use Rattle.spec_model.specs.Admitting.{IsTaken, IsLegal}
 use Rattle.spec_model.specs.Histories.{History, headers, votes, received, as_header, as_vote, as_certificate}
 use Rattle.spec_model.specs.Nodes.{Node}
 use Rattle.spec_model.specs.Words.{Certificate, Event, Header, HeaderBody, Message, Vote}
-use Rattle.spec_laws.proofs.Lists.{Contains-nothing, Contains-cases, Contains-first, Contains-later, Contains-made}
+use Rattle.spec_laws.proofs.Lists.{Contains-nothing, Contains-cases, Contains-first, Contains-later, Contains-made, Contains-makes}
 use Rattle.spec_laws.proofs.Meeting.{mapped_from}
 use Rattle.spec_accord.specs.Members.{bodies_in}
 
@@ -91,6 +91,25 @@ certificate_told history certificate inside =
     Contains-append_right (map (λ (h : Header). h.body) (headers history))
     (map (λ (c : Certificate). c.header) (received history)) certificate.header
     (mapped_in (λ (c : Certificate). c.header) (received history) certificate inside)
+
+-- a history whose events another list has tells of no other headers than that
+pub bodies_within : (history events : History) → ((event : Event) → Contains history event → Contains events event)
+    → (body : HeaderBody) → Contains (bodies_in history) body → Contains (bodies_in events) body
+bodies_within history events within body told =
+    let of_header : Header → HeaderBody = λ h. h.body in
+    let of_certificate : Certificate → HeaderBody = λ c. c.header in
+    elim (Contains-append_cases (map of_header (headers history)) (map of_certificate (received history)) body told) [
+      | inl one ↦
+          let from = mapped_from of_header (headers history) body one in
+          let found = Contains-made (λ (e : Event). as_header e.message) history from.0 from.1 in
+          let there = Contains-makes (λ (e : Event). as_header e.message) events found.0 from.0 (within found.0 found.1) found.2 in
+          subst (λ (b : HeaderBody). Contains (bodies_in events) b) from.2 (header_told events from.0 there)
+      | inr one ↦
+          let from = mapped_from of_certificate (received history) body one in
+          let found = Contains-made (λ (e : Event). as_certificate e.message) history from.0 from.1 in
+          let there = Contains-makes (λ (e : Event). as_certificate e.message) events found.0 from.0 (within found.0 found.1) found.2 in
+          subst (λ (b : HeaderBody). Contains (bodies_in events) b) from.2 (certificate_told events from.0 there)
+    ]
 
 -- these are within their limits, where the history is legal
 header_within : (node : Node) (history : History) → IsLegal node history → (header : Header)

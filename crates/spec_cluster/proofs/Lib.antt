@@ -1,4 +1,4 @@
-mod Running
+pub mod Running
 mod Signing
 mod Together
 pub mod Unforged

@@ -1,7 +1,8 @@
 -- The runs of each member of a cluster, and what was assumed where an event came in.
-use Rattle.std.proofs.Common.{◌≡◌, ◌≢◌, ℕ, true, false, cond, List, [], ◌∷◌, inl, inr, ap, sym, ◌∙◌, subst}
+use Rattle.std.proofs.Common.{◌≡◌, ◌≢◌, ℕ, true, false, cond, List, [], ◌∷◌, ◌++◌, inl, inr, ap, sym, ◌∙◌, subst}
 use Rattle.std.specs.Prelude.{◌==◌, Contains}
 use Rattle.std.proofs.lemmas.Bool.{cases_Bool, eqb-true, eq-eqb, true≢false}
+use Rattle.std.proofs.lemmas.List.Elements.{Contains-append_left}
 use Rattle.wire.specs.Lists.{Begins}
 use Rattle.spec_laws.proofs.Lists.{Contains-nothing, Contains-cases}
 use Rattle.spec_model.specs.Words.{Event}
@@ -9,9 +10,12 @@ use Rattle.spec_world.specs.World.{World}
 use Rattle.spec_world.specs.Steps.{Move, accept, IsStep, IsRun, IsFirst}
 use Rattle.spec_world.specs.Steps as one
 use Rattle.spec_world.proofs.Beginning.{runs_begin}
-use Rattle.spec_world.proofs.Lasting.{given_stays}
-use Rattle.spec_world.proofs.Orders.{begins_same, begins_trans}
-use Rattle.spec_cluster.specs.Cluster.{Cluster, Worlds, Turn, Passes, IsTurn, Leads, IsReached, ClustersBegin}
+use Rattle.spec_world.proofs.Lasting.{given_stays, events_came_in}
+use Rattle.spec_world.proofs.Law.{run_stands}
+use Rattle.spec_world.proofs.Orders.{begins_same, begins_trans, begins_join}
+use Rattle.spec_world.proofs.Standing.{Stands, settled_accepted}
+use Rattle.spec_world.specs.Lasting.{settled_in}
+use Rattle.spec_cluster.specs.Cluster.{Cluster, Worlds, Turn, Passes, AreMembers, IsTurn, Leads, IsReached, ClustersBegin}
 
 -- the steps of one member
 abbrev pub moves_of : ℕ → List Turn → List Move
@@ -85,6 +89,22 @@ module _ (cluster : Cluster) (Assumed : Worlds → Turn → Type 0) where
             let inside' : Contains (moves_of member turns) (accept event) = rw differs at inside in
             came_at member event leads.0 turns last leads.3 inside'
       ]
+
+-- where an event that a member settled came in
+module _ (cluster : Cluster) (Assumed : Worlds → Turn → Type 0) (members : AreMembers cluster) (turns : List Turn) (worlds : Worlds) (reached : IsReached cluster Assumed turns worlds) where
+  pub each_stands : (member : ℕ) → cluster.honest member ≡ true → Stands (cluster.node member) (worlds member)
+  each_stands member honest =
+      run_stands (cluster.node member) (moves_of member turns) (worlds member) (members member honest).is (each_runs cluster Assumed member turns worlds reached honest)
+
+  pub settled_came : (member : ℕ) → cluster.honest member ≡ true → (event : Event) → Contains (settled_in (worlds member)) event → CameAt cluster Assumed event worlds
+  settled_came member honest event inside =
+      let node = cluster.node member in
+      let world = worlds member in
+      let begins = begins_join world.began world.settled world.accepted (settled_accepted node world (each_stands member honest)) in
+      let accepted : Contains (world.began ++ world.accepted) event =
+      subst (λ l. Contains l event) (sym begins.parts) (Contains-append_left (settled_in world) begins.rest event inside) in
+      came_at cluster Assumed member event reached.first turns worlds reached.leads
+      (events_came_in node (moves_of member turns) world event (members member honest).is (each_runs cluster Assumed member turns worlds reached honest) accepted)
 
 -- ---- there are such clusters
 

@@ -2,7 +2,6 @@
 use Rattle.std.proofs.Common.{◌≡◌, ℕ, Bool, true, List, ◌++◌, length, Some, None, inl, inr, sym, ◌∙◌, subst, arith}
 use Rattle.std.specs.Prelude.{Contains}
 use Rattle.std.proofs.lemmas.Bool.{cases_lt}
-use Rattle.std.proofs.lemmas.List.Elements.{Contains-append_left}
 use Rattle.committee.specs.Charter.{IsCharter}
 use Rattle.header.specs.Checks.{fault_of, is_signed}
 use Rattle.spec_accord.specs.Accord.{Agree}
@@ -21,14 +20,13 @@ use Rattle.spec_model.specs.Nodes.{Node}
 use Rattle.spec_model.specs.Words.{Certificate, Digest, Event}
 use Rattle.spec_world.specs.Lasting.{settled_in}
 use Rattle.spec_world.specs.Steps.{accept}
-use Rattle.spec_world.proofs.Lasting.{events_came_in, given_orders_are_settled}
-use Rattle.spec_world.proofs.Law.{run_stands}
-use Rattle.spec_world.proofs.Orders.{shorter_begins, begins_trans, begins_join}
-use Rattle.spec_world.proofs.Standing.{Stands, settled_legal, settled_accepted}
+use Rattle.spec_world.proofs.Lasting.{given_orders_are_settled}
+use Rattle.spec_world.proofs.Orders.{shorter_begins, begins_trans}
+use Rattle.spec_world.proofs.Standing.{Stands, settled_legal}
 use Rattle.spec_cluster.specs.Cluster.{Cluster, Worlds, Turn, Passes, AreMembers, IsReached}
 use Rattle.spec_cluster.specs.Premises.{party_of, FewFaulty, NoTwoTexts, has_signed, HasCoin, IsFair, Fair}
 use Rattle.spec_cluster.specs.Agreement.{HeldIt, GaveIt, AreAgreed, Agreement}
-use Rattle.spec_cluster.proofs.Running.{moves_of, each_runs, CameAt, came_at}
+use Rattle.spec_cluster.proofs.Running.{moves_of, each_runs, CameAt, each_stands, settled_came}
 use Rattle.spec_cluster.proofs.Signing.{still_signed, given_is_of}
 
 -- a slot that is filled stays so
@@ -52,19 +50,11 @@ beginnings_of one other first second begins also (inr longer) = beginnings_agree
 module _ (cluster : Cluster) (value : ℕ → ℕ) (turns : List Turn) (worlds : Worlds) (sound : IsCharter cluster.charter) (members : AreMembers cluster) (few : FewFaulty cluster)
     (reached : IsReached cluster (Fair cluster value) turns worlds) (clash : NoTwoTexts cluster worlds) where
   stands : (member : ℕ) → cluster.honest member ≡ true → Stands (cluster.node member) (worlds member)
-  stands member honest =
-      run_stands (cluster.node member) (moves_of member turns) (worlds member) (members member honest).is (each_runs cluster (Fair cluster value) member turns worlds reached honest)
+  stands = each_stands cluster (Fair cluster value) members turns worlds reached
 
   -- where an event that is settled came in
   came : (member : ℕ) → cluster.honest member ≡ true → (event : Event) → Contains (settled_in (worlds member)) event → CameAt cluster (Fair cluster value) event worlds
-  came member honest event inside =
-      let node = cluster.node member in
-      let world = worlds member in
-      let begins = begins_join world.began world.settled world.accepted (settled_accepted node world (stands member honest)) in
-      let accepted : Contains (world.began ++ world.accepted) event =
-      subst (λ l. Contains l event) (sym begins.parts) (Contains-append_left (settled_in world) begins.rest event inside) in
-      came_at cluster (Fair cluster value) member event reached.first turns worlds reached.leads
-      (events_came_in node (moves_of member turns) world event (members member honest).is (each_runs cluster (Fair cluster value) member turns worlds reached honest) accepted)
+  came = settled_came cluster (Fair cluster value) members turns worlds reached
 
   passed : (member : ℕ) → cluster.honest member ≡ true → (event : Event) → Contains (settled_in (worlds member)) event → fault_of cluster.charter cluster.accepts event ≡ None
   passed member honest event inside = let at = came member honest event inside in subst (Passes cluster) at.move at.passed

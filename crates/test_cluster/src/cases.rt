@@ -10,6 +10,7 @@ use sigface::{HashSign, HashVerify};
 use sim_members::{MEMBERS, Settings};
 use sim_script::{Command, FormError, Labels, define_batch, define_header, parse};
 use std::alloc::{AllocError, Global};
+use std::mem;
 use std::sync::Wait;
 use std::thread::Threads;
 use test_cases::{Told, bad};
@@ -22,6 +23,8 @@ pub struct ClusterCases<'a> {
     settings: &'a Settings,
     labels: Labels,
     grips: Vec<Grip>,
+    // The moves that are to be applied at once.
+    plan: Vec<Move>,
     /// None before the case opens one.
     cluster: Option<Cluster<'a, HashSign, GrippedDisk, HashVerify>>,
 }
@@ -34,6 +37,7 @@ impl<'a> ClusterCases<'a> {
             settings,
             labels: Labels::new(alloc),
             grips: new_grips(alloc, MEMBERS)?,
+            plan: Vec::new(alloc),
             cluster: None,
         })
     }
@@ -42,6 +46,7 @@ impl<'a> ClusterCases<'a> {
     pub fn begin(&mut self) -> Told {
         self.labels = Labels::new(self.alloc);
         self.grips = new_grips(self.alloc, MEMBERS)?;
+        self.plan = Vec::new(self.alloc);
         self.cluster = None;
         Ok(())
     }
@@ -55,6 +60,8 @@ impl<'a> ClusterCases<'a> {
         match name {
             "form" | "pack" => return self.define(command, answer),
             "cluster" => return self.open(words, answer),
+            "plan" => return self.plan(words, answer),
+            "play" => return self.play(words, answer),
             "give" => return self.give(words, answer),
             "stop" => return self.stop(words, answer),
             "schedules" => return play_tolerated(self.alloc, words, answer),
@@ -95,6 +102,41 @@ impl<'a> ClusterCases<'a> {
             return told_bad(answer);
         }
         match Cluster::new(self.alloc, configs, disks, HashVerify) {
+            Ok(cluster) => self.cluster = Some(cluster),
+            Err(error) => tell_error(answer, error),
+        }
+        Ok(())
+    }
+
+    /// `plan MOVE` keeps a move, which is none that a disk has to be told of before.
+    fn plan(&mut self, words: &str, answer: &mut String) -> Told {
+        let (name, words) = parted(words);
+        let step = match name {
+            "deliver" => delivery(words),
+            "give" => gift(self.alloc, &self.labels, words)?,
+            "coin" => coin(words),
+            "flush" => flush(words),
+            _ => None,
+        };
+        match step {
+            Some(step) => self.plan.push(step)?,
+            None => bad(answer),
+        }
+        Ok(())
+    }
+
+    /// `play COUNT` opens a node for each of the first so many members, and applies the moves that are planned.
+    fn play(&mut self, words: &str, answer: &mut String) -> Told {
+        let count = words.parse().unwrap_or(0);
+        let Some(configs) = self.settings.first(count) else {
+            return told_bad(answer);
+        };
+        let disks = disks_of(self.alloc, &self.grips, count)?;
+        if disks.len() != configs.len() {
+            return told_bad(answer);
+        }
+        let moves = mem::replace(&mut self.plan, Vec::new(self.alloc));
+        match Cluster::play(self.alloc, configs, disks, HashVerify, moves) {
             Ok(cluster) => self.cluster = Some(cluster),
             Err(error) => tell_error(answer, error),
         }

@@ -1,0 +1,76 @@
+-- A cluster that was opened, and the moves that were applied to it.
+use Rattle.std.proofs.Common.{◌≡◌, ◌≢◌, ℕ, true, List, [], ◌∷◌, ◌++◌, inl, inr, map, Some, None, refl, sym, ap, ◌∙◌, subst}
+use Rattle.std.specs.Prelude.{All, Contains, AllPairs}
+use Rattle.std.proofs.lemmas.List.Elements.{All-contains}
+use Rattle.header.specs.Checks.{Accepts}
+use Rattle.spec_cluster.specs.Agreement.{Agreement}
+use Rattle.spec_cluster.specs.Cluster.{Cluster}
+use Rattle.spec_laws.proofs.Lists.{Contains-nothing, found_passes}
+use Rattle.spec_model.specs.Nodes.{Node}
+use Rattle.spec_model.specs.Words.{Author, Digest}
+use Rattle.spec_world.specs.Steps.{IsRun}
+use Rattle.validator.specs.Setting.{ConfigView, node_of}
+use Rattle.cluster.specs.Applying.{Step, StepsLead, IsAmong, BeginsAmong, first_world, ArePlayed}
+use Rattle.cluster.specs.Cluster.{named, IsApplied}
+use Rattle.cluster.specs.Member.{MemberView, StandsAt, IsLongest}
+use Rattle.cluster.specs.declared.moves.Move.{Move}
+use Rattle.cluster.proofs.Following.{given_orders_agree}
+use Rattle.diskmodel.specs.Disk.{Device}
+use Rattle.sigface.specs.Scheme.{Scheme}
+
+module _ {S D : Type 0} (scheme : Scheme S) (device : Device D) (accepts : Accepts) where
+  -- one more move was applied
+  pub lead_more : (steps : List (Step S D)) (first : List (MemberView S D)) (one : Step S D) → StepsLead scheme device accepts first steps one.before
+      → IsApplied scheme device accepts one.before one.move one.later one.answer → StepsLead scheme device accepts first (steps ++ one ∷ []) one.later
+  lead_more [] first one lead applied = (sym lead, applied, refl)
+  lead_more (step ∷ steps) first one lead applied = (lead.0, lead.1, lead_more steps step.later one lead.2 applied)
+
+  -- ---- new members
+
+  -- nothing was given out in the world in which a node's runs begin
+  none_given : (node : Node) (digests : List Digest) → IsLongest node (first_world node) digests → digests ≡ []
+  none_given node digests longest = elim longest.given [ inl none ↦ none | inr some ↦ absurd (Contains-nothing some.0 some.1) ]
+
+  abbrev Begins : MemberView S D → Type 0
+  Begins member = StandsAt (node_of scheme member.setting) device (first_world (node_of scheme member.setting)) member
+
+  pub are_new : (members : List (MemberView S D)) → All Begins members → All (λ member. member.desk ≢ None) members
+      → All (λ member. (member.desk ≢ None) × (member.out.outputs ≡ []) × (member.out.order ≡ [])) members
+  are_new members begins up place default within =
+      let here = begins place default within in
+      (up place default within, sym here.out.outputs, none_given _ _ here.out.order)
+
+  -- a member that is among new ones begins there
+  module _ (members : List (MemberView S D)) (runs : All (λ member. IsRun (node_of scheme member.setting) [] (first_world (node_of scheme member.setting))) members) (begins : All Begins members)
+      (cluster : Cluster) (number : Author) (among : IsAmong scheme members cluster number) where
+    pub begins_among : BeginsAmong scheme device members cluster number
+    begins_among =
+        let inside = (found_passes (λ (member : MemberView S D). named number member) members among.member among.is).1 in
+        record {
+          member = among.member;
+          is = among.is;
+          set_up = among.set_up;
+          charter = among.charter;
+          runs = All-contains (λ (member : MemberView S D). IsRun (node_of scheme member.setting) [] (first_world (node_of scheme member.setting))) members among.member runs inside;
+          begins = All-contains Begins members among.member begins inside;
+        }
+
+  -- ---- played ones
+
+  module _ (owns : (setting : ConfigView S) → (node_of scheme setting).own ≡ setting.own) (charters : (setting : ConfigView S) → (node_of scheme setting).charter ≡ setting.charter)
+      (agreement : Agreement) where
+    pub are_played : (settings : List (ConfigView S)) (first : List (MemberView S D)) → map (λ member. member.setting) first ≡ settings
+        → All (λ member. IsRun (node_of scheme member.setting) [] (first_world (node_of scheme member.setting))) first → All Begins first → All (λ member. member.desk ≢ None) first
+        → (moves : List Move) (steps : List (Step S D)) → map (λ step. step.move) steps ≡ moves → (members : List (MemberView S D)) → StepsLead scheme device accepts first steps members
+        → ArePlayed scheme device accepts settings moves members
+    are_played settings first set_up runs begins up moves steps made members lead = record {
+      first = first;
+      set_up = set_up;
+      new = are_new first begins up;
+      steps = steps;
+      made = made;
+      lead = lead;
+      agree = λ cluster value same among few fair none.
+          (given_orders_agree scheme device accepts members owns charters agreement cluster value first steps same
+          (λ number honest. begins_among first runs begins cluster number (among number honest)) few lead fair).1 none;
+    }

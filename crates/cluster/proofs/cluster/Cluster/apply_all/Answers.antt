@@ -1,0 +1,35 @@
+use Rattle.std.proofs.Common.{◌≡◌, List, [], ◌∷◌, ◌++◌, map, sym, ap, ◌∙◌, subst, rules, map-id}
+use Rattle.std.proofs.lemmas.List.{map-append}
+use Rattle.std.proofs.lemmas.Iterator.Consumers.{YieldsList-end}
+use Rattle.std.proofs.lemmas.Iterator.Adapters.{YieldsList-from_vec}
+use Rattle.cluster.specs.Applying.{Step}
+use Rattle.cluster.specs.Cluster.{IsApplied}
+use Rattle.cluster.specs.declared.moves.Move.{Move}
+use Rattle.cluster.proofs.Played.{lead_more}
+use Rattle.cluster.proofs.cluster.Cluster.apply_all.Goals as goal
+
+pub loop-step-preserved : goal.loop-step-preserved
+loop-step-preserved g c =
+    let scheme = g.S.Sign.scheme in
+    let device = g.D.Disk.device in
+    let before = c.loop-step.self in
+    let later = c.apply.new.self in
+    let so_far = c.loop-step.invariant in
+    let step : Move = c.in-Some.step in
+    let one : Step g.row.S.Denot g.row.D.Denot = record { before = before.members; move = step; answer = c.apply.result; later = later.members } in
+    record {
+      verifier = c.apply.ensures.verifier ∙ so_far.verifier;
+      steps = so_far.steps ++ one ∷ [];
+      made = map-append (λ (s : Step g.row.S.Denot g.row.D.Denot). s.move) so_far.steps (one ∷ []) ∙ ap (λ (l : List Move). l ++ step ∷ []) so_far.made;
+      lead = lead_more scheme device (g.V.Verify.accepts c.args.self.now.verifier) so_far.steps c.args.self.now.members one so_far.lead
+          (subst (λ (v : g.row.V.Denot). IsApplied scheme device (g.V.Verify.accepts v) before.members step later.members c.apply.result) so_far.verifier c.apply.ensures.applied);
+    }
+
+pub returns-clause-applied : goal.returns-clause-applied
+returns-clause-applied g c =
+    let moves = c.args.moves.items in
+    let so_far = c.loop-step.invariant in
+    let end = YieldsList-end (YieldsList-from_vec {s = c.into_iter-step-iterator.result} moves (search rules) (search rules)) c.loop-step.yielded
+    c.loop-step.step-iterator c.loop-step.yielded_by c.next.result c.next.new.self c.in-None.is c.next.ensures.steps in
+    let whole : c.loop-step.yielded ≡ moves = sym (map-id c.loop-step.yielded) ∙ end.0 in
+    (so_far.steps, so_far.made ∙ whole, so_far.lead)

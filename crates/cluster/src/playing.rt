@@ -1,0 +1,54 @@
+//! A cluster that is opened and moved by a list of moves.
+
+use crate::cluster::Cluster;
+use crate::error::ClusterError;
+use crate::moves::Move;
+use diskmodel::StopDisk;
+use sigface::{Sign, Verify};
+use spec_cluster::agreement;
+use std::alloc::Global;
+use validator::Config;
+
+impl<'a, S: Sign, D: StopDisk + Drop, V: Verify + Drop> Cluster<'a, S, D, V> {
+    ghost use Rattle.std.specs.Prelude.{◌≡◌, ◌⊎◌, [], length, map, vec_len, All, IfOk, IfErr, List};
+    ghost use Rattle.cluster.specs.Answers.{IsJournalFault};
+    ghost use Rattle.cluster.specs.Applying.{Step, StepsLead, ArePlayed};
+    ghost use Rattle.cluster.specs.Cluster.{AreOfOne, AreDistinct};
+
+    /// Opens a node for each of these settings, each on the empty disk at its place, and applies the moves, one after the other, whatever
+    /// each is answered. Of the orders that any two honest nodes gave out one then begins the other, whichever nodes are honest, where the
+    /// others weigh no more than is tolerated, what honest ones took from outside had no forged vote of an honest one and no second value
+    /// of a wave's coin, and no two different texts of headers and certificates that they took share a digest.
+    ///
+    /// # Errors
+    /// Those of `new`. A move's error ends nothing.
+    pub fn play(
+        alloc: Global,
+        configs: &'a [Config<S>],
+        disks: Vec<D>,
+        verifier: V,
+        moves: Vec<Move>,
+    ) -> Result<Cluster<'a, S, D, V>, ClusterError>
+        requires many { vec_len disks ≡ length configs.now }
+        requires empty { All (λ disk. D.device.content disk ≡ []) disks.items }
+        requires one_committee { AreOfOne configs.now }
+        requires distinct { AreDistinct configs.now }
+        ensures played { IfOk result (λ cluster. ArePlayed S.scheme D.device (V.accepts verifier) configs.now moves.items cluster.members) }
+        ensures errors { IfErr result (λ error. (error ≡ ClusterError.Memory) ⊎ IsJournalFault error) }
+    {
+        agreement();
+        let mut cluster = Cluster::new(alloc, configs, disks, verifier)?;
+        cluster.apply_all(moves);
+        Ok(cluster)
+    }
+
+    // Applies these moves, one after the other, whatever each is answered.
+    fn apply_all(&mut self, moves: Vec<Move>)
+        ensures verifier { self.new.verifier ≡ self.old.verifier }
+        ensures applied { (steps : List (Step S D)) × (map (λ step. step.move) steps ≡ moves.items) × StepsLead S.scheme D.device (V.accepts self.old.verifier) self.old.members steps self.new.members }
+    {
+        for step in moves {
+            let _ = self.apply(step);
+        }
+    }
+}
