@@ -1,5 +1,5 @@
--- What a move hands in, seen in the worlds of its cluster.
-use Rattle.std.proofs.Common.{◌≡◌, ℕ, Bool, true, false, cond, inl, inr, List, [], ◌∷◌, ◌++◌, map, Option, Some, None, refl, sym, ap, ◌∙◌, subst}
+-- What comes in by a move, seen in the worlds of its cluster.
+use Rattle.std.proofs.Common.{◌≡◌, ◌⊎◌, ℕ, Bool, true, false, cond, inl, inr, List, [], ◌∷◌, ◌++◌, map, Option, Some, None, refl, sym, ap, ◌∙◌, subst}
 use Rattle.std.specs.Prelude.{◌||◌, Contains, slice_get, option_map, option_and_then}
 use Rattle.std.proofs.lemmas.List.Elements.{Contains-get_or}
 use Rattle.std.proofs.lemmas.Option.{slice_get_within, get_or_from_slice_get, same_Some, none-some}
@@ -9,8 +9,8 @@ use Rattle.book.specs.declared.own.error.FlushError.TheVariants as errors
 use Rattle.desk.specs.AtWorld.{IsStop}
 use Rattle.header.specs.Checks.{fault_of}
 use Rattle.spec_cluster.proofs.Unforged.{vote_unforged, certificate_unforged}
-use Rattle.spec_cluster.specs.Cluster.{Cluster, Worlds, Turn, AreMembers, IsReached}
-use Rattle.spec_cluster.specs.Premises.{signed_by_giver, has_signed, NoForgery, HasCoin, IsFair, Fair}
+use Rattle.spec_cluster.specs.Cluster.{Cluster, Worlds, AreMembers, HaveRun}
+use Rattle.spec_cluster.specs.Premises.{signed_by_giver, has_signed, NoForgery, HasCoin, ComesFair}
 use Rattle.spec_laws.proofs.Lists.{Contains-nothing, Contains-cases, Contains-first}
 use Rattle.spec_model.specs.Nodes.{Node}
 use Rattle.spec_model.specs.Slots.{same_digest}
@@ -32,9 +32,12 @@ use Rattle.cluster.specs.declared.moves.Move.TheVariants as step
 use Rattle.cluster.specs.declared.moves.Move.TheVariants.{Deliver, Give, Coin, Flush}
 use Rattle.cluster.specs.declared.moves.Request.{Request}
 use Rattle.cluster.specs.declared.moves.Request.TheVariants.{Take, Round, Stop}
-use Rattle.cluster.proofs.InTurn.{ArePlain, MayLead, plain_may}
+use Rattle.cluster.proofs.Coming.{ArePlain, AllCome, plain_come, one_comes}
 use Rattle.diskmodel.specs.Disk.{Device}
 use Rattle.sigface.specs.Scheme.{Scheme}
+
+first_is : {T : Type 0} (one other : T) → one ∷ [] ≡ other ∷ [] → one ≡ other
+first_is one other same = cc
 
 -- ---- signatures
 
@@ -73,7 +76,7 @@ stop_plain world moves (found, inr (inl same)) = subst ArePlain (sym same) (tt, 
 stop_plain world moves (found, inr (inr same)) = subst ArePlain (sym same) (tt, (tt, (tt, (tt, (tt, (tt, (tt, (tt, (tt, tt)))))))))
 
 module _ {S D : Type 0} (device : Device D) where
-  round_plain : (own : Node) (applied : Applied) (deed : Deed S D) → MakesRound own device applied deed → ArePlain deed.moves
+  pub round_plain : (own : Node) (applied : Applied) (deed : Deed S D) → MakesRound own device applied deed → ArePlain deed.moves
   round_plain own (Settled count) deed round = by_pending deed.before.book.pending refl
     where
       by_pending : (pending : List (List ℕ)) → deed.before.book.pending ≡ pending → ArePlain deed.moves
@@ -99,7 +102,7 @@ module _ {S D : Type 0} (device : Device D) where
   stops_plain own (Settled count) deed stop = absurd stop
   stops_plain own (Fault error) deed stop = absurd stop
 
-  module _ (scheme : Scheme S) (cluster : Cluster) (value : ℕ → ℕ) (worlds : Worlds) (members : List (MemberView S D))
+  module _ (scheme : Scheme S) (cluster : Cluster) (worlds : Worlds) (members : List (MemberView S D))
       (stand : (number : Author) → cluster.honest number.0 ≡ true → StandsAmong scheme device members number (cluster.node number.0) (worlds number.0)) where
     -- what a member has signed in its outputs it has signed in its world
     signed_there : (number : Author) → cluster.honest number.0 ≡ true → (digest : Digest) → signed_by members number digest ≡ true → has_signed (worlds number.0) digest ≡ true
@@ -110,11 +113,11 @@ module _ {S D : Type 0} (device : Device D) where
         ∙ sym (ap (λ (found : Option (MemberView S D)). option_map_or (λ member. list_any (λ output. signs digest (put_out output)) member.out.outputs) found false) at_world.is)
         ∙ is
 
-    -- a fair event is fair in the worlds
-    fair_there : (event : Event) → NoneForged cluster members event.message × HasCoin value event.message → IsFair cluster value worlds (accept event)
-    fair_there event fair = (λ vote there honest good. signed_there vote.signer honest vote.digest (fair.0 vote there honest good), fair.1)
+    -- what isn't forged by the outputs isn't in the worlds
+    pub unforged_there : (m : Message) → NoneForged cluster members m → NoForgery cluster worlds m
+    unforged_there m none vote there honest good = signed_there vote.signer honest vote.digest (none vote there honest good)
 
-    module _ (turns : List Turn) (are_members : AreMembers cluster) (reached : IsReached cluster (Fair cluster value) turns worlds) where
+    module _ (value : ℕ → ℕ) (are_members : AreMembers cluster) (have : HaveRun cluster (ComesFair cluster value worlds) worlds) where
       -- no vote in what an honest member put out is forged, and it is no coin
       given_fair : (number : ℕ) → cluster.honest number ≡ true → (one : Given) → Contains (worlds number).given one → (out : Output) → one.outgoing
           ≡ put_out out → (m : Message) → message_of out ≡ Some m
@@ -127,14 +130,14 @@ module _ {S D : Type 0} (device : Device D) where
           subst (λ (x : Message). NoForgery cluster worlds x × HasCoin value x) (same_Some (message.Header header) m same) (λ vote inside signer good. absurd (Contains-nothing vote inside), tt)
       given_fair number honest one there (output.Vote vote) is m same =
           subst (λ (x : Message). NoForgery cluster worlds x × HasCoin value x) (same_Some (message.Vote vote) m same)
-          (vote_unforged cluster value turns worlds are_members reached number honest one there vote is, tt)
+          (vote_unforged cluster value worlds are_members have number honest one there vote is, tt)
       given_fair number honest one there (output.Certificate certificate) is m same =
           subst (λ (x : Message). NoForgery cluster worlds x × HasCoin value x) (same_Some (message.Certificate certificate) m same)
-          (certificate_unforged cluster value turns worlds are_members reached number honest one there certificate is, tt)
+          (certificate_unforged cluster value worlds are_members have number honest one there certificate is, tt)
       given_fair number honest one there (output.Order start digests) is m same = absurd (none-some m same)
 
       -- what an honest member put out is fair where it is delivered
-      sent_fair : (from : Author) → cluster.honest from.0 ≡ true → (place : ℕ) (m : Message) → message_at members from place ≡ Some m → NoForgery cluster worlds m × HasCoin value m
+      pub sent_fair : (from : Author) → cluster.honest from.0 ≡ true → (place : ℕ) (m : Message) → message_at members from place ≡ Some m → NoForgery cluster worlds m × HasCoin value m
       sent_fair from honest place m is = by_output (slice_get among.member.out.outputs place) refl
           (sym (ap (option_and_then (λ (k : MemberView S D). option_and_then message_of (slice_get k.out.outputs place))) among.is) ∙ is)
         where
@@ -150,57 +153,64 @@ module _ {S D : Type 0} (device : Device D) where
               let found = joined_of (λ (one : Given). output_in one.outgoing) (worlds from.0).given out (subst (λ (l : List Output). Contains l out) (sym among.stands.out.outputs) inside) in
               given_fair from.0 honest found.0 found.1 out (is_put_out found.0.outgoing out found.2) m same
 
-      module _ (own : Node) (charter : own.charter ≡ cluster.charter) (events : List Event) where
-        takes_may : (event : Event) (applied : Applied) (deed : Deed S D) → TakesIn own cluster.accepts event applied deed
-            → (was_taken applied ≡ true → fault_of cluster.charter cluster.accepts event ≡ None → IsFair cluster value worlds (accept event))
-            → (was_taken applied ≡ true → Contains events event) → MayLead cluster value events worlds deed.moves
-        takes_may event (Took ticket new) deed takes fair within =
-            let passed : fault_of cluster.charter cluster.accepts event ≡ None = subst (λ c. fault_of c cluster.accepts event ≡ None) charter takes.passed in
-            subst (MayLead cluster value events worlds) (sym takes.by) (passed, fair refl passed, within refl, tt)
-        takes_may event (Refused why) deed takes fair within = subst (MayLead cluster value events worlds) (sym takes.by) tt
-        takes_may event (Unchecked error) deed takes fair within = subst (MayLead cluster value events worlds) (sym takes.by) tt
-        takes_may event (Settled count) deed takes fair within = absurd takes
-        takes_may event (Fault error) deed takes fair within = absurd takes
-        takes_may event (Reopened count) deed takes fair within = absurd takes
+-- ---- what comes in
 
-        -- the moves that are made of a fair move of the cluster, where what was taken of its request is among the events
-        module _ (applied : Applied) (deed : Deed S D) (request : Request)
-            (within : was_taken applied ≡ true → (event : Event) → Contains (event_asked (Some request)) event → Contains events event) where
-          -- that takes an event in
-          taken_may : (event : Event) → ◌≡◌ {A = Option Request} (Some (Take event.sender event.message)) (Some request) → Does own device cluster.accepts request applied deed
-              → (was_taken applied ≡ true → fault_of cluster.charter cluster.accepts event ≡ None → IsFair cluster value worlds (accept event)) → MayLead cluster value events worlds deed.moves
-          taken_may event is does fair =
-              takes_may event applied deed (subst (λ (r : Request). Does own device cluster.accepts r applied deed) (sym (same_Some (Take event.sender event.message) request is)) does) fair
-              (λ taken. within taken event (subst (λ (r : Option Request). Contains (event_asked r) event) is (Contains-first [] event)))
+-- What is known of an event that came in: it passed the checks, is among these events, no vote in it is forged, in the worlds before or by
+-- the outputs after it, and a coin has its value.
+pub record Came {S D : Type 0} (cluster : Cluster) (value : ℕ → ℕ) (events : List Event) (worlds : Worlds) (later : List (MemberView S D)) (event : Event) : Type 0 where
+  pub passed : fault_of cluster.charter cluster.accepts event ≡ None
+  pub within : Contains events event
+  pub unforged : NoForgery cluster worlds event.message ⊎ NoneForged cluster later event.message
+  pub coin : HasCoin value event.message
 
-          pub does_may : (move : moves.Move) → asked_in members move ≡ Some request → Does own device cluster.accepts request applied deed
-              → ((event : Event) → handed_in cluster members move ≡ Some event → fault_of cluster.charter cluster.accepts event ≡ None
-              → was_taken applied ≡ true → NoneForged cluster members event.message × HasCoin value event.message)
-              → MayLead cluster value events worlds deed.moves
-          does_may (Deliver from output to) asked does fair = by_message (message_at members from output) refl asked
-            where
-              by_message : (found : Option Message) → message_at members from output ≡ found → option_map (λ message. Take from message) found ≡ Some request → MayLead cluster value events worlds deed.moves
-              by_message None is so = absurd (none-some request so)
-              by_message (Some message) is so = by_sender (cluster.honest from.0) refl
-                where
-                  event : Event
-                  event = record { sender = from; message = message }
+module _ {S D : Type 0} (device : Device D) (cluster : Cluster) (Comes : Event → Type 0) (own : Node) (charter : own.charter ≡ cluster.charter) where
+  -- by the moves by which a desk takes an event
+  pub takes_come : (event : Event) (applied : Applied) (deed : Deed S D) → TakesIn own cluster.accepts event applied deed
+      → (was_taken applied ≡ true → fault_of cluster.charter cluster.accepts event ≡ None → Comes event) → AllCome Comes deed.moves
+  takes_come event (Took ticket new) deed takes comes =
+      let passed : fault_of cluster.charter cluster.accepts event ≡ None = subst (λ c. fault_of c cluster.accepts event ≡ None) charter takes.passed in
+      subst (AllCome Comes) (sym takes.by) (one_comes Comes event (comes refl passed))
+  takes_come event (Refused why) deed takes comes = subst (AllCome Comes) (sym takes.by) (plain_come Comes [] tt)
+  takes_come event (Unchecked error) deed takes comes = subst (AllCome Comes) (sym takes.by) (plain_come Comes [] tt)
+  takes_come event (Settled count) deed takes comes = absurd takes
+  takes_come event (Fault error) deed takes comes = absurd takes
+  takes_come event (Reopened count) deed takes comes = absurd takes
 
-                  by_sender : (honest : Bool) → cluster.honest from.0 ≡ honest → MayLead cluster value events worlds deed.moves
-                  by_sender true honest = taken_may event so does (λ taken passed. sent_fair from honest output message is)
-                  by_sender false off =
-                      taken_may event so does
-                      (λ taken passed. fair_there event (fair event (ap (λ (b : Bool). cond b None (option_map (λ (m : Message). record { sender = from; message = m }) (message_at members from output))) off
-                      ∙ ap (option_map (λ (m : Message). record { sender = from; message = m })) is) passed taken))
-          does_may (Give to sender given) asked does fair =
-              let event : Event = record { sender = sender; message = given } in
-              taken_may event asked does (λ taken passed. fair_there event (fair event refl passed taken))
-          does_may (Coin from coin) asked does fair =
-              let event : Event = record { sender = from; message = message.Coin coin } in
-              taken_may event asked does (λ taken passed. fair_there event (fair event refl passed taken))
-          does_may (Flush from) asked does fair =
-              plain_may cluster value events worlds deed.moves
-              (round_plain own applied deed (subst (λ (r : Request). Does own device cluster.accepts r applied deed) (sym (same_Some Round request asked)) does))
-          does_may (step.Stop from) asked does fair =
-              plain_may cluster value events worlds deed.moves
-              (stops_plain own applied deed (subst (λ (r : Request). Does own device cluster.accepts r applied deed) (sym (same_Some Stop request asked)) does))
+  -- and by those that are made of a request
+  pub does_come : (request : Request) (applied : Applied) (deed : Deed S D) → Does own device cluster.accepts request applied deed
+      → ((event : Event) → event_asked (Some request) ≡ event ∷ [] → was_taken applied ≡ true → fault_of cluster.charter cluster.accepts event ≡ None → Comes event) → AllCome Comes deed.moves
+  does_come (Take sender given) applied deed does comes =
+      let event : Event = record { sender = sender; message = given } in
+      takes_come event applied deed does (comes event refl)
+  does_come Round applied deed does comes = plain_come Comes deed.moves (round_plain device own applied deed does)
+  does_come Stop applied deed does comes = plain_come Comes deed.moves (stops_plain device own applied deed does)
+
+-- an honest member put out the message of an event, which names it as its sender
+pub record IsSentOut {S D : Type 0} (cluster : Cluster) (members : List (MemberView S D)) (event : Event) : Type 0 where
+  pub from : Author
+  pub honest : cluster.honest from.0 ≡ true
+  pub place : ℕ
+  pub is : message_at members from place ≡ Some event.message
+
+-- the event of a move that asks a node to take one was so put out, or is handed in
+pub source : {S D : Type 0} (cluster : Cluster) (members : List (MemberView S D)) (step : moves.Move) (event : Event) → event_asked (asked_in members step) ≡ event ∷ []
+    → IsSentOut cluster members event ⊎ (handed_in cluster.honest members step ≡ Some event)
+source cluster members (Deliver from output to) event is = by_message (message_at members from output) refl is
+  where
+    by_message : (found : Option Message) → message_at members from output ≡ found → event_asked (option_map (λ message. Take from message) found) ≡ event ∷ []
+        → IsSentOut cluster members event ⊎ (handed_in cluster.honest members (Deliver from output to) ≡ Some event)
+    by_message None at_place so = absurd cc
+    by_message (Some m) at_place so = by_sender (cluster.honest from.0) refl
+      where
+        same : record { sender = from; message = m } ≡ event
+        same = first_is (record { sender = from; message = m }) event so
+
+        by_sender : (honest : Bool) → cluster.honest from.0 ≡ honest → IsSentOut cluster members event ⊎ (handed_in cluster.honest members (Deliver from output to) ≡ Some event)
+        by_sender true honest = inl (record { from = from; honest = honest; place = output; is = at_place ∙ ap (λ (e : Event). Some e.message) same })
+        by_sender false off =
+            inr (ap (λ (b : Bool). cond b None (option_map (λ (m : Message). record { sender = from; message = m }) (message_at members from output))) off
+            ∙ ap (option_map (λ (m : Message). record { sender = from; message = m })) at_place ∙ ap (λ (e : Event). Some e) same)
+source cluster members (Give to sender given) event is = inr (ap (λ (e : Event). Some e) (first_is (record { sender = sender; message = given }) event is))
+source cluster members (Coin from coin) event is = inr (ap (λ (e : Event). Some e) (first_is (record { sender = from; message = message.Coin coin }) event is))
+source cluster members (Flush from) event is = absurd cc
+source cluster members (step.Stop from) event is = absurd cc

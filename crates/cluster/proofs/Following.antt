@@ -1,36 +1,41 @@
--- The worlds of the honest members, after each move of a cluster.
-use Rattle.std.proofs.Common.{◌≡◌, ◌≢◌, ◌⊎◌, ℕ, true, false, inl, inr, List, [], ◌∷◌, ◌++◌, Option, Some, None, refl, sym, ap, ◌∙◌, subst}
-use Rattle.std.specs.Prelude.{◌<◌, ◌&&◌, length, All, Contains, Result, Ok, Err}
+-- The worlds of the honest members, after each move of a cluster and after threads.
+use Rattle.std.proofs.Common.{◌≡◌, ◌≢◌, ◌⊎◌, ℕ, Bool, true, false, cond, inl, inr, List, [], ◌∷◌, ◌++◌, Option, Some, None, refl, sym, ap, ◌∙◌, subst}
+use Rattle.std.specs.Prelude.{◌<◌, ◌==◌, ◌&&◌, length, All, Contains, Result, Ok, Err}
+use Rattle.std.specs.Option.{option_to_list}
 use Rattle.std.proofs.lemmas.Bool.{cases_Bool, cases_eq, true≢false, eqb-true, cond-true}
-use Rattle.std.proofs.lemmas.List.Elements.{All-head, All-tail, Contains-append_left, Contains-append_right}
+use Rattle.std.proofs.lemmas.List.Elements.{All-head, All-tail, Contains-append_left, Contains-append_right, Contains-append_cases}
 use Rattle.committee.specs.Charter.{Charter, IsCharter}
 use Rattle.spec_world.proofs.Scripts.{leads_join}
-use Rattle.header.specs.Checks.{Accepts}
+use Rattle.header.specs.Checks.{Accepts, fault_of}
 use Rattle.spec_accord.specs.Accord.{Agree}
 use Rattle.spec_accord.specs.Members.{HaveNoClash, IsTold, bodies_in}
-use Rattle.spec_cluster.specs.Agreement.{AreAgreed, Agreement, GaveIt}
-use Rattle.spec_cluster.specs.Cluster.{Cluster, Worlds, Turn, AreMembers, IsReached}
-use Rattle.spec_cluster.specs.Premises.{party_of, FewFaulty, NoTwoTexts, Fair}
-use Rattle.spec_cluster.proofs.Running.{settled_came}
 use Rattle.spec_accord.proofs.Telling.{bodies_within}
+use Rattle.spec_cluster.specs.Agreement.{AreAgreed, RunsAgree, GaveIt}
+use Rattle.spec_cluster.specs.Cluster.{Cluster, Worlds, AreMembers, HaveRun}
+use Rattle.spec_cluster.specs.Premises.{party_of, FewFaulty, NoTwoTexts, NoForgery, HasCoin, ComesFair}
+use Rattle.spec_cluster.proofs.Running.{have_also, settled_came}
+use Rattle.spec_cluster.proofs.Signing.{still_signed}
+use Rattle.spec_laws.proofs.Lists.{Contains-nothing, Contains-first}
 use Rattle.wire.specs.Lists.{Begins}
 use Rattle.spec_model.specs.Nodes.{Node, IsNode}
-use Rattle.spec_model.specs.Words.{Author, Digest, Event, HeaderBody}
+use Rattle.spec_model.specs.Words.{Author, Digest, Event, HeaderBody, Message}
 use Rattle.spec_world.specs.Lasting.{settled_in}
-use Rattle.spec_world.specs.Steps.{Move, IsFirst, Leads}
+use Rattle.spec_world.specs.Steps.{Move, accept, IsRun, Leads}
 use Rattle.spec_world.specs.World.{World}
 use Rattle.validator.specs.Setting.{ConfigView, node_of}
 use Rattle.cluster.specs.Answers.{Deed, Does, Makes, MakesSome, Became, IsGone}
-use Rattle.cluster.specs.Applying.{Step, StepsLead, event_asked, was_taken, may_have_taken, taken_at, taken_by, IsFairStep, StandsAmong, first_world, BeginsAmong, HonestOrdersAgree, AreInAccord, GivenOrdersAgree}
+use Rattle.cluster.specs.Applying.{Doing, moved, ran, Stage, HasRunBy, HaveRunBy, IsDone, StagesLead, event_asked, was_taken, may_have_taken, taken_by_acts, taken_in_threads, taken_at, taken_in}
+use Rattle.cluster.specs.Applying.{handed_in, outside_at, NoneForged, IsFairStage, StandsAmong, first_world, BeginsAmong, HonestOrdersAgree, AreInAccord, GivenOrdersAgree}
 use Rattle.cluster.specs.Cluster.{named, at, actor, asked_in, IsAsked, IsApplied}
 use Rattle.cluster.specs.Member.{MemberView, StandsAt, HasPutOut, IsLongest, going_out}
+use Rattle.cluster.specs.Threads.{Act, take, round, DoesAct, HaveActed}
 use Rattle.cluster.specs.declared.error.ClusterError.{ClusterError}
 use Rattle.cluster.specs.declared.error.ClusterError.TheVariants.{Memory, NoSuchNode, NoSuchOutput, Journal}
 use Rattle.cluster.specs.declared.moves.Applied.{Applied}
 use Rattle.cluster.specs.declared.moves.Move as moves
 use Rattle.cluster.specs.declared.moves.Request.{Request}
-use Rattle.cluster.proofs.Fairness.{going_plain, does_may}
-use Rattle.cluster.proofs.InTurn.{ArePlain, IsWithin, FairWithin, reached_fair, MayLead, may_join, reached_more, TurnsTo, turns_to}
+use Rattle.cluster.proofs.Coming.{ArePlain, AllCome, plain_come, come_join, leads_given, run_more}
+use Rattle.cluster.proofs.Fairness.{going_plain, round_plain, sent_fair, unforged_there, Came, takes_come, does_come, source}
 use Rattle.cluster.proofs.Places.{found_passes}
 use Rattle.diskmodel.specs.Disk.{Device}
 use Rattle.sigface.specs.Scheme.{Scheme}
@@ -38,46 +43,44 @@ use Rattle.sigface.specs.Scheme.{Scheme}
 some_is : {T : Type 0} (one other : T) → ◌≡◌ {A = Option T} (Some one) (Some other) → one ≡ other
 some_is one other same = cc
 
-same_author : (one other : Author) → one.0 ≡ other.0 → one ≡ other
-same_author one other same = λ i. record { 0 = same i }
-
 none_some : {T : Type 0} (one : T) → ◌≡◌ {A = Option T} None (Some one) → ⊥
 none_some one same = cc
 
-module _ {S D : Type 0} (scheme : Scheme S) (device : Device D) (cluster : Cluster) (value : ℕ → ℕ) (events : List Event) where
+module _ {S D : Type 0} (scheme : Scheme S) (device : Device D) where
   -- ---- what a member did
 
-  -- a member went on by moves of its world, of which at most the first lets an event in
-  record GoesOn (own : Node) (worlds : Worlds) (world : World) (one other : MemberView S D) : Type 0 where
+  -- a member went on by moves of its world, and this holds of each event that came in by them
+  record GoesOn (own : Node) (Comes : Event → Type 0) (world : World) (one other : MemberView S D) : Type 0 where
     pub moves : List Move
-    pub may : MayLead cluster value events worlds moves
+    pub come : AllCome Comes moves
     pub to : World
     pub leads : Leads own world moves to
     pub stands : StandsAt own device to other
     pub setting : other.setting ≡ one.setting
 
-  module _ (own : Node) (worlds : Worlds) (Done : Deed S D → Type 0) (may : (deed : Deed S D) → Done deed → MayLead cluster value events worlds deed.moves) (world : World)
+  module _ (own : Node) (Comes : Event → Type 0) (Done : Deed S D → Type 0) (come : (deed : Deed S D) → Done deed → AllCome Comes deed.moves) (world : World)
       (one other : MemberView S D) where
-    makes_on : Makes own device Done world one other → GoesOn own worlds world one other
+    makes_on : Makes own device Done world one other → GoesOn own Comes world one other
     makes_on is =
         let gone_out = is.collected in
         let out = going_out is.middle.book.down gone_out.went in
         record {
           moves = is.moved.moves ++ out;
-          may = may_join cluster value events worlds is.moved.moves out
-              (may (record { world = world; moves = is.moved.moves; before = is.desk; later = is.middle }) is.moved.does) (going_plain is.middle.book.down gone_out.went);
+          come = come_join Comes is.moved.moves out
+              (come (record { world = world; moves = is.moved.moves; before = is.desk; later = is.middle }) is.moved.does)
+              (plain_come Comes out (going_plain is.middle.book.down gone_out.went));
           to = gone_out.to;
           leads = leads_join own world is.moved.moves out is.moved.to gone_out.to is.moved.leads gone_out.leads;
           stands = is.stands;
           setting = is.setting;
         }
 
-    makes_some_on : MakesSome own device Done world one other → GoesOn own worlds world one other
+    makes_some_on : MakesSome own device Done world one other → GoesOn own Comes world one other
     makes_some_on is =
         let gone_out = is.collected in
-        let first : MayLead cluster value events worlds is.moved.moves = elim is.moved.does [
-          | inl none ↦ subst (MayLead cluster value events worlds) (sym none.0) tt
-          | inr does ↦ may (record { world = world; moves = is.moved.moves; before = is.desk; later = is.middle }) does
+        let first : AllCome Comes is.moved.moves = elim is.moved.does [
+          | inl none ↦ subst (AllCome Comes) (sym none.0) (plain_come Comes [] tt)
+          | inr does ↦ come (record { world = world; moves = is.moved.moves; before = is.desk; later = is.middle }) does
         ] in
         let plain = elim gone_out.are as (λ _. ArePlain gone_out.moves) [
           | inl none ↦ subst ArePlain (sym none) tt
@@ -85,7 +88,7 @@ module _ {S D : Type 0} (scheme : Scheme S) (device : Device D) (cluster : Clust
         ] in
         record {
           moves = is.moved.moves ++ gone_out.moves;
-          may = may_join cluster value events worlds is.moved.moves gone_out.moves first plain;
+          come = come_join Comes is.moved.moves gone_out.moves first (plain_come Comes gone_out.moves plain);
           to = gone_out.to;
           leads = leads_join own world is.moved.moves gone_out.moves is.moved.to gone_out.to is.moved.leads gone_out.leads;
           stands = is.stands;
@@ -93,10 +96,10 @@ module _ {S D : Type 0} (scheme : Scheme S) (device : Device D) (cluster : Clust
         }
 
   -- one that stayed as it was
-  same_on : (own : Node) (worlds : Worlds) (world : World) (one other : MemberView S D) → StandsAt own device world one → other ≡ one → GoesOn own worlds world one other
-  same_on own worlds world one other stands same = record {
+  same_on : (own : Node) (Comes : Event → Type 0) (world : World) (one other : MemberView S D) → StandsAt own device world one → other ≡ one → GoesOn own Comes world one other
+  same_on own Comes world one other stands same = record {
     moves = [];
-    may = tt;
+    come = plain_come Comes [] tt;
     to = world;
     leads = refl;
     stands = subst (StandsAt own device world) (sym same) stands;
@@ -104,10 +107,10 @@ module _ {S D : Type 0} (scheme : Scheme S) (device : Device D) (cluster : Clust
   }
 
   -- a member that is gone
-  gone_on : (own : Node) (worlds : Worlds) (world : World) (one other : MemberView S D) → StandsAt own device world one → IsGone one other → GoesOn own worlds world one other
-  gone_on own worlds world one other stands is = record {
+  gone_on : (own : Node) (Comes : Event → Type 0) (world : World) (one other : MemberView S D) → StandsAt own device world one → IsGone one other → GoesOn own Comes world one other
+  gone_on own Comes world one other stands is = record {
     moves = [];
-    may = tt;
+    come = plain_come Comes [] tt;
     to = world;
     leads = refl;
     stands = record {
@@ -120,148 +123,363 @@ module _ {S D : Type 0} (scheme : Scheme S) (device : Device D) (cluster : Clust
     setting = is.setting;
   }
 
-  -- ---- where the honest members stand
+  -- one that did one thing, and then another
+  goes_join : (own : Node) (Comes : Event → Type 0) (world : World) (one middle other : MemberView S D) → (first : GoesOn own Comes world one middle) → GoesOn own Comes first.to middle other
+      → GoesOn own Comes world one other
+  goes_join own Comes world one middle other first then = record {
+    moves = first.moves ++ then.moves;
+    come = come_join Comes first.moves then.moves first.come then.come;
+    to = then.to;
+    leads = leads_join own world first.moves then.moves first.to then.to first.leads then.leads;
+    stands = then.stands;
+    setting = then.setting ∙ first.setting;
+  }
 
-  -- each of them stands among these members at its world, and fair turns led to these worlds, by which no other events came in
+  -- ---- at a request, and in a thread
+
+  module _ (cluster : Cluster) (Comes : Event → Type 0) (charters : (setting : ConfigView S) → (node_of scheme setting).charter ≡ setting.charter) where
+    module _ (request : Request) (one other : MemberView S D) (charter : one.setting.charter ≡ cluster.charter) (world : World)
+        (stands : StandsAt (node_of scheme one.setting) device world one) where
+      own_charter : (node_of scheme one.setting).charter ≡ cluster.charter
+      own_charter = charters one.setting ∙ charter
+
+      went_on : (answer : Result Applied ClusterError) → Became (node_of scheme one.setting) device cluster.accepts request one other answer
+          → ((event : Event) → event_asked (Some request) ≡ event ∷ [] → may_have_taken answer ≡ true → fault_of cluster.charter cluster.accepts event ≡ None → Comes event)
+          → GoesOn (node_of scheme one.setting) Comes world one other
+      went_on (Ok applied) is comes =
+          makes_on (node_of scheme one.setting) Comes (Does (node_of scheme one.setting) device cluster.accepts request applied)
+          (λ deed does. does_come device cluster Comes (node_of scheme one.setting) own_charter request applied deed does comes) world one other (is.ok world stands)
+      went_on (Err Memory) is comes =
+          let some = is.memory refl world stands in
+          makes_some_on (node_of scheme one.setting) Comes (Does (node_of scheme one.setting) device cluster.accepts request some.0)
+          (λ deed does. does_come device cluster Comes (node_of scheme one.setting) own_charter request some.0 deed does (λ event asked taken passed. comes event asked refl passed)) world one other some.1
+      went_on (Err NoSuchNode) is comes = same_on (node_of scheme one.setting) Comes world one other stands (is.same refl)
+      went_on (Err NoSuchOutput) is comes = absurd (is.never refl)
+      went_on (Err (Journal cause)) is comes = gone_on (node_of scheme one.setting) Comes world one other stands (is.lost tt).1.gone
+
+    -- an act
+    act_come : (own : Node) → own.charter ≡ cluster.charter → (act : Act) → ((event : Event) → Contains (taken_by_acts (act ∷ [])) event → fault_of cluster.charter cluster.accepts event ≡ None → Comes event)
+        → (deed : Deed S D) → DoesAct own device cluster.accepts act deed → AllCome Comes deed.moves
+    act_come own charter (take event applied) comes deed does =
+        takes_come device cluster Comes own charter event applied deed does (λ taken passed. comes event (taken_here taken) passed)
+      where
+        taken_here : was_taken applied ≡ true → Contains (taken_by_acts (take event applied ∷ [])) event
+        taken_here taken =
+            Contains-append_left (cond (was_taken applied) (event ∷ []) []) [] event
+            (subst (λ (l : List Event). Contains l event) (sym (cond-true (was_taken applied) (event ∷ []) [] taken)) (Contains-first [] event))
+    act_come own charter (round applied) comes deed does = plain_come Comes deed.moves (round_plain device own applied deed does)
+
+    -- what is taken by one act, or by the others
+    acts_join : (act : Act) (acts : List Act) → taken_by_acts (act ∷ acts) ≡ taken_by_acts (act ∷ []) ++ taken_by_acts acts
+    acts_join (take event applied) acts = by_taken (was_taken applied) refl
+      where
+        by_taken : (b : Bool) → was_taken applied ≡ b → cond (was_taken applied) (event ∷ []) [] ++ taken_by_acts acts ≡ (cond (was_taken applied) (event ∷ []) [] ++ []) ++ taken_by_acts acts
+        by_taken true is = rw is refl
+        by_taken false is = rw is refl
+    acts_join (round applied) acts = refl
+
+    acts_on : (acts : List Act) (one other : MemberView S D) → one.setting.charter ≡ cluster.charter → HaveActed scheme device cluster.accepts acts one other
+        → ((event : Event) → Contains (taken_by_acts acts) event → fault_of cluster.charter cluster.accepts event ≡ None → Comes event)
+        → (world : World) → StandsAt (node_of scheme one.setting) device world one → GoesOn (node_of scheme one.setting) Comes world one other
+    acts_on [] one other charter have comes world stands = same_on (node_of scheme one.setting) Comes world one other stands have
+    acts_on (act ∷ acts) one other charter have comes world stands =
+        let middle = have.0 in
+        let join = acts_join act acts in
+        let first = acts_on acts one middle charter have.1
+        (λ event inside passed. comes event (subst (λ (l : List Event). Contains l event) (sym join) (Contains-append_right (taken_by_acts (act ∷ [])) (taken_by_acts acts) event inside)) passed)
+        world stands in
+        let own : node_of scheme middle.setting ≡ node_of scheme one.setting = ap (node_of scheme) first.setting in
+        let there : StandsAt (node_of scheme middle.setting) device first.to middle = subst (λ (n : Node). StandsAt n device first.to middle) (sym own) first.stands in
+        let last : GoesOn (node_of scheme middle.setting) Comes first.to middle other =
+        makes_on (node_of scheme middle.setting) Comes (DoesAct (node_of scheme middle.setting) device cluster.accepts act)
+        (act_come (node_of scheme middle.setting) (charters middle.setting ∙ ap (λ (s : ConfigView S). s.charter) first.setting ∙ charter) act
+        (λ event inside passed. comes event (subst (λ (l : List Event). Contains l event) (sym join) (Contains-append_left (taken_by_acts (act ∷ [])) (taken_by_acts acts) event inside)) passed))
+        first.to middle other (have.2 first.to there) in
+        goes_join (node_of scheme one.setting) Comes world one middle other first (subst (λ (n : Node). GoesOn n Comes first.to middle other) own last)
+
+  -- the member of a number ran with these acts
+  pub record RanAt (accepts : Accepts) (turns : ℕ) (honest : ℕ → Bool) (all : List (List Act)) (before later : List (MemberView S D)) (number : Author) (one : MemberView S D) : Type 0 where
+    pub other : MemberView S D
+    pub is : at later number ≡ Some other
+    pub acts : List Act
+    pub ran : HasRunBy scheme device accepts turns acts one other
+    pub taken : honest one.setting.own.0 ≡ true → (event : Event) → Contains (taken_by_acts acts) event → Contains (taken_in_threads honest before all) event
+
+  ran_at : (accepts : Accepts) (turns : ℕ) (honest : ℕ → Bool) (all : List (List Act)) (before later : List (MemberView S D)) → HaveRunBy scheme device accepts turns all before later
+      → (number : Author) (one : MemberView S D) → at before number ≡ Some one → RanAt accepts turns honest all before later number one
+  ran_at accepts turns honest [] [] [] have number one is = absurd (none_some one is)
+  ran_at accepts turns honest (acts ∷ all) (first ∷ before) (then ∷ later) have number one is = elim (cases_Bool (named number first)) [
+    | inl here ↦
+        let same : first ≡ one = some_is first one (sym (ap (λ (b : Bool). cond b (Some first) (at before number)) here) ∙ is) in
+        let also : named number then ≡ true = ap (λ (s : ConfigView S). s.own.0 == number.0) have.0.0.setting ∙ here in
+        record {
+          other = then;
+          is = ap (λ (b : Bool). cond b (Some then) (at later number)) also;
+          acts = acts;
+          ran = subst (λ (m : MemberView S D). HasRunBy scheme device accepts turns acts m then) same have.0;
+          taken = λ so event inside.
+              let so_first : honest first.setting.own.0 ≡ true = ap (λ (m : MemberView S D). honest m.setting.own.0) same ∙ so in
+              Contains-append_left (cond (honest first.setting.own.0) (taken_by_acts acts) []) (taken_in_threads honest before all) event
+              (subst (λ (l : List Event). Contains l event) (sym (cond-true (honest first.setting.own.0) (taken_by_acts acts) [] so_first)) inside);
+        }
+    | inr off ↦
+        let rest = ran_at accepts turns honest all before later have.1 number one (sym (ap (λ (b : Bool). cond b (Some first) (at before number)) off) ∙ is) in
+        let also : named number then ≡ false = ap (λ (s : ConfigView S). s.own.0 == number.0) have.0.0.setting ∙ off in
+        record {
+          other = rest.other;
+          is = ap (λ (b : Bool). cond b (Some then) (at later number)) also ∙ rest.is;
+          acts = rest.acts;
+          ran = rest.ran;
+          taken = λ so event inside.
+              Contains-append_right (cond (honest first.setting.own.0) (taken_by_acts acts) []) (taken_in_threads honest before all) event (rest.taken so event inside);
+        }
+  ]
+  ran_at accepts turns honest [] [] (then ∷ later) have number one is = absurd have
+  ran_at accepts turns honest [] (first ∷ before) [] have number one is = absurd have
+  ran_at accepts turns honest [] (first ∷ before) (then ∷ later) have number one is = absurd have
+  ran_at accepts turns honest (acts ∷ all) [] [] have number one is = absurd have
+  ran_at accepts turns honest (acts ∷ all) [] (then ∷ later) have number one is = absurd have
+  ran_at accepts turns honest (acts ∷ all) (first ∷ before) [] have number one is = absurd have
+
+-- ---- where the honest members stand
+
+module _ {S D : Type 0} (scheme : Scheme S) (device : Device D) (cluster : Cluster) (value : ℕ → ℕ) (events : List Event) where
+  -- an event that came in is fair at these worlds, and among the events
+  abbrev pub ComesWithin : Worlds → Event → Type 0
+  ComesWithin worlds event = ComesFair cluster value worlds event × Contains events event
+
+  -- each of them stands among these members at its world, to which a run of its own led, by which nothing else came in
   pub record AreAt (members : List (MemberView S D)) : Type 0 where
     pub worlds : Worlds
-    pub turns : List Turn
-    pub reached : IsReached cluster (FairWithin cluster value events) turns worlds
+    pub have : HaveRun cluster (ComesWithin worlds) worlds
     pub stand : (number : Author) → cluster.honest number.0 ≡ true → StandsAmong scheme device members number (cluster.node number.0) (worlds number.0)
 
-  among_also : (before later : List (MemberView S D)) (number : Author) (own : Node) (world : World) → at later number ≡ at before number → StandsAmong scheme device before number own world
-      → StandsAmong scheme device later number own world
-  among_also before later number own world same among = record { member = among.member; is = same ∙ among.is; set_up = among.set_up; stands = among.stands }
+  fair_only : (worlds : Worlds) → HaveRun cluster (ComesWithin worlds) worlds → HaveRun cluster (ComesFair cluster value worlds) worlds
+  fair_only worlds = have_also cluster (ComesWithin worlds) (ComesFair cluster value worlds) worlds (λ event comes. comes.0)
 
-  -- a member that isn't honest did something
-  others_on : (before later : List (MemberView S D)) (number : Author) → cluster.honest number.0 ≡ false
-      → ((other : Author) → other ≢ number → at later other ≡ at before other) → AreAt before → AreAt later
-  others_on before later number off others are = record {
-    worlds = are.worlds;
-    turns = are.turns;
-    reached = are.reached;
-    stand = λ other honest.
-        let differs : other ≢ number = λ same. true≢false (sym honest ∙ ap (λ (a : Author). cluster.honest a.0) same ∙ off) in
-        among_also before later other (cluster.node other.0) (are.worlds other.0) (others other differs) (are.stand other honest);
-  }
+  -- ---- all at once
 
-  -- an honest one did something, by these turns
-  honest_turned : (before later : List (MemberView S D)) (number : Author) (world : World) → StandsAmong scheme device later number (cluster.node number.0) world
-      → ((other : Author) → other ≢ number → at later other ≡ at before other) → (are : AreAt before) → TurnsTo cluster value events number.0 are.worlds world → AreAt later
-  honest_turned before later number world stands others are to = record {
-    worlds = to.next;
-    turns = are.turns ++ to.turns;
-    reached = reached_more cluster (FairWithin cluster value events) are.turns to.turns are.worlds to.next are.reached to.leads;
-    stand = λ also honest. elim (cases_eq also.0 number.0) [
-      | inl it ↦ subst (λ (a : Author). StandsAmong scheme device later a (cluster.node a.0) (to.next a.0)) (sym (same_author also number it)) here
-      | inr differs ↦
-          subst (λ (w : World). StandsAmong scheme device later also (cluster.node also.0) w) (sym (to.others also.0 differs))
-          (among_also before later also (cluster.node also.0) (are.worlds also.0) (others also (λ it. differs (ap (λ (a : Author). a.0) it))) (are.stand also honest))
-    ];
-  }
-    where
-      here : StandsAmong scheme device later number (cluster.node number.0) (to.next number.0)
-      here = subst (λ (w : World). StandsAmong scheme device later number (cluster.node number.0) w) (sym to.own) stands
+  module _ (before later : List (MemberView S D)) (are : AreAt before) where
+    -- a member's world after it, and the moves that led there
+    pub record Next (member : ℕ) : Type 0 where
+      pub world : World
+      pub moves : List Move
+      pub is : cluster.honest member ≡ true → Leads (cluster.node member) (are.worlds member) moves world × AllCome (Came cluster value events are.worlds later) moves
+          × StandsAmong scheme device later (record { 0 = member }) (cluster.node member) world
 
-  -- and went on
-  honest_on : (before later : List (MemberView S D)) (number : Author) → cluster.honest number.0 ≡ true → (one other : MemberView S D) → at before number ≡ Some one → at later number ≡ Some other
-      → ((other : Author) → other ≢ number → at later other ≡ at before other) → (are : AreAt before)
-      → (node_of scheme one.setting ≡ cluster.node number.0 → StandsAt (node_of scheme one.setting) device (are.worlds number.0) one
-      → GoesOn (node_of scheme one.setting) are.worlds (are.worlds number.0) one other) → AreAt later
-  honest_on before later number honest one other was is others are goes =
-      let among = are.stand number honest in
-      let same : among.member ≡ one = some_is among.member one (sym among.is ∙ was) in
-      let own : node_of scheme one.setting ≡ cluster.node number.0 = ap (λ (m : MemberView S D). node_of scheme m.setting) (sym same) ∙ among.set_up in
-      let stood : StandsAt (cluster.node number.0) device (are.worlds number.0) one =
-      subst (λ (m : MemberView S D). StandsAt (cluster.node number.0) device (are.worlds number.0) m) same among.stands in
-      let stood_own : StandsAt (node_of scheme one.setting) device (are.worlds number.0) one = subst (λ (n : Node). StandsAt n device (are.worlds number.0) one) (sym own) stood in
-      went own (goes own stood_own)
-    where
-      went : node_of scheme one.setting ≡ cluster.node number.0 → GoesOn (node_of scheme one.setting) are.worlds (are.worlds number.0) one other → AreAt later
-      went own on =
-          honest_turned before later number on.to
-          (record { member = other; is = is; set_up = ap (node_of scheme) on.setting ∙ own; stands = subst (λ (n : Node). StandsAt n device on.to other) own on.stands })
-          others are
-          (turns_to cluster value events number.0 honest on.moves are.worlds on.to on.may (subst (λ (n : Node). Leads n (are.worlds number.0) on.moves on.to) own on.leads))
+    -- one that isn't honest may have any
+    next_of : ((member : ℕ) → cluster.honest member ≡ true → Next member) → (member : ℕ) → Next member
+    next_of each member = by_honest (cluster.honest member) refl
+      where
+        by_honest : (b : Bool) → cluster.honest member ≡ b → Next member
+        by_honest true honest = each member honest
+        by_honest false off = record { world = are.worlds member; moves = []; is = λ honest. absurd (true≢false (sym honest ∙ off)) }
 
-  module _ (are_members : AreMembers cluster) where
-    -- one step, of which what was taken is among the events
-    module _ (one : Step S D) (fair : IsFairStep cluster value one) (within : (event : Event) → Contains (taken_at cluster.honest one) event → Contains events event) (are : AreAt one.before) where
-      -- an honest member was asked
-      module _ (honest : cluster.honest (actor one.move).0 ≡ true) (request : Request) (asked : asked_in one.before one.move ≡ Some request) (member other : MemberView S D)
-          (own : node_of scheme member.setting ≡ cluster.node (actor one.move).0)
-          (stands : StandsAt (node_of scheme member.setting) device (are.worlds (actor one.move).0) member) where
-        -- what it took is among the events
-        is_within : may_have_taken one.answer ≡ true → (event : Event) → Contains (event_asked (Some request)) event → Contains events event
-        is_within taken event inside =
-            let both : (cluster.honest (actor one.move).0 && may_have_taken one.answer) ≡ true = λ i. honest i && taken i in
-            within event
-            (subst (λ (l : List Event). Contains l event) (sym (cond-true (cluster.honest (actor one.move).0 && may_have_taken one.answer) (event_asked (asked_in one.before one.move)) [] both))
-            (subst (λ (r : Option Request). Contains (event_asked r) event) (sym asked) inside))
+    module _ (each : (member : ℕ) → cluster.honest member ≡ true → Next member) where
+      abbrev worlds_next : Worlds
+      worlds_next member = (next_of each member).world
 
-        may : (answer : Applied) → (was_taken answer ≡ true → may_have_taken one.answer ≡ true) → (deed : Deed S D) → Does (node_of scheme member.setting) device cluster.accepts request answer deed
-            → MayLead cluster value events are.worlds deed.moves
-        may answer taken deed does =
-            does_may device scheme cluster value are.worlds one.before are.stand are.turns are_members (reached_fair cluster value events are.turns are.worlds are.reached) (node_of scheme member.setting)
-            (ap (λ (n : Node). n.charter) own ∙ (are_members (actor one.move).0 honest).charter) events answer deed request (λ so. is_within (taken so)) one.move asked does
-            (λ event handed passed so. fair event handed honest passed (taken so))
+      stand_next : (number : Author) → cluster.honest number.0 ≡ true → StandsAmong scheme device later number (cluster.node number.0) (worlds_next number.0)
+      stand_next number honest = ((next_of each number.0).is honest).2
 
-        went_on : (answer : Result Applied ClusterError) → one.answer ≡ answer → Became (node_of scheme member.setting) device cluster.accepts request member other answer
-            → GoesOn (node_of scheme member.setting) are.worlds (are.worlds (actor one.move).0) member other
-        went_on (Ok applied) so is =
-            makes_on (node_of scheme member.setting) are.worlds (Does (node_of scheme member.setting) device cluster.accepts request applied)
-            (may applied (λ taken. ap may_have_taken so ∙ taken)) (are.worlds (actor one.move).0) member other (is.ok (are.worlds (actor one.move).0) stands)
-        went_on (Err Memory) so is =
-            let some = is.memory refl (are.worlds (actor one.move).0) stands in
-            makes_some_on (node_of scheme member.setting) are.worlds (Does (node_of scheme member.setting) device cluster.accepts request some.0)
-            (may some.0 (λ taken. ap may_have_taken so)) (are.worlds (actor one.move).0) member other some.1
-        went_on (Err NoSuchNode) so is = same_on (node_of scheme member.setting) are.worlds (are.worlds (actor one.move).0) member other stands (is.same refl)
-        went_on (Err NoSuchOutput) so is = absurd (is.never refl)
-        went_on (Err (Journal cause)) so is = gone_on (node_of scheme member.setting) are.worlds (are.worlds (actor one.move).0) member other stands (is.lost tt).1.gone
+      -- what was signed stays so
+      unforged_still : (m : Message) → NoForgery cluster are.worlds m → NoForgery cluster worlds_next m
+      unforged_still m none vote there honest good =
+          let signer = vote.signer.0 in
+          let goes = (next_of each signer).is honest in
+          still_signed (are.worlds signer) (worlds_next signer) vote.digest
+          (leads_given (cluster.node signer) (are.worlds signer) (next_of each signer).moves (worlds_next signer) goes.0) (none vote there honest good)
 
-      asked_on : cluster.honest (actor one.move).0 ≡ true → (request : Request) → asked_in one.before one.move ≡ Some request
-          → IsAsked (λ member other. Became (node_of scheme member.setting) device cluster.accepts request member other one.answer) (actor one.move) one.before one.later one.answer → AreAt one.later
-      asked_on honest request asked is =
-          let among = are.stand (actor one.move) honest in
-          let other = is.there among.member among.is in
-          honest_on one.before one.later (actor one.move) honest among.member other.0 among.is other.1 is.others are
-          (λ own stands. went_on honest request asked among.member other.0 own stands one.answer refl other.2)
-
-      -- a fair move was applied
-      step_on : IsApplied scheme device cluster.accepts one.before one.move one.later one.answer → AreAt one.later
-      step_on applied = by_request (asked_in one.before one.move) refl
+      came_fair : (event : Event) → Came cluster value events are.worlds later event → ComesWithin worlds_next event
+      came_fair event came = ((came.passed, (unforged, came.coin)), came.within)
         where
-          by_request : (asked : Option Request) → asked_in one.before one.move ≡ asked → AreAt one.later
-          by_request None none = subst AreAt (sym (applied.not_asked none)) are
-          by_request (Some request) asked = elim (cases_Bool (cluster.honest (actor one.move).0)) [
-            | inl honest ↦ asked_on honest request asked (applied.asked request asked)
-            | inr off ↦ others_on one.before one.later (actor one.move) off (applied.asked request asked).others are
+          unforged : NoForgery cluster worlds_next event.message
+          unforged = elim came.unforged [
+            | inl none ↦ unforged_still event.message none
+            | inr none ↦ unforged_there device scheme cluster worlds_next later stand_next event.message none
           ]
 
+      still_fair : (event : Event) → ComesWithin are.worlds event → ComesWithin worlds_next event
+      still_fair event comes = ((comes.0.0, (unforged_still event.message comes.0.1.0, comes.0.1.1)), comes.1)
+
+      pub all_on : AreAt later
+      all_on = record {
+        worlds = worlds_next;
+        have = record {
+          moves = λ member. are.have.moves member ++ (next_of each member).moves;
+          runs = λ member honest.
+              run_more (cluster.node member) (are.have.moves member) (next_of each member).moves (are.worlds member) (worlds_next member) (are.have.runs member honest)
+              ((next_of each member).is honest).0;
+          came = λ member honest event inside. elim (Contains-append_cases (are.have.moves member) (next_of each member).moves (accept event) inside) [
+            | inl first ↦ still_fair event (are.have.came member honest event first)
+            | inr then ↦ came_fair event (((next_of each member).is honest).1 event then)
+          ];
+        };
+        stand = stand_next;
+      }
+
+    -- one that stays as it is
+    next_same : (number : Author) → cluster.honest number.0 ≡ true → at later number ≡ at before number → Next number.0
+    next_same number honest same =
+        let among = are.stand number honest in
+        record {
+          world = are.worlds number.0;
+          moves = [];
+          is = λ _. (refl, plain_come (Came cluster value events are.worlds later) [] tt, record { member = among.member; is = same ∙ among.is; set_up = among.set_up; stands = among.stands });
+        }
+
+    -- one that goes on
+    next_on : (number : Author) → cluster.honest number.0 ≡ true → (one other : MemberView S D) → at later number ≡ Some other → node_of scheme one.setting ≡ cluster.node number.0
+        → GoesOn scheme device (node_of scheme one.setting) (Came cluster value events are.worlds later) (are.worlds number.0) one other → Next number.0
+    next_on number honest one other is own goes = record {
+      world = goes.to;
+      moves = goes.moves;
+      is = λ _. (
+        subst (λ (n : Node). Leads n (are.worlds number.0) goes.moves goes.to) own goes.leads,
+        goes.come,
+        record { member = other; is = is; set_up = ap (node_of scheme) goes.setting ∙ own; stands = subst (λ (n : Node). StandsAt n device goes.to other) own goes.stands },
+      );
+    }
+
+  -- ---- a stage
+
+  module _ (are_members : AreMembers cluster) (charters : (setting : ConfigView S) → (node_of scheme setting).charter ≡ setting.charter)
+      (owns : (setting : ConfigView S) → (node_of scheme setting).own ≡ setting.own) where
+    module _ (one : Stage S D) (fair : IsFairStage cluster value one) (within : (event : Event) → Contains (taken_at cluster.honest one.before one.doing) event → Contains events event)
+        (are : AreAt one.before) where
+      abbrev CameIn : Event → Type 0
+      CameIn = Came cluster value events are.worlds one.later
+
+      -- an honest member before it
+      record Stood (number : Author) : Type 0 where
+        pub member : MemberView S D
+        pub is : at one.before number ≡ Some member
+        pub own : node_of scheme member.setting ≡ cluster.node number.0
+        pub charter : member.setting.charter ≡ cluster.charter
+        pub named : member.setting.own.0 ≡ number.0
+        pub stands : StandsAt (node_of scheme member.setting) device (are.worlds number.0) member
+
+      stood : (number : Author) → cluster.honest number.0 ≡ true → Stood number
+      stood number honest =
+          let among = are.stand number honest in
+          let member = are_members number.0 honest in
+          record {
+            member = among.member;
+            is = among.is;
+            own = among.set_up;
+            charter = sym (charters among.member.setting) ∙ ap (λ (n : Node). n.charter) among.set_up ∙ member.charter;
+            named = ap (λ (a : Author). a.0) (sym (owns among.member.setting) ∙ ap (λ (n : Node). n.own) among.set_up) ∙ member.number;
+            stands = subst (λ (n : Node). StandsAt n device (are.worlds number.0) among.member) (sym among.set_up) among.stands;
+          }
+
+      -- what came from outside
+      outside_came : (event : Event) → Contains (outside_at cluster.honest one.before one.doing) event → Contains (taken_at cluster.honest one.before one.doing) event
+          → fault_of cluster.charter cluster.accepts event ≡ None → CameIn event
+      outside_came event outside taken passed =
+          let is_fair = fair event outside passed in
+          record { passed = passed; within = within event taken; unforged = inr is_fair.0; coin = is_fair.1 }
+
+      -- ---- a move was applied
+
+      module _ (step : moves.Move) (answer : Result Applied ClusterError) (is_moved : one.doing ≡ moved step answer) (applied : IsApplied scheme device cluster.accepts one.before step one.later answer) where
+        module _ (honest : cluster.honest (actor step).0 ≡ true) (taken : may_have_taken answer ≡ true) where
+          both : (cluster.honest (actor step).0 && may_have_taken answer) ≡ true
+          both = λ i. honest i && taken i
+
+          taken_is : (event : Event) → Contains (event_asked (asked_in one.before step)) event → Contains (taken_at cluster.honest one.before one.doing) event
+          taken_is event inside =
+              subst (λ (d : Doing). Contains (taken_at cluster.honest one.before d) event) (sym is_moved)
+              (subst (λ (l : List Event). Contains l event) (sym (cond-true (cluster.honest (actor step).0 && may_have_taken answer) (event_asked (asked_in one.before step)) [] both)) inside)
+
+          outside_is : (event : Event) → handed_in cluster.honest one.before step ≡ Some event → Contains (outside_at cluster.honest one.before one.doing) event
+          outside_is event handed =
+              subst (λ (d : Doing). Contains (outside_at cluster.honest one.before d) event) (sym is_moved)
+              (subst (λ (l : List Event). Contains l event) (sym (cond-true (cluster.honest (actor step).0 && may_have_taken answer) (option_to_list (handed_in cluster.honest one.before step)) [] both))
+              (subst (λ (o : Option Event). Contains (option_to_list o) event) (sym handed) (Contains-first [] event)))
+
+          asked_came : (event : Event) → event_asked (asked_in one.before step) ≡ event ∷ [] → fault_of cluster.charter cluster.accepts event ≡ None → CameIn event
+          asked_came event asked passed = elim (source cluster one.before step event asked) [
+            | inl sent ↦
+                let is_fair = sent_fair device scheme cluster are.worlds one.before are.stand value are_members (fair_only are.worlds are.have) sent.from sent.honest sent.place event.message sent.is in
+                record { passed = passed; within = within event inside; unforged = inl is_fair.0; coin = is_fair.1 }
+            | inr handed ↦ outside_came event (outside_is event handed) inside passed
+          ]
+            where
+              inside : Contains (taken_at cluster.honest one.before one.doing) event
+              inside = taken_is event (subst (λ (l : List Event). Contains l event) (sym asked) (Contains-first [] event))
+
+        went : (request : Request) → asked_in one.before step ≡ Some request
+            → IsAsked (λ member other. Became (node_of scheme member.setting) device cluster.accepts request member other answer) (actor step) one.before one.later answer
+            → cluster.honest (actor step).0 ≡ true → Next one.before one.later are (actor step).0
+        went request asked is honest =
+            let here = stood (actor step) honest in
+            let other = is.there here.member here.is in
+            next_on one.before one.later are (actor step) honest here.member other.0 other.1 here.own
+            (went_on scheme device cluster CameIn charters request here.member other.0 here.charter (are.worlds (actor step).0) here.stands answer other.2
+            (λ event so taken passed. asked_came honest taken event (ap event_asked asked ∙ so) passed))
+
+        pub moved_on : AreAt one.later
+        moved_on = by_request (asked_in one.before step) refl
+          where
+            by_request : (asked : Option Request) → asked_in one.before step ≡ asked → AreAt one.later
+            by_request None none = subst AreAt (sym (applied.not_asked none)) are
+            by_request (Some request) asked = all_on one.before one.later are (λ member honest. elim (cases_eq member (actor step).0) [
+              | inl it ↦
+                  subst (λ (m : ℕ). Next one.before one.later are m) (sym it)
+                  (went request asked (applied.asked request asked) (ap cluster.honest (sym it) ∙ honest))
+              | inr differs ↦
+                  next_same one.before one.later are (record { 0 = member }) honest
+                  ((applied.asked request asked).others (record { 0 = member }) (λ same. differs (ap (λ (a : Author). a.0) same)))
+            ])
+
+      -- ---- the members ran in threads
+
+      ran_on : (turns : ℕ) (acts : List (List Act)) → one.doing ≡ ran turns acts → HaveRunBy scheme device cluster.accepts turns acts one.before one.later → AreAt one.later
+      ran_on turns acts is have = all_on one.before one.later are (λ member honest. each member honest)
+        where
+          each : (member : ℕ) → cluster.honest member ≡ true → Next one.before one.later are member
+          each member honest =
+              let number : Author = record { 0 = member } in
+              let here = stood number honest in
+              let there = ran_at scheme device cluster.accepts turns cluster.honest acts one.before one.later have number here.member here.is in
+              let acted : HaveActed scheme device cluster.accepts there.acts here.member there.other =
+              subst (λ (l : List Act). HaveActed scheme device cluster.accepts l here.member there.other) there.ran.1 there.ran.0.have in
+              next_on one.before one.later are number honest here.member there.other there.is here.own
+              (acts_on scheme device cluster CameIn charters there.acts here.member there.other here.charter acted
+              (λ event inside passed.
+              let taken : Contains (taken_in_threads cluster.honest one.before acts) event = there.taken (ap cluster.honest here.named ∙ honest) event inside in
+              outside_came event (subst (λ (d : Doing). Contains (outside_at cluster.honest one.before d) event) (sym is) taken)
+              (subst (λ (d : Doing). Contains (taken_at cluster.honest one.before d) event) (sym is) taken) passed)
+              (are.worlds member) here.stands)
+
+      stage_on : IsDone scheme device cluster.accepts one.before one.doing one.later → AreAt one.later
+      stage_on done = by_doing one.doing refl done
+        where
+          by_doing : (doing : Doing) → one.doing ≡ doing → IsDone scheme device cluster.accepts one.before doing one.later → AreAt one.later
+          by_doing (moved step answer) is applied = moved_on step answer is applied
+          by_doing (ran turns acts) is have = ran_on turns acts is have
+
     -- and so were these
-    pub lead_on : (steps : List (Step S D)) (first last : List (MemberView S D)) → StepsLead scheme device cluster.accepts first steps last → All (IsFairStep cluster value) steps
-        → ((event : Event) → Contains (taken_by cluster.honest steps) event → Contains events event) → AreAt first → AreAt last
+    pub lead_on : (stages : List (Stage S D)) (first last : List (MemberView S D)) → StagesLead scheme device cluster.accepts first stages last → All (IsFairStage cluster value) stages
+        → ((event : Event) → Contains (taken_in cluster.honest stages) event → Contains events event) → AreAt first → AreAt last
     lead_on [] first last same fair within are = subst AreAt same are
-    lead_on (one ∷ steps) first last lead fair within are =
-        lead_on steps one.later last lead.2 (All-tail (IsFairStep cluster value) one steps fair)
-        (λ event inside. within event (Contains-append_right (taken_at cluster.honest one) (taken_by cluster.honest steps) event inside))
-        (step_on one (All-head (IsFairStep cluster value) one steps fair)
-        (λ event inside. within event (Contains-append_left (taken_at cluster.honest one) (taken_by cluster.honest steps) event inside)) (subst AreAt (sym lead.0) are) lead.1)
+    lead_on (one ∷ stages) first last lead fair within are =
+        lead_on stages one.later last lead.2 (All-tail (IsFairStage cluster value) one stages fair)
+        (λ event inside. within event (Contains-append_right (taken_at cluster.honest one.before one.doing) (taken_in cluster.honest stages) event inside))
+        (stage_on one (All-head (IsFairStage cluster value) one stages fair)
+        (λ event inside. within event (Contains-append_left (taken_at cluster.honest one.before one.doing) (taken_in cluster.honest stages) event inside)) (subst AreAt (sym lead.0) are) lead.1)
 
   module _ (first : List (MemberView S D)) (begin : (number : Author) → cluster.honest number.0 ≡ true → BeginsAmong scheme device first cluster number) where
     -- they begin
     pub begin_at : AreAt first
     begin_at = record {
       worlds = λ number. first_world (cluster.node number);
-      turns = [];
-      reached = record {
-        first = λ number. first_world (cluster.node number);
-        begins = λ number honest.
+      have = record {
+        moves = λ number. [];
+        runs = λ number honest.
             let begins = begin (record { 0 = number }) honest in
-            let is_first : IsFirst (node_of scheme begins.member.setting) (first_world (node_of scheme begins.member.setting)) =
-            subst (IsFirst (node_of scheme begins.member.setting)) begins.runs.leads begins.runs.begins in
-            subst (λ (n : Node). IsFirst n (first_world n)) begins.set_up is_first;
-        leads = refl;
+            subst (λ (n : Node). IsRun n [] (first_world n)) begins.set_up begins.runs;
+        came = λ number honest event inside. absurd (Contains-nothing (accept event) inside);
       };
       stand = λ number honest.
           let begins = begin number honest in
@@ -314,14 +532,14 @@ module _ {S D : Type 0} (scheme : Scheme S) (device : Device D) (cluster : Clust
   sound_of are number honest = let member = are number honest in subst IsCharter member.charter member.is.charter
 
   -- what they are agreed on at their worlds
-  at_worlds_agreed : Agreement → AreMembers cluster → FewFaulty cluster → (members : List (MemberView S D)) → (are : AreAt members) → NoTwoTexts cluster are.worlds → AreAgreed cluster are.worlds
-  at_worlds_agreed agreement are_members few members are clash = record {
+  at_worlds_agreed : RunsAgree → AreMembers cluster → FewFaulty cluster → (members : List (MemberView S D)) → (are : AreAt members) → NoTwoTexts cluster are.worlds → AreAgreed cluster are.worlds
+  at_worlds_agreed agree are_members few members are clash = record {
     certificates = λ member also one other held held'. (agreed (sound_of are_members member held.honest)).certificates member also one other held held';
     orders = λ member also one other gave gave'. (agreed (sound_of are_members member gave.honest)).orders member also one other gave gave';
   }
     where
       agreed : IsCharter cluster.charter → AreAgreed cluster are.worlds
-      agreed sound = agreement cluster value are.turns are.worlds sound are_members few (reached_fair cluster value events are.turns are.worlds are.reached) clash
+      agreed sound = agree cluster value are.worlds sound are_members few (fair_only are.worlds are.have) clash
 
   -- and their longest orders
   orders_agreed : (members : List (MemberView S D)) → (are : AreAt members) → AreAgreed cluster are.worlds → HonestOrdersAgree cluster.honest members
@@ -335,45 +553,42 @@ module _ {S D : Type 0} (scheme : Scheme S) (device : Device D) (cluster : Clust
           subst (λ (m : MemberView S D). (m.out.order ≡ []) ⊎ GaveIt cluster are.worlds number.0 m.out.order) same
           (gave are.worlds number.0 honest among.member.out.order among.stands.out.order)
 
-  pub in_accord : Agreement → AreMembers cluster → FewFaulty cluster → (members : List (MemberView S D)) → AreAt members → AreInAccord scheme device members cluster value
-  in_accord agreement are_members few members are = record {
+  pub in_accord : RunsAgree → AreMembers cluster → FewFaulty cluster → (members : List (MemberView S D)) → AreAt members → AreInAccord scheme device members cluster value
+  in_accord agree are_members few members are = record {
     worlds = are.worlds;
-    turns = are.turns;
-    reached = reached_fair cluster value events are.turns are.worlds are.reached;
+    have = fair_only are.worlds are.have;
     stand = are.stand;
-    agreed = at_worlds_agreed agreement are_members few members are;
-    orders = λ clash. orders_agreed members are (at_worlds_agreed agreement are_members few members are clash);
+    agreed = at_worlds_agreed agree are_members few members are;
+    orders = λ clash. orders_agreed members are (at_worlds_agreed agree are_members few members are clash);
   }
 
   -- what they settled is among the events, so no two different texts there share a digest
-  no_clash_settled : AreMembers cluster → (worlds : Worlds) (turns : List Turn) → IsReached cluster (FairWithin cluster value events) turns worlds
+  no_clash_settled : AreMembers cluster → (worlds : Worlds) → HaveRun cluster (ComesWithin worlds) worlds
       → HaveNoClash (λ body. Contains (bodies_in events) body) → NoTwoTexts cluster worlds
-  no_clash_settled are_members worlds turns reached none = record {
+  no_clash_settled are_members worlds have none = record {
     headers = λ one other told told' same. none.headers one other (inside one told) (inside other told') same;
     certificates = λ one other told told' same. none.certificates one other (inside one told) (inside other told') same;
     both = λ one other told told' same. none.both one other (inside one told) (inside other told') same;
   }
     where
       settled : (member : ℕ) → cluster.honest member ≡ true → (event : Event) → Contains (settled_in (worlds member)) event → Contains events event
-      settled member honest event there =
-          let came = settled_came cluster (FairWithin cluster value events) are_members turns worlds reached member honest event there in
-          subst (IsWithin events) came.move came.assumed.1
+      settled member honest event there = (settled_came cluster (ComesWithin worlds) are_members worlds have member honest event there).1
 
       inside : (body : HeaderBody) → IsTold (party_of cluster worlds) body → Contains (bodies_in events) body
       inside body told = bodies_within (settled_in (worlds told.member)) events (settled told.member told.honest) body told.told
 
-  pub orders_agree_within : Agreement → AreMembers cluster → FewFaulty cluster → (members : List (MemberView S D)) → AreAt members
+  pub orders_agree_within : RunsAgree → AreMembers cluster → FewFaulty cluster → (members : List (MemberView S D)) → AreAt members
       → HaveNoClash (λ body. Contains (bodies_in events) body) → HonestOrdersAgree cluster.honest members
-  orders_agree_within agreement are_members few members are none =
-      orders_agreed members are (at_worlds_agreed agreement are_members few members are (no_clash_settled are_members are.worlds are.turns are.reached none))
+  orders_agree_within agree are_members few members are none =
+      orders_agreed members are (at_worlds_agreed agree are_members few members are (no_clash_settled are_members are.worlds are.have none))
 
 -- the law
 module _ {S D : Type 0} (scheme : Scheme S) (device : Device D) (accepts : Accepts) (members : List (MemberView S D))
     (owns : (setting : ConfigView S) → (node_of scheme setting).own ≡ setting.own) (charters : (setting : ConfigView S) → (node_of scheme setting).charter ≡ setting.charter) where
-  pub given_orders_agree : Agreement → GivenOrdersAgree scheme device accepts members
-  given_orders_agree agreement = λ cluster value first steps same begin few lead fair.
-      let events = taken_by cluster.honest steps in
+  pub given_orders_agree : RunsAgree → GivenOrdersAgree scheme device accepts members
+  given_orders_agree agree = λ cluster value first stages same begin few lead fair.
+      let events = taken_in cluster.honest stages in
       let are_members = members_begin scheme device cluster value events first begin owns charters in
-      let led = subst (λ (a : Accepts). StepsLead scheme device a first steps members) (sym same) lead in
-      let are = lead_on scheme device cluster value events are_members steps first members led fair (λ event inside. inside) (begin_at scheme device cluster value events first begin) in
-      (in_accord scheme device cluster value events agreement are_members few members are, orders_agree_within scheme device cluster value events agreement are_members few members are)
+      let led = subst (λ (a : Accepts). StagesLead scheme device a first stages members) (sym same) lead in
+      let are = lead_on scheme device cluster value events are_members charters owns stages first members led fair (λ event inside. inside) (begin_at scheme device cluster value events first begin) in
+      (in_accord scheme device cluster value events agree are_members few members are, orders_agree_within scheme device cluster value events agree are_members few members are)

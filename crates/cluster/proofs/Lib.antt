@@ -6,7 +6,7 @@ pub mod Members
 pub mod Places
 pub mod Played
 pub mod Acting
-pub mod InTurn
+pub mod Coming
 pub mod Fairness
 pub mod Following
 pub mod Applications

@@ -1,29 +1,39 @@
 -- A cluster that was opened, and the moves that were applied to it.
 use Rattle.std.proofs.Common.{◌≡◌, ◌≢◌, ℕ, true, List, [], ◌∷◌, ◌++◌, inl, inr, map, Some, None, refl, sym, ap, ◌∙◌, subst}
-use Rattle.std.specs.Prelude.{All, Contains, AllPairs}
+use Rattle.std.specs.List.{AllZip}
+use Rattle.std.specs.Prelude.{All, Contains}
 use Rattle.std.proofs.lemmas.List.Elements.{All-contains}
 use Rattle.header.specs.Checks.{Accepts}
-use Rattle.spec_cluster.specs.Agreement.{Agreement}
+use Rattle.spec_cluster.specs.Agreement.{RunsAgree}
 use Rattle.spec_cluster.specs.Cluster.{Cluster}
 use Rattle.spec_laws.proofs.Lists.{Contains-nothing, found_passes}
 use Rattle.spec_model.specs.Nodes.{Node}
 use Rattle.spec_model.specs.Words.{Author, Digest}
 use Rattle.spec_world.specs.Steps.{IsRun}
 use Rattle.validator.specs.Setting.{ConfigView, node_of}
-use Rattle.cluster.specs.Applying.{Step, StepsLead, IsAmong, BeginsAmong, first_world, ArePlayed}
-use Rattle.cluster.specs.Cluster.{named, IsApplied}
+use Rattle.cluster.specs.Applying.{Stage, ran, IsDone, StagesLead, move_in, IsAmong, BeginsAmong, first_world, ArePlayed}
+use Rattle.cluster.specs.Cluster.{named}
 use Rattle.cluster.specs.Member.{MemberView, StandsAt, IsLongest}
+use Rattle.cluster.specs.Threads.{Act, HasRun}
 use Rattle.cluster.specs.declared.moves.Move.{Move}
 use Rattle.cluster.proofs.Following.{given_orders_agree}
 use Rattle.diskmodel.specs.Disk.{Device}
 use Rattle.sigface.specs.Scheme.{Scheme}
 
 module _ {S D : Type 0} (scheme : Scheme S) (device : Device D) (accepts : Accepts) where
-  -- one more move was applied
-  pub lead_more : (steps : List (Step S D)) (first : List (MemberView S D)) (one : Step S D) → StepsLead scheme device accepts first steps one.before
-      → IsApplied scheme device accepts one.before one.move one.later one.answer → StepsLead scheme device accepts first (steps ++ one ∷ []) one.later
-  lead_more [] first one lead applied = (sym lead, applied, refl)
-  lead_more (step ∷ steps) first one lead applied = (lead.0, lead.1, lead_more steps step.later one lead.2 applied)
+  -- one more stage
+  pub lead_more : (stages : List (Stage S D)) (first : List (MemberView S D)) (one : Stage S D) → StagesLead scheme device accepts first stages one.before
+      → IsDone scheme device accepts one.before one.doing one.later → StagesLead scheme device accepts first (stages ++ one ∷ []) one.later
+  lead_more [] first one lead done = (sym lead, done, refl)
+  lead_more (stage ∷ stages) first one lead done = (lead.0, lead.1, lead_more stages stage.later one lead.2 done)
+
+  -- members that ran in threads did so by some acts
+  pub ran_by : (turns : ℕ) (before later : List (MemberView S D)) → AllZip (HasRun scheme device accepts turns) before later
+      → (acts : List (List Act)) × IsDone scheme device accepts before (ran turns acts) later
+  ran_by turns [] [] all = ([], tt)
+  ran_by turns [] (other ∷ later) all = absurd all
+  ran_by turns (one ∷ before) [] all = absurd all
+  ran_by turns (one ∷ before) (other ∷ later) all = let rest = ran_by turns before later all.1 in (all.0.acts ∷ rest.0, ((all.0, refl), rest.1))
 
   -- ---- new members
 
@@ -58,19 +68,20 @@ module _ {S D : Type 0} (scheme : Scheme S) (device : Device D) (accepts : Accep
   -- ---- played ones
 
   module _ (owns : (setting : ConfigView S) → (node_of scheme setting).own ≡ setting.own) (charters : (setting : ConfigView S) → (node_of scheme setting).charter ≡ setting.charter)
-      (agreement : Agreement) where
+      (agree : RunsAgree) where
     pub are_played : (settings : List (ConfigView S)) (first : List (MemberView S D)) → map (λ member. member.setting) first ≡ settings
         → All (λ member. IsRun (node_of scheme member.setting) [] (first_world (node_of scheme member.setting))) first → All Begins first → All (λ member. member.desk ≢ None) first
-        → (moves : List Move) (steps : List (Step S D)) → map (λ step. step.move) steps ≡ moves → (members : List (MemberView S D)) → StepsLead scheme device accepts first steps members
+        → (moves : List Move) (stages : List (Stage S D)) → map (λ stage. move_in stage.doing) stages ≡ map (λ move. Some move) moves → (members : List (MemberView S D))
+        → StagesLead scheme device accepts first stages members
         → ArePlayed scheme device accepts settings moves members
-    are_played settings first set_up runs begins up moves steps made members lead = record {
+    are_played settings first set_up runs begins up moves stages made members lead = record {
       first = first;
       set_up = set_up;
       new = are_new first begins up;
-      steps = steps;
+      stages = stages;
       made = made;
       lead = lead;
       agree = λ cluster value same among few fair none.
-          (given_orders_agree scheme device accepts members owns charters agreement cluster value first steps same
+          (given_orders_agree scheme device accepts members owns charters agree cluster value first stages same
           (λ number honest. begins_among first runs begins cluster number (among number honest)) few lead fair).1 none;
     }

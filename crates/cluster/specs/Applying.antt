@@ -1,13 +1,14 @@
--- Moves that were applied to a cluster one after the other, what is assumed of them, and what its honest members then agree on.
-use Rattle.std.specs.Prelude.{◌≡◌, ◌≢◌, ℕ, ◌&&◌, Bool, true, false, List, [], ◌∷◌, map, flat_map, Option, Some, None, All, Contains, Result, Ok, Err, option_map, if◌then◌else◌}
+-- Moves that were applied to a cluster one after the other, and threads in which its members ran, what is assumed of these, and what its honest
+-- members then agree on.
+use Rattle.std.specs.Prelude.{◌≡◌, ◌≢◌, ℕ, ◌&&◌, Bool, true, false, List, [], ◌∷◌, ◌++◌, map, flat_map, ⊤, Option, Some, None, All, Contains, Result, Ok, Err, option_map, if◌then◌else◌}
 use Rattle.std.specs.List.{list_any}
-use Rattle.std.specs.Option.{option_map_or}
+use Rattle.std.specs.Option.{option_map_or, option_to_list}
 use Rattle.header.specs.Checks.{Accepts, fault_of, is_signed}
 use Rattle.spec_accord.specs.Accord.{Agree}
 use Rattle.spec_accord.specs.Members.{HaveNoClash, Signed, bodies_in, signed_in}
 use Rattle.spec_cluster.specs.Agreement.{AreAgreed}
 use Rattle.spec_cluster.specs.Cluster as spec
-use Rattle.spec_cluster.specs.Premises.{FewFaulty, NoTwoTexts, HasCoin, Fair, signed_by_giver}
+use Rattle.spec_cluster.specs.Premises.{FewFaulty, NoTwoTexts, HasCoin, ComesFair, signed_by_giver}
 use Rattle.spec_model.specs.Nodes.{Node}
 use Rattle.spec_model.specs.Slots.{same_digest}
 use Rattle.spec_model.specs.Words.{Author, Digest, Event, Message}
@@ -18,6 +19,7 @@ use Rattle.validator.specs.Setting.{ConfigView, node_of}
 use Rattle.wire.specs.declared.message.Message.TheVariants as message
 use Rattle.cluster.specs.Cluster.{at, actor, asked_in, message_at, IsApplied}
 use Rattle.cluster.specs.Member.{MemberView, StandsAt}
+use Rattle.cluster.specs.Threads.{Act, take, round, HasRun}
 use Rattle.cluster.specs.declared.error.ClusterError.{ClusterError}
 use Rattle.cluster.specs.declared.error.ClusterError.TheVariants as errors
 use Rattle.cluster.specs.declared.moves.Applied.{Applied}
@@ -29,20 +31,40 @@ use Rattle.cluster.specs.declared.moves.Request.TheVariants.{Take}
 use Rattle.diskmodel.specs.Disk.{Device}
 use Rattle.sigface.specs.Scheme.{Scheme}
 
--- ---- moves that were applied
+-- ---- what was done with a cluster
 
--- a move that was applied: the members before it, what it was answered, and the members after it
-pub record Step (S D : Type 0) : Type 0 where
+-- a move was applied, and answered so; or the members ran in threads for so many turns, each with these acts, its last one first
+pub data Doing : Type 0 where
+  moved : Move → Result Applied ClusterError → Doing
+  ran : ℕ → List (List Act) → Doing
+
+-- that, with the members before it and after it
+pub record Stage (S D : Type 0) : Type 0 where
   pub before : List (MemberView S D)
-  pub move : Move
-  pub answer : Result Applied ClusterError
+  pub doing : Doing
   pub later : List (MemberView S D)
 
--- these moves lead from some members to others, one after the other, whatever each was answered
-abbrev pub StepsLead : {S D : Type 0} → Scheme S → Device D → Accepts → List (MemberView S D) → List (Step S D) → List (MemberView S D) → Type 0
-StepsLead scheme device accepts first [] last = first ≡ last
-StepsLead scheme device accepts first (step ∷ steps) last =
-    (step.before ≡ first) × IsApplied scheme device accepts step.before step.move step.later step.answer × StepsLead scheme device accepts step.later steps last
+-- a member ran in a thread, with these acts
+abbrev pub HasRunBy : {S D : Type 0} → Scheme S → Device D → Accepts → ℕ → List Act → MemberView S D → MemberView S D → Type 0
+HasRunBy scheme device accepts turns acts before later = (run : HasRun scheme device accepts turns before later) × (run.acts ≡ acts)
+
+-- each of these did, with the acts at its place
+abbrev pub HaveRunBy : {S D : Type 0} → Scheme S → Device D → Accepts → ℕ → List (List Act) → List (MemberView S D) → List (MemberView S D) → Type 0
+HaveRunBy scheme device accepts turns [] [] [] = ⊤
+HaveRunBy scheme device accepts turns (acts ∷ all) (one ∷ before) (other ∷ later) =
+    HasRunBy scheme device accepts turns acts one other × HaveRunBy scheme device accepts turns all before later
+HaveRunBy scheme device accepts turns all before later = ⊥
+
+-- it was done
+abbrev pub IsDone : {S D : Type 0} → Scheme S → Device D → Accepts → List (MemberView S D) → Doing → List (MemberView S D) → Type 0
+IsDone scheme device accepts before (moved move answer) later = IsApplied scheme device accepts before move later answer
+IsDone scheme device accepts before (ran turns acts) later = HaveRunBy scheme device accepts turns acts before later
+
+-- these stages lead from some members to others, one after the other
+abbrev pub StagesLead : {S D : Type 0} → Scheme S → Device D → Accepts → List (MemberView S D) → List (Stage S D) → List (MemberView S D) → Type 0
+StagesLead scheme device accepts first [] last = first ≡ last
+StagesLead scheme device accepts first (stage ∷ stages) last =
+    (stage.before ≡ first) × IsDone scheme device accepts stage.before stage.doing stage.later × StagesLead scheme device accepts stage.later stages last
 
 -- ---- what honest members took
 
@@ -62,42 +84,59 @@ may_have_taken (Ok applied) = was_taken applied
 may_have_taken (Err errors.Memory) = true
 may_have_taken other = false
 
--- the events that honest members were given by these moves, and took, or may have
-abbrev pub taken_at : {S D : Type 0} → (ℕ → Bool) → Step S D → List Event
-taken_at honest step = if honest (actor step.move).0 && may_have_taken step.answer then event_asked (asked_in step.before step.move) else []
+-- the events that it took by these acts
+abbrev pub taken_by_acts : List Act → List Event
+taken_by_acts [] = []
+taken_by_acts (take event applied ∷ acts) = (if was_taken applied then event ∷ [] else []) ++ taken_by_acts acts
+taken_by_acts (round applied ∷ acts) = taken_by_acts acts
 
-abbrev pub taken_by : {S D : Type 0} → (ℕ → Bool) → List (Step S D) → List Event
-taken_by honest steps = flat_map (λ step. taken_at honest step) steps
+-- and the honest ones of these members in threads
+abbrev pub taken_in_threads : {S D : Type 0} → (ℕ → Bool) → List (MemberView S D) → List (List Act) → List Event
+taken_in_threads honest (member ∷ members) (acts ∷ all) = (if honest member.setting.own.0 then taken_by_acts acts else []) ++ taken_in_threads honest members all
+taken_in_threads honest members all = []
 
--- ---- what is assumed of these moves
+-- the events that honest members took, or may have
+abbrev pub taken_at : {S D : Type 0} → (ℕ → Bool) → List (MemberView S D) → Doing → List Event
+taken_at honest before (moved move answer) = if honest (actor move).0 && may_have_taken answer then event_asked (asked_in before move) else []
+taken_at honest before (ran turns acts) = taken_in_threads honest before acts
+
+abbrev pub taken_in : {S D : Type 0} → (ℕ → Bool) → List (Stage S D) → List Event
+taken_in honest stages = flat_map (λ stage. taken_at honest stage.before stage.doing) stages
+
+-- ---- what is assumed
 
 -- of the texts of headers and certificates in the events that honest members took, no two different ones share a digest
-abbrev pub HaveNoClashTaken : {S D : Type 0} → (ℕ → Bool) → List (Step S D) → Type 0
-HaveNoClashTaken honest steps = HaveNoClash (λ body. Contains (bodies_in (taken_by honest steps)) body)
+abbrev pub HaveNoClashTaken : {S D : Type 0} → (ℕ → Bool) → List (Stage S D) → Type 0
+HaveNoClashTaken honest stages = HaveNoClash (λ body. Contains (bodies_in (taken_in honest stages)) body)
 
 -- the event that a move hands in from outside, if it hands one in: what an honest member put out, and is delivered, is none of these
-abbrev pub handed_in : {S D : Type 0} → spec.Cluster → List (MemberView S D) → Move → Option Event
-handed_in cluster members (Deliver from output to) =
-    if cluster.honest from.0 then None else option_map (λ message. record { sender = from; message = message }) (message_at members from output)
-handed_in cluster members (Give to sender given) = Some (record { sender = sender; message = given })
-handed_in cluster members (Coin own coin) = Some (record { sender = own; message = message.Coin coin })
-handed_in cluster members other = None
+abbrev pub handed_in : {S D : Type 0} → (ℕ → Bool) → List (MemberView S D) → Move → Option Event
+handed_in honest members (Deliver from output to) =
+    if honest from.0 then None else option_map (λ message. record { sender = from; message = message }) (message_at members from output)
+handed_in honest members (Give to sender given) = Some (record { sender = sender; message = given })
+handed_in honest members (Coin own coin) = Some (record { sender = own; message = message.Coin coin })
+handed_in honest members other = None
+
+-- those of the taken events that came from outside: of members in threads all, since nothing says who put out what is heard there
+abbrev pub outside_at : {S D : Type 0} → (ℕ → Bool) → List (MemberView S D) → Doing → List Event
+outside_at honest before (moved move answer) = if honest (actor move).0 && may_have_taken answer then option_to_list (handed_in honest before move) else []
+outside_at honest before (ran turns acts) = taken_in_threads honest before acts
 
 -- the member of a number signed this digest in one of the outputs that it put out
 abbrev pub signed_by : {S D : Type 0} → List (MemberView S D) → Author → Digest → Bool
 signed_by members number digest =
     option_map_or (λ member. list_any (λ output. option_map_or (same_digest digest) (signed_by_giver (put_out output)) false) member.out.outputs) (at members number) false
 
--- no vote of an honest member in a message is forged: of each good one, that member signed the digest in an output that it put out before
+-- no vote of an honest member in a message is forged: of each good one, that member signed the digest in an output that it put out
 abbrev pub NoneForged : {S D : Type 0} → spec.Cluster → List (MemberView S D) → Message → Type 0
 NoneForged cluster members message = (vote : Signed) → Contains (signed_in message) vote → cluster.honest vote.signer.0 ≡ true
     → is_signed cluster.charter cluster.accepts vote.signer vote.digest vote.signature ≡ true → signed_by members vote.signer vote.digest ≡ true
 
--- of what is handed in from outside to an honest member, passes the checks and is taken, no vote is forged, and a coin has its wave's one
--- value
-abbrev pub IsFairStep : {S D : Type 0} → spec.Cluster → (ℕ → ℕ) → Step S D → Type 0
-IsFairStep cluster value step = (event : Event) → handed_in cluster step.before step.move ≡ Some event → cluster.honest (actor step.move).0 ≡ true
-    → fault_of cluster.charter cluster.accepts event ≡ None → may_have_taken step.answer ≡ true → NoneForged cluster step.before event.message × HasCoin value event.message
+-- Of what honest members took from outside, and passed the checks, no vote is forged, where the outputs are those after it, and a coin has
+-- its wave's one value.
+abbrev pub IsFairStage : {S D : Type 0} → spec.Cluster → (ℕ → ℕ) → Stage S D → Type 0
+IsFairStage cluster value stage = (event : Event) → Contains (outside_at cluster.honest stage.before stage.doing) event → fault_of cluster.charter cluster.accepts event ≡ None
+    → NoneForged cluster stage.later event.message × HasCoin value event.message
 
 -- ---- where the honest members stand
 
@@ -128,24 +167,23 @@ abbrev pub HonestOrdersAgree : {S D : Type 0} → (ℕ → Bool) → List (Membe
 HonestOrdersAgree {S} {D} honest members = (number also : Author) (one other : MemberView S D) → honest number.0 ≡ true → honest also.0 ≡ true
     → at members number ≡ Some one → at members also ≡ Some other → Agree one.out.order other.out.order
 
--- The honest members stand at worlds to which fair turns led. Where no two different texts that they settled share a digest, these are
--- agreed, and so are their orders.
+-- The honest members stand at worlds to which runs of theirs led, by which nothing came in that isn't fair. Where no two different texts that
+-- they settled share a digest, these are agreed, and so are their orders.
 pub record AreInAccord {S D : Type 0} (scheme : Scheme S) (device : Device D) (members : List (MemberView S D)) (cluster : spec.Cluster) (value : ℕ → ℕ) : Type 0 where
   pub worlds : spec.Worlds
-  pub turns : List spec.Turn
-  pub reached : spec.IsReached cluster (Fair cluster value) turns worlds
+  pub have : spec.HaveRun cluster (ComesFair cluster value worlds) worlds
   pub stand : (number : Author) → cluster.honest number.0 ≡ true → StandsAmong scheme device members number (cluster.node number.0) (worlds number.0)
   pub agreed : NoTwoTexts cluster worlds → AreAgreed cluster worlds
   pub orders : NoTwoTexts cluster worlds → HonestOrdersAgree cluster.honest members
 
--- Whichever members are honest: where these began as a cluster does, the others weigh no more than is tolerated, and fair moves led to
--- these members, whatever each move was answered, the honest ones are in accord; and where no two different texts in what these took share
--- a digest, their orders agree.
+-- Whichever members are honest: where these began as a cluster does, the others weigh no more than is tolerated, and moves and threads led
+-- to these members, whatever each move was answered, by which nothing was taken that isn't fair, the honest ones are in accord; and where
+-- no two different texts in what these took share a digest, their orders agree.
 abbrev pub GivenOrdersAgree : {S D : Type 0} → Scheme S → Device D → Accepts → List (MemberView S D) → Type 0
-GivenOrdersAgree {S} {D} scheme device accepts members = (cluster : spec.Cluster) (value : ℕ → ℕ) (first : List (MemberView S D)) (steps : List (Step S D)) → cluster.accepts ≡ accepts
+GivenOrdersAgree {S} {D} scheme device accepts members = (cluster : spec.Cluster) (value : ℕ → ℕ) (first : List (MemberView S D)) (stages : List (Stage S D)) → cluster.accepts ≡ accepts
     → ((number : Author) → cluster.honest number.0 ≡ true → BeginsAmong scheme device first cluster number) → FewFaulty cluster
-    → StepsLead scheme device accepts first steps members → All (IsFairStep cluster value) steps
-    → AreInAccord scheme device members cluster value × (HaveNoClashTaken cluster.honest steps → HonestOrdersAgree cluster.honest members)
+    → StagesLead scheme device accepts first stages members → All (IsFairStage cluster value) stages
+    → AreInAccord scheme device members cluster value × (HaveNoClashTaken cluster.honest stages → HonestOrdersAgree cluster.honest members)
 
 -- ---- a cluster that was opened and moved
 
@@ -156,6 +194,11 @@ pub record IsAmong {S D : Type 0} (scheme : Scheme S) (members : List (MemberVie
   pub set_up : node_of scheme member.setting ≡ cluster.node number.0
   pub charter : member.setting.charter ≡ cluster.charter
 
+-- the move that was applied, if it was one
+abbrev pub move_in : Doing → Option Move
+move_in (moved move answer) = Some move
+move_in (ran turns acts) = None
+
 -- Moves led to these members from new ones with these settings, which are there and have given nothing out. Whichever of them are honest:
 -- where the others weigh no more than is tolerated, the moves were fair, and no two different texts in what honest ones took share a digest,
 -- the orders that these gave out agree.
@@ -163,8 +206,8 @@ pub record ArePlayed {S D : Type 0} (scheme : Scheme S) (device : Device D) (acc
   pub first : List (MemberView S D)
   pub set_up : map (λ member. member.setting) first ≡ settings
   pub new : All (λ member. (member.desk ≢ None) × (member.out.outputs ≡ []) × (member.out.order ≡ [])) first
-  pub steps : List (Step S D)
-  pub made : map (λ step. step.move) steps ≡ moves
-  pub lead : StepsLead scheme device accepts first steps members
+  pub stages : List (Stage S D)
+  pub made : map (λ stage. move_in stage.doing) stages ≡ map (λ move. Some move) moves
+  pub lead : StagesLead scheme device accepts first stages members
   pub agree : (cluster : spec.Cluster) (value : ℕ → ℕ) → cluster.accepts ≡ accepts → ((number : Author) → cluster.honest number.0 ≡ true → IsAmong scheme first cluster number)
-      → FewFaulty cluster → All (IsFairStep cluster value) steps → HaveNoClashTaken cluster.honest steps → HonestOrdersAgree cluster.honest members
+      → FewFaulty cluster → All (IsFairStage cluster value) stages → HaveNoClashTaken cluster.honest stages → HonestOrdersAgree cluster.honest members

@@ -46,16 +46,16 @@ impl<'a, S: Sign, D: StopDisk, V: Verify> Model for Cluster<'a, S, D, V> {
 }
 
 impl<'a, S: Sign, D: StopDisk + Drop, V: Verify + Drop> Cluster<'a, S, D, V> {
-    ghost use Rattle.std.specs.Prelude.{◌≡◌, ◌≢◌, ◌⊎◌, ◌↔◌, [], length, map, position, Some, None, vec_len, All, Contains, IfOk, IfErr, IfSome, IsNone, IsErrOf, option_copied, slice_get};
+    ghost use Rattle.std.specs.Prelude.{◌≡◌, ◌≢◌, ◌⊎◌, ◌↔◌, List, [], length, map, position, Some, None, vec_len, All, Contains, IfOk, IfErr, IfSome, IsNone, IsErrOf, option_copied, slice_get};
     ghost use Rattle.std.specs.List.{AllZip};
     ghost use Rattle.std.specs.Option.{option_and_then, option_map};
     ghost use Rattle.spec_world.specs.Steps.{IsRun};
     ghost use Rattle.validator.specs.Setting.{node_of};
     ghost use Rattle.cluster.specs.Answers.{Became, IsJournal, IsJournalFault, CountsMore};
-    ghost use Rattle.cluster.specs.Applying.{first_world};
+    ghost use Rattle.cluster.specs.Applying.{first_world, ran, IsDone};
     ghost use Rattle.cluster.specs.Member.{MemberView, StandsAt, IsOn, Proposes};
     ghost use Rattle.cluster.specs.Cluster.{named, at, has_member, message_at, asked_in, actor, IsAsked, IsApplied, IsThere, IsDelivery, LacksNode, LacksOutput, AreOfOne, AreDistinct};
-    ghost use Rattle.cluster.specs.Threads.{HasRun};
+    ghost use Rattle.cluster.specs.Threads.{Act, HasRun};
     ghost use Rattle.cluster.specs.declared.moves.Move.TheVariants.{Deliver};
 
     /// Opens a node for each of these settings, each on the disk at its place.
@@ -185,8 +185,10 @@ impl<'a, S: Sign, D: StopDisk + Drop, V: Verify + Drop> Cluster<'a, S, D, V> {
         V: Sync,
         requires gates { vec_len gates ≡ length self.members }
         // Each node made a round in each turn, took messages that others' outputs are, for it, and did not stop. That anything
-        // comes to it, and that its sender put it out, no clause says.
+        // comes to it, and that its sender put it out, no clause says: `orders_agree` asks of what is heard here what it asks of messages
+        // from outside.
         ensures ran { IfOk result (λ later. AllZip (HasRun S.scheme D.device (V.accepts self.entry.verifier) turns) self.entry.members later.members) }
+        ensures done { IfOk result (λ later. (acts : List (List Act)) × IsDone S.scheme D.device (V.accepts self.entry.verifier) self.entry.members (ran turns acts) later.members) }
         ensures verifier { IfOk result (λ later. later.verifier ≡ self.entry.verifier) }
         ensures errors { IfErr result (λ error. error ≡ ClusterError.Memory) }
     {

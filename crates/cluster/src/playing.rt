@@ -10,9 +10,9 @@ use std::alloc::Global;
 use validator::Config;
 
 impl<'a, S: Sign, D: StopDisk + Drop, V: Verify + Drop> Cluster<'a, S, D, V> {
-    ghost use Rattle.std.specs.Prelude.{◌≡◌, ◌⊎◌, [], length, map, vec_len, All, IfOk, IfErr, List};
+    ghost use Rattle.std.specs.Prelude.{◌≡◌, ◌⊎◌, [], length, map, vec_len, All, IfOk, IfErr, List, Some};
     ghost use Rattle.cluster.specs.Answers.{IsJournalFault};
-    ghost use Rattle.cluster.specs.Applying.{Step, StepsLead, ArePlayed};
+    ghost use Rattle.cluster.specs.Applying.{Stage, StagesLead, move_in, ArePlayed};
     ghost use Rattle.cluster.specs.Cluster.{AreOfOne, AreDistinct};
 
     /// Opens a node for each of these settings, each on the empty disk at its place, and applies the moves, one after the other, whatever
@@ -45,7 +45,7 @@ impl<'a, S: Sign, D: StopDisk + Drop, V: Verify + Drop> Cluster<'a, S, D, V> {
     // Applies these moves, one after the other, whatever each is answered.
     fn apply_all(&mut self, moves: Vec<Move>)
         ensures verifier { self.new.verifier ≡ self.old.verifier }
-        ensures applied { (steps : List (Step S D)) × (map (λ step. step.move) steps ≡ moves.items) × StepsLead S.scheme D.device (V.accepts self.old.verifier) self.old.members steps self.new.members }
+        ensures applied { (stages : List (Stage S D)) × (map (λ stage. move_in stage.doing) stages ≡ map (λ move. Some move) moves.items) × StagesLead S.scheme D.device (V.accepts self.old.verifier) self.old.members stages self.new.members }
     {
         for step in moves {
             let _ = self.apply(step);

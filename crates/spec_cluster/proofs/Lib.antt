@@ -1,4 +1,4 @@
 pub mod Running
-mod Signing
+pub mod Signing
 mod Together
 pub mod Unforged

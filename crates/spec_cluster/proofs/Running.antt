@@ -15,7 +15,7 @@ use Rattle.spec_world.proofs.Law.{run_stands}
 use Rattle.spec_world.proofs.Orders.{begins_same, begins_trans, begins_join}
 use Rattle.spec_world.proofs.Standing.{Stands, settled_accepted}
 use Rattle.spec_world.specs.Lasting.{settled_in}
-use Rattle.spec_cluster.specs.Cluster.{Cluster, Worlds, Turn, Passes, AreMembers, IsTurn, Leads, IsReached, ClustersBegin}
+use Rattle.spec_cluster.specs.Cluster.{Cluster, Worlds, Turn, Passes, AreMembers, IsTurn, Leads, IsReached, HaveRun, ClustersBegin}
 
 -- the steps of one member
 abbrev pub moves_of : ℕ → List Turn → List Move
@@ -90,21 +90,29 @@ module _ (cluster : Cluster) (Assumed : Worlds → Turn → Type 0) where
             came_at member event leads.0 turns last leads.3 inside'
       ]
 
--- where an event that a member settled came in
-module _ (cluster : Cluster) (Assumed : Worlds → Turn → Type 0) (members : AreMembers cluster) (turns : List Turn) (worlds : Worlds) (reached : IsReached cluster Assumed turns worlds) where
-  pub each_stands : (member : ℕ) → cluster.honest member ≡ true → Stands (cluster.node member) (worlds member)
-  each_stands member honest =
-      run_stands (cluster.node member) (moves_of member turns) (worlds member) (members member honest).is (each_runs cluster Assumed member turns worlds reached honest)
+-- ---- runs side by side
 
-  pub settled_came : (member : ℕ) → cluster.honest member ≡ true → (event : Event) → Contains (settled_in (worlds member)) event → CameAt cluster Assumed event worlds
+-- what holds of less is known of each event that came in
+pub have_also : (cluster : Cluster) (One Other : Event → Type 0) (worlds : Worlds) → ((event : Event) → One event → Other event) → HaveRun cluster One worlds → HaveRun cluster Other worlds
+have_also cluster One Other worlds also have = record {
+  moves = have.moves;
+  runs = have.runs;
+  came = λ member honest event inside. also event (have.came member honest event inside);
+}
+
+module _ (cluster : Cluster) (Comes : Event → Type 0) (members : AreMembers cluster) (worlds : Worlds) (have : HaveRun cluster Comes worlds) where
+  pub each_stands : (member : ℕ) → cluster.honest member ≡ true → Stands (cluster.node member) (worlds member)
+  each_stands member honest = run_stands (cluster.node member) (have.moves member) (worlds member) (members member honest).is (have.runs member honest)
+
+  -- what a member settled came in
+  pub settled_came : (member : ℕ) → cluster.honest member ≡ true → (event : Event) → Contains (settled_in (worlds member)) event → Comes event
   settled_came member honest event inside =
       let node = cluster.node member in
       let world = worlds member in
       let begins = begins_join world.began world.settled world.accepted (settled_accepted node world (each_stands member honest)) in
       let accepted : Contains (world.began ++ world.accepted) event =
       subst (λ l. Contains l event) (sym begins.parts) (Contains-append_left (settled_in world) begins.rest event inside) in
-      came_at cluster Assumed member event reached.first turns worlds reached.leads
-      (events_came_in node (moves_of member turns) world event (members member honest).is (each_runs cluster Assumed member turns worlds reached honest) accepted)
+      have.came member honest event (events_came_in node (have.moves member) world event (members member honest).is (have.runs member honest) accepted)
 
 -- ---- there are such clusters
 

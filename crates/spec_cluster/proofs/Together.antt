@@ -1,11 +1,10 @@
 -- What the honest members agree on: certificates, and the orders that they gave out.
-use Rattle.std.proofs.Common.{◌≡◌, ℕ, Bool, true, List, ◌++◌, length, Some, None, inl, inr, sym, ◌∙◌, subst, arith}
+use Rattle.std.proofs.Common.{◌≡◌, ℕ, Bool, true, List, ◌++◌, length, Some, inl, inr, sym, ◌∙◌, subst, arith}
 use Rattle.std.specs.Prelude.{Contains}
 use Rattle.std.proofs.lemmas.Bool.{cases_lt}
 use Rattle.committee.specs.Charter.{IsCharter}
-use Rattle.header.specs.Checks.{fault_of, is_signed}
 use Rattle.spec_accord.specs.Accord.{Agree}
-use Rattle.spec_accord.specs.Members.{Signed, signed_in, IsParty, HasCoins}
+use Rattle.spec_accord.specs.Members.{IsParty, HasCoins}
 use Rattle.spec_accord.proofs.Agreeing.{orders_agree}
 use Rattle.spec_accord.proofs.CoinsAgree.{coins_agree}
 use Rattle.spec_accord.proofs.OneHeader.{headers_agree}
@@ -23,10 +22,10 @@ use Rattle.spec_world.specs.Steps.{accept}
 use Rattle.spec_world.proofs.Lasting.{given_orders_are_settled}
 use Rattle.spec_world.proofs.Orders.{shorter_begins, begins_trans}
 use Rattle.spec_world.proofs.Standing.{Stands, settled_legal}
-use Rattle.spec_cluster.specs.Cluster.{Cluster, Worlds, Turn, Passes, AreMembers, IsReached}
-use Rattle.spec_cluster.specs.Premises.{party_of, FewFaulty, NoTwoTexts, has_signed, HasCoin, IsFair, Fair}
-use Rattle.spec_cluster.specs.Agreement.{HeldIt, GaveIt, AreAgreed, Agreement}
-use Rattle.spec_cluster.proofs.Running.{moves_of, each_runs, CameAt, each_stands, settled_came}
+use Rattle.spec_cluster.specs.Cluster.{Cluster, Worlds, Turn, Passes, AreMembers, IsReached, HaveRun}
+use Rattle.spec_cluster.specs.Premises.{party_of, FewFaulty, NoTwoTexts, has_signed, HasCoin, IsFair, Fair, ComesFair}
+use Rattle.spec_cluster.specs.Agreement.{HeldIt, GaveIt, AreAgreed, Agreement, RunsAgree}
+use Rattle.spec_cluster.proofs.Running.{moves_of, each_runs, came_at, each_stands, settled_came}
 use Rattle.spec_cluster.proofs.Signing.{still_signed, given_is_of}
 
 -- a slot that is filled stays so
@@ -47,28 +46,14 @@ beginnings_of : (one other first second : List Digest) → Begins one first → 
 beginnings_of one other first second begins also (inl longer) = beginnings_agree one other second (begins_trans one first second begins longer) also
 beginnings_of one other first second begins also (inr longer) = beginnings_agree one other first begins (begins_trans other second first also longer)
 
-module _ (cluster : Cluster) (value : ℕ → ℕ) (turns : List Turn) (worlds : Worlds) (sound : IsCharter cluster.charter) (members : AreMembers cluster) (few : FewFaulty cluster)
-    (reached : IsReached cluster (Fair cluster value) turns worlds) (clash : NoTwoTexts cluster worlds) where
+module _ (cluster : Cluster) (value : ℕ → ℕ) (worlds : Worlds) (sound : IsCharter cluster.charter) (members : AreMembers cluster) (few : FewFaulty cluster)
+    (have : HaveRun cluster (ComesFair cluster value worlds) worlds) (clash : NoTwoTexts cluster worlds) where
   stands : (member : ℕ) → cluster.honest member ≡ true → Stands (cluster.node member) (worlds member)
-  stands = each_stands cluster (Fair cluster value) members turns worlds reached
+  stands = each_stands cluster (ComesFair cluster value worlds) members worlds have
 
-  -- where an event that is settled came in
-  came : (member : ℕ) → cluster.honest member ≡ true → (event : Event) → Contains (settled_in (worlds member)) event → CameAt cluster (Fair cluster value) event worlds
-  came = settled_came cluster (Fair cluster value) members turns worlds reached
-
-  passed : (member : ℕ) → cluster.honest member ≡ true → (event : Event) → Contains (settled_in (worlds member)) event → fault_of cluster.charter cluster.accepts event ≡ None
-  passed member honest event inside = let at = came member honest event inside in subst (Passes cluster) at.move at.passed
-
-  fair : (member : ℕ) (honest : cluster.honest member ≡ true) (event : Event) (inside : Contains (settled_in (worlds member)) event)
-      → IsFair cluster value (came member honest event inside).before (accept event)
-  fair member honest event inside = let at = came member honest event inside in subst (IsFair cluster value at.before) at.move at.assumed
-
-  unforged : (member : ℕ) → cluster.honest member ≡ true → (event : Event) → Contains (settled_in (worlds member)) event → (vote : Signed) → Contains (signed_in event.message) vote
-      → cluster.honest vote.signer.0 ≡ true → is_signed cluster.charter cluster.accepts vote.signer vote.digest vote.signature ≡ true → has_signed (worlds vote.signer.0) vote.digest ≡ true
-  unforged member honest event inside vote there signer good =
-      let at = came member honest event inside in
-      let is_fair = fair member honest event inside in
-      still_signed (at.before vote.signer.0) (worlds vote.signer.0) vote.digest (at.given vote.signer.0) (is_fair.0 vote there signer good)
+  -- what is settled passed, and is fair
+  came : (member : ℕ) → cluster.honest member ≡ true → (event : Event) → Contains (settled_in (worlds member)) event → ComesFair cluster value worlds event
+  came = settled_came cluster (ComesFair cluster value worlds) members worlds have
 
   is_party : IsParty (party_of cluster worlds) (λ member. has_signed (worlds member))
   is_party = record {
@@ -77,8 +62,8 @@ module _ (cluster : Cluster) (value : ℕ → ℕ) (turns : List Turn) (worlds :
     charter = λ member honest. (members member honest).charter;
     number = λ member honest. (members member honest).number;
     legal = λ member honest. settled_legal (cluster.node member) (worlds member) (stands member honest);
-    passed = passed;
-    unforged = unforged;
+    passed = λ member honest event inside. (came member honest event inside).0;
+    unforged = λ member honest event inside vote there signer good. (came member honest event inside).1.0 vote there signer good;
     given = λ member honest digest is. given_is_of cluster worlds member (stands member honest) digest is;
     clash = clash;
   }
@@ -86,8 +71,8 @@ module _ (cluster : Cluster) (value : ℕ → ℕ) (turns : List Turn) (worlds :
   has_coins : HasCoins (party_of cluster worlds) value
   has_coins = record {
     each = λ member honest event inside coin is.
-        let is_fair = fair member honest event inside in
-        subst (HasCoin value) is is_fair.1;
+        let fair = came member honest event inside in
+        subst (HasCoin value) is fair.1.1;
   }
 
   -- what a member held is in its slots now
@@ -111,8 +96,7 @@ module _ (cluster : Cluster) (value : ℕ → ℕ) (turns : List Turn) (worlds :
 
   gave : (member : ℕ) (digests : List Digest) → GaveIt cluster worlds member digests → Begins digests (order (cluster.node member) (settled_in (worlds member)))
   gave member digests it =
-      given_orders_are_settled (cluster.node member) (moves_of member turns) (worlds member) it.given digests (members member it.honest).is
-      (each_runs cluster (Fair cluster value) member turns worlds reached it.honest) it.among it.is
+      given_orders_are_settled (cluster.node member) (have.moves member) (worlds member) it.given digests (members member it.honest).is (have.runs member it.honest) it.among it.is
 
   orders_of : (member also : ℕ) → cluster.honest member ≡ true → cluster.honest also ≡ true
       → Agree (order (cluster.node member) (settled_in (worlds member))) (order (cluster.node also) (settled_in (worlds also)))
@@ -133,5 +117,23 @@ module _ (cluster : Cluster) (value : ℕ → ℕ) (turns : List Turn) (worlds :
         (orders_of member also first.honest second.honest);
   }
 
+pub runs_agree : RunsAgree
+runs_agree cluster value worlds sound members few have clash = are_agreed cluster value worlds sound members few have clash
+
+-- turns make a run of each member, and what was fair before a turn is fair in the end
+reached_runs : (cluster : Cluster) (value : ℕ → ℕ) (turns : List Turn) (worlds : Worlds) → IsReached cluster (Fair cluster value) turns worlds
+    → HaveRun cluster (ComesFair cluster value worlds) worlds
+reached_runs cluster value turns worlds reached = record {
+  moves = λ member. moves_of member turns;
+  runs = λ member honest. each_runs cluster (Fair cluster value) member turns worlds reached honest;
+  came = λ member honest event inside.
+      let at = came_at cluster (Fair cluster value) member event reached.first turns worlds reached.leads inside in
+      let fair : IsFair cluster value at.before (accept event) = subst (IsFair cluster value at.before) at.move at.assumed in
+      (
+        subst (Passes cluster) at.move at.passed,
+        (λ vote there signer good. still_signed (at.before vote.signer.0) (worlds vote.signer.0) vote.digest (at.given vote.signer.0) (fair.0 vote there signer good), fair.1),
+      );
+}
+
 pub agreement : Agreement
-agreement cluster value turns worlds sound members few reached clash = are_agreed cluster value turns worlds sound members few reached clash
+agreement cluster value turns worlds sound members few reached clash = runs_agree cluster value worlds sound members few (reached_runs cluster value turns worlds reached) clash

@@ -25,17 +25,12 @@ use Rattle.wire.specs.declared.message.Message.TheVariants as message
 use Rattle.wire.specs.declared.output.Output.TheVariants as output
 use Rattle.spec_world.specs.Lasting.{settled_in}
 use Rattle.spec_world.specs.Promise.{NeverTakesBack, GoesOut}
-use Rattle.spec_world.specs.Steps.{accept}
 use Rattle.spec_world.specs.World.{put_out, Given}
 use Rattle.spec_world.proofs.Ballots.{joined_of}
-use Rattle.spec_world.proofs.Lasting.{events_came_in}
-use Rattle.spec_world.proofs.Law.{run_stands, nothing_taken_back}
-use Rattle.spec_world.proofs.Orders.{begins_join}
-use Rattle.spec_world.proofs.Standing.{settled_accepted}
-use Rattle.spec_cluster.specs.Cluster.{Cluster, Worlds, Turn, AreMembers, IsReached}
-use Rattle.spec_cluster.specs.Premises.{signed_by_giver, has_signed, NoForgery, IsFair, Fair}
-use Rattle.spec_cluster.proofs.Running.{moves_of, each_runs, came_at}
-use Rattle.spec_cluster.proofs.Signing.{still_signed}
+use Rattle.spec_world.proofs.Law.{nothing_taken_back}
+use Rattle.spec_cluster.specs.Cluster.{Cluster, Worlds, AreMembers, HaveRun}
+use Rattle.spec_cluster.specs.Premises.{signed_by_giver, has_signed, NoForgery, ComesFair}
+use Rattle.spec_cluster.proofs.Running.{settled_came}
 
 -- ---- what may be given out
 
@@ -134,25 +129,14 @@ made_of node history header certificate is =
 
 -- ---- in a cluster
 
-module _ (cluster : Cluster) (value : ℕ → ℕ) (turns : List Turn) (worlds : Worlds) (members : AreMembers cluster)
-    (reached : IsReached cluster (Fair cluster value) turns worlds) (member : ℕ) (honest : cluster.honest member ≡ true) where
+module _ (cluster : Cluster) (value : ℕ → ℕ) (worlds : Worlds) (members : AreMembers cluster) (have : HaveRun cluster (ComesFair cluster value worlds) worlds)
+    (member : ℕ) (honest : cluster.honest member ≡ true) where
   taken_back : NeverTakesBack (cluster.node member) (worlds member)
-  taken_back =
-      nothing_taken_back (cluster.node member) (moves_of member turns) (worlds member) (members member honest).is (each_runs cluster (Fair cluster value) member turns worlds reached honest)
+  taken_back = nothing_taken_back (cluster.node member) (have.moves member) (worlds member) (members member honest).is (have.runs member honest)
 
   -- no vote in what a member settled is forged
   settled_unforged : (event : Event) → Contains (settled_in (worlds member)) event → NoForgery cluster worlds event.message
-  settled_unforged event inside = λ vote there signer good.
-      let node = cluster.node member in
-      let world = worlds member in
-      let moves = moves_of member turns in
-      let sound = (members member honest).is in
-      let run = each_runs cluster (Fair cluster value) member turns worlds reached honest in
-      let begins = begins_join world.began world.settled world.accepted (settled_accepted node world (run_stands node moves world sound run)) in
-      let accepted : Contains (world.began ++ world.accepted) event = subst (λ l. Contains l event) (sym begins.parts) (Contains-append_left (settled_in world) begins.rest event inside) in
-      let at = came_at cluster (Fair cluster value) member event reached.first turns worlds reached.leads (events_came_in node moves world event sound run accepted) in
-      let fair : IsFair cluster value at.before (accept event) = subst (IsFair cluster value at.before) at.move at.assumed in
-      still_signed (at.before vote.signer.0) (worlds vote.signer.0) vote.digest (at.given vote.signer.0) (fair.0 vote there signer good)
+  settled_unforged event inside = (settled_came cluster (ComesFair cluster value worlds) members worlds have member honest event inside).1.0
 
   module _ (one : Given) (there : Contains (worlds member).given one) where
     -- and of what it was given out at

@@ -9,8 +9,8 @@ use Rattle.spec_model.specs.Words.{Certificate, Digest}
 use Rattle.spec_world.specs.Lasting.{settled_in}
 use Rattle.spec_world.specs.Promise.{order_given}
 use Rattle.spec_world.specs.World.{Given}
-use Rattle.spec_cluster.specs.Cluster.{Cluster, Worlds, Turn, AreMembers, IsReached}
-use Rattle.spec_cluster.specs.Premises.{FewFaulty, NoTwoTexts, Fair}
+use Rattle.spec_cluster.specs.Cluster.{Cluster, Worlds, Turn, AreMembers, IsReached, HaveRun}
+use Rattle.spec_cluster.specs.Premises.{FewFaulty, NoTwoTexts, Fair, ComesFair}
 
 -- a member held a certificate at what it had settled, now or before: each history that was ever settled begins what is settled now
 pub record HeldIt (cluster : Cluster) (worlds : Worlds) (member : ℕ) (certificate : Certificate) : Type 0 where
@@ -39,3 +39,9 @@ pub record AreAgreed (cluster : Cluster) (worlds : Worlds) : Type 0 where
 abbrev pub Agreement : Type 0
 Agreement = (cluster : Cluster) (value : ℕ → ℕ) (turns : List Turn) (worlds : Worlds) → IsCharter cluster.charter → AreMembers cluster → FewFaulty cluster
     → IsReached cluster (Fair cluster value) turns worlds → NoTwoTexts cluster worlds → AreAgreed cluster worlds
+
+-- The same holds of members that run side by side, whoever did what before whom: that no vote is forged is asked of each event that came in
+-- of what was signed in the end.
+abbrev pub RunsAgree : Type 0
+RunsAgree = (cluster : Cluster) (value : ℕ → ℕ) (worlds : Worlds) → IsCharter cluster.charter → AreMembers cluster → FewFaulty cluster
+    → HaveRun cluster (ComesFair cluster value worlds) worlds → NoTwoTexts cluster worlds → AreAgreed cluster worlds

@@ -1,11 +1,12 @@
 -- A cluster: the members of one committee, those of them who are honest, and the world of each of these.
-use Rattle.std.specs.Prelude.{◌≡◌, ◌≢◌, ◌<◌, ℕ, Bool, true, List, [], ◌∷◌, length, None, ⊤}
+use Rattle.std.specs.Prelude.{◌≡◌, ◌≢◌, ◌<◌, ℕ, Bool, true, List, [], ◌∷◌, length, None, Contains, ⊤}
 use Rattle.committee.specs.Charter.{Charter}
 use Rattle.header.specs.Checks.{Accepts, fault_of}
 use Rattle.spec_model.specs.Nodes.{Node, IsNode}
+use Rattle.spec_model.specs.Words.{Event}
 use Rattle.spec_world.specs.World.{World, alone_on, run_on}
 use Rattle.spec_world.specs.Runs.{AreKeys, first_bytes}
-use Rattle.spec_world.specs.Steps.{Move, accept, IsStep, IsFirst}
+use Rattle.spec_world.specs.Steps.{Move, accept, IsStep, IsRun, IsFirst}
 
 -- the committee, the verifier that all use, who is honest, and what an honest member is as a node; of the others nothing is said
 pub record Cluster : Type 0 where
@@ -61,6 +62,15 @@ pub record IsReached (cluster : Cluster) (Assumed : Worlds → Turn → Type 0) 
   pub first : Worlds
   pub begins : Begin cluster first
   pub leads : Leads cluster Assumed first turns worlds
+
+-- ---- runs side by side
+
+-- each honest member's world is one to which a run of its own led, and this holds of each event that came in by its moves. Who did what
+-- before whom is not said.
+pub record HaveRun (cluster : Cluster) (Comes : Event → Type 0) (worlds : Worlds) : Type 0 where
+  pub moves : ℕ → List Move
+  pub runs : (member : ℕ) → cluster.honest member ≡ true → IsRun (cluster.node member) (moves member) (worlds member)
+  pub came : (member : ℕ) → cluster.honest member ≡ true → (event : Event) → Contains (moves member) (accept event) → Comes event
 
 -- the members can begin, where each key has 32 bytes: on what an opening leaves of an empty disk
 abbrev pub ClustersBegin : Type 0

@@ -3,10 +3,10 @@ use Rattle.std.specs.Prelude.{◌≡◌, ◌≤◌, ℕ, Bool, not, true, false,
 use Rattle.std.specs.List.{list_any}
 use Rattle.std.specs.Option.{option_map_or}
 use Rattle.committee.specs.Charter.{weight, tolerated_of}
-use Rattle.header.specs.Checks.{is_signed, header_signed, vote_signed}
+use Rattle.header.specs.Checks.{fault_of, is_signed, header_signed, vote_signed}
 use Rattle.spec_accord.specs.Members.{Party, NoClash, Signed, signed_in}
 use Rattle.spec_model.specs.Slots.{same_digest}
-use Rattle.spec_model.specs.Words.{Digest, Message}
+use Rattle.spec_model.specs.Words.{Digest, Event, Message}
 use Rattle.wire.specs.Digests.{header_digest_of}
 use Rattle.wire.specs.declared.message.Message.TheVariants as message
 use Rattle.wire.specs.declared.output.Output.TheVariants as output
@@ -62,3 +62,7 @@ IsFair cluster value worlds _ = ⊤
 
 abbrev pub Fair : Cluster → (ℕ → ℕ) → Worlds → Turn → Type 0
 Fair cluster value worlds turn = IsFair cluster value worlds turn.move
+
+-- an event that comes in passed the checks, and is fair at these worlds
+abbrev pub ComesFair : Cluster → (ℕ → ℕ) → Worlds → Event → Type 0
+ComesFair cluster value worlds event = (fault_of cluster.charter cluster.accepts event ≡ None) × IsFair cluster value worlds (accept event)

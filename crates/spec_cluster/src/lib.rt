@@ -3,7 +3,7 @@
 #![tactic(auto)]
 
 ghost use Rattle.spec_world.specs.Promise.{NothingTakenBack};
-ghost use Rattle.spec_cluster.specs.Agreement.{Agreement};
+ghost use Rattle.spec_cluster.specs.Agreement.{Agreement, RunsAgree};
 ghost use Rattle.spec_cluster.specs.Cluster.{ClustersBegin};
 
 /// Each honest member by itself takes nothing back, whatever the others are. And in a cluster whose faulty members weigh no
@@ -11,9 +11,11 @@ ghost use Rattle.spec_cluster.specs.Cluster.{ClustersBegin};
 /// digest, where no honest member's vote is forged, and where a wave's coin has one value: whatever is given to whom, and
 /// whoever stops when, no two certificates that honest members held at what they had settled name one author and round with
 /// different headers, and of any two orders that honest members gave out, before or after any stops, one begins the other.
+/// Nor does it matter who did what before whom, as of members in threads, where what is asked of votes holds in the end.
 pub fn agreement()
     ensures alone { NothingTakenBack }
     ensures together { Agreement }
+    ensures side_by_side { RunsAgree }
 {}
 
 /// The members of a cluster can begin, where each key has 32 bytes: on what an opening leaves of an empty disk.

@@ -1,5 +1,5 @@
 use Rattle.spec_world.proofs.Law.{nothing_taken_back}
-use Rattle.spec_cluster.proofs.Together.{agreement}
+use Rattle.spec_cluster.proofs.Together.{agreement, runs_agree}
 use Rattle.spec_cluster.proofs.agreement.Goals as goal
 
 pub returns-clause-alone : goal.returns-clause-alone
@@ -7,3 +7,6 @@ returns-clause-alone c = nothing_taken_back
 
 pub returns-clause-together : goal.returns-clause-together
 returns-clause-together c = agreement
+
+pub returns-clause-side_by_side : goal.returns-clause-side_by_side
+returns-clause-side_by_side c = runs_agree

@@ -1,8 +1,8 @@
-use Rattle.std.proofs.Common.{◌≡◌, List, [], ◌∷◌, ◌++◌, map, sym, ap, ◌∙◌, subst, rules, map-id}
+use Rattle.std.proofs.Common.{◌≡◌, List, [], ◌∷◌, ◌++◌, map, Option, Some, sym, ap, ◌∙◌, subst, rules, map-id}
 use Rattle.std.proofs.lemmas.List.{map-append}
 use Rattle.std.proofs.lemmas.Iterator.Consumers.{YieldsList-end}
 use Rattle.std.proofs.lemmas.Iterator.Adapters.{YieldsList-from_vec}
-use Rattle.cluster.specs.Applying.{Step}
+use Rattle.cluster.specs.Applying.{Stage, moved, move_in}
 use Rattle.cluster.specs.Cluster.{IsApplied}
 use Rattle.cluster.specs.declared.moves.Move.{Move}
 use Rattle.cluster.proofs.Played.{lead_more}
@@ -16,12 +16,13 @@ loop-step-preserved g c =
     let later = c.apply.new.self in
     let so_far = c.loop-step.invariant in
     let step : Move = c.in-Some.step in
-    let one : Step g.row.S.Denot g.row.D.Denot = record { before = before.members; move = step; answer = c.apply.result; later = later.members } in
+    let one : Stage g.row.S.Denot g.row.D.Denot = record { before = before.members; doing = moved step c.apply.result; later = later.members } in
     record {
       verifier = c.apply.ensures.verifier ∙ so_far.verifier;
-      steps = so_far.steps ++ one ∷ [];
-      made = map-append (λ (s : Step g.row.S.Denot g.row.D.Denot). s.move) so_far.steps (one ∷ []) ∙ ap (λ (l : List Move). l ++ step ∷ []) so_far.made;
-      lead = lead_more scheme device (g.V.Verify.accepts c.args.self.now.verifier) so_far.steps c.args.self.now.members one so_far.lead
+      stages = so_far.stages ++ one ∷ [];
+      made = map-append (λ (s : Stage g.row.S.Denot g.row.D.Denot). move_in s.doing) so_far.stages (one ∷ []) ∙ ap (λ (l : List (Option Move)). l ++ Some step ∷ []) so_far.made
+          ∙ sym (map-append (λ (m : Move). Some m) c.loop-step.yielded (step ∷ []));
+      lead = lead_more scheme device (g.V.Verify.accepts c.args.self.now.verifier) so_far.stages c.args.self.now.members one so_far.lead
           (subst (λ (v : g.row.V.Denot). IsApplied scheme device (g.V.Verify.accepts v) before.members step later.members c.apply.result) so_far.verifier c.apply.ensures.applied);
     }
 
@@ -32,4 +33,4 @@ returns-clause-applied g c =
     let end = YieldsList-end (YieldsList-from_vec {s = c.into_iter-step-iterator.result} moves (search rules) (search rules)) c.loop-step.yielded
     c.loop-step.step-iterator c.loop-step.yielded_by c.next.result c.next.new.self c.in-None.is c.next.ensures.steps in
     let whole : c.loop-step.yielded ≡ moves = sym (map-id c.loop-step.yielded) ∙ end.0 in
-    (so_far.steps, so_far.made ∙ whole, so_far.lead)
+    (so_far.stages, so_far.made ∙ ap (map (λ (m : Move). Some m)) whole, so_far.lead)
