@@ -9,7 +9,7 @@ use Rattle.wire.specs.Grammar.{IsHeaderBody}
 use Rattle.wire_read.proofs.Messages.{one_body}
 use Rattle.spec_model.specs.Slots.{header_digest, certificate_digest}
 use Rattle.spec_model.specs.Words.{Digest, HeaderBody}
-use Rattle.spec_accord.specs.Members.{Party, IsTold, header_text, HasVote, IsParty}
+use Rattle.spec_accord.specs.Members.{Party, IsTold, HaveNoClash, header_text, HasVote, IsParty, HasHeaders}
 use Rattle.spec_accord.proofs.Telling.{told_within}
 
 -- what stands after one letter is one
@@ -30,50 +30,62 @@ told_fits : (party : Party) (signed : ℕ → Digest → Bool) → IsParty party
 told_fits party signed is body told =
     told_within (party.node told.member) (party.settled told.member) (is.legal told.member told.honest) body told.told
 
--- two such headers of one digest are one
-pub one_by_header : (party : Party) (signed : ℕ → Digest → Bool) → IsParty party signed → (one other : HeaderBody)
-    → IsTold party one → IsTold party other
-    → header_digest one ≡ header_digest other → one ≡ other
-one_by_header party signed is one other told also same =
-    let text = is.clash.headers one other told also (ap (λ (d : Digest). d.0) same) in
-    one_body one other (told_fits party signed is one told) (told_fits party signed is other also)
-    (behind_letter 72 _ _ text)
-
--- and so are two whose certificates have one digest
-pub one_by_certificate : (party : Party) (signed : ℕ → Digest → Bool) → IsParty party signed → (one other : HeaderBody)
-    → IsTold party one → IsTold party other
-    → certificate_digest one ≡ certificate_digest other → one ≡ other
-one_by_certificate party signed is one other told also same =
-    let text = is.clash.certificates one other told also (ap (λ (d : Digest). d.0) same) in
-    let digest = header_digest_of in
-    let round : HeaderBody → List ℕ = λ body. to_be_bytes w64 body.round in
-    let author : HeaderBody → List ℕ = λ body. to_be_bytes w16 body.author.0 in
-    let long : length (digest one) ≡ length (digest other) =
-    length-sha256 (header_text one) ∙ sym (length-sha256 (header_text other)) in
-    let parts : digest one ++ (round one ++ author one) ≡ digest other ++ (round other ++ author other) =
-    sym (append_assoc (digest one) (round one) (author one)) ∙ behind_letter 67 _ _ text
-    ∙ append_assoc (digest other) (round other) (author other) in
-    let front = same_front (digest one) (digest other) (round one ++ author one) (round other ++ author other) long parts in
-    one_by_header party signed is one other told also (ap (λ (bytes : List ℕ). record { 0 = bytes }) front)
-
 -- the letters differ
 two_letters : (one other : List ℕ) → 72 ∷ one ≡ 67 ∷ other → ⊥
 two_letters one other same =
     let letter : 72 ≡ 67 = ap (λ (text : List ℕ). get_or text 0 0) same in absurd (omega (arith, letter))
 
--- ---- votes
+-- headers that are told of, of a party's settled histories at least: they are within their limits, and no two texts of them share a digest
+pub record AreTold (party : Party) (Told : HeaderBody → Type 0) : Type 0 where
+  pub fits : (body : HeaderBody) → Told body → IsHeaderBody body
+  pub settled : (body : HeaderBody) → IsTold party body → Told body
+  pub clash : HaveNoClash Told
 
--- an honest member that signed a header's certificate in what it gave out has its vote for that header for good
-pub signed_voted : (party : Party) (signed : ℕ → Digest → Bool) → IsParty party signed → (member : ℕ)
-    → party.honest member ≡ true
-    → (body : HeaderBody) → IsTold party body → signed member (certificate_digest body) ≡ true
-    → HasVote party member body
-signed_voted party signed is member honest body told by =
-    let was = is.given member honest (certificate_digest body) by in
-    let told' : IsTold party was.body = record { member = member; honest = honest; told = was.told } in
-    elim was.is [
-      | inl own ↦ absurd (two_letters _ _ (is.clash.both was.body body told' told (ap (λ (d : Digest). d.0) (sym own))))
-      | inr vote ↦
-          let same = one_by_certificate party signed is body was.body told told' vote.0 in
-          subst (HasVote party member) (sym same) vote.1
-    ]
+-- those of the settled histories alone
+pub settled_told : (party : Party) (signed : ℕ → Digest → Bool) → IsParty party signed → AreTold party (IsTold party)
+settled_told party signed is = record { fits = told_fits party signed is; settled = λ body told. told; clash = is.clash }
+
+module _ (party : Party) (signed : ℕ → Digest → Bool) (is : IsParty party signed) (Told : HeaderBody → Type 0) (all : AreTold party Told) where
+  -- two such headers of one digest are one
+  pub one_by_header : (one other : HeaderBody) → Told one → Told other → header_digest one ≡ header_digest other → one ≡ other
+  one_by_header one other told also same =
+      let text = all.clash.headers one other told also (ap (λ (d : Digest). d.0) same) in
+      one_body one other (all.fits one told) (all.fits other also) (behind_letter 72 _ _ text)
+
+  -- and so are two whose certificates have one digest
+  pub one_by_certificate : (one other : HeaderBody) → Told one → Told other → certificate_digest one ≡ certificate_digest other → one ≡ other
+  one_by_certificate one other told also same =
+      let text = all.clash.certificates one other told also (ap (λ (d : Digest). d.0) same) in
+      let digest = header_digest_of in
+      let round : HeaderBody → List ℕ = λ body. to_be_bytes w64 body.round in
+      let author : HeaderBody → List ℕ = λ body. to_be_bytes w16 body.author.0 in
+      let long : length (digest one) ≡ length (digest other) = length-sha256 (header_text one) ∙ sym (length-sha256 (header_text other)) in
+      let parts : digest one ++ (round one ++ author one) ≡ digest other ++ (round other ++ author other) =
+      sym (append_assoc (digest one) (round one) (author one)) ∙ behind_letter 67 _ _ text
+      ∙ append_assoc (digest other) (round other) (author other) in
+      let front = same_front (digest one) (digest other) (round one ++ author one) (round other ++ author other) long parts in
+      one_by_header one other told also (ap (λ (bytes : List ℕ). record { 0 = bytes }) front)
+
+  -- ---- votes
+
+  -- an honest member that signed a header's certificate in what it gave out has its vote for that header for good
+  pub signed_voted : (member : ℕ) → party.honest member ≡ true → (body : HeaderBody) → Told body → signed member (certificate_digest body) ≡ true → HasVote party member body
+  signed_voted member honest body told by =
+      let was = is.given member honest (certificate_digest body) by in
+      let told' : Told was.body = all.settled was.body (record { member = member; honest = honest; told = was.told }) in
+      elim was.is [
+        | inl own ↦ absurd (two_letters _ _ (all.clash.both was.body body told' told (ap (λ (d : Digest). d.0) (sym own))))
+        | inr vote ↦
+            let same = one_by_certificate body was.body told told' vote.0 in
+            subst (HasVote party member) (sym same) vote.1
+      ]
+
+  -- and one that signed a header has it for good
+  pub signed_header : HasHeaders party signed → (member : ℕ) → party.honest member ≡ true → (body : HeaderBody) → Told body → signed member (header_digest body) ≡ true → HasVote party member body
+  signed_header headers member honest body told by =
+      let was = headers.given member honest (header_digest body) by in
+      let told' : Told was.body = all.settled was.body (record { member = member; honest = honest; told = was.told }) in
+      elim was.is [
+        | inl own ↦ subst (HasVote party member) (sym (one_by_header body was.body told told' own)) was.voted
+        | inr vote ↦ absurd (two_letters _ _ (all.clash.both body was.body told told' (ap (λ (d : Digest). d.0) vote)))
+      ]

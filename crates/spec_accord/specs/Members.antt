@@ -1,16 +1,16 @@
 -- What the honest members of a committee have settled, and that its certificates and orders agree; of their disks and runs
 -- nothing is said.
-use Rattle.std.specs.Prelude.{◌≡◌, ◌≤◌, ◌⊎◌, ℕ, Bool, not, true, List, [], ◌∷◌, ◌++◌, map, Some, None, Contains}
+use Rattle.std.specs.Prelude.{◌≡◌, ◌≢◌, ◌<◌, ◌≤◌, ◌⊎◌, ℕ, ◌+◌, ◌==◌, Bool, not, true, List, [], ◌∷◌, ◌++◌, map, Some, None, Contains}
 use Rattle.std.specs.Int.{w16, w64, to_be_bytes}
 use Rattle.sha2.specs.Sha256.{sha256}
-use Rattle.committee.specs.Charter.{Charter, IsCharter, weight, tolerated_of}
-use Rattle.header.specs.Checks.{Accepts, fault_of, is_signed, vote_signed}
+use Rattle.committee.specs.Charter.{Charter, IsCharter, weight, tolerated_of, quorum_of}
+use Rattle.header.specs.Checks.{Accepts, fault_of, is_signed, header_signed, vote_signed}
 use Rattle.spec_model.specs.Admitting.{IsLegal}
 use Rattle.spec_model.specs.Histories.{History, headers, received}
 use Rattle.spec_model.specs.Holdings.{voted_digest, slots, order}
 use Rattle.spec_model.specs.Nodes.{Node}
 use Rattle.spec_model.specs.Slots.{header_digest, certificate_digest}
-use Rattle.spec_model.specs.Words.{Author, Coin, Digest, Event, HeaderBody, Message, Signature}
+use Rattle.spec_model.specs.Words.{Author, Coin, Digest, Event, Header, HeaderBody, Message, Signature}
 use Rattle.wire.specs.Digests.{header_digest_of}
 use Rattle.wire.specs.Spelling.{header_body}
 use Rattle.wire.specs.declared.message.Message.TheVariants as message
@@ -133,3 +133,49 @@ abbrev pub MembersAgree : Type 0
 MembersAgree = (party : Party) (signed : ℕ → Digest → Bool) (value : ℕ → ℕ) → IsParty party signed
     → HasCoins party value → (one other : ℕ) → party.honest one ≡ true → party.honest other ≡ true
     → Agree (order (party.node one) (party.settled one)) (order (party.node other) (party.settled other))
+
+-- ---- at any moment
+
+-- a member stood at a history at some moment, settled or not: it is legal, what it has passed the checks, and no honest member's vote in it
+-- is forged
+pub record IsMoment (party : Party) (signed : ℕ → Digest → Bool) (member : ℕ) (history : History) : Type 0 where
+  pub honest : party.honest member ≡ true
+  pub legal : IsLegal (party.node member) history
+  pub passed : (event : Event) → Contains history event → fault_of party.charter party.accepts event ≡ None
+  pub unforged : (event : Event) → Contains history event → (vote : Signed) → Contains (signed_in event.message) vote
+      → party.honest vote.signer.0 ≡ true
+      → is_signed party.charter party.accepts vote.signer vote.digest vote.signature ≡ true
+      → signed vote.signer.0 vote.digest ≡ true
+
+-- of what a digest is that a member signed in what it gave out, with its vote: of a header, or of the certificate of one
+pub record WasVoted (party : Party) (member : ℕ) (digest : Digest) : Type 0 where
+  pub body : HeaderBody
+  pub told : Contains (bodies_in (party.settled member)) body
+  pub voted : HasVote party member body
+  pub is : (digest ≡ header_digest body) ⊎ (digest ≡ certificate_digest body)
+
+-- what is given of headers beside
+pub record HasHeaders (party : Party) (signed : ℕ → Digest → Bool) : Type 0 where
+  -- an honest member and those who aren't honest are less than a quorum, as where stakes are equal
+  pub others : (member : ℕ) → party.honest member ≡ true
+      → weight party.charter (λ m. m == member) + tolerated_of party.charter < quorum_of party.charter
+  -- no honest member's header is forged: of a good one in what another has settled the author has signed the digest in what it gave out
+  pub unforged : (member : ℕ) → party.honest member ≡ true → (event : Event) → Contains (party.settled member) event
+      → (header : Header) → event.message ≡ message.Header header → party.honest header.body.author.0 ≡ true
+      → header.body.author.0 ≢ member
+      → is_signed party.charter party.accepts header.body.author (header_signed header.body) header.signature ≡ true
+      → signed header.body.author.0 (header_signed header.body) ≡ true
+  -- an honest member signed nothing in what it gave out but what it voted for
+  pub given : (member : ℕ) → party.honest member ≡ true → (digest : Digest) → signed member digest ≡ true
+      → WasVoted party member digest
+
+-- a header is told of in what was settled, or at one of two moments
+abbrev pub IsToldAt : Party → History → History → HeaderBody → Type 0
+IsToldAt party history also body = IsTold party body ⊎ Contains (bodies_in history) body ⊎ Contains (bodies_in also) body
+
+-- then all certificates of one author and round that they ever held have one header, settled or not
+abbrev pub HeadersAgreeEver : Type 0
+HeadersAgreeEver = (party : Party) (signed : ℕ → Digest → Bool) → IsParty party signed → HasHeaders party signed
+    → (one other : ℕ) (history also : History) → IsMoment party signed one history → IsMoment party signed other also
+    → HaveNoClash (IsToldAt party history also)
+    → HaveOneHeader (slots (party.node one) history) (slots (party.node other) also)

@@ -6,7 +6,7 @@ mod members;
 
 ghost use Rattle.spec_accord.specs.Accord.{OrdersAgree};
 
-pub use members::{headers_agree, members_agree};
+pub use members::{headers_agree, headers_agree_ever, members_agree};
 
 /// Of two legal histories of nodes of one committee whose certificates of one author and round have one header, and whose
 /// coins agree as far as both have them, the order of one begins that of the other.

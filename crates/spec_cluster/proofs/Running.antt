@@ -105,14 +105,17 @@ module _ (cluster : Cluster) (Comes : Event → Type 0) (members : AreMembers cl
   each_stands member honest = run_stands (cluster.node member) (have.moves member) (worlds member) (members member honest).is (have.runs member honest)
 
   -- what a member settled came in
-  pub settled_came : (member : ℕ) → cluster.honest member ≡ true → (event : Event) → Contains (settled_in (worlds member)) event → Comes event
-  settled_came member honest event inside =
+  pub settled_in_moves : (member : ℕ) → cluster.honest member ≡ true → (event : Event) → Contains (settled_in (worlds member)) event → Contains (have.moves member) (accept event)
+  settled_in_moves member honest event inside =
       let node = cluster.node member in
       let world = worlds member in
       let begins = begins_join world.began world.settled world.accepted (settled_accepted node world (each_stands member honest)) in
       let accepted : Contains (world.began ++ world.accepted) event =
       subst (λ l. Contains l event) (sym begins.parts) (Contains-append_left (settled_in world) begins.rest event inside) in
-      have.came member honest event (events_came_in node (have.moves member) world event (members member honest).is (have.runs member honest) accepted)
+      events_came_in node (have.moves member) world event (members member honest).is (have.runs member honest) accepted
+
+  pub settled_came : (member : ℕ) → cluster.honest member ≡ true → (event : Event) → Contains (settled_in (worlds member)) event → Comes event
+  settled_came member honest event inside = have.came member honest event (settled_in_moves member honest event inside)
 
 -- ---- there are such clusters
 

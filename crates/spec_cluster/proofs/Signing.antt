@@ -9,7 +9,7 @@ use Rattle.std.proofs.lemmas.List.Folds.{list_any-append}
 use Rattle.std.proofs.lemmas.Option.{same_Some, none-some}
 use Rattle.std.proofs.lemmas.Slice.Eq.{bytes_eq-Decides}
 use Rattle.header.specs.Checks.{vote_signed}
-use Rattle.spec_accord.specs.Members.{bodies_in, WasSigned}
+use Rattle.spec_accord.specs.Members.{bodies_in, HasVote, WasSigned, WasVoted}
 use Rattle.spec_laws.proofs.Lists.{Contains-nothing, Contains-cases, Contains-first, Contains-later}
 use Rattle.spec_laws.proofs.Votes.{one_header}
 use Rattle.spec_model.specs.Histories.{headers, received}
@@ -117,6 +117,36 @@ module _ (cluster : Cluster) (worlds : Worlds) (member : ℕ) (at : Stands (clus
   of_outgoing given digest (put_out (output.Ack to ack)) same there is = absurd (none-some digest is)
   of_outgoing given digest (put_out (output.Order start digests)) same there is = absurd (none-some digest is)
   of_outgoing given digest (read digests) same there is = absurd (none-some digest is)
+
+  -- and it has the vote for that
+  has_vote : (ballot : Ballot) (voted : IsVotedFor (settled_in (worlds member)) ballot) → HasVote (party_of cluster worlds) member voted.header.body
+  has_vote ballot voted =
+      ap (option_map (λ (h : Header). header_digest h.body))
+      (one_header (cluster.node member) (settled_in (worlds member)) (settled_legal (cluster.node member) (worlds member) at) voted.header voted.there)
+
+  voted_of : (given : Given) (digest : Digest) (outgoing : Outgoing) → given.outgoing ≡ outgoing → Contains (worlds member).given given → signed_by_giver outgoing ≡ Some digest
+      → WasVoted (party_of cluster worlds) member digest
+  voted_of given digest (put_out (output.Header header)) same there is =
+      let ballot = ballot_for header.body in
+      let voted = voted_there given ballot there (ap vote_given same) in
+      record { body = voted.header.body; told = told ballot voted; voted = has_vote ballot voted; is = inl (sym (same_Some _ digest is) ∙ ap (λ (b : Ballot). b.header) (sym voted.is)) }
+  voted_of given digest (put_out (output.Vote vote)) same there is =
+      let ballot : Ballot = record { author = vote.author; round = vote.round; header = vote.header } in
+      let voted = voted_there given ballot there (ap vote_given same) in
+      record { body = voted.header.body; told = told ballot voted; voted = has_vote ballot voted; is = inr (sym (same_Some _ digest is) ∙ ap vote_digest (sym voted.is)) }
+  voted_of given digest (put_out (output.Certificate certificate)) same there is =
+      let ballot = ballot_for certificate.header in
+      let voted = voted_there given ballot there (ap vote_given same) in
+      record { body = voted.header.body; told = told ballot voted; voted = has_vote ballot voted; is = inr (sym (same_Some _ digest is) ∙ ap vote_digest (sym voted.is)) }
+  voted_of given digest (put_out (output.Batch batch)) same there is = absurd (none-some digest is)
+  voted_of given digest (put_out (output.Ack to ack)) same there is = absurd (none-some digest is)
+  voted_of given digest (put_out (output.Order start digests)) same there is = absurd (none-some digest is)
+  voted_of given digest (read digests) same there is = absurd (none-some digest is)
+
+  pub given_is_voted : (digest : Digest) → has_signed (worlds member) digest ≡ true → WasVoted (party_of cluster worlds) member digest
+  given_is_voted digest is =
+      let found = given_signs digest (worlds member).given is in
+      voted_of found.0 digest found.0.outgoing refl found.1 (digest_is digest (signed_by_giver found.0.outgoing) found.2)
 
   pub given_is_of : (digest : Digest) → has_signed (worlds member) digest ≡ true → WasSigned (party_of cluster worlds) member digest
   given_is_of digest is =

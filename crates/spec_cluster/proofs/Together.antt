@@ -55,7 +55,7 @@ module _ (cluster : Cluster) (value : ℕ → ℕ) (worlds : Worlds) (sound : Is
   came : (member : ℕ) → cluster.honest member ≡ true → (event : Event) → Contains (settled_in (worlds member)) event → ComesFair cluster value worlds event
   came = settled_came cluster (ComesFair cluster value worlds) members worlds have
 
-  is_party : IsParty (party_of cluster worlds) (λ member. has_signed (worlds member))
+  pub is_party : IsParty (party_of cluster worlds) (λ member. has_signed (worlds member))
   is_party = record {
     sound = sound;
     few = few;
@@ -128,8 +128,7 @@ reached_runs cluster value turns worlds reached = record {
   runs = λ member honest. each_runs cluster (Fair cluster value) member turns worlds reached honest;
   came = λ member honest event inside.
       let at = came_at cluster (Fair cluster value) member event reached.first turns worlds reached.leads inside in
-      let fair : IsFair cluster value at.before (accept event) = subst (IsFair cluster value at.before) at.move at.assumed in
-      (
+      let fair : IsFair cluster value at.before (accept event) = subst (IsFair cluster value at.before) at.move at.assumed in (
         subst (Passes cluster) at.move at.passed,
         (λ vote there signer good. still_signed (at.before vote.signer.0) (worlds vote.signer.0) vote.digest (at.given vote.signer.0) (fair.0 vote there signer good), fair.1),
       );

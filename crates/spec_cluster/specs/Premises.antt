@@ -1,19 +1,19 @@
 -- What is assumed of a cluster: who is honest, digests, signatures and coins.
-use Rattle.std.specs.Prelude.{◌≡◌, ◌≤◌, ℕ, Bool, not, true, false, Option, Some, None, Contains, ⊤}
+use Rattle.std.specs.Prelude.{◌≡◌, ◌≢◌, ◌<◌, ◌≤◌, ℕ, ◌+◌, ◌==◌, Bool, not, true, false, List, Option, Some, None, All, Contains, ⊤}
 use Rattle.std.specs.List.{list_any}
 use Rattle.std.specs.Option.{option_map_or}
-use Rattle.committee.specs.Charter.{weight, tolerated_of}
+use Rattle.committee.specs.Charter.{IsCharter, weight, tolerated_of, quorum_of}
 use Rattle.header.specs.Checks.{fault_of, is_signed, header_signed, vote_signed}
-use Rattle.spec_accord.specs.Members.{Party, NoClash, Signed, signed_in}
+use Rattle.spec_accord.specs.Members.{Party, NoClash, Signed, bodies_in, signed_in}
 use Rattle.spec_model.specs.Slots.{same_digest}
-use Rattle.spec_model.specs.Words.{Digest, Event, Message}
+use Rattle.spec_model.specs.Words.{Digest, Event, Header, HeaderBody, Message}
 use Rattle.wire.specs.Digests.{header_digest_of}
 use Rattle.wire.specs.declared.message.Message.TheVariants as message
 use Rattle.wire.specs.declared.output.Output.TheVariants as output
 use Rattle.spec_world.specs.Lasting.{settled_in}
 use Rattle.spec_world.specs.Steps.{Move, accept}
 use Rattle.spec_world.specs.World.{Outgoing, put_out, World}
-use Rattle.spec_cluster.specs.Cluster.{Cluster, Worlds, Turn}
+use Rattle.spec_cluster.specs.Cluster.{Cluster, Worlds, Turn, AreMembers}
 
 -- the honest members, each with what it has settled now
 abbrev pub party_of : Cluster → Worlds → Party
@@ -66,3 +66,27 @@ Fair cluster value worlds turn = IsFair cluster value worlds turn.move
 -- an event that comes in passed the checks, and is fair at these worlds
 abbrev pub ComesFair : Cluster → (ℕ → ℕ) → Worlds → Event → Type 0
 ComesFair cluster value worlds event = (fault_of cluster.charter cluster.accepts event ≡ None) × IsFair cluster value worlds (accept event)
+
+-- ---- of headers, where it matters what was never settled
+
+-- no header of another honest member is forged in what a member takes: of a good one, its author has signed the digest in what it gave out
+abbrev pub NoForgedHeader : Cluster → Worlds → ℕ → Event → Type 0
+NoForgedHeader cluster worlds member event = (header : Header) → event.message ≡ message.Header header → cluster.honest header.body.author.0 ≡ true → header.body.author.0 ≢ member
+    → is_signed cluster.charter cluster.accepts header.body.author (header_signed header.body) header.signature ≡ true
+    → has_signed (worlds header.body.author.0) (header_signed header.body) ≡ true
+
+-- an honest member together with those who aren't honest is less than a quorum
+abbrev pub NeedsOthers : Cluster → Type 0
+NeedsOthers cluster = (member : ℕ) → cluster.honest member ≡ true → weight cluster.charter (λ m. m == member) + tolerated_of cluster.charter < quorum_of cluster.charter
+
+-- so it is where stakes are equal
+abbrev pub EqualsNeedOthers : Type 0
+EqualsNeedOthers = (cluster : Cluster) → IsCharter cluster.charter → AreMembers cluster → All (λ stake. stake ≡ 1) cluster.charter.stakes → NeedsOthers cluster
+
+-- a header of which events tell that came in at an honest member, settled or not
+pub record IsToldEver (cluster : Cluster) (moves : ℕ → List Move) (body : HeaderBody) : Type 0 where
+  pub member : ℕ
+  pub honest : cluster.honest member ≡ true
+  pub events : List Event
+  pub came : (event : Event) → Contains events event → Contains (moves member) (accept event)
+  pub told : Contains (bodies_in events) body

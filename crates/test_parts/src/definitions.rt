@@ -34,6 +34,7 @@ pub fn laws_hold() {
     spec_laws::own_votes_pass();
     spec_accord::orders_agree();
     spec_accord::headers_agree();
+    spec_accord::headers_agree_ever();
     spec_accord::members_agree();
     spec_machine::starts_fresh();
     spec_machine::state_follows();
