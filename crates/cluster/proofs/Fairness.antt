@@ -11,12 +11,12 @@ use Rattle.header.specs.Checks.{fault_of}
 use Rattle.spec_cluster.proofs.Unforged.{vote_unforged, certificate_unforged}
 use Rattle.spec_cluster.specs.Cluster.{Cluster, Worlds, AreMembers, HaveRun}
 use Rattle.spec_cluster.specs.Premises.{signed_by_giver, has_signed, NoForgery, HasCoin, ComesFair}
-use Rattle.spec_laws.proofs.Lists.{Contains-nothing, Contains-cases, Contains-first}
+use Rattle.spec_laws.proofs.Lists.{Contains-nothing, Contains-cases}
 use Rattle.spec_model.specs.Nodes.{Node}
 use Rattle.spec_model.specs.Slots.{same_digest}
 use Rattle.spec_model.specs.Words.{Author, Digest, Event, Message, Output}
 use Rattle.spec_world.proofs.Ballots.{joined_of}
-use Rattle.spec_world.specs.Steps.{Move, accept, release}
+use Rattle.spec_world.specs.Steps.{Move, release}
 use Rattle.spec_world.specs.World.{World, Waiting, Outgoing, put_out, read, Given}
 use Rattle.wire.specs.declared.message.Message.TheVariants as message
 use Rattle.wire.specs.declared.output.Output.TheVariants as output

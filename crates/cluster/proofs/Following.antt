@@ -1,5 +1,5 @@
 -- The worlds of the honest members, after each move of a cluster and after threads.
-use Rattle.std.proofs.Common.{◌≡◌, ◌≢◌, ◌⊎◌, ℕ, Bool, true, false, cond, inl, inr, List, [], ◌∷◌, ◌++◌, Option, Some, None, refl, sym, ap, ◌∙◌, subst}
+use Rattle.std.proofs.Common.{◌≡◌, ◌⊎◌, ℕ, Bool, true, false, cond, inl, inr, List, [], ◌∷◌, ◌++◌, Option, Some, None, refl, sym, ap, ◌∙◌, subst}
 use Rattle.std.specs.Prelude.{◌<◌, ◌==◌, ◌&&◌, length, All, Contains, Result, Ok, Err}
 use Rattle.std.specs.Option.{option_to_list}
 use Rattle.std.proofs.lemmas.Bool.{cases_Bool, cases_eq, true≢false, eqb-true, cond-true}
@@ -12,7 +12,7 @@ use Rattle.spec_accord.specs.Members.{HaveNoClash, IsTold, bodies_in}
 use Rattle.spec_accord.proofs.Telling.{bodies_within}
 use Rattle.spec_cluster.specs.Agreement.{AreAgreed, RunsAgree, GaveIt}
 use Rattle.spec_cluster.specs.Cluster.{Cluster, Worlds, AreMembers, HaveRun}
-use Rattle.spec_cluster.specs.Premises.{party_of, FewFaulty, NoTwoTexts, NoForgery, HasCoin, ComesFair}
+use Rattle.spec_cluster.specs.Premises.{party_of, FewFaulty, NoTwoTexts, NoForgery, ComesFair}
 use Rattle.spec_cluster.proofs.Running.{have_also, settled_came}
 use Rattle.spec_cluster.proofs.Signing.{still_signed}
 use Rattle.spec_laws.proofs.Lists.{Contains-nothing, Contains-first}
@@ -25,7 +25,7 @@ use Rattle.spec_world.specs.World.{World}
 use Rattle.validator.specs.Setting.{ConfigView, node_of}
 use Rattle.cluster.specs.Answers.{Deed, Does, Makes, MakesSome, Became, IsGone}
 use Rattle.cluster.specs.Applying.{Doing, moved, ran, Stage, HasRunBy, HaveRunBy, IsDone, StagesLead, event_asked, was_taken, may_have_taken, taken_by_acts, taken_in_threads, taken_at, taken_in}
-use Rattle.cluster.specs.Applying.{handed_in, outside_at, NoneForged, IsFairStage, StandsAmong, first_world, BeginsAmong, HonestOrdersAgree, AreInAccord, GivenOrdersAgree}
+use Rattle.cluster.specs.Applying.{handed_in, outside_at, IsFairStage, StandsAmong, first_world, BeginsAmong, HonestOrdersAgree, AreInAccord, GivenOrdersAgree}
 use Rattle.cluster.specs.Cluster.{named, at, actor, asked_in, IsAsked, IsApplied}
 use Rattle.cluster.specs.Member.{MemberView, StandsAt, HasPutOut, IsLongest, going_out}
 use Rattle.cluster.specs.Threads.{Act, take, round, DoesAct, HaveActed}

@@ -1,7 +1,7 @@
 -- A cluster that was opened, and the moves that were applied to it.
-use Rattle.std.proofs.Common.{◌≡◌, ◌≢◌, ℕ, true, List, [], ◌∷◌, ◌++◌, inl, inr, map, Some, None, refl, sym, ap, ◌∙◌, subst}
+use Rattle.std.proofs.Common.{◌≡◌, ◌≢◌, ℕ, List, [], ◌∷◌, ◌++◌, inl, inr, map, Some, None, refl, sym}
 use Rattle.std.specs.List.{AllZip}
-use Rattle.std.specs.Prelude.{All, Contains}
+use Rattle.std.specs.Prelude.{All}
 use Rattle.std.proofs.lemmas.List.Elements.{All-contains}
 use Rattle.header.specs.Checks.{Accepts}
 use Rattle.spec_cluster.specs.Agreement.{RunsAgree}

@@ -2,17 +2,17 @@
 
 ghost use Rattle.std.specs.Prelude.{◌≡◌, ◌+◌, [], length, vec_len, All, IfOk, OnOk};
 
-use crate::telling::tell_error;
+use crate::telling::{put_shown, tell_error};
 use cluster::{Applied, Cluster, ClusterError, Move};
 use diskmodel::{Disk, Gate, MemDisk};
 use sigface::{HashSign, HashVerify};
 use sim_members::Settings;
 use std::alloc::Global;
 use std::sync::Wait;
-use std::sync::atomic::{AtomicBool, Ordering};
+use std::sync::atomic::{AtomicBool, AtomicU64, Ordering};
 use std::thread::{self, Threads};
 use test_cases::put;
-use wire::{Author, Header, Message};
+use wire::{Author, Message};
 
 // How often a gate looks for the flag that it waits for, before it opens without it.
 const LOOKS: u64 = 10_000_000;
@@ -20,10 +20,11 @@ const LOOKS: u64 = 10_000_000;
 /// Nodes in memory.
 type Nodes<'a> = Cluster<'a, HashSign, MemDisk, HashVerify>;
 
-// A gate that raises a flag in one of its passes, and in the first one waits until another flag is up.
+// A gate that raises a flag in one of its passes, and in the first one waits until another flag is up. It says how often it was passed.
 #[derive(Drop)]
 struct FlagGate<'f> {
     passes: u64,
+    count: &'f AtomicU64,
     // The pass in which the flag is raised, before anything is waited for.
     raises_in: u64,
     raises: &'f AtomicBool,
@@ -35,6 +36,7 @@ struct FlagGate<'f> {
 impl Gate for FlagGate<'_> {
     fn pass(&mut self) {
         self.passes = self.passes.saturating_add(1);
+        self.count.store(self.passes, Ordering::SeqCst);
         if self.passes == self.raises_in {
             self.raises.store(true, Ordering::SeqCst);
         }
@@ -55,6 +57,7 @@ fn is_seen(flag: &AtomicBool) -> bool {
 }
 
 fn gate<'f>(
+    count: &'f AtomicU64,
     raises_in: u64,
     raises: &'f AtomicBool,
     awaits: &'f AtomicBool,
@@ -62,6 +65,7 @@ fn gate<'f>(
 ) -> FlagGate<'f> {
     FlagGate {
         passes: 0,
+        count,
         raises_in,
         raises,
         awaits,
@@ -76,25 +80,44 @@ where
 {
     match have_met(rt, alloc, settings) {
         Ok(true) => put(answer, "both met\n"),
-        Ok(false) => put(answer, "one waited in vain\n"),
+        Ok(false) => put(
+            answer,
+            "one waited in vain, or made another number of turns\n",
+        ),
         Err(error) => tell_error(answer, error),
     }
 }
 
+// Whether each gate was passed once, raised its flag and found the other one up.
 fn have_met<R>(rt: &R, alloc: Global, settings: &Settings) -> Result<bool, ClusterError>
 where
     R: Threads + Wait + Sync,
 {
     let (one, other, missed) = (flag(false), flag(false), flag(false));
+    let (passes, others) = (AtomicU64::new(0), AtomicU64::new(0));
     let mut gates = Vec::new(alloc);
-    add(&mut gates, gate(1, &one, &other, &missed))?;
-    add(&mut gates, gate(1, &other, &one, &missed))?;
+    add(&mut gates, gate(&passes, 1, &one, &other, &missed))?;
+    add(&mut gates, gate(&others, 1, &other, &one, &missed))?;
     nodes(alloc, settings, 2)?.run_threads(rt, gates, 1)?;
-    Ok(!missed.load(Ordering::SeqCst))
+    Ok(
+        is_up(&one)
+            && is_up(&other)
+            && !is_up(&missed)
+            && count_of(&passes) == 1
+            && count_of(&others) == 1,
+    )
 }
 
-/// `circulate TURNS` gives node 0 its own header, which is not flushed, and lets four nodes run for so many turns, the others from
-/// node 0's second turn on. Tells how each of these then takes that header.
+fn is_up(flag: &AtomicBool) -> bool {
+    flag.load(Ordering::SeqCst)
+}
+
+fn count_of(count: &AtomicU64) -> u64 {
+    count.load(Ordering::SeqCst)
+}
+
+/// `circulate TURNS` gives each of four nodes its own header, which is not flushed, and lets them run for so many turns, the others from
+/// node 0's second turn on. Tells how many outputs each node then has, and how many of these the others know.
 pub fn circulate<R>(rt: &R, alloc: Global, settings: &Settings, words: &str, answer: &mut String)
 where
     R: Threads + Wait + Sync,
@@ -116,26 +139,75 @@ where
     R: Threads + Wait + Sync,
 {
     let mut nodes = nodes(alloc, settings, 4)?;
-    let Some(header) = nodes.propose(Author(0))? else {
-        return Err(ClusterError::NoSuchOutput);
-    };
-    give(&mut nodes, Author(0), header.try_clone()?)?;
+    give_own(&mut nodes, Author(0))?;
+    give_own(&mut nodes, Author(1))?;
+    give_own(&mut nodes, Author(2))?;
+    give_own(&mut nodes, Author(3))?;
     let mut nodes = run_behind(rt, alloc, nodes, turns)?;
-    for node in 1..4 {
-        let taken = give(&mut nodes, Author(node), header.try_clone()?)?;
-        tell_taken(answer, taken);
+    for node in 0..4 {
+        tell_known(&mut nodes, Author(node), answer)?;
     }
     Ok(())
 }
 
-fn tell_taken(answer: &mut String, taken: Applied) {
-    match taken {
-        Applied::Took { ticket: _, new } => put(answer, if new { "new\n" } else { "known\n" }),
-        _ => put(answer, "not taken\n"),
-    }
+// Gives a node the header that it proposes.
+fn give_own(nodes: &mut Nodes<'_>, node: Author) -> Result<(), ClusterError>
+    ensures { length nodes.new.members ≡ length nodes.old.members }
+{
+    let Some(header) = nodes.propose(node)? else {
+        return Err(ClusterError::NoSuchOutput);
+    };
+    nodes.apply(Move::Give {
+        to: node,
+        sender: node,
+        message: Message::Header(header),
+    })?;
+    Ok(())
 }
 
-// Runs four nodes, the others from node 0's second turn on.
+// How many outputs a node has, and in how many deliveries of one to another node that knows it.
+fn tell_known(
+    nodes: &mut Nodes<'_>,
+    node: Author,
+    answer: &mut String,
+) -> Result<(), ClusterError> {
+    let outputs = nodes.outputs(node).unwrap_or(0);
+    let mut known = 0_u64;
+    for output in 0..outputs {
+        known = known.saturating_add(known_to_others(nodes, node, output)?);
+    }
+    put_shown(answer, "outputs ", &outputs, "\n");
+    put_shown(answer, "known ", &known, "\n");
+    Ok(())
+}
+
+fn known_to_others(nodes: &mut Nodes<'_>, node: Author, output: u64) -> Result<u64, ClusterError> {
+    let mut known = 0_u64;
+    for to in 0..4 {
+        if to != node.0 && is_known(nodes, node, output, Author(to))? {
+            known = known.saturating_add(1);
+        }
+    }
+    Ok(known)
+}
+
+fn is_known(
+    nodes: &mut Nodes<'_>,
+    node: Author,
+    output: u64,
+    to: Author,
+) -> Result<bool, ClusterError> {
+    let applied = nodes.apply(Move::Deliver { node, output, to })?;
+    Ok(matches!(
+        applied,
+        Applied::Took {
+            ticket: _,
+            new: false
+        }
+    ))
+}
+
+// Runs four nodes, the others from node 0's second turn on. Each gate is passed in each turn.
 fn run_behind<'a, R>(
     rt: &R,
     alloc: Global,
@@ -147,15 +219,21 @@ where
     requires { length nodes.members ≡ 4 }
 {
     let (second, open, missed) = (flag(false), flag(true), flag(false));
+    let (first, next) = (AtomicU64::new(0), AtomicU64::new(0));
+    let (third, last) = (AtomicU64::new(0), AtomicU64::new(0));
     let mut gates = Vec::new(alloc);
-    add(&mut gates, gate(2, &second, &open, &missed))?;
-    add(&mut gates, gate(0, &second, &second, &missed))?;
-    add(&mut gates, gate(0, &second, &second, &missed))?;
-    add(&mut gates, gate(0, &second, &second, &missed))?;
+    add(&mut gates, gate(&first, 2, &second, &open, &missed))?;
+    add(&mut gates, gate(&next, 0, &second, &second, &missed))?;
+    add(&mut gates, gate(&third, 0, &second, &second, &missed))?;
+    add(&mut gates, gate(&last, 0, &second, &second, &missed))?;
     let nodes = nodes.run_threads(rt, gates, turns)?;
-    match missed.load(Ordering::SeqCst) {
-        true => Err(ClusterError::NoSuchNode),
-        false => Ok(nodes),
+    let all = count_of(&first) == turns
+        && count_of(&next) == turns
+        && count_of(&third) == turns
+        && count_of(&last) == turns;
+    match all && !is_up(&missed) {
+        true => Ok(nodes),
+        false => Err(ClusterError::NoSuchNode),
     }
 }
 
@@ -170,19 +248,6 @@ fn add<'f>(gates: &mut Vec<FlagGate<'f>>, gate: FlagGate<'f>) -> Result<(), Clus
         Ok(()) => Ok(()),
         Err(_) => Err(ClusterError::Memory),
     }
-}
-
-// A header is given to a node by its author.
-fn give(nodes: &mut Nodes<'_>, to: Author, header: Header) -> Result<Applied, ClusterError>
-    ensures { length nodes.new.members ≡ length nodes.old.members }
-{
-    let sender = header.body.author;
-    let message = Message::Header(header);
-    nodes.apply(Move::Give {
-        to,
-        sender,
-        message,
-    })
 }
 
 // The first so many nodes, each over an empty disk in memory.
