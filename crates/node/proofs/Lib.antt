@@ -1,1 +1,3 @@
 mod Begun
+mod Flushed
+pub mod Stages

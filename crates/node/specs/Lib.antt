@@ -1,1 +1,4 @@
 pub mod Callers
+pub mod Disks
+pub mod Rounds
+pub mod Starting

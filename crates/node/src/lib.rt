@@ -4,55 +4,57 @@
 mod caller;
 mod rounds;
 
-ghost use Rattle.std.specs.Prelude.{◌≡◌, ◌≢◌, ◌⊎◌, ◌<◌, [], false, None, IfOk, IfErr};
-ghost use Rattle.diskmodel.specs.Disk.{AtEachMoment};
-ghost use Rattle.journal.specs.Journal.{disk_of, spare_of, IsAlive, IsClosedUp};
+ghost use Rattle.std.specs.Prelude.{◌≡◌, [], false, IfOk, IfErr, IsSome};
+ghost use Rattle.journal.specs.Journal.{spare_of, IsAlive};
+ghost use Rattle.journal.specs.Pairs.{areas_in, areas_of, store_of};
 ghost use Rattle.validator.specs.Setting.{node_of};
-ghost use Rattle.opening.specs.Laws.{HoldsAt, KeepsStates, IsOpening};
-ghost use Rattle.opening.specs.Told.{told, StandsAt};
+ghost use Rattle.opening.specs.Laws.{HoldsIn, IsReadIn};
+ghost use Rattle.opening.specs.Renewing.{KeepsStatesIn, IsNewest};
+ghost use Rattle.opening.specs.Told.{told_in, StandsAt};
 ghost use Rattle.node_shared.specs.Calls.{HasNothing};
 ghost use Rattle.node_shared.specs.Home.{IsOf};
 ghost use Rattle.flusher.specs.Rounds.{journal_of, is_down, settled_in, taken_in, IsFlusherOf};
+ghost use Rattle.node.specs.Starting.{IsStartingOn};
 
 pub use caller::Caller;
 use diskmodel::Disk;
 pub use flusher::{FlushError, Flusher};
-use journal::{Failed, Journal, JournalError};
+use journal::{Failed, Journal, JournalError, Store};
 pub use node_shared::{Node, Receipt, Refusal, Seat};
-use opening::reopen;
+use opening::reopen_store;
 pub use rounds::Rounds;
 use sigface::Sign;
 use std::alloc::Global;
 use validator::{Config, Validator};
 
-/// Opens a node on a disk: the node, a seat of it, and its flusher. The node begins at the state that the disk is told as, and the
-/// seat has seen nothing since.
+/// Opens a node on one disk or on two: the node, a seat of it, and its flusher. The node begins at the state that the disks are told as,
+/// and the seat has seen nothing since.
 ///
 /// # Errors
-/// Those of `reopen`, and `Memory` where an allocation failed to the node. The disk is handed back.
+/// Those of `reopen_store`, and `Memory` where an allocation failed to the node. What was given is handed back.
 pub fn start<'a, S: Sign, D: Disk>(
     alloc: Global,
     config: &'a Config<S>,
-    disk: D,
-) -> Result<(Node<'a, S>, Seat, Flusher<D>), Failed<JournalError, D>>
+    store: Store<D>,
+) -> Result<(Node<'a, S>, Seat, Flusher<D>), Failed<JournalError, Store<D>>>
     ensures setting { IfOk result (λ started. started.0.setting ≡ config.now) }
-    ensures begins { let node = node_of S.scheme config.now in IfOk result (λ started. StandsAt node (told node (D.device.content disk)) started.0.begun) }
+    ensures begins { let node = node_of S.scheme config.now in IfOk result (λ started. StandsAt node (told_in node (areas_in D.device store)) started.0.begun) }
     ensures seat { IfOk result (λ started. IsOf started.0 started.1) }
     ensures nothing { IfOk result (λ started. HasNothing started.1) }
     ensures flusher { IfOk result (λ started. IsFlusherOf S.scheme D.device started.0 started.2) }
     ensures up { IfOk result (λ started. is_down started.2 ≡ false) }
-    ensures alone { IfOk result (λ started. spare_of (journal_of started.2) ≡ None) }
     ensures nothing_settled { IfOk result (λ started. (settled_in started.2 ≡ []) × (taken_in started.2 ≡ [])) }
-    // The disk then has a journal of the node at each state for which the bytes stood.
-    ensures kept { let node = node_of S.scheme config.now in IfOk result (λ started. KeepsStates node (D.device.content disk) (D.device.content (disk_of (journal_of started.2)))) }
+
+    // The journal is on as many disks as were given. One on two is in the second version then: in the first version it was rewritten.
+    ensures disks { IfOk result (λ started. IsReadIn (node_of S.scheme config.now) D.device store (journal_of started.2)) }
+    ensures newest { IfOk result (λ started. IsSome (spare_of (journal_of started.2)) → IsNewest (areas_of D.device (journal_of started.2))) }
+    // The disks then have a journal of the node at each state for which the areas stood.
+    ensures kept { let node = node_of S.scheme config.now in IfOk result (λ started. KeepsStatesIn node (areas_in D.device store) (areas_of D.device (journal_of started.2))) }
 
     // Its errors, and what a stop at any moment of it leaves.
-    ensures opening { IsOpening (node_of S.scheme config.now) D.device (λ started. disk_of (journal_of started.2)) disk result }
-
-    // Only a failure of the disk or of the memory leaves other bytes than there were, but for those after the closed gate.
-    ensures unchanged { IfErr result (λ failed. failed.error ≢ JournalError.Device → failed.error ≢ JournalError.Memory → (D.device.content failed.disk ≡ D.device.content disk) ⊎ IsClosedUp (D.device.content disk) (D.device.content failed.disk)) }
+    ensures opening { IsStartingOn (node_of S.scheme config.now) D.device (λ started. store_of (journal_of started.2)) store result }
 {
-    let (validator, journal) = reopen(alloc, config, disk)?;
+    let (validator, journal) = reopen_store(alloc, config, store)?;
     begin(alloc, validator, journal)
 }
 
@@ -61,26 +63,25 @@ fn begin<'a, S: Sign, D: Disk>(
     alloc: Global,
     validator: Validator<'a, S>,
     journal: Journal<D>,
-) -> Result<(Node<'a, S>, Seat, Flusher<D>), Failed<JournalError, D>>
+) -> Result<(Node<'a, S>, Seat, Flusher<D>), Failed<JournalError, Store<D>>>
     requires alive { IsAlive D.device journal }
-    requires alone { spare_of journal ≡ None }
-    requires holds { HoldsAt (node_of S.scheme validator.setting) (D.device.content (disk_of journal)) validator.tables }
+    requires holds { HoldsIn (node_of S.scheme validator.setting) (areas_of D.device journal) validator.tables }
     ensures setting { IfOk result (λ started. started.0.setting ≡ validator.entry.setting) }
     ensures begins { IfOk result (λ started. started.0.begun ≡ validator.entry.tables) }
     ensures seat { IfOk result (λ started. IsOf started.0 started.1) }
     ensures nothing { IfOk result (λ started. HasNothing started.1) }
     ensures flusher { IfOk result (λ started. IsFlusherOf S.scheme D.device started.0 started.2) }
     ensures up { IfOk result (λ started. is_down started.2 ≡ false) }
-    ensures alone { IfOk result (λ started. spare_of (journal_of started.2) ≡ None) }
     ensures nothing_settled { IfOk result (λ started. (settled_in started.2 ≡ []) × (taken_in started.2 ≡ [])) }
     ensures journal { IfOk result (λ started. journal_of started.2 ≡ journal) }
-    ensures err { IfErr result (λ failed. (failed.error ≡ JournalError.Memory) × (failed.disk ≡ disk_of journal)) }
+    ensures err { IfErr result (λ failed. (failed.error ≡ JournalError.Memory) × (failed.disk ≡ store_of journal)) }
 {
+    validator.limits_hold();
     match Node::new(alloc, validator) {
         Ok((node, seat, flush_seat)) => Ok((node, seat, Flusher::new(journal, flush_seat))),
         Err(_) => Err(Failed {
             error: JournalError::Memory,
-            disk: journal.into_disk(),
+            disk: journal.into_store(),
         }),
     }
 }

@@ -1,18 +1,20 @@
 //! What a thread flushes a node with.
 
-ghost use Rattle.std.specs.Prelude.{◌≡◌, ◌⊎◌, None, IsOk, IfOk, IsSome, IsErrOf, OnOk, OnErr};
+ghost use Rattle.std.specs.Prelude.{◌≡◌, ◌⊎◌, IsOk, IfOk, IsSome, IsErrOf, OnOk, OnErr};
 ghost use Rattle.diskmodel.specs.Disk.{AtEachMoment, TellsFault};
 ghost use Rattle.journal.specs.Journal.{disk_of, spare_of};
-ghost use Rattle.journal.specs.Pairs.{HaveChangedPlaces, HaveKeptPlaces, areas_of, areas_with, generation_in, spare_disk, rewritten_disk, untouched_disk};
+ghost use Rattle.journal.specs.Pairs.{HaveChangedPlaces, HaveKeptPlaces, areas_of, areas_with, generation_in, spare_disk, store_of, rewritten_disk, untouched_disk};
 ghost use Rattle.wire.specs.Lists.{Begins};
 ghost use Rattle.validator.specs.Setting.{node_of};
 ghost use Rattle.node_shared.specs.Calls.{IsBeside};
 ghost use Rattle.node_shared.specs.Home.{IsOf};
 ghost use Rattle.flusher.specs.Rounds.{journal_of, settled_in, taken_in, areas_at, IsFlusherOf, HoldsEither, KeepsEarlier, GoesDown, IsToldOf, TakesAndSettles, TakesAllAndSettles, TellsRoom, TellsRoomToRewrite, StaysAsIs};
+ghost use Rattle.node.specs.Rounds.{Flushes};
 
 use crate::caller::Caller;
 use diskmodel::Disk;
 use flusher::{FlushError, Flusher};
+use journal::Store;
 use node_shared::{Node, Seat};
 use sigface::Sign;
 use std::alloc::AllocError;
@@ -94,6 +96,8 @@ impl<'n, 'a, S: Sign, D: Disk> Rounds<'n, 'a, S, D> {
         ensures spare { spare_of (journal_of self.new.flusher) ≡ spare_of (journal_of self.old.flusher) }
         ensures any_moment { IsErrOf result FlushError.Down ⊎ AtEachMoment D.device (disk_of (journal_of self.old.flusher)) (disk_of (journal_of self.new.flusher)) (λ left. HoldsEither S.scheme self.old.node (settled_in self.old.flusher) (taken_in self.new.flusher) (areas_of D.device (journal_of self.old.flusher)) (areas_at D.device (journal_of self.old.flusher) left)) }
         ensures earlier { OnOk result (KeepsEarlier S.scheme self.old.node (settled_in self.old.flusher) (settled_in self.new.flusher) (areas_of D.device (journal_of self.old.flusher)) (areas_of D.device (journal_of self.new.flusher))) }
+        // The same over all disks of the journal.
+        ensures flushes { Flushes S.scheme D.device self.old.node self.old.flusher self.new.flusher result }
     {
         self.flusher.round(rt, self.node, &mut self.seat)
     }
@@ -113,6 +117,8 @@ impl<'n, 'a, S: Sign, D: Disk> Rounds<'n, 'a, S, D> {
         ensures untouched { untouched_disk result (journal_of self.new.flusher) ≡ disk_of (journal_of self.old.flusher) }
         ensures any_moment { IsErrOf result FlushError.Down ⊎ AtEachMoment D.device (spare_disk (journal_of self.old.flusher)) (rewritten_disk result (journal_of self.new.flusher)) (λ left. HoldsEither S.scheme self.old.node (settled_in self.old.flusher) (taken_in self.new.flusher) (areas_of D.device (journal_of self.old.flusher)) (areas_with D.device (journal_of self.old.flusher) left)) }
         ensures earlier { OnOk result (KeepsEarlier S.scheme self.old.node (settled_in self.old.flusher) (settled_in self.new.flusher) (areas_of D.device (journal_of self.old.flusher)) (areas_of D.device (journal_of self.new.flusher))) }
+        // The same over all disks of the journal.
+        ensures flushes { Flushes S.scheme D.device self.old.node self.old.flusher self.new.flusher result }
     {
         self.flusher.checkpoint(rt, self.node, &mut self.seat)
     }
@@ -129,16 +135,15 @@ impl<'n, 'a, S: Sign, D: Disk> Rounds<'n, 'a, S, D> {
         self.flusher.cover(rt, self.node, &mut caller.seat);
     }
 
-    /// Gives the disk back, of a journal on one.
-    pub fn into_disk(self) -> D
-        requires alone { spare_of (journal_of self.flusher) ≡ None }
-        ensures { result ≡ disk_of (journal_of self.entry.flusher) }
+    /// Gives back what the journal was opened on.
+    pub fn into_store(self) -> Store<D>
+        ensures { result ≡ store_of (journal_of self.entry.flusher) }
     {
         let Rounds {
             node: _,
             seat: _,
             flusher,
         } = self;
-        flusher.into_journal().into_disk()
+        flusher.into_journal().into_store()
     }
 }

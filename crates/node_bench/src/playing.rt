@@ -7,6 +7,7 @@ use crate::rounds::Rounds;
 use crate::storing::empty_disk;
 use crate::task::Task;
 use crate::working::put_frame;
+use journal::Store;
 use node_run::{Ending as RunEnding, Ran, run_over};
 use sigface::HashSign;
 use sim_script::member_list;
@@ -29,20 +30,20 @@ pub fn run_stream<R: Threads + Wait + Sync>(
 ) -> Result<(), Ending> {
     let stream = stream_of(task, config)?;
     let text = member_list(task.alloc, task.members)?;
-    let disk = empty_disk(task.alloc)?;
+    let store = Store::One(empty_disk(task.alloc)?);
     let (told, errors) = (Mutex::new(Fold::new()), Mutex::new(Fold::new()));
     let writer = Told { rt, fold: &told };
     let mut lines = Told { rt, fold: &errors };
     let member = (text.as_bytes(), OWN_NUMBER);
     let Ran {
         ending,
-        disk: _,
+        store: _,
         writer: _,
     } = run_over(
         rt,
         task.alloc,
         member,
-        disk,
+        store,
         stream.as_slice(),
         writer,
         &mut lines,

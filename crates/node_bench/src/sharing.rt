@@ -12,6 +12,7 @@ use crate::storing::empty_disk;
 use crate::task::{Step, Task};
 use crossbeam_channel::{Receiver, Sender, unbounded};
 use diskmodel::Disk;
+use journal::Store;
 use node::{Caller, Rounds, start};
 use sigface::{HashSign, Sign};
 use std::alloc::AllocError;
@@ -34,7 +35,8 @@ pub fn share_node<R: Threads + Wait + Sync>(
     if !task.is_work {
         return step_as_many(task, config, MEMBERS.len() as u64, fold);
     }
-    let (node, seat, flusher) = start(task.alloc, config, empty_disk(task.alloc)?)?;
+    let store = Store::One(empty_disk(task.alloc)?);
+    let (node, seat, flusher) = start(task.alloc, config, store)?;
     let mut rounds = Rounds::new(&node, seat, flusher);
     let sharers = sharers_of(task, config, &mut rounds)?;
     let released = rounds.caller(config)?;
@@ -163,7 +165,8 @@ pub fn submit_alone<R: Wait>(
     if !task.is_work {
         return step_as_many(task, config, 1, fold);
     }
-    let (node, seat, flusher) = start(task.alloc, config, empty_disk(task.alloc)?)?;
+    let store = Store::One(empty_disk(task.alloc)?);
+    let (node, seat, flusher) = start(task.alloc, config, store)?;
     let mut rounds = Rounds::new(&node, seat, flusher);
     let (member, node) = (PEER, rounds.caller(config)?);
     let released = rounds.caller(config)?;

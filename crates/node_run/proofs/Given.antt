@@ -1,17 +1,18 @@
--- What the threads of a node wrote, and the disk that they leave.
+-- What the threads of a node wrote, and the disks that they leave.
 use Rattle.std.proofs.Common.{◌≡◌, Bool, false, List, Option, Some, ℕ, sym, subst, ◌∙◌}
 use Rattle.std.proofs.lemmas.Bool.{or_parts}
 use Rattle.std.specs.Prelude.{◌||◌, All, IfSome}
 use Rattle.diskmodel.specs.Disk.{Device}
 use Rattle.flusher.specs.Rounds.{journal_of, is_down, settled_in}
-use Rattle.journal.specs.Journal.{disk_of}
+use Rattle.journal.specs.Pairs.{store_of}
+use Rattle.journal.specs.declared.store.Store.{Store}
 use Rattle.node.specs.Callers.{RoundsView}
+use Rattle.node.specs.Disks.{MayBeLeft}
 use Rattle.node_io.specs.declared.faults.Faults.{Faults}
 use Rattle.node_seats.proofs.Beginnings.{begins_trans}
 use Rattle.node_seats.specs.declared.view.View.{View}
 use Rattle.node_shared.specs.Home.{NodeView}
 use Rattle.sigface.specs.Scheme.{Scheme}
-use Rattle.spec_model.specs.Words.{Output}
 use Rattle.wire.specs.Lists.{Begins}
 use Rattle.node_run.proofs.Written.{written_weaker}
 use Rattle.node_run.specs.Runs.{AreSettled, HasFlushed}
@@ -21,18 +22,18 @@ use Rattle.node_run.specs.Writing.{HasWritten, MayGo}
 second_fine : (one other third : Bool) → ((one || other) || third) ≡ false → other ≡ false
 second_fine one other third fine = (or_parts one other (or_parts (one || other) third fine).0).1
 
--- What was written is on the disk, where the one that wrote knew no more as settled than the rounds had settled on it.
-pub is_settled : {S D : Type 0} (scheme : Scheme S) (device : Device D) (first later : RoundsView S D) (tells : Faults) (node : NodeView S) (view : View) (left : D) (one other third all : Bool)
+-- What was written is on the disks, where the one that wrote knew no more as settled than the rounds had settled on it.
+pub is_settled : {S D : Type 0} (scheme : Scheme S) (device : Device D) (first later : RoundsView S D) (tells : Faults) (node : NodeView S) (view : View) (left : Store D) (one other third all : Bool)
     (old new : Option (List ℕ)) → HasFlushed scheme device first later tells → is_down first.flusher ≡ false → node ≡ first.node
-    → left ≡ disk_of (journal_of later.flusher) → Begins view.firm (settled_in later.flusher) → all ≡ ((one || other) || third)
+    → left ≡ store_of (journal_of later.flusher) → Begins view.firm (settled_in later.flusher) → all ≡ ((one || other) || third)
     → HasWritten (All (MayGo scheme node view)) (other ≡ false) old new → HasWritten (AreSettled scheme device first.node first.flusher left) (all ≡ false) old new
-is_settled scheme device first later tells node view left one other third all old new flushed up same is_left firm is_all written =
+is_settled {S} {D} scheme device first later tells node view left one other third all old new flushed up same is_left firm is_all written =
     written_weaker (All (MayGo scheme node view)) (AreSettled scheme device first.node first.flusher left) (other ≡ false) (all ≡ false) old new
     (λ outputs each. record {
       view = view;
-      each = subst (λ (n : NodeView _). All (MayGo scheme n view) outputs) same each;
+      each = subst (λ (n : NodeView S). All (MayGo scheme n view) outputs) same each;
       on_disk = λ found may.
-          let it = flushed.at_end up found (subst (λ (d : _). device.outcome d found) is_left may) in
+          let it = flushed.at_end up found (subst (λ (d : Store D). MayBeLeft device d found) is_left may) in
           (it.0, begins_trans view.firm (settled_in later.flusher) it.0.more firm it.1);
     })
     (λ fine. second_fine one other third (sym is_all ∙ fine)) written

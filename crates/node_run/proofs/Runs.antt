@@ -1,4 +1,4 @@
--- How a node's run over a disk ends.
+-- How a node's run over its disks ends.
 use Rattle.std.proofs.Common.{◌≡◌, ◌<◌, ℕ, Bool, true, false, List, [], take, Option, Some, None, refl, sym, ap, subst, ◌∙◌, inl, inr}
 use Rattle.std.proofs.lemmas.Bool.{or_left}
 use Rattle.std.proofs.lemmas.List.{map-append}
@@ -6,16 +6,20 @@ use Rattle.std.proofs.lemmas.List.Elements.{All-weaker}
 use Rattle.std.proofs.lemmas.Option.{none-some}
 use Rattle.std.specs.Option.{option_map_or}
 use Rattle.std.specs.Prelude.{◌≢◌, ◌⊎◌, Ok, IfSome, if◌then◌else◌}
-use Rattle.diskmodel.proofs.Clock.{weaker, joins}
-use Rattle.diskmodel.specs.Disk.{AtEachMoment, Device}
+use Rattle.diskmodel.specs.Disk.{Device}
 use Rattle.admission.proofs.OneState.{one_state}
 use Rattle.book.specs.Book.{GoesOutAfter}
 use Rattle.flusher.specs.Rounds.{journal_of, settled_in, HoldsAfter}
 use Rattle.flusher.specs.declared.flusher.Flusher.{Flusher}
-use Rattle.journal.specs.Areas.{Areas, alone}
-use Rattle.journal.specs.Journal.{disk_of}
+use Rattle.journal.specs.Areas.{Areas, alone, pair}
+use Rattle.journal.specs.Pairs.{areas_in, areas_of}
+use Rattle.journal.specs.Stores.{faults_in}
 use Rattle.journal.specs.declared.error.JournalError.{JournalError}
 use Rattle.journal.specs.declared.error.JournalError.TheVariants as journal
+use Rattle.journal.specs.declared.store.Store.{Store}
+use Rattle.journal.specs.declared.store.Store.TheVariants.{One, Two}
+use Rattle.node.specs.Disks.{AtEachMomentOn}
+use Rattle.node.proofs.Stages.{on_weaker, on_joins}
 use Rattle.node_io.specs.Endings.{of_journal, ending_of, unless_journal, lacks_memory}
 use Rattle.node_io.specs.declared.ending.Ending.{Ending}
 use Rattle.node_io.specs.declared.ending.Ending.TheVariants as ends
@@ -26,8 +30,10 @@ use Rattle.node_seats.specs.declared.view.View.{View}
 use Rattle.wire.specs.Lists.{Begins}
 use Rattle.node_seats.specs.declared.view.Marked.{Marked}
 use Rattle.node_shared.specs.Home.{NodeView}
-use Rattle.opening.specs.Laws.{IsLeft, IsNoRefusal, KeepsStates}
-use Rattle.opening.specs.Told.{told, StandsAt, Tells, IsToldAsOneOf}
+use Rattle.opening.specs.Laws.{IsLeftIn, IsNoRefusalOfBoth}
+use Rattle.opening.specs.Renewing.{KeepsStatesIn}
+use Rattle.opening.specs.Stages.{IsToldAsBoth, IsToldThroughout}
+use Rattle.opening.specs.Told.{told_in, StandsAt, Tells, IsToldAsOneOf}
 use Rattle.spec_machine.specs.After.{after_all, IsLegalAfter}
 use Rattle.spec_machine.proofs.AfterAll.{after_none}
 use Rattle.spec_model.specs.Nodes.{Node}
@@ -40,7 +46,7 @@ use Rattle.node_run.specs.Ends.{TellsRounds}
 use Rattle.wire.specs.declared.keys.Key.{Key}
 use Rattle.node_run.specs.Members.{IsConfigOf, RefusesOpening}
 use Rattle.node_run.proofs.Written.{written_weaker, wrote_nothing}
-use Rattle.node_run.specs.Runs.{HoldsMore, GoesOn, GoesOutAfterPrefix, AreSettled, NoneOrOnDisk, GivesOnly, IsOfLoss, RunsOver, RunsAs, is_all_written}
+use Rattle.node_run.specs.Runs.{HoldsMore, GoesOn, GoesOutAfterPrefix, AreSettled, IsReadAsOneOf, NoneOrOnDisk, GivesOnly, IsOfLoss, RunsOver, RunsAs, is_all_written}
 use Rattle.node_run.specs.Writing.{no_memory, HasWritten, MayGo}
 use Rattle.node_run.specs.declared.ran.Ran.{Ran}
 use Rattle.sigface.specs.Scheme.{Scheme}
@@ -123,60 +129,81 @@ events_begin front whole begins = record {
   parts = ap (λ (l : List Marked). events l) begins.parts ∙ map-append (λ (one : Marked). one.event) front begins.rest;
 }
 
-abbrev IsOfRun : Node → List ℕ → JournalError → Type 0
-IsOfRun node before error = (error ≡ journal.Device) ⊎ (error ≡ journal.Full) ⊎ Tells error (told node before)
+abbrev IsOfRun : Node → Areas → JournalError → Type 0
+IsOfRun node before error = (error ≡ journal.Device) ⊎ (error ≡ journal.Full) ⊎ Tells error (told_in node before)
 
-kind_of : (node : Node) (before : List ℕ) (error : JournalError) → (error ≢ journal.Device → Tells error (told node before)) → IsOfRun node before error
-kind_of node before journal.Memory tells = inr (inr (tells (λ is. let bad : journal.Memory ≡ journal.Device = is in cc)))
+kind_of : (node : Node) (before : Areas) (error : JournalError) → (error ≢ journal.Device → error ≢ journal.Full → Tells error (told_in node before)) → IsOfRun node before error
+kind_of node before journal.Memory tells =
+    inr (inr (tells (λ is. let bad : journal.Memory ≡ journal.Device = is in cc) (λ is. let bad : journal.Memory ≡ journal.Full = is in cc)))
 kind_of node before journal.Device tells = inl refl
-kind_of node before (journal.Damaged place) tells = inr (inr (tells (λ is. let bad : journal.Damaged place ≡ journal.Device = is in cc)))
-kind_of node before journal.ConfigMismatch tells = inr (inr (tells (λ is. let bad : journal.ConfigMismatch ≡ journal.Device = is in cc)))
+kind_of node before (journal.Damaged place) tells =
+    inr (inr (tells (λ is. let bad : journal.Damaged place ≡ journal.Device = is in cc) (λ is. let bad : journal.Damaged place ≡ journal.Full = is in cc)))
+kind_of node before journal.ConfigMismatch tells =
+    inr (inr (tells (λ is. let bad : journal.ConfigMismatch ≡ journal.Device = is in cc) (λ is. let bad : journal.ConfigMismatch ≡ journal.Full = is in cc)))
 kind_of node before journal.Full tells = inr (inl refl)
 
-not_refused : (error named : JournalError) → of_journal error ≡ ends.Journal named → IsNoRefusal error → (named ≡ journal.Device) ⊎ (named ≡ journal.Full)
-not_refused error named is (inl device) = inl (sym (opening_told error named is) ∙ device)
-not_refused error named is (inr memory) = absurd (none-some named (ap fault_in (ap of_journal (sym memory) ∙ is)))
+not_refused : (error named : JournalError) → of_journal error ≡ ends.Journal named → IsNoRefusalOfBoth error → (named ≡ journal.Device) ⊎ (named ≡ journal.Full)
+not_refused error named is (inl (inl device)) = inl (sym (opening_told error named is) ∙ device)
+not_refused error named is (inl (inr memory)) = absurd (none-some named (ap fault_in (ap of_journal (sym memory) ∙ is)))
+not_refused error named is (inr full) = inr (sym (opening_told error named is) ∙ full)
 
 module _ {S D : Type 0} (scheme : Scheme S) (device : Device D) where
   -- what a stop may leave
-  abbrev May : Node → D → List ℕ → Type 0
-  May node disk bytes = IsToldAsOneOf node (device.outcome disk) bytes ⊎ GoesOn node (device.content disk) bytes
+  abbrev May : Node → Store D → Areas → Type 0
+  May node store areas = IsReadAsOneOf node device store areas ⊎ GoesOn node (areas_in device store) areas
 
-  from_opening : (node : Node) (disk later : D) → AtEachMoment device disk later (IsToldAsOneOf node (device.outcome disk)) → AtEachMoment device disk later (May node disk)
-  from_opening node disk later leaves = weaker device disk later (May node disk) (IsToldAsOneOf node (device.outcome disk)) leaves (λ bytes it. inl it)
+  -- what an opening leaves is read as one outcome from before it
+  abbrev IsOpened : Node → Store D → Areas → Type 0
+  IsOpened node (One disk) (alone left) = IsToldAsOneOf node (device.outcome disk) left
+  IsOpened node (Two first second) (pair one other) = IsToldAsBoth node device (first, second) one other
+  IsOpened node store areas = ⊥
 
-  some_left : (later : D) (ending : Ending) → Some later ≡ None → ending ≡ ends.Memory
+  opened_on : (node : Node) (store later : Store D) → IsToldThroughout node device store later → AtEachMomentOn device (IsOpened node store) store later
+  opened_on node (One disk) (One now) leaves = leaves
+  opened_on node (Two first second) (Two now also) leaves = leaves
+  opened_on node (One disk) (Two now also) leaves = absurd leaves
+  opened_on node (Two first second) (One now) leaves = absurd leaves
+
+  read_as_one : (node : Node) (store : Store D) (areas : Areas) → IsOpened node store areas → IsReadAsOneOf node device store areas
+  read_as_one node (One disk) (alone left) it = record { was = alone it.0; might = it.1; same = it.2 }
+  read_as_one node (Two first second) (pair one other) it = record { was = pair it.0 it.1; might = (it.2, it.3); same = it.4 }
+  read_as_one node (One disk) (pair one other) it = absurd it
+  read_as_one node (Two first second) (alone left) it = absurd it
+
+  from_opening : (node : Node) (store later : Store D) → IsToldThroughout node device store later → AtEachMomentOn device (May node store) store later
+  from_opening node store later leaves =
+      on_weaker device (May node store) (IsOpened node store) store later (opened_on node store later leaves) (λ areas it. inl (read_as_one node store areas it))
+
+  some_left : (later : Store D) (ending : Ending) → Some later ≡ None → ending ≡ ends.Memory
   some_left later ending none = absurd (none-some later (sym none))
 
   -- the node wasn't opened
-  pub not_opened : (node : Node) (disk later : D) (error : JournalError) → (error ≢ journal.Device → Tells error (told node (device.content disk)))
-      → (error ≡ journal.Device → device.faults disk < device.faults later) × (error ≢ journal.Device → device.faults later ≡ device.faults disk)
-      → AtEachMoment device disk later (IsToldAsOneOf node (device.outcome disk)) → (IsLeft node (device.content disk) → IsNoRefusal error)
-      → RunsOver node device disk (of_journal error) (Some later)
-  not_opened node disk later error tells cause leaves never_refused = record {
+  pub not_opened : (node : Node) (store later : Store D) (error : JournalError) → (error ≢ journal.Device → error ≢ journal.Full → Tells error (told_in node (areas_in device store)))
+      → (error ≡ journal.Device → faults_in device store < faults_in device later) × (error ≢ journal.Device → faults_in device later ≡ faults_in device store)
+      → IsToldThroughout node device store later → (IsLeftIn node (areas_in device store) → IsNoRefusalOfBoth error) → RunsOver node device store (of_journal error) (Some later)
+  not_opened node store later error tells cause leaves never_refused = record {
     device = λ is. cause.0 (opening_told error journal.Device is);
     no_fault = λ other. cause.1 (λ is. other (ap of_journal is));
-    told_as = λ named is. subst (IsOfRun node (device.content disk)) (opening_told error named is) (kind_of node (device.content disk) error tells);
+    told_as = λ named is. subst (IsOfRun node (areas_in device store)) (opening_told error named is) (kind_of node (areas_in device store) error tells);
     never_refused = λ left named is. not_refused error named is (never_refused left);
     lost = some_left later (of_journal error);
-    any_moment = from_opening node disk later leaves;
+    any_moment = from_opening node store later leaves;
   }
 
   -- it was opened, and memory was refused then
-  pub not_run : (node : Node) (disk now : D) → device.faults now ≡ device.faults disk → AtEachMoment device disk now (IsToldAsOneOf node (device.outcome disk))
-      → RunsOver node device disk ends.Memory (Some now)
-  not_run node disk now same leaves = record {
+  pub not_run : (node : Node) (store now : Store D) → faults_in device now ≡ faults_in device store → IsToldThroughout node device store now → RunsOver node device store ends.Memory (Some now)
+  not_run node store now same leaves = record {
     device = λ is. absurd (none-some journal.Device (ap fault_in is));
     no_fault = λ other. same;
     told_as = λ named is. absurd (none-some named (ap fault_in is));
     never_refused = λ left named is. absurd (none-some named (ap fault_in is));
     lost = λ none. refl;
-    any_moment = from_opening node disk now leaves;
+    any_moment = from_opening node store now leaves;
   }
 
-  -- the disk was lost
-  run_lost : (node : Node) (disk : D) (told_of : Faults) → told_of ≡ no_memory → RunsOver node device disk (ending_of told_of) None
-  run_lost node disk told_of is = record {
+  -- the disks were lost
+  run_lost : (node : Node) (store : Store D) (told_of : Faults) → told_of ≡ no_memory → RunsOver node device store (ending_of told_of) None
+  run_lost node store told_of is = record {
     device = λ device. tt;
     no_fault = λ other. tt;
     told_as = λ named so. absurd (none-some named (ap fault_in (sym ends_so ∙ so)));
@@ -188,72 +215,71 @@ module _ {S D : Type 0} (scheme : Scheme S) (device : Device D) where
       ends_so : ending_of told_of ≡ ends.Memory
       ends_so = ap ending_of is
 
-  -- What bytes hold after more events of a node that began where the disk was read, they hold after the same events from the state as which it was
-  -- read.
-  goes_on : (shared : NodeView S) (node : Node) (disk now : D) (settled : List Marked) → node_of scheme shared.setting ≡ node
-      → StandsAt node (told node (device.content disk)) shared.begun → KeepsStates node (device.content disk) (device.content now) → settled ≡ []
-      → (bytes : List ℕ) (it : HoldsMore scheme shared settled (device.content now) bytes) → (on : GoesOn node (device.content disk) bytes) × (on.more ≡ events it.more)
-  goes_on shared node disk now settled of_node begins kept_all none bytes it =
+  -- What areas hold after more events of a node that began where the disks were read, they hold after the same events from the state as which
+  -- they were read.
+  goes_on : (shared : NodeView S) (node : Node) (store : Store D) (now : Areas) (settled : List Marked) → node_of scheme shared.setting ≡ node
+      → StandsAt node (told_in node (areas_in device store)) shared.begun → KeepsStatesIn node (areas_in device store) now → settled ≡ []
+      → (areas : Areas) (it : HoldsMore scheme shared settled now areas) → (on : GoesOn node (areas_in device store) areas) × (on.more ≡ events it.more)
+  goes_on shared node store now settled of_node begins kept_all none areas it =
       let holds = it.leaves.holds in (
         record {
           base = holds.base;
           is_told = is_told holds;
           more = events it.more;
           legal = subst (λ (n : Node). IsLegalAfter n holds.base (events it.more)) of_node holds.legal;
-          holds = subst (λ (n : Node). Holds n (alone bytes) (after_all n holds.base (events it.more))) of_node holds.holds;
-          earlier = λ began stands. subst (λ (n : Node). Holds n (alone bytes) (after_all n began (events it.more))) of_node (it.leaves.earlier began (first began stands));
+          holds = subst (λ (n : Node). Holds n areas (after_all n holds.base (events it.more))) of_node holds.holds;
+          earlier = λ began stands. subst (λ (n : Node). Holds n areas (after_all n began (events it.more))) of_node (it.leaves.earlier began (first began stands));
         },
         refl,
       )
     where
-      -- the disk was told as each base
-      is_told : {marked : List Marked} {areas : Areas} → (it : HoldsAfter scheme shared marked areas) → told node (device.content disk) ≡ Ok it.base
+      -- the disks were told as each base
+      is_told : {marked : List Marked} {some : Areas} → (it : HoldsAfter scheme shared marked some) → told_in node (areas_in device store) ≡ Ok it.base
       is_told it =
           let at = subst (λ (n : Node). AreAtSound n shared.begun it.base) of_node it.is_base in
           begins.is_read ∙ ap Ok (one_state node shared.begun begins.state it.base begins.at.sound begins.at.at at.sound at.at)
 
-      first : (began : State) → StandsFor node (alone (device.content disk)) began
-          → Holds (node_of scheme shared.setting) (alone (device.content now)) (after_all (node_of scheme shared.setting) began (events settled))
+      first : (began : State) → StandsFor node (areas_in device store) began → Holds (node_of scheme shared.setting) now (after_all (node_of scheme shared.setting) began (events settled))
       first began stands =
-          let here = subst (λ (n : Node). Holds n (alone (device.content now)) began) (sym of_node) (kept_all began stands) in
-          let after = subst (Holds (node_of scheme shared.setting) (alone (device.content now))) (sym (after_none (node_of scheme shared.setting) began)) here in
-          subst (λ (l : List Marked). Holds (node_of scheme shared.setting) (alone (device.content now)) (after_all (node_of scheme shared.setting) began (events l))) (sym none) after
+          let here = subst (λ (n : Node). Holds n now began) (sym of_node) (kept_all began stands) in
+          let after = subst (Holds (node_of scheme shared.setting) now) (sym (after_none (node_of scheme shared.setting) began)) here in
+          subst (λ (l : List Marked). Holds (node_of scheme shared.setting) now (after_all (node_of scheme shared.setting) began (events l))) (sym none) after
 
   -- it ran
-  has_run : (shared : NodeView S) (node : Node) (disk now later : D) (told_of : Faults) → node_of scheme shared.setting ≡ node
-      → StandsAt node (told node (device.content disk)) shared.begun → device.faults now ≡ device.faults disk
-      → TellsRounds (device.faults now) (device.faults later) told_of.journal → AtEachMoment device disk now (IsToldAsOneOf node (device.outcome disk))
-      → AtEachMoment device now later (HoldsMore scheme shared [] (device.content now)) → KeepsStates node (device.content disk) (device.content now)
-      → RunsOver node device disk (ending_of told_of) (Some later)
-  has_run shared node disk now later told_of of_node begins same tells opening leaves kept_all = record {
-    device = λ is. subst (λ n. n < device.faults later) same (tells.disk.device (told_of_journal told_of journal.Device is));
+  has_run : (shared : NodeView S) (node : Node) (store now : Store D) (areas : Areas) (later : Store D) (told_of : Faults) → node_of scheme shared.setting ≡ node
+      → StandsAt node (told_in node (areas_in device store)) shared.begun → faults_in device now ≡ faults_in device store
+      → TellsRounds (faults_in device now) (faults_in device later) told_of.journal → IsToldThroughout node device store now
+      → AtEachMomentOn device (HoldsMore scheme shared [] areas) now later → KeepsStatesIn node (areas_in device store) areas
+      → RunsOver node device store (ending_of told_of) (Some later)
+  has_run shared node store now areas later told_of of_node begins same tells opening leaves kept_all = record {
+    device = λ is. subst (λ n. n < faults_in device later) same (tells.disk.device (told_of_journal told_of journal.Device is));
     no_fault = λ other. tells.disk.no_fault (λ is. other (ends_with_device told_of.journal _ is)) ∙ same;
     told_as = λ named is. elim (which named is) [ inl device ↦ inl device | inr full ↦ inr (inl full) ];
     never_refused = λ left. which;
     lost = some_left later (ending_of told_of);
-    any_moment = joins device disk now later (May node disk) (HoldsMore scheme shared [] (device.content now)) (from_opening node disk now opening) leaves more;
+    any_moment = on_joins device (May node store) (HoldsMore scheme shared [] areas) store now later (from_opening node store now opening) leaves more;
   }
     where
       which : (named : JournalError) → ending_of told_of ≡ ends.Journal named → (named ≡ journal.Device) ⊎ (named ≡ journal.Full)
       which named is = subst (λ (f : Option JournalError). IfSome f (λ error. (error ≡ journal.Device) ⊎ (error ≡ journal.Full))) (told_of_journal told_of named is) tells.which
 
-      more : (bytes : List ℕ) → HoldsMore scheme shared [] (device.content now) bytes → May node disk bytes
-      more bytes it = inr (goes_on shared node disk now [] of_node begins kept_all refl bytes it).0
+      more : (left : Areas) → HoldsMore scheme shared [] areas left → May node store left
+      more left it = inr (goes_on shared node store areas [] of_node begins kept_all refl left it).0
 
   -- its threads have ended
-  pub ended : (shared : NodeView S) (node : Node) (disk now : D) (told_of : Faults) (left : Option D) → node_of scheme shared.setting ≡ node
-      → StandsAt node (told node (device.content disk)) shared.begun → device.faults now ≡ device.faults disk
-      → IfSome left (λ later. TellsRounds (device.faults now) (device.faults later) told_of.journal) → (left ≡ None → told_of ≡ no_memory)
-      → AtEachMoment device disk now (IsToldAsOneOf node (device.outcome disk))
-      → IfSome left (λ later. AtEachMoment device now later (HoldsMore scheme shared [] (device.content now))) → KeepsStates node (device.content disk) (device.content now)
-      → RunsOver node device disk (ending_of told_of) left
-  ended shared node disk now told_of None of_node begins same tells lost opening leaves kept_all = run_lost node disk told_of (lost refl)
-  ended shared node disk now told_of (Some later) of_node begins same tells lost opening leaves kept_all =
-      has_run shared node disk now later told_of of_node begins same tells opening leaves kept_all
+  pub ended : (shared : NodeView S) (node : Node) (store now : Store D) (areas : Areas) (told_of : Faults) (left : Option (Store D)) → node_of scheme shared.setting ≡ node
+      → StandsAt node (told_in node (areas_in device store)) shared.begun → faults_in device now ≡ faults_in device store
+      → IfSome left (λ later. TellsRounds (faults_in device now) (faults_in device later) told_of.journal) → (left ≡ None → told_of ≡ no_memory)
+      → IsToldThroughout node device store now
+      → IfSome left (λ later. AtEachMomentOn device (HoldsMore scheme shared [] areas) now later) → KeepsStatesIn node (areas_in device store) areas
+      → RunsOver node device store (ending_of told_of) left
+  ended shared node store now areas told_of None of_node begins same tells lost opening leaves kept_all = run_lost node store told_of (lost refl)
+  ended shared node store now areas told_of (Some later) of_node begins same tells lost opening leaves kept_all =
+      has_run shared node store now areas later told_of of_node begins same tells opening leaves kept_all
 
   -- ---- what it gave out
 
-  -- what might go out after settled events goes out after them from the state as which the disk was read
+  -- what might go out after settled events goes out after them from the state as which the disks were read
   goes_out : (shared : NodeView S) (node : Node) (base : State) (view : View) → node_of scheme shared.setting ≡ node → AreAtSound node shared.begun base
       → (output : Output) → MayGo scheme shared view output → GoesOutAfterPrefix node base (events view.firm) output
   goes_out shared node base view of_node at output may =
@@ -264,65 +290,65 @@ module _ {S D : Type 0} (scheme : Scheme S) (device : Device D) where
         goes_out = subst (λ (n : Node). GoesOutAfter n base (events first) output) of_node (may.put_out base (subst (λ (n : Node). AreAtSound n shared.begun base) (sym of_node) at));
       }
 
-  -- what is settled on the disk is there from the state as which it was read
-  on_disk : (shared : NodeView S) (node : Node) (disk : D) (first : Flusher D) (left : D) → node_of scheme shared.setting ≡ node
-      → StandsAt node (told node (device.content disk)) shared.begun → KeepsStates node (device.content disk) (device.content (disk_of (journal_of first))) → settled_in first ≡ []
-      → (outputs : List Output) → AreSettled scheme device shared first left outputs → NoneOrOnDisk node device disk left outputs
-  on_disk shared node disk first left of_node begins kept_all none outputs it = inr (record {
+  -- what is settled on the disks is there from the state as which they were read
+  on_disk : (shared : NodeView S) (node : Node) (store : Store D) (first : Flusher D) (left : Store D) → node_of scheme shared.setting ≡ node
+      → StandsAt node (told_in node (areas_in device store)) shared.begun → KeepsStatesIn node (areas_in device store) (areas_of device (journal_of first)) → settled_in first ≡ []
+      → (outputs : List Output) → AreSettled scheme device shared first left outputs → NoneOrOnDisk node device store left outputs
+  on_disk shared node store first left of_node begins kept_all none outputs it = inr (record {
     base = begins.state;
     is_read = begins.is_read;
     settled = events it.view.firm;
     each = All-weaker (MayGo scheme shared it.view) (GoesOutAfterPrefix node begins.state (events it.view.firm)) (goes_out shared node begins.state it.view of_node begins.at) outputs it.each;
     on_disk = λ found may.
         let holds = it.on_disk found may in
-        let on = goes_on shared node disk (disk_of (journal_of first)) (settled_in first) of_node begins kept_all none found holds.0 in
+        let on = goes_on shared node store (areas_of device (journal_of first)) (settled_in first) of_node begins kept_all none found holds.0 in
         (on.0, subst (Begins (events it.view.firm)) (sym on.1) (events_begin it.view.firm holds.0.more holds.1));
   })
 
-  -- what its threads wrote is on the disk
-  pub gives_only : {W : Type 0} (contents : W → Option (List ℕ)) (shared : NodeView S) (node : Node) (disk : D) (first : Flusher D) (writer : W)
+  -- what its threads wrote is on the disks
+  pub gives_only : {W : Type 0} (contents : W → Option (List ℕ)) (shared : NodeView S) (node : Node) (store : Store D) (first : Flusher D) (writer : W)
       (old : Option (List ℕ)) (ran : Ran D W) (told_of : Faults)
-      → node_of scheme shared.setting ≡ node → StandsAt node (told node (device.content disk)) shared.begun
-      → KeepsStates node (device.content disk) (device.content (disk_of (journal_of first))) → settled_in first ≡ [] → old ≡ contents writer → ran.ending ≡ ending_of told_of
-      → IfSome ran.disk (λ left. IfSome ran.writer (λ later. HasWritten (AreSettled scheme device shared first left) (told_of.output ≡ false) old (contents later)))
+      → node_of scheme shared.setting ≡ node → StandsAt node (told_in node (areas_in device store)) shared.begun
+      → KeepsStatesIn node (areas_in device store) (areas_of device (journal_of first)) → settled_in first ≡ [] → old ≡ contents writer → ran.ending ≡ ending_of told_of
+      → IfSome ran.store (λ left. IfSome ran.writer (λ later. HasWritten (AreSettled scheme device shared first left) (told_of.output ≡ false) old (contents later)))
       → (ran.writer ≡ None → (told_of.output ≡ false) × (told_of.memory ≡ true))
-      → GivesOnly node device contents disk writer ran
-  gives_only {W} contents shared node disk first writer old ran told_of of_node begins kept_all none same ends given lost = record {
-    written = by ran.disk ran.writer given;
+      → GivesOnly node device contents store writer ran
+  gives_only {W} contents shared node store first writer old ran told_of of_node begins kept_all none same ends given lost = record {
+    written = by ran.store ran.writer given;
     lost = λ gone. let it = lost gone in subst IsOfLoss (sym ends) (is_of_loss told_of it.0 it.1);
   }
     where
-      by : (left : Option D) (back : Option W)
+      by : (left : Option (Store D)) (back : Option W)
           → IfSome left (λ left. IfSome back (λ later. HasWritten (AreSettled scheme device shared first left) (told_of.output ≡ false) old (contents later)))
-          → IfSome left (λ left. IfSome back (λ later. HasWritten (NoneOrOnDisk node device disk left) (is_all_written ran.ending ≡ true) (contents writer) (contents later)))
+          → IfSome left (λ left. IfSome back (λ later. HasWritten (NoneOrOnDisk node device store left) (is_all_written ran.ending ≡ true) (contents writer) (contents later)))
       by None back given = tt
       by (Some left) None given = tt
-      by (Some left) (Some later) given = subst (λ (o : Option (List ℕ)). HasWritten (NoneOrOnDisk node device disk left) (is_all_written ran.ending ≡ true) o (contents later)) same
-          (written_weaker (AreSettled scheme device shared first left) (NoneOrOnDisk node device disk left) (told_of.output ≡ false) (is_all_written ran.ending ≡ true) old (contents later)
-          (on_disk shared node disk first left of_node begins kept_all none) (λ whole. wrote_all told_of (subst (λ (e : Ending). is_all_written e ≡ true) ends whole)) given)
+      by (Some left) (Some later) given = subst (λ (o : Option (List ℕ)). HasWritten (NoneOrOnDisk node device store left) (is_all_written ran.ending ≡ true) o (contents later)) same
+          (written_weaker (AreSettled scheme device shared first left) (NoneOrOnDisk node device store left) (told_of.output ≡ false) (is_all_written ran.ending ≡ true) old (contents later)
+          (on_disk shared node store first left of_node begins kept_all none) (λ whole. wrote_all told_of (subst (λ (e : Ending). is_all_written e ≡ true) ends whole)) given)
 
 -- nothing was written
-pub gives_nothing : {D W : Type 0} (node : Node) (device : Device D) (contents : W → Option (List ℕ)) (disk : D) (writer : W) (ran : Ran D W)
-    → (ran.writer ≡ Some writer) ⊎ ((ran.writer ≡ None) × (ran.ending ≡ ends.Memory)) → GivesOnly node device contents disk writer ran
-gives_nothing {D} {W} node device contents disk writer ran back = record {
-  written = by ran.disk ran.writer back;
+pub gives_nothing : {D W : Type 0} (node : Node) (device : Device D) (contents : W → Option (List ℕ)) (store : Store D) (writer : W) (ran : Ran D W)
+    → (ran.writer ≡ Some writer) ⊎ ((ran.writer ≡ None) × (ran.ending ≡ ends.Memory)) → GivesOnly node device contents store writer ran
+gives_nothing {D} {W} node device contents store writer ran back = record {
+  written = by ran.store ran.writer back;
   lost = λ gone. elim back [ inl same ↦ absurd (none-some writer (sym gone ∙ same)) | inr none ↦ inl none.1 ];
 }
   where
-    by : (left : Option D) (given : Option W) → (given ≡ Some writer) ⊎ ((given ≡ None) × (ran.ending ≡ ends.Memory))
-        → IfSome left (λ left. IfSome given (λ later. HasWritten (NoneOrOnDisk node device disk left) (is_all_written ran.ending ≡ true) (contents writer) (contents later)))
+    by : (left : Option (Store D)) (given : Option W) → (given ≡ Some writer) ⊎ ((given ≡ None) × (ran.ending ≡ ends.Memory))
+        → IfSome left (λ left. IfSome given (λ later. HasWritten (NoneOrOnDisk node device store left) (is_all_written ran.ending ≡ true) (contents writer) (contents later)))
     by None given back = tt
     by (Some left) None back = tt
     by (Some left) (Some later) (inl same) = subst
-        (λ (w : W). HasWritten (NoneOrOnDisk node device disk left) (is_all_written ran.ending ≡ true) (contents writer) (contents w)) (sym (some_is later writer same))
-        (wrote_nothing (NoneOrOnDisk node device disk left) (is_all_written ran.ending ≡ true) (contents writer) (inl refl))
+        (λ (w : W). HasWritten (NoneOrOnDisk node device store left) (is_all_written ran.ending ≡ true) (contents writer) (contents w)) (sym (some_is later writer same))
+        (wrote_nothing (NoneOrOnDisk node device store left) (is_all_written ran.ending ≡ true) (contents writer) (inl refl))
     by (Some left) (Some later) (inr none) = absurd (none-some later (sym none.0))
 
 -- a member whom a number names ran
 pub run_as : {O D W : Type 0} (scheme : Scheme Key) (device : Device D) (contents : W → Option (List ℕ))
-    (named : Option O) (bytes_of : O → List ℕ) (config : ConfigView Key) (disk : D) (writer : W) (ran : Ran D W) (text : List ℕ) → IfSome named (λ own. IsConfigOf text (bytes_of own) config)
-    → RunsOver (node_of scheme config) device disk ran.ending ran.disk → GivesOnly (node_of scheme config) device contents disk writer ran
+    (named : Option O) (bytes_of : O → List ℕ) (config : ConfigView Key) (store : Store D) (writer : W) (ran : Ran D W) (text : List ℕ) → IfSome named (λ own. IsConfigOf text (bytes_of own) config)
+    → RunsOver (node_of scheme config) device store ran.ending ran.store → GivesOnly (node_of scheme config) device contents store writer ran
     → IfSome named (λ own. (RefusesOpening (bytes_of own) ran.ending × (ran.writer ≡ Some writer)) ⊎ RunsAs scheme device contents (bytes_of own) writer ran)
-run_as scheme device contents None bytes_of config disk writer ran text is_of runs gives = tt
-run_as scheme device contents (Some own) bytes_of config disk writer ran text is_of runs gives =
-    inr (record { text = text; config = config; is_of = is_of; disk = disk; runs = runs; gives = gives })
+run_as scheme device contents None bytes_of config store writer ran text is_of runs gives = tt
+run_as scheme device contents (Some own) bytes_of config store writer ran text is_of runs gives =
+    inr (record { text = text; config = config; is_of = is_of; store = store; runs = runs; gives = gives })

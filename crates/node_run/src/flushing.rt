@@ -1,9 +1,10 @@
-//! The thread that brings records to the disk.
+//! The thread that brings records to the disks.
 
 ghost use Rattle.std.specs.Prelude.{◌≡◌, ◌↔◌, true, false, Some, None, IsSome, IsTrue};
-ghost use Rattle.diskmodel.specs.Disk.{AtEachMoment};
-ghost use Rattle.journal.specs.Areas.{alone};
-ghost use Rattle.journal.specs.Journal.{disk_of, spare_of};
+ghost use Rattle.journal.specs.Journal.{disk_of};
+ghost use Rattle.journal.specs.Pairs.{areas_of, store_of};
+ghost use Rattle.journal.specs.Stores.{faults_in};
+ghost use Rattle.node.specs.Disks.{AtEachMomentOn};
 ghost use Rattle.wire.specs.Lists.{Begins};
 ghost use Rattle.validator.specs.Setting.{node_of};
 ghost use Rattle.flusher.specs.Rounds.{journal_of, is_down, settled_in, taken_in, HasNoRoom, KeepsEarlier, TakesLongest};
@@ -26,16 +27,13 @@ pub(crate) fn flush_all<S: Sign, D: Disk, R: Wait>(
     pending: &Bell,
     settled: &Bell,
 ) -> Faults
-    // The journal is on one disk.
-    requires alone { spare_of (journal_of rounds.old.flusher) ≡ None }
-    ensures journal { TellsJournal (D.device.faults (disk_of (journal_of rounds.old.flusher))) (D.device.faults (disk_of (journal_of rounds.new.flusher))) (is_down rounds.old.flusher) (is_down rounds.new.flusher) result.journal (HasNoRoom (D.device.content (disk_of (journal_of rounds.new.flusher))) (settled_in rounds.new.flusher) (taken_in rounds.new.flusher)) }
+    ensures journal { TellsJournal (faults_in D.device (store_of (journal_of rounds.old.flusher))) (faults_in D.device (store_of (journal_of rounds.new.flusher))) (is_down rounds.old.flusher) (is_down rounds.new.flusher) result.journal (HasNoRoom (D.device.content (disk_of (journal_of rounds.new.flusher))) (settled_in rounds.new.flusher) (taken_in rounds.new.flusher)) }
     ensures others { (result.output ≡ false) × (result.input ≡ false) }
     ensures node { rounds.new.node ≡ rounds.old.node }
-    ensures alone { spare_of (journal_of rounds.new.flusher) ≡ None }
     // A stop at any moment leaves what was settled, and perhaps more after it.
-    ensures any_moment { is_down rounds.old.flusher ≡ false → AtEachMoment D.device (disk_of (journal_of rounds.old.flusher)) (disk_of (journal_of rounds.new.flusher)) (HoldsMore S.scheme rounds.old.node (settled_in rounds.old.flusher) (D.device.content (disk_of (journal_of rounds.old.flusher)))) }
+    ensures any_moment { is_down rounds.old.flusher ≡ false → AtEachMomentOn D.device (HoldsMore S.scheme rounds.old.node (settled_in rounds.old.flusher) (areas_of D.device (journal_of rounds.old.flusher))) (store_of (journal_of rounds.old.flusher)) (store_of (journal_of rounds.new.flusher)) }
     // At the end it leaves all that is settled.
-    ensures at_end { is_down rounds.old.flusher ≡ false → LeavesSettled S.scheme D.device rounds.old.node rounds.old.flusher (settled_in rounds.new.flusher) (disk_of (journal_of rounds.new.flusher)) }
+    ensures at_end { is_down rounds.old.flusher ≡ false → LeavesSettled S.scheme D.device rounds.old.node rounds.old.flusher (settled_in rounds.new.flusher) (store_of (journal_of rounds.new.flusher)) }
 {
     let mut faults = Faults::none();
     for _ in rt.forever() {
@@ -55,8 +53,7 @@ fn flush_pending<S: Sign, D: Disk, R: Wait>(
     rounds: &mut Rounds<'_, '_, S, D>,
     settled: &Bell,
 ) -> Faults
-    requires alone { spare_of (journal_of rounds.old.flusher) ≡ None }
-    ensures rounds { TellsRounds (D.device.faults (disk_of (journal_of rounds.old.flusher))) (D.device.faults (disk_of (journal_of rounds.new.flusher))) result.journal }
+    ensures rounds { TellsRounds (faults_in D.device (store_of (journal_of rounds.old.flusher))) (faults_in D.device (store_of (journal_of rounds.new.flusher))) result.journal }
 
     // A round that takes the node down is told as the journal's fault: the disk's, or that the group has no place.
     ensures down { is_down rounds.old.flusher ≡ false → IsSome result.journal ↔ IsTrue (is_down rounds.new.flusher) }
@@ -70,12 +67,11 @@ fn flush_pending<S: Sign, D: Disk, R: Wait>(
     ensures memory { result.memory ≡ true → taken_in rounds.new.flusher ≡ settled_in rounds.new.flusher }
     ensures others { (result.output ≡ false) × (result.input ≡ false) }
     ensures node { rounds.new.node ≡ rounds.old.node }
-    ensures alone { spare_of (journal_of rounds.new.flusher) ≡ None }
     ensures more { Begins (settled_in rounds.old.flusher) (settled_in rounds.new.flusher) }
     // What came before stays as it was.
-    ensures earlier { is_down rounds.new.flusher ≡ false → KeepsEarlier S.scheme rounds.old.node (settled_in rounds.old.flusher) (settled_in rounds.new.flusher) (alone (D.device.content (disk_of (journal_of rounds.old.flusher)))) (alone (D.device.content (disk_of (journal_of rounds.new.flusher)))) }
-    ensures any_moment { is_down rounds.old.flusher ≡ false → AtEachMoment D.device (disk_of (journal_of rounds.old.flusher)) (disk_of (journal_of rounds.new.flusher)) (HoldsMore S.scheme rounds.old.node (settled_in rounds.old.flusher) (D.device.content (disk_of (journal_of rounds.old.flusher)))) }
-    ensures at_end { is_down rounds.old.flusher ≡ false → LeavesSettled S.scheme D.device rounds.old.node rounds.old.flusher (settled_in rounds.new.flusher) (disk_of (journal_of rounds.new.flusher)) }
+    ensures earlier { is_down rounds.new.flusher ≡ false → KeepsEarlier S.scheme rounds.old.node (settled_in rounds.old.flusher) (settled_in rounds.new.flusher) (areas_of D.device (journal_of rounds.old.flusher)) (areas_of D.device (journal_of rounds.new.flusher)) }
+    ensures any_moment { is_down rounds.old.flusher ≡ false → AtEachMomentOn D.device (HoldsMore S.scheme rounds.old.node (settled_in rounds.old.flusher) (areas_of D.device (journal_of rounds.old.flusher))) (store_of (journal_of rounds.old.flusher)) (store_of (journal_of rounds.new.flusher)) }
+    ensures at_end { is_down rounds.old.flusher ≡ false → LeavesSettled S.scheme D.device rounds.old.node rounds.old.flusher (settled_in rounds.new.flusher) (store_of (journal_of rounds.new.flusher)) }
 {
     for _ in rt.forever() {
         let round = rounds.round(rt);

@@ -1,4 +1,4 @@
-//! A member's node over its disk.
+//! A member's node over its disks.
 
 ghost use Rattle.validator.specs.Setting.{node_of};
 ghost use Rattle.node_run.specs.Runs.{RunsOver, GivesOnly};
@@ -7,7 +7,7 @@ use crate::bell::Bells;
 use crate::ran::Ran;
 use crate::threads::{Desks, run_threads};
 use diskmodel::Disk;
-use journal::Failed;
+use journal::{Failed, Store};
 use node::{Rounds, start};
 use node_io::Ending;
 use sigface::Sign;
@@ -17,13 +17,13 @@ use std::sync::Wait;
 use std::thread::Threads;
 use validator::Config;
 
-/// Opens a member's node on its disk and runs it. Answers how that ended, the disk, if it wasn't lost with a thread that couldn't be
-/// made, and the writer, if it wasn't lost so or where an allocation failed.
+/// Opens a member's node on one disk or on two and runs it. Answers how that ended, the disks, if they weren't lost with a thread that
+/// couldn't be made, and the writer, if it wasn't lost so or where an allocation failed.
 pub(crate) fn run_member<R, S, D, I, W, E>(
     rt: &R,
     alloc: Global,
     config: &Config<S>,
-    disk: D,
+    store: Store<D>,
     reader: I,
     writer: W,
     errors: &mut E,
@@ -35,14 +35,14 @@ where
     I: Read + Drop,
     W: Write + Drop + Send,
     E: Write,
-    ensures runs { RunsOver (node_of S.scheme config.now) D.device disk result.ending result.disk }
-    ensures gives { GivesOnly (node_of S.scheme config.now) D.device W.contents disk writer result }
+    ensures runs { RunsOver (node_of S.scheme config.now) D.device store result.ending result.store }
+    ensures gives { GivesOnly (node_of S.scheme config.now) D.device W.contents store writer result }
 {
-    let (node, seat, flusher) = match start(alloc, config, disk) {
+    let (node, seat, flusher) = match start(alloc, config, store) {
         Ok(started) => started,
         Err(Failed { error, disk }) => return Ran {
             ending: Ending::from(error),
-            disk: Some(disk),
+            store: Some(disk),
             writer: Some(writer),
         },
     };
@@ -50,16 +50,16 @@ where
     let mut rounds = Rounds::new(&node, seat, flusher);
     match Desks::new(alloc, config, &bells, &mut rounds, reader, writer, errors) {
         Ok(desks) => {
-            let (faults, disk, writer) = run_threads(rt, rounds, desks);
+            let (faults, store, writer) = run_threads(rt, rounds, desks);
             Ran {
                 ending: faults.ending(),
-                disk,
+                store,
                 writer,
             }
         }
         Err(_) => Ran {
             ending: Ending::Memory,
-            disk: Some(rounds.into_disk()),
+            store: Some(rounds.into_store()),
             writer: None,
         },
     }

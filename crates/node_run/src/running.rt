@@ -14,6 +14,7 @@ use crate::ran::Ran;
 use crate::starting::{config_of, open_all};
 use disk_file::FileDisk;
 use diskmodel::Disk;
+use journal::Store;
 use node_io::Ending;
 use sigface::{HashSign, Sign};
 use std::alloc::Global;
@@ -40,13 +41,13 @@ where
     W: Write + Drop + Send,
     E: Write,
     ensures arguments { length args.now ≢ 3 → (result.0 ≡ 2) × (result.1 ≡ Some writer) }
-    // Either the ending says why nothing was opened, and nothing was written, or the member of that number ran over a disk.
+    // Either the ending says why nothing was opened, and nothing was written, or the member of that number ran over its disks.
     ensures ending { (ran : Ran FileDisk W) × (result.0 ≡ status_of ran.ending) × (result.1 ≡ ran.writer) × IfSome (slice_get args.now 1) (λ own. (RefusesOpening (string_bytes own) ran.ending × (ran.writer ≡ Some writer))
         ⊎ RunsAs ⟦<HashSign as Sign>⟧.scheme ⟦<FileDisk as Disk>⟧.device W.contents (string_bytes own) writer ran) }
 {
     let Ran {
         ending,
-        disk: _,
+        store: _,
         writer,
     } = run_named(rt, alloc, args, reader, writer, errors);
     ending.write_to(errors);
@@ -71,33 +72,33 @@ where
     ensures named { IfSome (slice_get args.now 1) (λ own. (RefusesOpening (string_bytes own) result.ending × (result.writer ≡ Some writer))
         ⊎ RunsAs ⟦<HashSign as Sign>⟧.scheme ⟦<FileDisk as Disk>⟧.device W.contents (string_bytes own) writer result) }
 {
-    let (config, disk) = match open_all(rt, alloc, args) {
+    let (config, store) = match open_all(rt, alloc, args) {
         Ok(opened) => opened,
         Err(ending) => return not_run(ending, None, writer),
     };
-    run_member(rt, alloc, &config, disk, reader, writer, errors)
+    run_member(rt, alloc, &config, store, reader, writer, errors)
 }
 
 // What a run gives back that could not be opened.
-fn not_run<D, W>(ending: Ending, disk: Option<D>, writer: W) -> Ran<D, W>
+fn not_run<D, W>(ending: Ending, store: Option<Store<D>>, writer: W) -> Ran<D, W>
     ensures ending { result.ending ≡ ending }
-    ensures disk { result.disk ≡ disk }
+    ensures store { result.store ≡ store }
     ensures writer { result.writer ≡ Some writer }
 {
     Ran {
         ending,
-        disk,
+        store,
         writer: Some(writer),
     }
 }
 
-/// The same over a disk, with the text of the committee file and the own number. Answers how the run ended, the disk, if it was
-/// opened and not lost with a thread that couldn't be made, and the writer, if it wasn't lost so or where an allocation failed.
+/// The same over one disk or over two, with the text of the committee file and the own number. Answers how the run ended, the disks, if
+/// they weren't lost with a thread that couldn't be made, and the writer, if it wasn't lost so or where an allocation failed.
 pub fn run_over<R, D, I, W, E>(
     rt: &R,
     alloc: Global,
     named: (&[u8], &str),
-    disk: D,
+    store: Store<D>,
     reader: I,
     writer: W,
     errors: &mut E,
@@ -108,16 +109,16 @@ where
     I: Read + Drop,
     W: Write + Drop + Send,
     E: Write,
-    // Either the text and the number make a configuration, with which it runs, and what it wrote is on the disk; or the ending says why
-    // not, and the disk and the writer are as they were.
-    ensures { ((config : ConfigView Key) × IsConfigOf named.entry.0.now named.entry.1.now config × RunsOver (node_of ⟦<HashSign as Sign>⟧.scheme config) D.device disk result.ending result.disk
-        × GivesOnly (node_of ⟦<HashSign as Sign>⟧.scheme config) D.device W.contents disk writer result)
-        ⊎ (RefusesConfig named.entry.0.now named.entry.1.now result.ending × (result.disk ≡ Some disk) × (result.writer ≡ Some writer)) }
+    // Either the text and the number make a configuration, with which it runs, and what it wrote is on the disks; or the ending says why
+    // not, and the disks and the writer are as they were.
+    ensures { ((config : ConfigView Key) × IsConfigOf named.entry.0.now named.entry.1.now config × RunsOver (node_of ⟦<HashSign as Sign>⟧.scheme config) D.device store result.ending result.store
+        × GivesOnly (node_of ⟦<HashSign as Sign>⟧.scheme config) D.device W.contents store writer result)
+        ⊎ (RefusesConfig named.entry.0.now named.entry.1.now result.ending × (result.store ≡ Some store) × (result.writer ≡ Some writer)) }
 {
     let (text, own) = named;
     let ran = match config_of(alloc, text, own) {
-        Ok(config) => run_member(rt, alloc, &config, disk, reader, writer, errors),
-        Err(ending) => not_run(ending, Some(disk), writer),
+        Ok(config) => run_member(rt, alloc, &config, store, reader, writer, errors),
+        Err(ending) => not_run(ending, Some(store), writer),
     };
     ran.ending.write_to(errors);
     ran

@@ -5,7 +5,7 @@ ghost use Rattle.node_run.specs.Members.{IsConfigOf, RefusesConfig, RefusesOpeni
 
 use committee::{Committee, CommitteeError};
 use disk_file::{FileDisk, OpenError};
-use journal::JournalError;
+use journal::{JournalError, Store};
 use node_io::{Ending, own_of, read_committee_file};
 use sigface::HashSign;
 use std::alloc::Global;
@@ -22,7 +22,7 @@ pub(crate) fn open_all<R: Files<File = File> + AllocGlobal>(
     rt: &R,
     alloc: Global,
     args: &[String],
-) -> Result<(Config<HashSign>, FileDisk), Ending>
+) -> Result<(Config<HashSign>, Store<FileDisk>), Ending>
     ensures arguments { length args.now ≢ 3 → result ≡ Err Ending.Usage }
     ensures member { IfOk result (λ opened. (text : List ℕ) × IfSome (slice_get args.now 1) (λ own. IsConfigOf text (string_bytes own) opened.0)) }
     ensures refused { IfErr result (λ ending. IfSome (slice_get args.now 1) (λ own. RefusesOpening (string_bytes own) ending)) }
@@ -33,7 +33,7 @@ pub(crate) fn open_all<R: Files<File = File> + AllocGlobal>(
     let text = read_committee_file(rt, file.as_str())?;
     let config = config_of(alloc, &text, own.as_str())?;
     match FileDisk::open(rt, alloc, journal.as_str()) {
-        Ok(disk) => Ok((config, disk)),
+        Ok(disk) => Ok((config, Store::One(disk))),
         Err(OpenError::Memory) => Err(Ending::Memory),
         Err(_) => Err(Ending::Journal(JournalError::Device)),
     }

@@ -2,8 +2,9 @@
 
 ghost use Rattle.std.specs.Prelude.{◌≡◌, Bool, true, false, [], None, IfOk, IfSome};
 ghost use Rattle.std.specs.Io.Buffered.{writer_buffer, writer_contents, writer_inner};
-ghost use Rattle.diskmodel.specs.Disk.{AtEachMoment};
-ghost use Rattle.journal.specs.Journal.{disk_of, spare_of};
+ghost use Rattle.journal.specs.Pairs.{areas_of, store_of};
+ghost use Rattle.journal.specs.Stores.{faults_in};
+ghost use Rattle.node.specs.Disks.{AtEachMomentOn};
 ghost use Rattle.flusher.specs.Rounds.{journal_of, is_down, settled_in};
 ghost use Rattle.wire.specs.Lists.{Begins};
 ghost use Rattle.node_io.specs.Endings.{behind_input};
@@ -20,6 +21,7 @@ use crate::intake::Intake;
 use crate::reading::read_all;
 use crate::writing::{Sink, write_outputs};
 use diskmodel::Disk;
+use journal::Store;
 use node::Rounds;
 use node_io::{Faults, Input};
 use sigface::Sign;
@@ -30,7 +32,7 @@ use std::sync::Wait;
 use std::thread::Threads;
 use validator::Config;
 
-// What the thread does that flushes a journal on one disk: it gives its rounds back.
+// What the thread does that flushes: it gives its rounds back.
 #[derive(Drop)]
 struct Flushing<'n, 'a, S: Sign, D: Disk> {
     rounds: Rounds<'n, 'a, S, D>,
@@ -40,11 +42,8 @@ struct Flushing<'n, 'a, S: Sign, D: Disk> {
 }
 
 impl<'n, 'a, S: Sign, D: Disk> Model for Flushing<'n, 'a, S, D> {
-    ghost use Rattle.std.specs.Prelude.{◌≡◌, None};
     ghost use Rattle.std.specs.Coded.{codes};
     ghost use Rattle.votebook.specs.contracts.book.VoteBook as votes;
-    ghost use Rattle.flusher.specs.Rounds.{journal_of};
-    ghost use Rattle.journal.specs.Journal.{spare_of};
     ghost use Rattle.node.specs.Callers.{RoundsView};
 
     ghost Value = { RoundsView S D };
@@ -52,8 +51,6 @@ impl<'n, 'a, S: Sign, D: Disk> Model for Flushing<'n, 'a, S, D> {
     ghost coded = { Prim.hlevel (codes, S.code, D.code, votes.the_row.coded) };
 
     ghost view = { λ f. f.rounds };
-
-    ghost invariant = { λ f. spare_of (journal_of f.rounds.flusher) ≡ None };
 }
 
 impl<'n, 'a, R: Wait, S: Sign, D: Disk + Drop> Work<R, (Faults, Rounds<'n, 'a, S, D>)>
@@ -198,12 +195,12 @@ fn buffered<W: Write + Drop>(alloc: Global, writer: W) -> Result<BufWriter<W>, A
 }
 
 /// Reads in this thread, and flushes and writes in two others, until all has been read, flushed and written. Answers what went wrong,
-/// the disk, if it wasn't lost with a thread that couldn't be made, and the writer, if none was lost so.
+/// what the journal was opened on, if it wasn't lost with a thread that couldn't be made, and the writer, if none was lost so.
 pub(crate) fn run_threads<'n, 'a, 'e, R, S, D, I, W, E>(
     rt: &R,
     rounds: Rounds<'n, 'a, S, D>,
     desks: Desks<'n, 'a, 'e, S, I, W, E>,
-) -> (Faults, Option<D>, Option<W>)
+) -> (Faults, Option<Store<D>>, Option<W>)
 where
     R: Threads + Wait + Sync,
     S: Sign + Send + Sync + Drop,
@@ -212,16 +209,14 @@ where
     W: Write + Drop + Send,
     E: Write,
     requires faults { desks.writing.sink.faults ≡ no_faults }
-    // The journal is on one disk.
-    requires alone { spare_of (journal_of rounds.flusher) ≡ None }
     requires node { desks.writing.caller.node ≡ rounds.node }
-    ensures told { IfSome result.1 (λ left. TellsRounds (D.device.faults (disk_of (journal_of rounds.entry.flusher))) (D.device.faults left) result.0.journal) }
+    ensures told { IfSome result.1 (λ left. TellsRounds (faults_in D.device (store_of (journal_of rounds.entry.flusher))) (faults_in D.device left) result.0.journal) }
     ensures lost { result.1 ≡ None → result.0 ≡ no_memory }
     // A writer that is lost is reported as want of memory.
     ensures unwritten { result.2 ≡ None → (result.0.output ≡ false) × (result.0.memory ≡ true) }
     // A stop at any moment leaves what was settled, and perhaps more after it.
-    ensures any_moment { is_down rounds.entry.flusher ≡ false → IfSome result.1 (λ left. AtEachMoment D.device (disk_of (journal_of rounds.entry.flusher)) left (HoldsMore S.scheme rounds.entry.node (settled_in rounds.entry.flusher) (D.device.content (disk_of (journal_of rounds.entry.flusher))))) }
-    // What was written is on the disk.
+    ensures any_moment { is_down rounds.entry.flusher ≡ false → IfSome result.1 (λ left. AtEachMomentOn D.device (HoldsMore S.scheme rounds.entry.node (settled_in rounds.entry.flusher) (areas_of D.device (journal_of rounds.entry.flusher))) (store_of (journal_of rounds.entry.flusher)) left) }
+    // What was written is on the disks.
     ensures given { is_down rounds.entry.flusher ≡ false → IfSome result.1 (λ left. IfSome result.2 (λ later. HasWritten (AreSettled S.scheme D.device rounds.entry.node rounds.entry.flusher left) (result.0.output ≡ false) (writer_contents W.contents desks.entry.writing.sink.writer) (W.contents later))) }
 {
     let Desks {
@@ -242,29 +237,28 @@ where
     let Some((wrote, read)) = others else {
         return (
             Faults::of_memory().and(flushed),
-            Some(rounds.into_disk()),
+            Some(rounds.into_store()),
             None,
         );
     };
     let faults = read.and(wrote.faults).and(flushed);
-    let (disk, writer) = give_back(rt, rounds, wrote);
-    (faults, Some(disk), Some(writer))
+    let (store, writer) = give_back(rt, rounds, wrote);
+    (faults, Some(store), Some(writer))
 }
 
-// The disk, and the writer, whose outputs are then known to be on that disk.
+// What the journal was opened on, and the writer, whose outputs are then known to be there.
 fn give_back<'n, 'a, R, S, D, W>(
     rt: &R,
     mut rounds: Rounds<'n, 'a, S, D>,
     wrote: Wrote<'n, 'a, S, W>,
-) -> (D, W)
+) -> (Store<D>, W)
 where
     R: Wait,
     S: Sign,
     D: Disk + Drop,
     W: Write + Drop,
-    requires alone { spare_of (journal_of rounds.flusher) ≡ None }
     requires node { wrote.caller.node ≡ rounds.node }
-    ensures disk { result.0 ≡ disk_of (journal_of rounds.entry.flusher) }
+    ensures store { result.0 ≡ store_of (journal_of rounds.entry.flusher) }
     ensures writer { result.1 ≡ wrote.entry.writer }
     ensures covers { Begins wrote.entry.caller.seat.view.firm (settled_in rounds.entry.flusher) }
 {
@@ -274,7 +268,7 @@ where
         faults: _,
     } = wrote;
     caller.cover(rt, &mut rounds);
-    (rounds.into_disk(), writer)
+    (rounds.into_store(), writer)
 }
 
 // The same, of which the third work is the one that reads: the prover searches too long for the lifetimes of all three at once.

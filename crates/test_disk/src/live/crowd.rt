@@ -1,8 +1,6 @@
 //! Three threads that submit to one node, while a fourth flushes.
 
-ghost use Rattle.std.specs.Prelude.{◌≡◌, None};
-ghost use Rattle.flusher.specs.Rounds.{journal_of};
-ghost use Rattle.journal.specs.Journal.{spare_of};
+ghost use Rattle.std.specs.Prelude.{◌≡◌};
 ghost use Rattle.node_shared.specs.Home.{IsOf};
 
 use crate::committees::{FOUR, own_config};
@@ -11,6 +9,7 @@ use crate::live::makers::batch_of;
 use crate::live::words::{put, put_count, put_number};
 use crate::memory::{disk_with, stopped};
 use diskmodel::MemDisk;
+use journal::Store;
 use node::{Caller, Node, Receipt, Rounds, Seat, start};
 use sigface::HashSign;
 use std::alloc::{AllocError, Global};
@@ -60,7 +59,8 @@ fn submit_all<R>(
 where
     R: Threads + Wait + Sync,
 {
-    let (node, mut seat, flusher) = start(alloc, config, disk_with(alloc, &[])?)?;
+    let store = Store::One(disk_with(alloc, &[])?);
+    let (node, mut seat, flusher) = start(alloc, config, store)?;
     let mut first = node.split(&mut seat)?;
     let mut second = node.split(&mut first)?;
     let rounds = Rounds::new(&node, seat, flusher);
@@ -90,8 +90,7 @@ fn submit_beside<'a, R>(
 ) -> Result<MemDisk, Ending>
 where
     R: Threads + Wait + Sync,
-    requires setting { rounds.node.setting ≡ config.now }
-    requires alone { spare_of (journal_of rounds.flusher) ≡ None }
+    requires { rounds.node.setting ≡ config.now }
 {
     let caller = rounds.caller(config)?;
     let (told, flushed) = thread::join(
@@ -176,9 +175,7 @@ fn submit<R: Wait>(
 fn flush_all<R: Wait>(
     rt: &R,
     mut rounds: Rounds<'_, '_, HashSign, MemDisk>,
-) -> Result<MemDisk, Ending>
-    requires { spare_of (journal_of rounds.flusher) ≡ None }
-{
+) -> Result<MemDisk, Ending> {
     let mut settled = 0;
     for _ in 0..TURNS {
         let count = rounds.round(rt)?;
@@ -190,9 +187,9 @@ fn flush_all<R: Wait>(
             thread::yield_now();
         }
     }
-    match settled == ALL {
-        true => Ok(rounds.into_disk()),
-        false => Err(Ending::Unexpected),
+    match rounds.into_store() {
+        Store::One(disk) if settled == ALL => Ok(disk),
+        _ => Err(Ending::Unexpected),
     }
 }
 
@@ -249,7 +246,7 @@ fn submit_again<R: Wait>(
     config: &Config<HashSign>,
     disk: MemDisk,
 ) -> Result<u64, Ending> {
-    let (node, seat, _) = start(alloc, config, disk)?;
+    let (node, seat, _) = start(alloc, config, Store::One(disk))?;
     let mut caller = Caller::new(&node, config, seat);
     let mut known = 0_u64;
     for number in 1..MEMBERS {

@@ -1,8 +1,6 @@
 //! Rounds in which a call of the disk fails.
 
-ghost use Rattle.std.specs.Prelude.{◌≡◌, None};
-ghost use Rattle.flusher.specs.Rounds.{journal_of};
-ghost use Rattle.journal.specs.Journal.{spare_of};
+ghost use Rattle.std.specs.Prelude.{◌≡◌};
 
 use crate::committees::{FOUR, own_config};
 use crate::live::ending::Ending;
@@ -11,6 +9,7 @@ use crate::live::makers::{header_of, submit_header};
 use crate::live::words::{call_of, put, put_count, put_number, put_shown};
 use crate::memory::{disk_with, stopped};
 use diskmodel::{CallKind, MemDisk, Switch};
+use journal::Store;
 use node::{Caller, Rounds, start};
 use sigface::HashSign;
 use std::alloc::Global;
@@ -96,10 +95,13 @@ fn carry_out_on<R: Wait>(
     plan: Plan,
     answer: &mut String,
 ) -> Result<(bool, MemDisk), Ending> {
-    let (node, seat, flusher) = start(alloc, config, disk)?;
+    let (node, seat, flusher) = start(alloc, config, Store::One(disk))?;
     let mut rounds = Rounds::new(&node, seat, flusher);
     let is_settled = play_with(rt, alloc, config, switch, &mut rounds, plan, answer)?;
-    Ok((is_settled, rounds.into_disk()))
+    match rounds.into_store() {
+        Store::One(disk) => Ok((is_settled, disk)),
+        Store::Two(..) => Err(Ending::Unexpected),
+    }
 }
 
 // The same with a caller of the node.
@@ -112,9 +114,7 @@ fn play_with<'a, R: Wait>(
     plan: Plan,
     answer: &mut String,
 ) -> Result<bool, Ending>
-    requires setting { rounds.old.node.setting ≡ config.now }
-    requires alone { spare_of (journal_of rounds.old.flusher) ≡ None }
-    ensures alone { spare_of (journal_of rounds.new.flusher) ≡ None }
+    requires { rounds.old.node.setting ≡ config.now }
 {
     let mut caller = rounds.caller(config)?;
     rounds.cover(rt, &mut caller);
@@ -130,10 +130,7 @@ fn play<R: Wait>(
     caller: &mut Caller<'_, '_, HashSign>,
     plan: Plan,
     answer: &mut String,
-) -> Result<(), Ending>
-    requires alone { spare_of (journal_of rounds.old.flusher) ≡ None }
-    ensures alone { spare_of (journal_of rounds.new.flusher) ≡ None }
-{
+) -> Result<(), Ending> {
     match plan {
         Plan::Down => {
             switch.fail(CallKind::Sync, 1)?;
@@ -155,10 +152,7 @@ fn tell_down<R: Wait>(
     rounds: &mut Rounds<'_, '_, HashSign, MemDisk>,
     caller: &mut Caller<'_, '_, HashSign>,
     answer: &mut String,
-) -> Result<(), Ending>
-    requires alone { spare_of (journal_of rounds.old.flusher) ≡ None }
-    ensures alone { spare_of (journal_of rounds.new.flusher) ≡ None }
-{
+) -> Result<(), Ending> {
     tell_submit(rt, alloc, caller, answer)?;
     tell_round(rt, rounds, answer);
     tell_round(rt, rounds, answer);
@@ -182,10 +176,11 @@ fn tell_submit<R: Wait>(
     Ok(())
 }
 
-fn tell_round<R: Wait>(rt: &R, rounds: &mut Rounds<'_, '_, HashSign, MemDisk>, answer: &mut String)
-    requires alone { spare_of (journal_of rounds.old.flusher) ≡ None }
-    ensures alone { spare_of (journal_of rounds.new.flusher) ≡ None }
-{
+fn tell_round<R: Wait>(
+    rt: &R,
+    rounds: &mut Rounds<'_, '_, HashSign, MemDisk>,
+    answer: &mut String,
+) {
     match rounds.round(rt) {
         Ok(count) => put_number(answer, "settled", count),
         Err(error) => put_shown(answer, "fault ", &error, "\n"),

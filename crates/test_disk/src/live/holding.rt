@@ -8,6 +8,7 @@ use crate::live::makers::{header_of, submit_header};
 use crate::live::words::{put, put_number};
 use crate::memory::disk_with;
 use diskmodel::{Disk, Gate, GatedDisk};
+use journal::Store;
 use node::{Caller, FlushError, Rounds, start};
 use sigface::HashSign;
 use std::alloc::Global;
@@ -93,7 +94,7 @@ where
     R: Threads + Wait + Sync,
     D: Disk + Drop + Send,
 {
-    let (node, seat, flusher) = start(alloc, config, disk)?;
+    let (node, seat, flusher) = start(alloc, config, Store::One(disk))?;
     tell(&doors.armed);
     let mut rounds = Rounds::new(&node, seat, flusher);
     let mut caller = rounds.caller(config)?;

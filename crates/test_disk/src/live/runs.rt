@@ -7,6 +7,7 @@ use crate::live::streams::{Lines, NoClock, Output, Seen, Step, Steps};
 use crate::live::words::{Told, bad, call_of, joined, put_count, put_len};
 use crate::memory::{disk_with, failing_disk};
 use diskmodel::{CallKind, MemDisk};
+use journal::Store;
 use node_io::Blocking;
 use node_run::{Ran, run_over};
 use std::alloc::{AllocError, Global};
@@ -172,12 +173,16 @@ fn run_steps<R: Threads + Wait + Sync>(
     let reader = Blocking::new(&NoClock, Steps::new(rt, seen, steps));
     let writer = Blocking::new(&NoClock, Output { rt, seen });
     let mut lines = Lines { rt, seen };
+    let store = Store::One(disk);
     let Ran {
         ending,
-        disk,
+        store,
         writer: _,
-    } = run_over(rt, alloc, member, disk, reader, writer, &mut lines);
-    (ending.status(), disk)
+    } = run_over(rt, alloc, member, store, reader, writer, &mut lines);
+    match store {
+        Some(Store::One(disk)) => (ending.status(), Some(disk)),
+        _ => (ending.status(), None),
+    }
 }
 
 // How many events the journal on a disk has, after the configuration.

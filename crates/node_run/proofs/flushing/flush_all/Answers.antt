@@ -1,6 +1,8 @@
 use Rattle.std.proofs.Common.{rules, Option, false, sym, subst, ◌∙◌, inr}
 use Rattle.std.specs.Prelude.{◌≡◌, IsTrue}
 use Rattle.journal.specs.Journal.{disk_of}
+use Rattle.journal.specs.Pairs.{store_of}
+use Rattle.journal.specs.Stores.{faults_in}
 use Rattle.journal.specs.declared.error.JournalError.{JournalError}
 use Rattle.flusher.specs.Rounds.{journal_of, is_down, settled_in, taken_in, HasNoRoom}
 use Rattle.flusher.specs.declared.flusher.Flusher.{Flusher}
@@ -16,7 +18,7 @@ loop-preserved g c =
     let mid = c.loop.rounds.flusher in
     let now = c.flush_pending.new.rounds.flusher in
     let lacks = λ (f : Flusher g.row.D.Denot). HasNoRoom (g.D.Disk.device.content (disk_of (journal_of f))) (settled_in f) (taken_in f) in
-    let faults = λ (f : Flusher g.row.D.Denot). g.D.Disk.device.faults (disk_of (journal_of f)) in
+    let faults = λ (f : Flusher g.row.D.Denot). faults_in g.D.Disk.device (store_of (journal_of f)) in
     let done = c.flush_pending.ensures in
     let told = subst (λ (j : Option JournalError). TellsJournal (faults first) (faults now) (is_down first) (is_down now) j (lacks now)) (sym c.and-faults.ensures.journal)
     (told_on (faults first) (faults mid) (faults now) (is_down first) (is_down mid) (is_down now) c.loop.faults.journal c.flush_pending.result.journal (lacks mid) (lacks now) c.loop.invariant.4
@@ -25,9 +27,9 @@ loop-preserved g c =
     done.full) in
     let output : c.and-faults.result.output ≡ false = search rules in
     let input : c.and-faults.result.input ≡ false = search rules in
-    let leaves = all_on g.S.Sign.scheme g.D.Disk.device c.args.rounds.now.node c.loop.rounds.node first mid now c.loop.invariant.5 c.loop.invariant.6 c.loop.invariant.8
+    let leaves = all_on g.S.Sign.scheme g.D.Disk.device c.args.rounds.now.node c.loop.rounds.node first mid now c.loop.invariant.5 c.loop.invariant.6 c.loop.invariant.7
     (λ down. (done.stays down).1) done.any_moment done.at_end done.earlier in
-    (tt, tt, output, input, told, done.node ∙ c.loop.invariant.5, begins_trans (settled_in first) (settled_in mid) (settled_in now) c.loop.invariant.6 done.more, done.alone, inr leaves)
+    (tt, tt, output, input, told, done.node ∙ c.loop.invariant.5, begins_trans (settled_in first) (settled_in mid) (settled_in now) c.loop.invariant.6 done.more, inr leaves)
 
 pub returns-then-not-may_go_on-clause-journal : goal.returns-then-not-may_go_on-clause-journal
 returns-then-not-may_go_on-clause-journal g c =
@@ -35,7 +37,7 @@ returns-then-not-may_go_on-clause-journal g c =
     let mid = c.loop.rounds.flusher in
     let now = c.flush_pending.new.rounds.flusher in
     let lacks = λ (f : Flusher g.row.D.Denot). HasNoRoom (g.D.Disk.device.content (disk_of (journal_of f))) (settled_in f) (taken_in f) in
-    let faults = λ (f : Flusher g.row.D.Denot). g.D.Disk.device.faults (disk_of (journal_of f)) in
+    let faults = λ (f : Flusher g.row.D.Denot). faults_in g.D.Disk.device (store_of (journal_of f)) in
     let done = c.flush_pending.ensures in
     let told = subst (λ (j : Option JournalError). TellsJournal (faults first) (faults now) (is_down first) (is_down now) j (lacks now)) (sym c.and-faults.ensures.journal)
     (told_on (faults first) (faults mid) (faults now) (is_down first) (is_down mid) (is_down now) c.loop.faults.journal c.flush_pending.result.journal (lacks mid) (lacks now) c.loop.invariant.4
@@ -48,10 +50,10 @@ pub returns-then-not-may_go_on-clause-any_moment : goal.returns-then-not-may_go_
 returns-then-not-may_go_on-clause-any_moment g c = λ up.
     let done = c.flush_pending.ensures in
     (all_on g.S.Sign.scheme g.D.Disk.device c.args.rounds.now.node c.loop.rounds.node c.args.rounds.now.flusher c.loop.rounds.flusher c.flush_pending.new.rounds.flusher
-    c.loop.invariant.5 c.loop.invariant.6 c.loop.invariant.8 (λ down. (done.stays down).1) done.any_moment done.at_end done.earlier up).0
+    c.loop.invariant.5 c.loop.invariant.6 c.loop.invariant.7 (λ down. (done.stays down).1) done.any_moment done.at_end done.earlier up).0
 
 pub returns-then-not-may_go_on-clause-at_end : goal.returns-then-not-may_go_on-clause-at_end
 returns-then-not-may_go_on-clause-at_end g c = λ up.
     let done = c.flush_pending.ensures in
     (all_on g.S.Sign.scheme g.D.Disk.device c.args.rounds.now.node c.loop.rounds.node c.args.rounds.now.flusher c.loop.rounds.flusher c.flush_pending.new.rounds.flusher
-    c.loop.invariant.5 c.loop.invariant.6 c.loop.invariant.8 (λ down. (done.stays down).1) done.any_moment done.at_end done.earlier up).1
+    c.loop.invariant.5 c.loop.invariant.6 c.loop.invariant.7 (λ down. (done.stays down).1) done.any_moment done.at_end done.earlier up).1

@@ -2,7 +2,7 @@ use Rattle.std.proofs.Common.{rules, ◌≡◌, false, Some, ap, sym, subst, ◌
 use Rattle.std.specs.Io.Buffered.{writer_contents}
 use Rattle.std.specs.Prelude.{◌||◌, All, Bool}
 use Rattle.flusher.specs.Rounds.{journal_of, settled_in}
-use Rattle.journal.specs.Journal.{disk_of}
+use Rattle.journal.specs.Pairs.{store_of}
 use Rattle.wire.specs.Lists.{Begins}
 use Rattle.node_run.proofs.Given.{is_settled, of_some}
 use Rattle.node_run.proofs.threads.run_threads.Goals as goal
@@ -12,15 +12,15 @@ pub returns-clause-given : goal.returns-clause-given
 returns-clause-given g c = λ up.
     let same : c.in-Some.others ≡ Some (c.in-Some-others.wrote, c.in-Some-others.read) = search rules in
     let wrote = of_some _ c.in-Some.others _ same c.in-Some.ensures.others in
-    let disk : c.give_back-disk.result.0 ≡ disk_of (journal_of c.in-Some.rounds.flusher) = search rules in
+    let store : c.give_back-store.result.0 ≡ store_of (journal_of c.in-Some.rounds.flusher) = search rules in
     let covers : Begins c.in-Some-others.wrote.caller.seat.view.firm (settled_in c.in-Some.rounds.flusher) = search rules in
     let read = c.in-Some-others.read.output in
     let all = c.and-faults.ensures.output ∙ ap (λ (it : Bool). it || c.in-Some.flushed.output) c.and-2.ensures.output in
     is_settled g.S.Sign.scheme g.D.Disk.device c.args.rounds c.in-Some.rounds c.in-Some.flushed c.args.desks.writing.caller.node c.in-Some-others.wrote.caller.seat.view
-    c.give_back-disk.result.0 read c.in-Some-others.wrote.faults.output c.in-Some.flushed.output c.and-faults.result.output
-    (writer_contents g.W.Write.contents c.args.desks.writing.sink.writer) (g.W.Write.contents c.give_back-disk.result.1)
-    c.in-Some.ensures.first up c.requires.node disk covers all
+    c.give_back-store.result.0 read c.in-Some-others.wrote.faults.output c.in-Some.flushed.output c.and-faults.result.output
+    (writer_contents g.W.Write.contents c.args.desks.writing.sink.writer) (g.W.Write.contents c.give_back-store.result.1)
+    c.in-Some.ensures.first up c.requires.node store covers all
     (subst
     (λ writer. HasWritten (All (MayGo g.S.Sign.scheme c.args.desks.writing.caller.node c.in-Some-others.wrote.caller.seat.view)) (c.in-Some-others.wrote.faults.output ≡ false)
     (writer_contents g.W.Write.contents c.args.desks.writing.sink.writer) (g.W.Write.contents writer))
-    (sym c.give_back-disk.ensures.writer) wrote.0.1)
+    (sym c.give_back-store.ensures.writer) wrote.0.1)

@@ -6,6 +6,8 @@ use Rattle.flusher.specs.declared.FlushError.TheVariants.{Down}
 use Rattle.journal.specs.Journal.{disk_of}
 use Rattle.journal.specs.Pairs.{areas_of}
 use Rattle.node.specs.Callers.{RoundsView}
+use Rattle.node.specs.Rounds.{Flushes}
+use Rattle.node.proofs.Flushed.{round_flushes}
 use Rattle.node.proofs.rounds.Rounds.round.Goals as goal
 
 -- the flusher is that of the view
@@ -22,3 +24,10 @@ returns-clause-earlier g c =
     subst (λ (r : RoundsView g.row.S.Denot g.row.D.Denot). OnOk c.round.result
     (KeepsEarlier g.S.Sign.scheme r.node (settled_in r.flusher) (settled_in c.round.new.self) (areas_of device (journal_of r.flusher)) (areas_of device (journal_of c.round.new.self))))
     c.self.view_is c.round.ensures.earlier
+
+pub returns-clause-flushes : goal.returns-clause-flushes
+returns-clause-flushes g c =
+    let device = g.D.Disk.device in
+    subst (λ (r : RoundsView g.row.S.Denot g.row.D.Denot). Flushes g.S.Sign.scheme device r.node r.flusher c.round.new.self c.round.result) c.self.view_is
+    (round_flushes g.S.Sign.scheme device g.met.D.Disk.only_now c.self.inside.node.now c.self.inside.flusher c.round.new.self c.round.result c.self.invariant.1 c.round.ensures.down _ _
+    c.round.ensures.settles c.round.ensures.cause c.round.ensures.spare c.round.ensures.any_moment c.round.ensures.earlier)

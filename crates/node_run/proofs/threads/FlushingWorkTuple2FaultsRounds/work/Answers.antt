@@ -7,7 +7,6 @@ returns g c =
     let all = c.flush_all-faults in
     subst (λ work. HasFlushed g.S.Sign.scheme g.D.Disk.device work all.new.rounds all.result) c.self.view_is (record {
       node = all.ensures.node;
-      alone = all.ensures.alone;
       told = all.ensures.journal.rounds;
       others = all.ensures.others;
       any_moment = all.ensures.any_moment;
