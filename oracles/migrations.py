@@ -8,8 +8,8 @@ The formats are those of docs/FORMATS.md, and what a stop leaves of a disk is wh
 one of them with 2,000 events, and for each pair what an opening finds: the generation, the vote for the header of member 1 and round 1, the
 round, and the length of the order. It also has the bytes of both areas after the opening (of a long area a sum of them), how often an opening
 calls a disk to write, to cut and to sync, and how many stops are tried. Of everything that a failing call or a stop leaves it is tried here
-too that it is opened to the same node and the same areas. The second file has what is played with each allocation failing in turn: the case
-of oracles/checkpoints.py, and openings of two areas.
+too that it is opened to the same node and the same areas. Some areas are cut to each length, or changed in each byte. The second file has
+what is played with each allocation failing in turn: the case of oracles/checkpoints.py, and openings of two areas.
 """
 import functools
 import sys
@@ -54,7 +54,8 @@ class Reopening:
         if records and records[0][1] not in self.committee.configurations():
             self.error = "4 ConfigMismatch"
             return
-        behind = [one for one in records[1:] if one[1][:1] != b"\2"]
+        # A generation is told by a head, the second record.
+        behind = records[2 if self.generation else 1:]
         count = next((place for place, (_, one) in enumerate(behind) if one[:1] == b"\1"), len(behind))
         state, events = behind[:count] if self.generation else [], behind[count:] if self.generation else behind
         fault = checkpoints.load(self.committee, [self.committee.configuration()] + [one for _, one in state])
@@ -225,6 +226,26 @@ class Cases:
                 print("> %d: %s" % (length, told))
             last = told
 
+    def change(self, side):
+        """Each byte of an area is changed to each other value, and the areas are opened: how often each answer comes."""
+        unchanged, same, others, refused, whole = self.opening().found(), 0, 0, {}, Sum()
+        for place, byte in enumerate(self.files[side]):
+            for more in range(1, 256):
+                files = list(self.files)
+                files[side] = recoveries.with_byte(files[side], place, (byte + more) % 256)
+                opened = Reopening(self.committee, *files)
+                if opened.error:
+                    refused[opened.error] = refused.get(opened.error, 0) + 1
+                elif opened.found() == unchanged:
+                    same += 1
+                else:
+                    others += 1
+                    whole.add(opened.found().encode())
+        print("open-changed " + NAMES[side])
+        print("> %d the same\n> %d another node, sum %d" % (same, others, whole.value))
+        for told, count in refused.items():
+            print("> %d %s" % (count, told))
+
 
 def sum_of(file):
     whole = Sum()
@@ -241,6 +262,7 @@ def old_area(*groups, generation=0):
 EVENT = [recoveries.EVENT]
 OLD, NEW = old_area(EVENT), area([Committee().configuration()], EVENT)
 VOTE = [checkpoints.vote_record(1, 1, recoveries.HEADER.digest)]
+SAVED = areas.checkpoint([Committee().configuration()] + VOTE, 1)
 FOUR = old_area(generation=4)
 OLD_CHECKPOINT, OLD_CHECKPOINT_WITH_EVENT = old_area(VOTE, generation=5), old_area(EVENT, generation=5)
 
@@ -268,6 +290,8 @@ def all_cases():
     cases.whole("the third version in the second area", b"", third)
     cases.whole("the third version in the first area", third, b"")
     cuts(cases)
+    changes(cases)
+    forty_records(cases)
 
 
 def long(cases):
@@ -292,6 +316,26 @@ def cuts(cases):
             cases.cut("the same with a closed gate before the header", side, closed)
 
 
+def changes(cases):
+    """The journal of one event in each version, and its checkpoint beside what it was taken of, in each byte."""
+    alone = area([Committee().configuration()])
+    for title, side, first, second in [
+        ("the journal of a peer's header", 0, NEW, b""),
+        ("the same in the first version", 0, OLD, b""),
+        ("a checkpoint beside the configuration that it was taken of", 1, alone, SAVED),
+        ("a checkpoint beside the journal in the first version that was migrated", 1, OLD, SAVED),
+    ]:
+        cases.begin(title + ", changed in each byte", first, second)
+        cases.change(side)
+
+
+def forty_records(cases):
+    """A journal of forty records at each length, in both versions; and the same with a closed gate before its fifth group."""
+    for number, file in (("first", recoveries.OLD_FORTY), ("second", recoveries.FORTY)):
+        cases.cut("forty records in the %s version, cut to each length" % number, 0, file)
+        cases.cut("the same with a closed gate before the fifth group", 0, recoveries.closed(file, 5))
+
+
 HEAD = """# crates: opening
 # Journals on two disks that are opened: one in the first version is rewritten as a checkpoint, in the area that wasn't read, and its
 # generation is one more. `oracles/migrations.py` writes these cases from the formats alone.
@@ -300,7 +344,9 @@ HEAD = """# crates: opening
 # of the order, and what both areas have then, of a long one a sum. open-failing: how many calls of the opening fail in turn, and
 # how many openings of the same disks after that find the same and leave the same areas. open-stopping: the machine stops before
 # each call of the opening and after the last one, and keeps what isn't synced, loses it, or has one byte in its place; how many
-# openings find the same after that. open-cut: from which length of an area on an opening finds what."""
+# openings find the same after that. open-cut: from which length of an area on an opening finds what. open-changed: each byte of an
+# area is changed to each other value; how many openings find the same, how many another node, with a sum over what is told of these,
+# and how many answer what else."""
 
 
 HEAD_OF_MEMORY = """# crates: checkpoint validator opening

@@ -559,10 +559,53 @@ FIRST_VOTE = journal([CONFIG], [EVENT])
 OLD_CONFIG = configuration(version=1)
 OLD_EMPTY = journal([OLD_CONFIG])
 OLD_VOTE = journal([OLD_CONFIG], [EVENT])
+# What a checkpoint of that vote is, which is no journal on one disk.
+CHECKPOINT = journal([CONFIG, b'\2' + u64(1)], [b'\5' + u16(1) + u64(1) + HEADER.digest])
 BATCH, OWN_BATCH = Batch('b', 2, b'ab'), Batch('o', 0, b'cd')
 NAMING = Header('n', 2, 1, GENESIS[:3], [BATCH])
 OWN_HEADER = Header('m', 0, 1, GENESIS, [])
 PLAIN_HEADER = Header('p', 0, 1, GENESIS[:3], [])
+
+
+def every_kind():
+    """39 events of all kinds: an own batch that two acknowledge, a peer's header, the own header with that batch and the votes that
+    make its certificate, two batches of a peer, and certificates of nine rounds with the coins of their four waves."""
+    own = Header('h0', 0, 1, GENESIS[:3], [OWN_BATCH])
+    events = [record(0, batch_message(OWN_BATCH))] + [record(member, ack_message(OWN_BATCH, member)) for member in (1, 2)]
+    events += [EVENT, record(0, header_message(own))] + [record(voter, vote_message(own, voter)) for voter in (1, 2)]
+    events += [record(2, batch_message(Batch('p%d' % number, 2, u32(number)))) for number in range(2)]
+    before = GENESIS[:3]
+    for round_ in range(1, 10):
+        here = [own, HEADER] if round_ == 1 else []
+        here += [Header('c%d%d' % (round_, author), author, round_, before, []) for author in range(len(here), 3)]
+        events += [record(1, certificate_message(header, (0, 1, 2))) for header in here if header is not own]
+        if round_ in (3, 5, 7, 9):
+            events.append(record(0, coin_message(round_ // 2, round_)))
+        before = here
+    return events
+
+
+def in_groups(events):
+    """Groups of one event, of two, of three, and so on."""
+    groups, place = [], 0
+    while place < len(events):
+        groups.append(events[place:place + len(groups) + 1])
+        place += len(groups[-1])
+    return groups
+
+
+FORTY, OLD_FORTY = (journal([one], *in_groups(every_kind())) for one in (CONFIG, OLD_CONFIG))
+
+
+def gates(file):
+    """The places of the gates of a journal, the closed one at the end among them."""
+    records, end = walk(file)
+    return sorted({gate for gate, _ in records} | {end})
+
+
+def closed(file, number):
+    """A journal with 00 at the gate of its group of this number."""
+    return with_byte(file, gates(file)[number], 0)
 
 
 def with_byte(text, place, value):
@@ -847,14 +890,24 @@ def main():
     full_groups(cases)
     stakes(cases)
     faults(cases)
-    cases.case('cut to each length', FIRST_VOTE)
-    cases.lengths(0, len(FIRST_VOTE))
-    cases.case('each byte to each other value', FIRST_VOTE)
-    cases.changes(0, len(FIRST_VOTE) - 1, 255)
-    cases.case('cut to each length, in the first version', OLD_VOTE)
-    cases.lengths(0, len(OLD_VOTE))
-    cases.case('each byte to fifteen other values, in the first version', OLD_VOTE)
-    cases.changes(0, len(OLD_VOTE) - 1, 15)
+    damages(cases, FIRST_VOTE, FORTY, '')
+    damages(cases, OLD_VOTE, OLD_FORTY, ', in the first version')
+    cases.case('each byte of a checkpoint to each other value', CHECKPOINT)
+    cases.changes(0, len(CHECKPOINT) - 1, 255)
+
+
+def damages(cases, vote, forty, version):
+    """Journals of one event and of 39 that are cut, with each gate open and with one closed; the first one changed in each byte."""
+    cases.case('cut to each length' + version, vote)
+    cases.lengths(0, len(vote))
+    cases.case('the same with a closed gate before the header' + version, closed(vote, 1))
+    cases.lengths(gates(vote)[1], len(vote))
+    cases.case('each byte to each other value' + version, vote)
+    cases.changes(0, len(vote) - 1, 255)
+    cases.case('a journal of forty records cut to each length' + version, forty)
+    cases.lengths(0, len(forty))
+    cases.case('the same with a closed gate before its fifth group' + version, closed(forty, 5))
+    cases.lengths(gates(forty)[5], len(forty))
 
 
 if __name__ == '__main__':

@@ -39,16 +39,43 @@ impl Areas {
 
     /// These areas, of which one is cut to a length.
     pub fn cut(&self, alloc: Global, is_second: bool, length: usize) -> Result<Areas, AllocError> {
-        let mut areas = Areas {
-            first: self.first.to_vec(alloc)?,
-            second: self.second.to_vec(alloc)?,
-        };
+        let mut areas = self.copied(alloc)?;
         if is_second {
             areas.second.truncate(length);
         } else {
             areas.first.truncate(length);
         }
         Ok(areas)
+    }
+
+    /// These areas, of which one has so much more in the byte at a place.
+    pub fn changed(
+        &self,
+        alloc: Global,
+        is_second: bool,
+        place: usize,
+        more: u8,
+    ) -> Result<Areas, AllocError> {
+        let mut areas = self.copied(alloc)?;
+        if is_second {
+            change(&mut areas.second, place, more);
+        } else {
+            change(&mut areas.first, place, more);
+        }
+        Ok(areas)
+    }
+
+    fn copied(&self, alloc: Global) -> Result<Areas, AllocError> {
+        Ok(Areas {
+            first: self.first.to_vec(alloc)?,
+            second: self.second.to_vec(alloc)?,
+        })
+    }
+}
+
+fn change(bytes: &mut [u8], place: usize, more: u8) {
+    if let Some(byte) = bytes.get_mut(place) {
+        *byte = byte.wrapping_add(more);
     }
 }
 

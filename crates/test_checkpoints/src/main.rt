@@ -6,6 +6,7 @@ mod area;
 mod areas;
 mod cases;
 mod changing;
+mod damaging;
 mod disks;
 mod histories;
 mod list;

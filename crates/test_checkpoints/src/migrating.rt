@@ -79,6 +79,11 @@ fn tell_found(validator: &Validator<'_, HashSign>, generation: u64, text: &mut S
     write!(text, ", round {round}, order {ordered}")
 }
 
+/// Whether an opening that is told so has found a node.
+pub fn is_node(text: &str) -> bool {
+    text.starts_with("generation ")
+}
+
 fn tell_vote(validator: &Validator<'_, HashSign>, text: &mut String) -> Told {
     let Ok(round) = Round::new(ROUND) else {
         return Err(AllocError);
@@ -116,9 +121,16 @@ fn tell_area(name: &str, bytes: &[u8], answer: &mut String) -> Told {
     answer.push_str("\n")
 }
 
-/// FNV-1a of 64 bits.
+/// FNV-1a of 64 bits over nothing.
+pub const NO_SUM: u64 = 14_695_981_039_346_656_037;
+
 fn sum(bytes: &[u8]) -> u64 {
-    let mut sum = 14_695_981_039_346_656_037u64;
+    sum_after(NO_SUM, bytes)
+}
+
+/// The sum over these bytes after those of a sum.
+pub fn sum_after(before: u64, bytes: &[u8]) -> u64 {
+    let mut sum = before;
     for byte in bytes {
         sum = (sum ^ u64::from(*byte)).wrapping_mul(1_099_511_628_211);
     }
@@ -145,7 +157,7 @@ pub fn tell_lengths(
 /// Tells what an opening answers, and how long both areas are then, if it is another thing than the last one.
 fn tell_change(length: usize, opened: &Opened, last: &mut String, answer: &mut String) -> Told {
     let mut text = opened.text.clone()?;
-    if text.as_str().starts_with("generation ") {
+    if is_node(text.as_str()) {
         let (first, second) = (&opened.disks.first, &opened.disks.second);
         write!(
             text,

@@ -1,6 +1,7 @@
 //! The commands that say what both areas of a journal have, and those that open them.
 
 use crate::areas::{Areas, add_batches};
+use crate::damaging::Damages;
 use crate::migrating::{tell_lengths, tell_opened};
 use crate::nodes::Member;
 use crate::records::bytes_in;
@@ -33,7 +34,7 @@ impl Pair {
     pub fn has(&self, name: &str) -> bool {
         match name {
             "first" | "second" | "batches" => true,
-            "open" | "open-failing" | "open-stopping" | "open-cut" => true,
+            "open" | "open-failing" | "open-stopping" | "open-cut" | "open-changed" => true,
             _ => false,
         }
     }
@@ -78,7 +79,7 @@ impl Pair {
         }
     }
 
-    /// Opens both areas: with no call failing, with each in turn, with stops, or with an area cut to each length.
+    /// Opens both areas: with no call failing, with each in turn, with stops, or with an area cut to each length or changed in each byte.
     fn open(&self, member: &Member, name: &str, words: &str, answer: &mut String) -> Told {
         let (alloc, areas) = (self.alloc, &self.areas);
         match (name, words) {
@@ -87,7 +88,19 @@ impl Pair {
             ("open-stopping", "") => Trial::new(alloc, member, areas)?.tell_stopping(answer),
             ("open-cut", "first") => tell_lengths(alloc, member, areas, false, answer),
             ("open-cut", "second") => tell_lengths(alloc, member, areas, true, answer),
+            ("open-changed", "first") => tell_changed(alloc, member, areas, false, answer),
+            ("open-changed", "second") => tell_changed(alloc, member, areas, true, answer),
             _ => Ok(bad(answer)),
         }
     }
+}
+
+fn tell_changed(
+    alloc: Global,
+    member: &Member,
+    areas: &Areas,
+    is_second: bool,
+    answer: &mut String,
+) -> Told {
+    Damages::new(alloc, member, areas, is_second)?.tell_all(answer)
 }

@@ -1,0 +1,115 @@
+//! Openings of a node on two areas of which one byte is changed, and how often each answer came.
+
+use crate::areas::Areas;
+use crate::disks::Disks;
+use crate::migrating::{NO_SUM, Opened, is_node, reopened, sum_after};
+use crate::nodes::Member;
+use std::alloc::{AllocError, Global};
+use test_cases::Told;
+
+/// An answer without a node, and how often it came.
+#[derive(Drop)]
+struct Refused {
+    text: String,
+    times: u64,
+}
+
+/// Areas of which one byte after the other is changed, and how often their openings were answered what.
+#[derive(Drop)]
+pub struct Damages<'a> {
+    alloc: Global,
+    member: &'a Member,
+    areas: &'a Areas,
+    is_second: bool,
+    /// What is found without a change, and how often the same was found with one.
+    unchanged: String,
+    same: u64,
+    /// How often another node was found, and the sum over what was told of them.
+    other: u64,
+    sum: u64,
+    refused: Vec<Refused>,
+}
+
+impl<'a> Damages<'a> {
+    /// Those of one of these areas.
+    pub fn new(
+        alloc: Global,
+        member: &'a Member,
+        areas: &'a Areas,
+        is_second: bool,
+    ) -> Result<Damages<'a>, AllocError> {
+        let unchanged = found(alloc, member, areas)?;
+        Ok(Damages {
+            alloc,
+            member,
+            areas,
+            is_second,
+            unchanged,
+            same: 0,
+            other: 0,
+            sum: NO_SUM,
+            refused: Vec::new(alloc),
+        })
+    }
+
+    /// Changes each byte of the area to each other value, and tells how often each answer came.
+    pub fn tell_all(&mut self, answer: &mut String) -> Told {
+        for place in 0..self.areas.of_area(self.is_second).len() {
+            self.change(place)?;
+        }
+        self.tell(answer)
+    }
+
+    fn change(&mut self, place: usize) -> Told {
+        for more in 1..=u8::MAX {
+            self.open(place, more)?;
+        }
+        Ok(())
+    }
+
+    fn open(&mut self, place: usize, more: u8) -> Told {
+        let areas = self.areas.changed(self.alloc, self.is_second, place, more)?;
+        let text = found(self.alloc, self.member, &areas)?;
+        self.count(text.as_str())
+    }
+
+    fn count(&mut self, text: &str) -> Told {
+        if text == self.unchanged.as_str() {
+            self.same = self.same.saturating_add(1);
+            return Ok(());
+        }
+        if is_node(text) {
+            self.other = self.other.saturating_add(1);
+            self.sum = sum_after(self.sum, text.as_bytes());
+            return Ok(());
+        }
+        add_refused(self.alloc, &mut self.refused, text)
+    }
+
+    fn tell(&self, answer: &mut String) -> Told {
+        writeln!(answer, "{} the same", self.same)?;
+        writeln!(answer, "{} another node, sum {}", self.other, self.sum)?;
+        for Refused { text, times } in &self.refused {
+            writeln!(answer, "{times} {text}")?;
+        }
+        Ok(())
+    }
+}
+
+/// What an opening of these areas finds, or why it finds nothing.
+fn found(alloc: Global, member: &Member, areas: &Areas) -> Result<String, AllocError> {
+    let Opened { text, disks: _ } = reopened(alloc, member, Disks::of(alloc, areas)?)?;
+    Ok(text)
+}
+
+fn add_refused(alloc: Global, refused: &mut Vec<Refused>, text: &str) -> Told {
+    for one in refused.iter_mut() {
+        if one.text.as_str() == text {
+            one.times = one.times.saturating_add(1);
+            return Ok(());
+        }
+    }
+    let text = String::from_str(alloc, text)?;
+    refused.push(Refused { text, times: 1 })?;
+    Ok(())
+}
