@@ -9,6 +9,7 @@ is taken from oracles/histories.py, and the records of a checkpoint from oracles
 it was taken of: a node that opens on one answers as after that history. The cases are for `test_disk`. With --check no case is written:
 each script of these case files is played, and what the file expects of it is compared.
 """
+import copy
 import random
 import re
 import sys
@@ -773,6 +774,135 @@ def fails_in_turn(title, rows, kind):
         yield '%s: %s %d fails' % (title, kind, count), script
 
 
+# ---- scripts of which each device call fails in turn, and that stop before each and after each
+
+EVENTS = ('batch', 'ack', 'header', 'vote', 'cert', 'coin')
+# What is asked of a node for which a call failed, and what it answers.
+WHILE_DOWN = {'collect': 'out none', 'flush': 'fault 4 Down', 'checkpoint': 'fault 4 Down', 'order': 'refused 2 Down'}
+AFTER_STOP = ['order', 'flush', 'collect', 'round']
+# So many of the last events are given again after a stop.
+GIVEN_AGAIN = 3
+TORN_IN = {'flush': ['stop body'] + ['stop gate ' + byte for byte in ('00', '01', '37', 'ff')],
+           'checkpoint': ['stop checkpoint ' + byte for byte in ('00', '01', '37', 'ff')]}
+
+
+class Interrupted:
+    """A script up to some row, and one more row that comes to nothing or to its end, before the machine stops."""
+
+    def __init__(self, before, rows, *more):
+        self.script, self.rows = copy.deepcopy(before), list(rows)
+        node = self.script.node
+        self.known, self.settled = node.base + node.accepted, len(node.base) + node.settled
+        self.in_flight = {'flush': len(node.next_group()), 'checkpoint': len(node.accepted) - node.settled}
+        self.sent = 0
+        for row in more:
+            self.put(row)
+
+    def put(self, row):
+        """The answer to a row. None follows after the script's end."""
+        if self.script.status:
+            return None
+        self.rows.append(row)
+        words, count = row.split(), len(self.script.lines)
+        act = {'stop body': 'flush', 'stop gate': 'flush', 'stop checkpoint': 'checkpoint'}.get(' '.join(words[:2]), words[0])
+        if act in self.in_flight and not self.script.node.is_down:
+            self.sent = self.in_flight[act]
+        try:
+            self.script.carry_out(row.encode())
+        except Ending as ending:
+            self.script.status = ending.status
+            self.script.lines += [ending.line]
+        if words[0] == 'stop' and not self.script.status:
+            self.stands()
+        return self.script.lines[-1] if len(self.script.lines) > count else None
+
+    def stands(self):
+        """After a stop the node is at all that was settled, and then at no more than was in flight."""
+        base = self.script.node.base
+        assert base == self.known[:len(base)] and self.settled <= len(base) <= self.settled + self.sent, self.rows
+
+    def is_down(self):
+        """A call failed that no stop came after: nothing goes out, and nothing is taken."""
+        event = self.events()[-1]
+        for row, answer in {**WHILE_DOWN, event: 'refused 2 Down'}.items():
+            assert self.put(row) == answer, (row, self.rows)
+
+    def events(self):
+        return list(dict.fromkeys(row for row in self.rows if row.split()[0] in EVENTS))
+
+    def ask(self):
+        for row in self.events()[-GIVEN_AGAIN:] + AFTER_STOP:
+            self.put(row)
+
+
+class Turns:
+    """The scripts that come of one: its title, its rows, and for the rows of which each call fails in turn whether they are."""
+
+    def __init__(self, title, rows, is_tried=lambda place: True):
+        self.title, self.rows, self.is_tried, self.counts = title, rows, is_tried, dict.fromkeys(KINDS, 0)
+
+    def scripts(self):
+        script, before = Script(b''), []
+        for place, row in enumerate(self.rows):
+            if row.split()[0] in ('flush', 'checkpoint', 'stop') and self.is_tried(place):
+                for kind in KINDS:
+                    yield from self.failing(script, before, row, kind)
+                yield from self.stopping(script, before, row)
+            script.carry_out(row.encode())
+            before.append(row)
+
+    def failing(self, script, before, row, kind):
+        """Each call of a kind that a row makes fails in turn. At last none does, so that a call fails that comes later, if one does."""
+        for count in range(1, 100):
+            one = Interrupted(script, before, 'fail %s %d' % (kind, count), row)
+            title = '%s: %s %d of row %d fails' % (self.title, kind, count, len(before) + 1)
+            if one.script.machine.told[kind]:
+                one.put('stop lose')
+                one.ask()
+                yield title.replace('fails', 'is none'), one
+                return
+            self.counts[kind] += 1
+            if one.script.status:
+                assert one.script.lines[-1] == 'fault 2 Device'
+                yield title, one
+            elif row.startswith('stop'):
+                one.ask()
+                yield title, one
+            else:
+                assert one.script.lines[-1] == 'fault 2 Device'
+                for outcome in ('lose', 'keep'):
+                    left = Interrupted(one.script, one.rows)
+                    left.known, left.settled, left.sent = one.known, one.settled, one.sent
+                    left.is_down()
+                    left.put('stop ' + outcome)
+                    left.ask()
+                    yield '%s, and a stop may %s what it did' % (title, outcome), left
+
+    def stopping(self, script, before, row):
+        """The machine stops after a row, or inside it."""
+        for rows in [[row, 'stop lose'], [row, 'stop keep']] + [[torn] for torn in TORN_IN.get(row, [])]:
+            one = Interrupted(script, before, *rows)
+            one.ask()
+            yield '%s: %s after row %d' % (self.title, ', '.join(rows), len(before)), one
+
+
+def turned():
+    """The worked scripts of which each call fails in turn: of the long one at three of its events alone."""
+    forms, events = late_rounds()
+    late = ['set depth 2'] + forms + after_each(events + ['flush', 'order'], 'checkpoint', 'stop lose')
+    chosen = [late.index(event) for event in ('cert c10 0,1,2', 'coin 2 0', 'coin 3 3')]
+    return [
+        Turns('a vote', VOTED + ['collect', 'flush', 'collect', 'collect']),
+        Turns('a certificate', ['form h0 0 1 g0,g1,g2 -', 'header h0', 'vote h0 1', 'vote h0 1', 'vote h0 2', 'flush', 'collect', 'collect',
+                                'vote h0 3', 'collect', 'collect']),
+        Turns('a vote settled by a checkpoint', VOTED + ['checkpoint', 'collect', 'stop lose', 'header h1']),
+        Turns('a checkpoint with an open gate', VOTED + ['stop checkpoint 37', 'header h1']),
+        Turns('a checkpoint with a closed gate', VOTED + ['stop checkpoint 00', 'header h1']),
+        Turns('a migrated journal', ['set version 1'] + VOTED + ['flush', 'stop keep', 'header h1', 'checkpoint']),
+        Turns('late certificates', late, lambda place: any(place - event in (1, 2) for event in chosen)),
+    ]
+
+
 # ---- scripts that are drawn
 
 SETTINGS = [[], [], ['set version 1'], ['set version 1', 'set depth 2'], ['set depth 2'], ['set stakes 3,1,1,1'],
@@ -895,8 +1025,8 @@ class Cases:
     def __init__(self):
         self.count, self.statuses, self.words = 0, {}, {}
 
-    def put(self, title, rows, expected=None):
-        script = Script(text_of(rows))
+    def put(self, title, rows, expected=None, script=None):
+        script = script or Script(text_of(rows))
         assert expected is None or (script.lines == expected and not script.status), (title, script.lines)
         self.count += 1
         self.statuses[script.status] = self.statuses.get(script.status, 0) + 1
@@ -917,9 +1047,20 @@ def write_cases():
         cases.put(title, rows, expected)
     for title, rows in list(shapes()) + list(counted()):
         cases.put(title, rows)
+    write_turns(cases)
     for start in range(1, DRAWN + 1):
         cases.put('drawn from %d' % start, Drawn(start).rows)
     return cases
+
+
+def write_turns(cases):
+    for turns in turned():
+        count = cases.count
+        for title, one in turns.scripts():
+            cases.put(title, one.rows, script=one.script)
+        failed = ', '.join('%s %d' % one for one in turns.counts.items())
+        print('\n# %s: %d scripts, calls that failed: %s' % (turns.title, cases.count - count, failed))
+        print('%s: %d scripts, calls that failed: %s' % (turns.title, cases.count - count, failed), file=sys.stderr)
 
 
 def main():
