@@ -3,15 +3,22 @@
 
     oracles/scripts.py > CASES
     oracles/scripts.py --check FILE ..
+    oracles/scripts.py --allocations PROGRAM LIBRARY
 
 The language of scripts is that of docs/SIMULATOR.md, the bytes and the device calls those of docs/FORMATS.md. What events are answered
 is taken from oracles/histories.py, and the records of a checkpoint from oracles/checkpoints.py. A checkpoint stands for the history that
 it was taken of: a node that opens on one answers as after that history. The cases are for `test_disk`. With --check no case is written:
-each script of these case files is played, and what the file expects of it is compared.
+each script of these case files is played, and what the file expects of it is compared. With --allocations the program is run on scripts in
+which each command that may be refused memory stands twice, with one allocation after the other failing, by the library that
+`scripts/every-allocation` makes: a command that memory is refused to has to leave everything as it was, and the next one to be answered as
+the first one would have been. Where memory is refused to a disk in memory, one of its calls has failed.
 """
 import copy
+import functools
+import os
 import random
 import re
+import subprocess
 import sys
 
 sys.dont_write_bytecode = True
@@ -418,6 +425,16 @@ class Script:
                 self.errors += ['line %d: bad command' % place] if ending.status == 2 else []
                 return
 
+    def go_on(self, row):
+        """Carries out a row, unless the script has ended."""
+        if self.status:
+            return
+        try:
+            self.carry_out(row.encode())
+        except Ending as ending:
+            self.status = ending.status
+            self.lines += [ending.line] if ending.line else []
+
     def carry_out(self, row):
         try:
             words = row.decode().split(' ')
@@ -807,11 +824,7 @@ class Interrupted:
         act = {'stop body': 'flush', 'stop gate': 'flush', 'stop checkpoint': 'checkpoint'}.get(' '.join(words[:2]), words[0])
         if act in self.in_flight and not self.script.node.is_down:
             self.sent = self.in_flight[act]
-        try:
-            self.script.carry_out(row.encode())
-        except Ending as ending:
-            self.script.status = ending.status
-            self.script.lines += [ending.line]
+        self.script.go_on(row)
         if words[0] == 'stop' and not self.script.status:
             self.stands()
         return self.script.lines[-1] if len(self.script.lines) > count else None
@@ -901,6 +914,114 @@ def turned():
         Turns('a migrated journal', ['set version 1'] + VOTED + ['flush', 'stop keep', 'header h1', 'checkpoint']),
         Turns('late certificates', late, lambda place: any(place - event in (1, 2) for event in chosen)),
     ]
+
+
+# ---- allocations that fail
+
+WORKED = os.path.join(os.path.dirname(os.path.abspath(__file__)), '..', 'crates', 'test_disk', 'data', 'sim_run.cases')
+OF_EACH_EVENT = ['an own header, and the votes that make its certificate', 'coins that come early, that differ, and out of turn',
+                 'a leader that a late certificate supports', 'a leader that a later one reaches', 'a leader that no later one reaches',
+                 'a depth of two rounds, and what is below the floor', 'own headers, and the batches that they name']
+MEMORY = re.compile('(unread|unchecked|refused|fault) 1 Memory')
+# What comes after each script: a checkpoint, an opening of it, and a group and a checkpoint after that.
+MORE = ['checkpoint', 'stop lose', 'batch b9', 'header h9', 'flush', 'collect', 'checkpoint', 'collect', 'order', 'stop keep', 'order']
+
+
+class Refused:
+    """A script of which one allocation after the other fails, and how often that came to what."""
+
+    def __init__(self, rows):
+        opening = next(place for place, row in enumerate(rows) if not row.startswith('set '))
+        rows = rows[:opening] + ['pack b9 3 0 6162', 'form h9 3 1 g0,g1,g3 b9'] + rows[opening:] + MORE
+        self.rows = [row for row in rows for _ in range(2 if row.split()[0] in EVENTS + ('flush', 'checkpoint', 'collect') else 1)]
+        self.answers, self.ends = self.answers_without(None), {}
+        # The row that each line answers.
+        self.answering = [place for place, answer in enumerate(self.answers) if answer is not None]
+
+    @functools.cache
+    def answers_without(self, left_out):
+        """What each row is answered, where one has no effect and no line."""
+        script, answers = Script(b''), []
+        for place, row in enumerate(self.rows):
+            count = len(script.lines)
+            if place != left_out:
+                script.carry_out(row.encode())
+            answers.append(script.lines[-1] if len(script.lines) > count else None)
+        return answers
+
+    def lines_where(self, place, answer):
+        """The lines where memory is refused to a row, which answers that."""
+        answers = list(self.answers_without(place))
+        answers[place] = answer
+        return [one for one in answers if one is not None]
+
+    @functools.cache
+    def ends_where_a_disk_fails(self, place):
+        """How the script may end where one of the device calls of a row fails, since memory is refused to a disk in memory."""
+        return {(script.status, tuple(script.lines)) for kind in KINDS for script in self.failing(place, kind)}
+
+    def failing(self, place, kind):
+        for count in range(1, 100):
+            script = Script(b'')
+            for row in self.rows[:place] + ['fail %s %d' % (kind, count), self.rows[place]]:
+                script.go_on(row)
+            if script.machine.told[kind]:
+                return
+            for row in self.rows[place + 1:]:
+                script.go_on(row)
+            yield script
+
+    def may_fail(self, status, lines, alike):
+        """Whether a device call failed, of the row of this line, or of the first opening."""
+        if lines[alike:alike + 1] != ['fault 2 Device']:
+            return False
+        return (status, lines) == (4, ['fault 2 Device']) or (status, tuple(lines)) in self.ends_where_a_disk_fails(self.answering[alike])
+
+    def take(self, status, lines):
+        """Whether a run may end so, and what it came to."""
+        whole = [self.answers[place] for place in self.answering]
+        alike = next((count for count, pair in enumerate(zip(lines, whole)) if pair[0] != pair[1]), min(len(lines), len(whole)))
+        end = 'another end'
+        if status == 0 and lines == whole:
+            end = 'nothing was refused'
+        elif status == 3 and alike == len(lines):
+            end = 'status 3'
+        elif status == 4 and lines[alike:] == ['fault 1 Memory']:
+            end = 'status 4'
+        elif self.may_fail(status, lines, alike):
+            end = 'status 4, by a disk' if status else 'a disk failed'
+        elif status == 0 and alike < len(lines) and MEMORY.fullmatch(lines[alike]):
+            place = self.answering[alike]
+            if lines == self.lines_where(place, lines[alike]):
+                end = '%s %s' % (self.rows[place].split()[0], lines[alike])
+        self.ends[end] = self.ends.get(end, 0) + 1
+        return end != 'another end'
+
+
+def run_once(program, library, rows, place):
+    """How a run ends of which the allocation of this place fails, its lines, and how many allocations it made."""
+    settings = {**os.environ, 'LD_PRELOAD': library, 'FAILS_AT': str(place)}
+    ran = subprocess.run([program], input=text_of(rows), env=settings, stdout=subprocess.PIPE, stderr=subprocess.PIPE)
+    return ran.returncode, ran.stdout.decode().split('\n')[:-1], int(ran.stderr.split()[-1])
+
+
+def refuse_each(program, library):
+    scripts = {title: [row[2:] for row, _ in commands if row.startswith('| ')] for title, commands in cases_of(WORKED)}
+    ends, total = {}, 0
+    for title in OF_EACH_EVENT:
+        refused = Refused(scripts[title])
+        status, lines, count = run_once(program, library, refused.rows, 0)
+        assert refused.take(status, lines), (title, status, lines)
+        refused.ends, total = {}, total + count
+        for place in range(1, count + 1):
+            status, lines, _ = run_once(program, library, refused.rows, place)
+            if not refused.take(status, lines):
+                print('%s: allocation %d: status %d, and the last of %d lines: %s' % (title, place, status, len(lines), '; '.join(lines[-3:])))
+        print('%s: %d allocations' % (title, count), flush=True)
+        ends = {end: ends.get(end, 0) + refused.ends.get(end, 0) for end in {**ends, **refused.ends}}
+    print('\n'.join('%d %s' % (count, end) for end, count in sorted(ends.items())))
+    print('%d allocations, %d ended otherwise' % (total, ends.get('another end', 0)))
+    return 1 if ends.get('another end') or not any(MEMORY.search(end) for end in ends) else 0
 
 
 # ---- scripts that are drawn
@@ -1066,6 +1187,8 @@ def write_turns(cases):
 def main():
     if sys.argv[1:2] == ['--check']:
         sys.exit(check_all(sys.argv[2:]))
+    if sys.argv[1:2] == ['--allocations']:
+        sys.exit(refuse_each(*sys.argv[2:]))
     cases = write_cases()
     print('%d scripts, by status %s; %s' % (cases.count, cases.statuses, cases.words), file=sys.stderr)
 
