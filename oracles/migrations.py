@@ -171,6 +171,18 @@ class Cases:
         for name, file in zip(NAMES, self.opening().after):
             print("> %s %d" % (name, len(file)) + (" : " + file.hex() if len(file) <= MANY else ", sum %d" % sum_of(file)))
 
+    def open_alone(self):
+        """Opens a journal on the first disk alone."""
+        file = self.files[0]
+        told, left, _ = recoveries.Setting().open(file)
+        if told.startswith("opened"):
+            node = recoveries.Setting().read(recoveries.walk(file)[0])
+            held = node.headers.get((1, 1))
+            vote = "none" if held is None else held.digest.hex()
+            told = "generation 0, vote %s, round %d, order %d" % (vote, node.round(), len(node.order()))
+        print("open-alone\n> " + told)
+        print("> alone %d" % len(left) + (" : " + left.hex() if len(left) <= MANY else ", sum %d" % sum_of(left)))
+
     def moments(self):
         """Each call of the opening, and then its end, with the disks before it."""
         disks = [Disk(file) for file in self.files]
@@ -346,12 +358,12 @@ HEAD = """# crates: opening
 # each call of the opening and after the last one, and keeps what isn't synced, loses it, or has one byte in its place; how many
 # openings find the same after that. open-cut: from which length of an area on an opening finds what. open-changed: each byte of an
 # area is changed to each other value; how many openings find the same, how many another node, with a sum over what is told of these,
-# and how many answer what else."""
+# and how many answer what else. open-alone: as open, of the first area as a journal on one disk."""
 
 
 HEAD_OF_MEMORY = """# crates: checkpoint validator opening
 # Calls that are played with each allocation failing in turn: a validator that is loaded from records of every kind, and openings of
-# two areas. An opening that memory is refused to, or a disk in memory, is made again, on what the disks then have. See loaded.cases
+# two areas, and of one. An opening that memory is refused to, or a disk in memory, is made again, on what the disks then have. See loaded.cases
 # and migrations.cases for the commands. `oracles/migrations.py --memory` writes these cases, `every-allocation` plays them."""
 
 
@@ -366,6 +378,9 @@ def memory():
     cases.open()
     cases.set(b"", b"")
     cases.open()
+    for file in (recoveries.FORTY, recoveries.OLD_FORTY, b"", NEW + b"\1\2\3"):
+        cases.set(file, b"")
+        cases.open_alone()
 
 
 def main(words):

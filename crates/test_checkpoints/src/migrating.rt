@@ -8,7 +8,7 @@ use crate::disks::Disks;
 use crate::nodes::Member;
 use diskmodel::MemDisk;
 use journal::{Failed, Journal, JournalError};
-use opening::reopen_pair;
+use opening::{reopen, reopen_pair};
 use sigface::HashSign;
 use std::alloc::{AllocError, Global};
 use test_cases::{Told, write_hex};
@@ -110,6 +110,51 @@ fn opened_again(alloc: Global, member: &Member, disks: Disks) -> Result<Opened, 
         return Ok(first);
     }
     reopened(alloc, member, first.disks)
+}
+
+/// Opens a disk with these bytes alone, and tells what is found and the bytes that it then has.
+pub fn tell_opened_alone(
+    alloc: Global,
+    member: &Member,
+    bytes: &[u8],
+    answer: &mut String,
+) -> Told {
+    let (text, disk) = opened_alone_again(alloc, member, bytes)?;
+    writeln!(answer, "{text}")?;
+    tell_area("alone", disk.bytes(), answer)
+}
+
+/// The same as for both disks.
+fn opened_alone_again(
+    alloc: Global,
+    member: &Member,
+    bytes: &[u8],
+) -> Result<(String, MemDisk), AllocError> {
+    let disk = MemDisk::new(alloc, bytes.to_vec(alloc)?)?;
+    let (text, disk) = reopened_alone(alloc, member, disk)?;
+    if text.as_str() != MEMORY && text.as_str() != DEVICE {
+        return Ok((text, disk));
+    }
+    reopened_alone(alloc, member, disk)
+}
+
+/// Opens a disk alone: the answer, and the disk after it.
+fn reopened_alone(
+    alloc: Global,
+    member: &Member,
+    disk: MemDisk,
+) -> Result<(String, MemDisk), AllocError> {
+    let mut text = String::new(alloc);
+    match reopen(alloc, &member.config, disk) {
+        Ok((validator, journal)) => {
+            tell_found(&validator, journal.generation(), &mut text)?;
+            Ok((text, journal.into_disk()))
+        }
+        Err(Failed { error, disk }) => {
+            tell_error(error, &mut text)?;
+            Ok((text, disk))
+        }
+    }
 }
 
 fn tell_area(name: &str, bytes: &[u8], answer: &mut String) -> Told {

@@ -2,7 +2,7 @@
 
 use crate::areas::{Areas, add_batches};
 use crate::damaging::Damages;
-use crate::migrating::{tell_lengths, tell_opened};
+use crate::migrating::{tell_lengths, tell_opened, tell_opened_alone};
 use crate::nodes::Member;
 use crate::records::bytes_in;
 use crate::stopping::Trial;
@@ -35,6 +35,7 @@ impl Pair {
         match name {
             "first" | "second" | "batches" => true,
             "open" | "open-failing" | "open-stopping" | "open-cut" | "open-changed" => true,
+            "open-alone" => true,
             _ => false,
         }
     }
@@ -84,6 +85,7 @@ impl Pair {
         let (alloc, areas) = (self.alloc, &self.areas);
         match (name, words) {
             ("open", "") => tell_opened(alloc, member, areas, answer),
+            ("open-alone", "") => tell_opened_alone(alloc, member, &areas.first, answer),
             ("open-failing", "") => Trial::new(alloc, member, areas)?.tell_failing(answer),
             ("open-stopping", "") => Trial::new(alloc, member, areas)?.tell_stopping(answer),
             ("open-cut", "first") => tell_lengths(alloc, member, areas, false, answer),
