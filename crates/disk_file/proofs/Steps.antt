@@ -1,18 +1,23 @@
 -- What one call more makes of the record of a file.
-use Rattle.std.proofs.Common.{◌≡◌, ℕ, ◌+◌, ◌≤◌, max, List, [], ◌∷◌, ◌++◌, length, take, refl, sym, ap, subst, ◌∙◌, inl, arith, rules, length-take}
-use Rattle.std.specs.Prelude.{Result, Ok, Err, OnOk}
+use Rattle.std.proofs.Common.{◌≡◌, ℕ, ◌+◌, ◌-◌, ◌<◌, ◌≤◌, min, max, List, [], ◌∷◌, ◌++◌, length, take, refl, sym, ap, subst, ◌∙◌, inl, inr, arith, rules, append_assoc, length-append, length-take}
+use Rattle.std.proofs.lemmas.Bool.{cases_lt}
+use Rattle.std.proofs.lemmas.List.{length-take-le, take_all, take-append-le, take-take}
+use Rattle.std.specs.Prelude.{◌⊎◌, Option, Some, None, Result, Ok, Err, IfSome, OnOk}
+use Rattle.std.specs.Option.{option_map, option_map_or}
+use Rattle.std.proofs.lemmas.Option.{none-some}
+use Rattle.std.proofs.lemmas.List.Elements.{All-append}
 use Rattle.diskmodel.specs.declared.call.Call.{Call}
 use Rattle.diskmodel.specs.declared.call.Call.TheVariants.{Wrote, Cut, Synced}
 use Rattle.diskmodel.specs.declared.call.Span.{Span}
 use Rattle.diskmodel.specs.Disk.{written, IsTorn, IsCut, ComesBy, NoneNew, LeavesOnly}
 use Rattle.diskmodel.specs.Outcomes.{State, AreBytes, IsOutcome, state}
 use Rattle.diskmodel.specs.Kept.{Keeps}
-use Rattle.diskmodel.proofs.Calls.{firm_only}
+use Rattle.diskmodel.proofs.Calls.{firm_only, possible_firm}
 use Rattle.diskmodel.proofs.Kept.{state-push, state_possible, state_in_firm, state_firm_bytes, kept_write, kept_cut, kept_sync}
 use Rattle.diskmodel.proofs.Torn.{length-written}
 use Rattle.diskmodel.proofs.Moments.{outcomes_write, outcomes_cut, outcomes_sync, firm_sync}
 use Rattle.disk_file.specs.declared.story.TapeView.{TapeView}
-use Rattle.disk_file.specs.Stories.{begun, Adds, SameCalls, held, MayLeave, IsSound}
+use Rattle.disk_file.specs.Stories.{begun, with_more, Adds, GoesOnFor, SameCalls, held, MayLeave, IsSound}
 
 -- a list of calls on a file that began with these bytes is sound
 abbrev Sound : List ℕ → List Call → Type 0
@@ -110,3 +115,89 @@ module _ (old new : TapeView) (sound : IsSound old) (more : Longer Synced old ne
   sync_firm =
       subst (λ (first : List ℕ). LeavesOnly (held old) (IsOutcome first new.calls)) (sym more.first)
       (firm_sync _ _ _ _ _ _ _ sound new.calls more.calls)
+
+-- ---- the front that is kept
+
+-- a cut leaves of a kept front what it leaves of the file
+cut_front : (len : ℕ) (kept held : List ℕ) → kept ≡ take (length kept) held → take len kept ≡ take (length (take len kept)) (take len held)
+cut_front len kept held is = by (cases_lt (length kept) len)
+  where
+    by : (length kept < len) ⊎ (len ≤ length kept) → take len kept ≡ take (length (take len kept)) (take len held)
+    by (inr less) =
+        ap (take len) is ∙ take-take len (length kept) held less ∙ sym (take-take len len held (omega arith))
+        ∙ ap (λ n. take n (take len held)) (sym (length-take-le len kept less))
+    by (inl more) =
+        let le : length kept ≤ len = omega (arith, more) in
+        let whole : take len kept ≡ kept = take_all len kept le in
+        whole ∙ is ∙ sym (take-take (length kept) len held le) ∙ ap (λ (l : List ℕ). take (length l) (take len held)) (sym whole)
+
+module _ {V : Type 0} (items : V → List ℕ) (len : ℕ) (held cut : List ℕ) (cut_is : cut ≡ take len held) where
+  same_front : (old new : V) → Some (items new) ≡ Some (take len (items old)) → items new ≡ take len (items old)
+  same_front old new is = ap (λ (o : Option (List ℕ)). option_map_or (λ (l : List ℕ). l) o []) is
+
+  -- what is kept of a file that was cut is its front again
+  pub cut_mirrors : (old new : Option V) → option_map items new ≡ option_map (take len) (option_map items old) → IfSome old (λ bytes. items bytes ≡ take (length (items bytes)) held)
+      → IfSome new (λ bytes. items bytes ≡ take (length (items bytes)) cut)
+  cut_mirrors old None is mirrors = tt
+  cut_mirrors None (Some new) is mirrors = absurd (none-some (items new) (sym is))
+  cut_mirrors (Some old) (Some new) is mirrors =
+      let same = same_front old new is in
+      same ∙ cut_front len (items old) held mirrors ∙ ap (λ (l : List ℕ). take (length l) (take len held)) (sym same) ∙ ap (take (length (items new))) (sym cut_is)
+
+-- ---- what a file was found to go on with
+
+longer_twice : (rest piece : List ℕ) (old mid new : TapeView) → mid ≡ with_more rest old → new ≡ with_more piece mid → new ≡ with_more (rest ++ piece) old
+longer_twice rest piece old mid new first second =
+    second ∙ ap (with_more piece) first ∙ ap (λ (l : List ℕ). record old { first = l }) (append_assoc old.first rest piece)
+
+-- it goes on for so many bytes, and then for so many more
+pub goes_on_twice : (one other both : ℕ) (old mid new : TapeView) → GoesOnFor one old mid → GoesOnFor other mid new → both ≡ one + other → GoesOnFor both old new
+goes_on_twice one other both old mid new first second sum = record {
+  bytes = first.bytes ++ second.bytes;
+  is = longer_twice first.bytes second.bytes old mid new first.is second.is;
+  are_bytes = All-append (λ number. number < 256) first.bytes second.bytes first.are_bytes second.are_bytes;
+  long = let parts = length-append first.bytes second.bytes in let a = first.long in let b = second.long in omega (arith, parts, a, b, sum);
+}
+
+-- ---- a file that is opened by its front
+
+sound_begun : (bytes : List ℕ) → AreBytes bytes → IsSound (begun bytes)
+sound_begun bytes are_bytes = record {
+  firm_is = refl;
+  smallest_is = refl;
+  greatest_is = refl;
+  spans_are = refl;
+  content_is = refl;
+  in_firm = omega arith;
+  firm_fits = omega arith;
+  firm_bytes = are_bytes;
+  possible = possible_firm bytes are_bytes;
+}
+
+-- its record begins with the front and goes on to its length
+module _ (front : List ℕ) (from len : ℕ) (before tape : TapeView) (begins : before ≡ begun front) (is_from : from ≡ length front) (within : length front ≤ len)
+    (goes_on : GoesOnFor (len - from) before tape)
+  where
+    more : GoesOnFor (len - length front) (begun front) tape
+    more = subst (λ (n : ℕ). GoesOnFor (len - n) (begun front) tape) is_from (subst (λ (story : TapeView). GoesOnFor (len - from) story tape) begins goes_on)
+
+    front_held : held tape ≡ front ++ more.bytes
+    front_held = ap held more.is
+
+    pub front_sound : AreBytes before.first → IsSound tape
+    front_sound are_bytes =
+        let front_bytes : AreBytes front = subst (λ (story : TapeView). AreBytes story.first) begins are_bytes in
+        subst IsSound (sym more.is) (sound_begun (front ++ more.bytes) (All-append (λ number. number < 256) front more.bytes front_bytes more.are_bytes))
+
+    pub front_length : len ≡ length (held tape)
+    front_length = let parts = ap length front_held ∙ length-append front more.bytes in let rest = more.long in omega (arith, within, parts, rest)
+
+    pub front_mirrors : front ≡ take (length front) (held tape)
+    front_mirrors = sym (ap (take (length front)) front_held ∙ take-append-le (length front) front more.bytes (omega arith) ∙ take_all (length front) front (omega arith))
+
+    pub front_firm : LeavesOnly (held tape) (MayLeave tape)
+    front_firm = subst (λ (story : TapeView). LeavesOnly (held story) (MayLeave story)) (sym more.is) (firm_begun (front ++ more.bytes))
+
+    pub front_kept : (keep : ℕ) → length front ≤ keep → (length front ≡ keep) ⊎ (length front ≡ len) → length front ≡ min keep (length (held tape))
+    front_kept keep less (inl all) = let whole = front_length in omega (arith, less, within, all, whole)
+    front_kept keep less (inr all) = let whole = front_length in omega (arith, less, within, all, whole)

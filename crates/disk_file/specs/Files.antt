@@ -1,5 +1,6 @@
 -- What clauses see of a disk over a file.
-use Rattle.std.specs.Prelude.{◌≡◌, Bool, true, false, List, ℕ, IsSome, Result, IsErr, OnOk, OnErr}
+use Rattle.std.specs.Prelude.{◌≡◌, ◌≤◌, Bool, true, false, List, ℕ, length, Result, IsErr, OnOk, OnErr}
+use Rattle.std.specs.Option.{option_map_or}
 use Rattle.diskmodel.specs.declared.disk.DiskFault.{DiskFault}
 use Rattle.disk_file.specs.declared.story.TapeView.{TapeView}
 use Rattle.disk_file.specs.declared.disk.FileDisk.{FileDisk}
@@ -21,9 +22,13 @@ CanStopAt disk found = MayLeave disk.tape found
 abbrev pub is_down : FileDisk → Bool
 is_down disk = disk.is_down
 
--- no byte was written since it was opened
+-- how many bytes from the front on can be read: as many as were kept at the opening, until one is written or reading has ended
+abbrev pub readable_in : FileDisk → ℕ
+readable_in disk = option_map_or (λ bytes. length bytes.items) disk.mirror 0
+
+-- all of it can be read
 abbrev pub IsReadable : FileDisk → Type 0
-IsReadable disk = IsSome disk.mirror
+IsReadable disk = length (content_of disk) ≤ readable_in disk
 
 -- once a call has failed each one fails, and no other takes it down
 pub record StaysDown {T : Type 0} (old new : FileDisk) (result : Result T DiskFault) : Type 0 where

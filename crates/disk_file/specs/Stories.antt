@@ -1,7 +1,7 @@
 -- What the record of a file says.
 use Rattle.std.specs.Prelude.{◌≡◌, ℕ, ◌+◌, List, [], ◌∷◌, ◌++◌, length}
 use Rattle.diskmodel.specs.declared.call.Call.{Call}
-use Rattle.diskmodel.specs.Outcomes.{State, state, IsOutcome, IsOutcomeSince}
+use Rattle.diskmodel.specs.Outcomes.{State, AreBytes, state, IsOutcome, IsOutcomeSince}
 use Rattle.diskmodel.specs.Disk.{GoesOn}
 use Rattle.diskmodel.specs.Kept.{Keeps}
 use Rattle.disk_file.specs.declared.story.TapeView.{TapeView}
@@ -9,6 +9,17 @@ use Rattle.disk_file.specs.declared.story.TapeView.{TapeView}
 -- a file that begins with these bytes
 abbrev pub begun : List ℕ → TapeView
 begun bytes = record { first = bytes; calls = []; faults = 0 }
+
+-- before any call the file was found to go on with these bytes
+abbrev pub with_more : List ℕ → TapeView → TapeView
+with_more bytes story = record story { first = story.first ++ bytes }
+
+-- before any call the file was found to go on with so many bytes
+pub record GoesOnFor (count : ℕ) (old new : TapeView) : Type 0 where
+  pub bytes : List ℕ
+  pub is : new ≡ with_more bytes old
+  pub are_bytes : AreBytes bytes
+  pub long : length bytes ≡ count
 
 -- one call more has failed
 abbrev pub failing : TapeView → TapeView

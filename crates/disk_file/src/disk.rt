@@ -1,13 +1,14 @@
 //! The disk.
 
-ghost use Rattle.std.specs.Prelude.{◌≡◌, ◌+◌, ◌^◌, ◌<◌, ◌≤◌, ◌∷◌, ◌++◌, [], ℕ, true, false, length, take, drop, IfOk, IfSome, OnOk, OnErr, Ok, IsOk};
+ghost use Rattle.std.specs.Prelude.{◌≡◌, ◌+◌, ◌^◌, ◌<◌, ◌≤◌, ◌∷◌, ◌++◌, [], ℕ, true, false, length, min, take, drop, IfOk, IfSome, OnOk, OnErr, Ok, IsOk};
 ghost use Rattle.diskmodel.specs.Disk.{written, IsTorn, IsCut, ComesBy, NoneNew, LeavesOnly, HasCause, Makes};
 ghost use Rattle.diskmodel.specs.declared.call.Call.TheVariants.{Wrote, Cut, Synced};
 ghost use Rattle.std.proofs.Props.{props};
+ghost use Rattle.std.specs.Option.{option_map};
 ghost use Rattle.disk_file.specs.Stories.{Adds, SameCalls, begun, failing, IsSound, held, TimePasses};
 
 use crate::error::OpenError;
-use crate::opening::{open_alone, read_all, sync_folder};
+use crate::opening::{open_alone, read_all, read_front, read_on, sync_folder};
 use crate::tape::Tape;
 use diskmodel::{Disk, DiskFault};
 use std::alloc::{AllocError, Global};
@@ -16,11 +17,15 @@ use std::io;
 use std::os::unix::fs::FileExt;
 use std::rt::Files;
 
+/// How much of a file is read at a time that isn't kept, in bytes.
+const WINDOW_BYTES: usize = 1 << 16;
+
 /// A disk over a regular file, which it has alone: no other can open the file as a disk until this one is dropped.
 ///
 /// Once a call has failed each later one fails too: open the file again. The length is kept and never asked for. The bytes are
-/// read when the file is opened, and a read answers from these until the end of reading is told, or the first write, which give up
-/// their memory: from then on a read of one byte or more fails. So no memory grows with what is written.
+/// read when the file is opened, and a read answers from these, or from as many of the first ones as were kept, until the end of
+/// reading is told, or the first write, which give up their memory: from then on a read of one byte or more fails. So no memory
+/// grows with what is written.
 ///
 /// The contracts speak of a record, which no memory holds: the bytes that were read at the opening, and the calls since. What a
 /// read gives and what a stop may leave is what the model of a disk makes of that record. That the real file is so is the
@@ -41,7 +46,7 @@ pub struct FileDisk {
     is_down: bool,
     ghost sound: { IsSound tape },
     ghost length_is: { len ≡ length (held tape) },
-    ghost mirrors: { IfSome mirror (λ bytes. bytes.items ≡ held tape) } by { Prim.hlevel props },
+    ghost mirrors: { IfSome mirror (λ bytes. bytes.items ≡ take (length bytes.items) (held tape)) } by { Prim.hlevel props },
 }
 
 impl Drop for FileDisk {
@@ -57,7 +62,7 @@ impl Drop for FileDisk {
 }
 
 impl FileDisk {
-    ghost use Rattle.disk_file.specs.Files.{story_of, content_of, CanStopAt, is_down, IsReadable, StaysDown};
+    ghost use Rattle.disk_file.specs.Files.{story_of, content_of, CanStopAt, is_down, readable_in, IsReadable, StaysDown};
 
     /// Opens the file at this path for one owner; where there is nothing an empty one is made. The file and its folder are synced
     /// before it is read, so that it is there after a power cut and all that was read is firm.
@@ -80,6 +85,38 @@ impl FileDisk {
         sync_folder(rt, path)?;
         let bytes = read_all(alloc, &file)?;
         Ok(FileDisk::begin(alloc, file, bytes)?)
+    }
+
+    /// The same, but of the bytes that are read only so many of the first ones are kept, or all, if there are no more. A read past them
+    /// fails. It is for a file of which no more than its front is asked for, as the older one of a journal's two: the rest takes no memory.
+    ///
+    /// # Errors
+    /// As `open`.
+    pub fn open_front<R: Files<File = File>>(
+        rt: &R,
+        alloc: Global,
+        path: &str,
+        keep: u64,
+    ) -> Result<FileDisk, OpenError>
+        ensures begun { IfOk result (λ disk. story_of disk ≡ begun (content_of disk)) }
+        ensures firm { IfOk result (λ disk. LeavesOnly (content_of disk) (CanStopAt disk)) }
+        ensures up { IfOk result (λ disk. is_down disk ≡ false) }
+        ensures front { IfOk result (λ disk. readable_in disk ≡ min keep (length (content_of disk))) }
+    {
+        let file = open_alone(rt, path)?;
+        file.sync_all()?;
+        sync_folder(rt, path)?;
+        let (front, len) = read_front(alloc, &file, keep)?;
+        let mut tape = Tape::new(alloc, &front)?;
+        let mut window = vec![in alloc; 0; WINDOW_BYTES]?;
+        read_on(&file, &mut tape, &mut window, front.len() as u64, len)?;
+        Ok(FileDisk {
+            file,
+            tape,
+            len,
+            mirror: Some(front),
+            is_down: false,
+        })
     }
 
     /// The disk over a synced file that holds these bytes.
@@ -141,7 +178,7 @@ impl FileDisk {
 impl Disk for FileDisk {
     ghost use Rattle.diskmodel.specs.Outcomes.{IsOutcome, IsOutcomeSince, counts_last, only_last};
     ghost use Rattle.disk_file.specs.Stories.{held, MayLeave};
-    ghost use Rattle.disk_file.specs.Files.{story_of, content_of, CanStopAt, is_down, IsReadable, StaysDown};
+    ghost use Rattle.disk_file.specs.Files.{story_of, content_of, CanStopAt, is_down, readable_in, IsReadable, StaysDown};
 
     ghost device = { record {
       content = λ disk. held disk.tape;
@@ -184,21 +221,24 @@ impl Disk for FileDisk {
         ensures cause { HasCause (story_of self.old).faults (story_of self.new).faults result }
         ensures calls { (story_of self.new).calls ≡ (story_of self.old).calls }
 
-        // It fails only behind another failure, or where a byte was written, or reading has ended.
+        // It fails only behind another failure, or where a byte was written, reading has ended, or not all of these bytes were kept.
         ensures down { StaysDown self.old self.new result }
         ensures succeeds { is_down self.old ≡ false → IsReadable self.old → IsOk result }
+        ensures front { is_down self.old ≡ false → at + length buffer.old ≤ readable_in self.old → IsOk result }
         ensures unchanged { OnOk result (self.new ≡ self.old) }
     {
         self.fail_if_down()?;
         if buffer.is_empty() {
             return Ok(());
         }
-        let Some(bytes) = &self.mirror else {
-            return Err(self.fault());
-        };
         let at = at as usize;
-        buffer.copy_from_slice(&bytes[at..at + buffer.len()]);
-        Ok(())
+        match &self.mirror {
+            Some(bytes) if at + buffer.len() <= bytes.len() => {
+                buffer.copy_from_slice(&bytes[at..at + buffer.len()]);
+                Ok(())
+            }
+            _ => Err(self.fault()),
+        }
     }
 
     fn write_at(&mut self, at: u64, bytes: &[u8]) -> Result<(), DiskFault>
@@ -239,9 +279,7 @@ impl Disk for FileDisk {
         ensures readable { IsReadable self.old → IsReadable self.new }
     {
         self.fail_if_down()?;
-        if let Some(bytes) = &mut self.mirror {
-            bytes.truncate(len as usize);
-        }
+        cut_kept(&mut self.mirror, len);
         self.len = len;
         self.tape.cut(len);
         let outcome = self.file.set_len(len);
@@ -274,5 +312,14 @@ impl Disk for FileDisk {
         ensures down { is_down self.new ≡ is_down self.old }
     {
         self.mirror = None;
+    }
+}
+
+// Keeps of the bytes that were read no more than these.
+fn cut_kept(kept: &mut Option<Vec<u8>>, len: u64)
+    ensures { option_map (λ bytes. bytes.items) kept.new ≡ option_map (take len) (option_map (λ bytes. bytes.items) kept.old) }
+{
+    if let Some(bytes) = kept {
+        bytes.truncate(len as usize);
     }
 }

@@ -1,6 +1,10 @@
 //! How a file is opened.
 
+ghost use Rattle.std.specs.Prelude.{◌≡◌, ◌-◌, ◌<◌, ◌≤◌, ◌⊎◌, length, IfOk, OnOk};
+ghost use Rattle.disk_file.specs.Stories.{GoesOnFor};
+
 use crate::error::OpenError;
+use crate::tape::Tape;
 use std::alloc::Global;
 use std::fs::{self, File, Metadata, OpenOptions, TryLockError};
 use std::io::{self, ErrorKind};
@@ -69,4 +73,54 @@ pub(crate) fn read_all(alloc: Global, file: &File) -> Result<Vec<u8>, OpenError>
     let mut bytes = vec![in alloc; 0; len]?;
     file.read_exact_at(&mut bytes, 0)?;
     Ok(bytes)
+}
+
+/// The first bytes of a file, as many as it has and no more than these, and its length.
+pub(crate) fn read_front(alloc: Global, file: &File, keep: u64) -> Result<(Vec<u8>, u64), OpenError>
+    ensures front { IfOk result (λ read. length read.0.items ≤ read.1) }
+    ensures kept { IfOk result (λ read. length read.0.items ≤ keep) }
+    ensures whole { IfOk result (λ read. (length read.0.items ≡ keep) ⊎ (length read.0.items ≡ read.1)) }
+{
+    let len = file.metadata()?.len();
+    let mut bytes = vec![in alloc; 0; len.min(keep) as usize]?;
+    file.read_exact_at(&mut bytes, 0)?;
+    Ok((bytes, len))
+}
+
+/// Reads a file on from this place to its length, for the record alone, through a window.
+pub(crate) fn read_on(
+    file: &File,
+    tape: &mut Tape,
+    window: &mut [u8],
+    from: u64,
+    len: u64,
+) -> io::Result<()>
+    requires window { 0 < length window.old }
+    requires within { from ≤ len }
+    ensures { OnOk result (GoesOnFor (len - from) tape.old tape.new) }
+{
+    let mut at = from;
+    while at < len {
+        let count = (len - at).min(window.len() as u64) as usize;
+        read_piece(file, tape, window, at, count)?;
+        at += count as u64;
+    }
+    Ok(())
+}
+
+// Reads so many bytes from a place on.
+fn read_piece(
+    file: &File,
+    tape: &mut Tape,
+    window: &mut [u8],
+    at: u64,
+    count: usize,
+) -> io::Result<()>
+    requires { count ≤ length window.old }
+    ensures { OnOk result (GoesOnFor count tape.old tape.new) }
+{
+    let piece = &mut window[..count];
+    file.read_exact_at(piece, at)?;
+    tape.found(piece);
+    Ok(())
 }

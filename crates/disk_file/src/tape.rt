@@ -1,8 +1,9 @@
 //! The record of the calls on a file, which only contracts read: the view of the one seat of a table. No memory grows with it.
 
-ghost use Rattle.std.specs.Prelude.{◌≡◌, ℕ, ◌+◌, List, [], ◌∷◌, ◌++◌, IfOk};
+ghost use Rattle.std.specs.Prelude.{◌≡◌, ℕ, ◌+◌, List, [], ◌∷◌, ◌++◌, length, IfOk};
+ghost use Rattle.diskmodel.specs.Outcomes.{AreBytes};
 ghost use Rattle.diskmodel.specs.declared.call.Call.TheVariants.{Wrote, Cut, Synced};
-ghost use Rattle.disk_file.specs.Stories.{Adds, begun, failing};
+ghost use Rattle.disk_file.specs.Stories.{Adds, GoesOnFor, begun, failing};
 
 use crate::story::TapeView;
 use atomic_table::{Play, Seat, Table, TableRule};
@@ -75,12 +76,20 @@ impl Model for Tape {
 impl Tape {
     /// The record of a file that begins with these bytes. `AllocError` where memory was refused.
     pub fn new(alloc: Global, bytes: &[u8]) -> Result<Tape, AllocError>
-        ensures { IfOk result (λ tape. tape ≡ begun bytes.now) }
+        ensures begun { IfOk result (λ tape. tape ≡ begun bytes.now) }
+        ensures are_bytes { IfOk result (λ tape. AreBytes tape.first) }
     {
         let (table, seat) = Table::of_words(alloc, &[0], &())?;
         let mut tape = Tape { table, seat };
         tape.turn::<Brand, &[u8]>(bytes);
         Ok(tape)
+    }
+
+    /// Before any call the file was found to go on with these bytes.
+    pub fn found(&mut self, bytes: &[u8])
+        ensures { GoesOnFor (length bytes.now) self.old self.new }
+    {
+        self.turn::<Brand, &[u8]>(bytes);
     }
 
     /// These bytes were written at this place.

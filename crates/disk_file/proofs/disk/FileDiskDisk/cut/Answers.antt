@@ -1,7 +1,7 @@
 use Rattle.std.proofs.Common.{◌≡◌, ◌≤◌, length, take, sym, rules}
 use Rattle.diskmodel.specs.declared.call.Call.TheVariants.{Cut}
 use Rattle.disk_file.specs.Stories.{held}
-use Rattle.disk_file.proofs.Steps.{Longer, longer, longer_by, anyway, cut_sound, cut_held, cut_length, cut_outcomes}
+use Rattle.disk_file.proofs.Steps.{Longer, longer, longer_by, anyway, cut_mirrors, cut_sound, cut_held, cut_length, cut_outcomes}
 use Rattle.disk_file.proofs.disk.FileDiskDisk.cut.Goals as goal
 
 pub invariant_of-self : goal.invariant_of-self
@@ -12,7 +12,7 @@ invariant_of-self c =
     record {
       sound = cut_sound _ _ _ c.fail_if_down.new.self.sound within more;
       length_is = sym (cut_length _ _ _ c.fail_if_down.new.self.sound within more);
-      mirrors = search rules;
+      mirrors = cut_mirrors _ c.args.len (held c.fail_if_down.new.self.tape) (held c.cut.new.self) is c.fail_if_down.new.self.mirror c.cut_kept.new.kept c.cut_kept.ensures c.fail_if_down.new.self.mirrors;
     }
 
 more_of : (c : goal.After-counted) → Longer (Cut c.args.len) c.args.self.now.tape c.counted.new.self.tape

@@ -1,4 +1,4 @@
-use Rattle.std.proofs.Common.{◌≡◌, List, ℕ, length, ap, sym, subst, ◌∙◌, rules}
+use Rattle.std.proofs.Common.{◌≡◌, List, ℕ, length, take, ap, sym, subst, ◌∙◌, rules}
 use Rattle.std.specs.Prelude.{IfSome}
 use Rattle.diskmodel.specs.declared.call.Call.TheVariants.{Synced}
 use Rattle.disk_file.specs.Stories.{held}
@@ -12,7 +12,7 @@ invariant_of-self c =
     record {
       sound = sync_sound _ _ c.counted.new.self.sound more;
       length_is = c.counted.new.self.length_is ∙ ap length (sym same);
-      mirrors = subst (λ (found : List ℕ). IfSome c.counted.new.self.mirror (λ bytes. bytes.items ≡ found)) (sym same) c.counted.new.self.mirrors;
+      mirrors = subst (λ (found : List ℕ). IfSome c.counted.new.self.mirror (λ bytes. bytes.items ≡ take (length bytes.items) found)) (sym same) c.counted.new.self.mirrors;
     }
 
 more_of : (c : goal.After-self-1) → Longer Synced c.args.self.now.tape c.synced.new.self
