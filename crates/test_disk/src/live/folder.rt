@@ -2,8 +2,8 @@
 
 use crate::live::disks::obey_disk;
 use crate::live::journals::{records_of, tell_opening};
-use crate::live::words::{Told, put, put_hex, put_shown};
-use disk_file::FileDisk;
+use crate::live::words::{Told, parted, put, put_hex, put_shown};
+use disk_file::{FileDisk, OpenError};
 use std::alloc::Global;
 use std::fs::{self, File};
 use std::rt::Files;
@@ -31,10 +31,11 @@ impl Folder {
     ) -> Told {
         match name {
             "open" => self.open(rt, rest, answer),
+            "front" => self.open_front(rt, rest, answer),
             "close" => self.disk = None,
             "journal" => return self.journal(rest, answer),
             "file" => tell_file(rt, rest, answer),
-            "again" => drop(opened(rt, self.alloc, rest, answer)),
+            "again" => drop(opened(FileDisk::open(rt, self.alloc, rest), answer)),
             "folder" => {
                 let _ = fs::create_dir(rt, rest);
             }
@@ -56,7 +57,15 @@ impl Folder {
     // Opens a file in place of the disk that is open.
     fn open<R: Files<File = File>>(&mut self, rt: &R, name: &str, answer: &mut String) {
         self.disk = None;
-        self.disk = opened(rt, self.alloc, name, answer);
+        self.disk = opened(FileDisk::open(rt, self.alloc, name), answer);
+    }
+
+    // The same, with so many bytes of it kept.
+    fn open_front<R: Files<File = File>>(&mut self, rt: &R, rest: &str, answer: &mut String) {
+        let (name, count) = parted(rest);
+        let keep = count.parse().unwrap_or(0);
+        self.disk = None;
+        self.disk = opened(FileDisk::open_front(rt, self.alloc, name, keep), answer);
     }
 
     // Opens a journal over the disk and puts a group of the records there, if there are any. It leaves the disk.
@@ -69,14 +78,9 @@ impl Folder {
     }
 }
 
-// Opens a file, and says how that went.
-fn opened<R: Files<File = File>>(
-    rt: &R,
-    alloc: Global,
-    name: &str,
-    answer: &mut String,
-) -> Option<FileDisk> {
-    match FileDisk::open(rt, alloc, name) {
+// Says how an opening of a file went.
+fn opened(outcome: Result<FileDisk, OpenError>, answer: &mut String) -> Option<FileDisk> {
+    match outcome {
         Ok(disk) => {
             put(answer, "opened\n");
             Some(disk)
