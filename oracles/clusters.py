@@ -2,6 +2,7 @@
 """Writes lists of moves of a cluster, and what each move is answered.
 
     oracles/clusters.py > crates/test_cluster/data/clusters.cases
+    oracles/clusters.py --allocations PROGRAM LIBRARY
 
 In the first lists four nodes come to one order: that of the certificates c10 to c13 of round 1, and of rounds 2 to 5 those of members
 0, 1 and 2. The leader of wave 1, c11, is supported by c20 alone, which is too few; c30, the leader of wave 2, reaches it. The first list
@@ -9,8 +10,18 @@ goes round by round. In the second a machine stops behind each part of a round. 
 output may be delivered to any node, early, late or again; calls of a disk fail, and machines stop, with what they haven't settled.
 In the last lists there are three nodes, and a member that shows two faces. Behind each move one of any two orders begins the other.
 What is expected is computed by the plain rules of oracles/histories.py, over all that a node accepted and over what is settled of that.
+
+With --allocations the program of test_cluster is run on moves of one node, each of which stands twice, with one allocation after the other
+failing, by the library that `scripts/every-allocation` makes. A move that memory is refused to has either not come, or it was made and what
+it puts out waits: the move after it is answered so.
 """
+import functools
+import os
 import random
+import re
+import subprocess
+import sys
+import tempfile
 
 import histories
 
@@ -509,7 +520,111 @@ class TwoFaced(Drawn):
         self.moves.ends()
 
 
+# ---- allocations that fail
+
+MEMORY = re.compile('(unchecked|refused|fault|error) 1 Memory')
+# What a program of tests prints of an answer that is another one, and at the end.
+OTHERWISE, ENDING = re.compile('^memory.cases, line ([0-9]+): expected\n', re.M), re.compile('^memory.cases: [0-9]+ commands', re.M)
+
+
+def moves_of_one():
+    """The moves of node 0, each twice: its text, and what it does. The node makes a certificate, gets others, and a coin."""
+    def give(sender, message):
+        return 'give 0 from %d %s' % (sender, message.replace('certificate', 'cert')), lambda node: node.take_in(sender, message)
+
+    flush, look = ('flush 0', Member.flush), ('order 0', lambda node: ' '.join(['order'] + (node.order or ['none'])))
+    outputs = 'outputs 0', lambda node: 'outputs %d' % len(node.outputs)
+    stop = 'stop 0 keep', lambda node: node.stop('keep')
+    moves = [give(0, 'header c10'), give(1, 'header c11'), flush, give(1, 'vote c10 1'), give(2, 'vote c10 2'), flush, outputs]
+    labels = ['c11', 'c12', 'c13', 'c20', 'c21', 'c22', 'c30', 'c31', 'c32']
+    moves += [give(1, 'certificate %s 0,1,2' % label) for label in labels]
+    moves += [give(0, 'coin 1 2'), flush, look, outputs, give(2, 'header c32'), stop, give(2, 'header c32'), flush, look, outputs]
+    return [move for one in moves for move in ([one] if one[0].split()[0] == 'stop' else [one, one])]
+
+
+class Refused:
+    """Runs of the program on these moves, with how often a run came to what."""
+
+    def __init__(self):
+        self.moves, self.ends = moves_of_one(), {}
+        forms = List('the moves of one node', MEMBERS, headers()).lines
+        self.lines = ['# crates: cluster'] + forms[1:2] + [line for line in forms if line.startswith('form')] + ['cluster 4']
+        self.opening = len(self.lines)
+        # The line of each move in the file, counted from 1.
+        self.places = {}
+        for place, ((text, _), answer) in enumerate(zip(self.moves, self.answers(None))):
+            self.places[len(self.lines) + 1] = place
+            self.lines += [text, '> ' + answer]
+
+    @functools.cache
+    def answers(self, other, call=None):
+        """What each move is answered, where one of them isn't made, or this device call of it fails."""
+        node = Member(0, headers())
+        return tuple((node.fail(call) if call else None) if place == other else act(node) for place, (_, act) in enumerate(self.moves))
+
+    def take(self, status, text):
+        """Whether a run may end so, and what it came to."""
+        end = 'another end'
+        if (status, text) == (1, ''):
+            end = "the test's own"
+        elif re.search(' commands, 0 answers were not', text):
+            end = 'nothing was refused'
+        else:
+            parts = OTHERWISE.split(ENDING.split(text)[0])
+            found = {int(line): part.partition('and it was\n')[2].rstrip('\n') for line, part in zip(parts[1::2], parts[2::2])}
+            first = min(found, default=0)
+            if first == self.opening and found[first].startswith('error'):
+                end = 'not opened'
+            elif first in self.places:
+                end = self.judge(self.places[first], found)
+        self.ends[end] = self.ends.get(end, 0) + 1
+        return end != 'another end'
+
+    def judge(self, place, found):
+        whole = self.answers(None)
+        got = [found.get(line, whole[at]) for line, at in self.places.items()]
+        told, rest = got[place], got[place + 1:]
+        if MEMORY.fullmatch(told) and rest in [list(one[place + 1:]) for one in (self.answers(place), whole)]:
+            return '%s %s' % (self.moves[place][0].split()[0], told)
+        if told == 'fault 2 Device' and rest in [list(self.answers(place, call)[place + 1:]) for call in CALLS]:
+            return 'a disk failed'
+        if told.startswith('error 4 Journal') and all(one.startswith(('error 2 NoSuchNode', 'order', 'outputs')) for one in rest):
+            return 'not opened again'
+        return "the test's own" if rest == list(whole[place + 1:]) and is_cut(told, whole[place]) else 'another end'
+
+
+def is_cut(told, answer):
+    """Whether a part of an answer is missing, since memory was refused where it was told."""
+    return len(told) < len(answer) and any(
+        answer.startswith(told[:place]) and answer.endswith(told[place:]) for place in range(len(told) + 1))
+
+
+def refuse_each(program, library):
+    refused = Refused()
+    with tempfile.TemporaryDirectory() as folder:
+        with open(os.path.join(folder, 'memory.cases'), 'w', encoding='utf-8') as file:
+            file.write('\n'.join(refused.lines) + '\n')
+
+        def run(place):
+            settings = {**os.environ, 'LD_PRELOAD': library, 'FAILS_AT': str(place)}
+            ran = subprocess.run([program, 'memory.cases'], cwd=folder, env=settings, stdout=subprocess.PIPE, stderr=subprocess.PIPE)
+            return ran.returncode, ran.stdout.decode(), int(ran.stderr.split()[-1])
+
+        status, text, total = run(0)
+        assert status == 0, text
+        for place in range(1, total + 1):
+            status, text, _ = run(place)
+            if not refused.take(status, text):
+                print('allocation %d: status %d: %s' % (place, status, text[:400]))
+    for end, count in sorted(refused.ends.items()):
+        print('%d %s' % (count, end))
+    print('%d allocations, %d ended otherwise' % (total, refused.ends.get('another end', 0)))
+    return 1 if refused.ends.get('another end') or not any(MEMORY.search(end) for end in refused.ends) else 0
+
+
 def main():
+    if sys.argv[1:2] == ['--allocations']:
+        sys.exit(refuse_each(*sys.argv[2:]))
     print('# crates: cluster desk spec_cluster')
     print('# Nodes, moved by a list of moves. `oracles/clusters.py` wrote the moves, and computes what each is answered.')
     by_rounds('four nodes come to one order', lambda moves: None)
