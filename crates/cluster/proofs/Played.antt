@@ -13,7 +13,7 @@ use Rattle.spec_world.specs.Steps.{IsRun}
 use Rattle.validator.specs.Setting.{ConfigView, node_of}
 use Rattle.cluster.specs.Applying.{Stage, ran, IsDone, StagesLead, move_in, IsAmong, BeginsAmong, first_world, ArePlayed}
 use Rattle.cluster.specs.Cluster.{named}
-use Rattle.cluster.specs.Member.{MemberView, StandsAt, IsLongest}
+use Rattle.cluster.specs.Member.{MemberView, StandsAt, IsOn, IsLongest}
 use Rattle.cluster.specs.Threads.{Act, HasRun}
 use Rattle.cluster.specs.declared.moves.Move.{Move}
 use Rattle.cluster.proofs.Following.{given_orders_agree}
@@ -69,14 +69,15 @@ module _ {S D : Type 0} (scheme : Scheme S) (device : Device D) (accepts : Accep
 
   module _ (owns : (setting : ConfigView S) → (node_of scheme setting).own ≡ setting.own) (charters : (setting : ConfigView S) → (node_of scheme setting).charter ≡ setting.charter)
       (agree : RunsAgree) where
-    pub are_played : (settings : List (ConfigView S)) (first : List (MemberView S D)) → map (λ member. member.setting) first ≡ settings
+    pub are_played : (settings : List (ConfigView S)) (first : List (MemberView S D)) → map (λ member. member.setting) first ≡ settings → (disks : List D) → AllZip (IsOn device) disks first
         → All (λ member. IsRun (node_of scheme member.setting) [] (first_world (node_of scheme member.setting))) first → All Begins first → All (λ member. member.desk ≢ None) first
         → (moves : List Move) (stages : List (Stage S D)) → map (λ stage. move_in stage.doing) stages ≡ map (λ move. Some move) moves → (members : List (MemberView S D))
         → StagesLead scheme device accepts first stages members
-        → ArePlayed scheme device accepts settings moves members
-    are_played settings first set_up runs begins up moves stages made members lead = record {
+        → ArePlayed scheme device accepts settings disks moves members
+    are_played settings first set_up disks on runs begins up moves stages made members lead = record {
       first = first;
       set_up = set_up;
+      on = on;
       new = are_new first begins up;
       stages = stages;
       made = made;

@@ -1,7 +1,7 @@
 -- Moves that were applied to a cluster one after the other, and threads in which its members ran, what is assumed of these, and what its honest
 -- members then agree on.
 use Rattle.std.specs.Prelude.{◌≡◌, ◌≢◌, ℕ, ◌&&◌, Bool, true, false, List, [], ◌∷◌, ◌++◌, map, flat_map, ⊤, Option, Some, None, All, Contains, Result, Ok, Err, option_map, if◌then◌else◌}
-use Rattle.std.specs.List.{list_any}
+use Rattle.std.specs.List.{list_any, AllZip}
 use Rattle.std.specs.Option.{option_map_or, option_to_list}
 use Rattle.header.specs.Checks.{Accepts, fault_of, is_signed}
 use Rattle.spec_accord.specs.Accord.{Agree}
@@ -18,7 +18,7 @@ use Rattle.spec_world.specs.World.{World, put_out, alone_on, run_on}
 use Rattle.validator.specs.Setting.{ConfigView, node_of}
 use Rattle.wire.specs.declared.message.Message.TheVariants as message
 use Rattle.cluster.specs.Cluster.{at, actor, asked_in, message_at, IsApplied}
-use Rattle.cluster.specs.Member.{MemberView, StandsAt}
+use Rattle.cluster.specs.Member.{MemberView, StandsAt, IsOn}
 use Rattle.cluster.specs.Threads.{Act, take, round, HasRun}
 use Rattle.cluster.specs.declared.error.ClusterError.{ClusterError}
 use Rattle.cluster.specs.declared.error.ClusterError.TheVariants as errors
@@ -202,9 +202,10 @@ move_in (ran turns acts) = None
 -- Moves led to these members from new ones with these settings, which are there and have given nothing out. Whichever of them are honest:
 -- where the others weigh no more than is tolerated, the moves were fair, and no two different texts in what honest ones took share a digest,
 -- the orders that these gave out agree.
-pub record ArePlayed {S D : Type 0} (scheme : Scheme S) (device : Device D) (accepts : Accepts) (settings : List (ConfigView S)) (moves : List Move) (members : List (MemberView S D)) : Type 0 where
+pub record ArePlayed {S D : Type 0} (scheme : Scheme S) (device : Device D) (accepts : Accepts) (settings : List (ConfigView S)) (disks : List D) (moves : List Move) (members : List (MemberView S D)) : Type 0 where
   pub first : List (MemberView S D)
   pub set_up : map (λ member. member.setting) first ≡ settings
+  pub on : AllZip (IsOn device) disks first
   pub new : All (λ member. (member.desk ≢ None) × (member.out.outputs ≡ []) × (member.out.order ≡ [])) first
   pub stages : List (Stage S D)
   pub made : map (λ stage. move_in stage.doing) stages ≡ map (λ move. Some move) moves

@@ -4,14 +4,15 @@ use crate::cluster::Cluster;
 use crate::error::ClusterError;
 use crate::moves::Move;
 use diskmodel::StopDisk;
+use journal::JournalError;
 use sigface::{Sign, Verify};
 use spec_cluster::agreement;
 use std::alloc::Global;
 use validator::Config;
 
 impl<'a, S: Sign, D: StopDisk + Drop, V: Verify + Drop> Cluster<'a, S, D, V> {
-    ghost use Rattle.std.specs.Prelude.{◌≡◌, ◌⊎◌, [], length, map, vec_len, All, IfOk, IfErr, List, Some};
-    ghost use Rattle.cluster.specs.Answers.{IsJournalFault};
+    ghost use Rattle.std.specs.Prelude.{◌≡◌, ◌⊎◌, [], length, map, vec_len, All, Contains, IfOk, IfErr, IsErrOf, List, Some};
+    ghost use Rattle.cluster.specs.Answers.{CountsMore, IsJournalFault};
     ghost use Rattle.cluster.specs.Applying.{Stage, StagesLead, move_in, ArePlayed};
     ghost use Rattle.cluster.specs.Cluster.{AreOfOne, AreDistinct};
 
@@ -33,8 +34,10 @@ impl<'a, S: Sign, D: StopDisk + Drop, V: Verify + Drop> Cluster<'a, S, D, V> {
         requires empty { All (λ disk. D.device.content disk ≡ []) disks.items }
         requires one_committee { AreOfOne configs.now }
         requires distinct { AreDistinct configs.now }
-        ensures played { IfOk result (λ cluster. ArePlayed S.scheme D.device (V.accepts verifier) configs.now moves.items cluster.members) }
+        ensures played { IfOk result (λ cluster. ArePlayed S.scheme D.device (V.accepts verifier) configs.now disks.items moves.items cluster.members) }
+        ensures verifier { IfOk result (λ cluster. cluster.verifier ≡ verifier) }
         ensures errors { IfErr result (λ error. (error ≡ ClusterError.Memory) ⊎ IsJournalFault error) }
+        ensures device { IsErrOf result (ClusterError.Journal JournalError.Device) → (disk : D) × Contains disks.items disk × CountsMore D.device disk }
     {
         agreement();
         let mut cluster = Cluster::new(alloc, configs, disks, verifier)?;

@@ -1,12 +1,16 @@
 -- What callers collected, where it is in what a stop leaves.
-use Rattle.std.specs.Prelude.{◌≡◌, ◌++◌, take, Some}
+use Rattle.std.specs.Prelude.{◌≡◌, ◌++◌, ℕ, List, length, take, drop, Some}
+use Rattle.spec_machine.specs.After.{after_all}
 use Rattle.spec_model.specs.Admitting.{IsLegal}
 use Rattle.spec_model.specs.Giving.{kept}
 use Rattle.spec_model.specs.Histories.{History}
+use Rattle.spec_model.specs.Holdings.{order}
+use Rattle.spec_model.specs.States.{State}
 use Rattle.wire.specs.Lists.{Begins}
 use Rattle.validator.specs.Setting.{node_of}
 use Rattle.sigface.specs.Scheme.{Scheme}
-use Rattle.spec_model.specs.Words.{Output}
+use Rattle.spec_model.specs.Words.{Digest, Output}
+use Rattle.wire.specs.declared.output.Output.TheVariants as output
 use Rattle.spec_world.specs.Promise.{Ballot, vote_in, GoesOutWithin}
 use Rattle.spec_world.specs.World.{Given, put_out}
 use Rattle.node_seats.specs.Views.{events}
@@ -36,3 +40,25 @@ CollectedVotesAgree S = (scheme : Scheme S) (node again : NodeView S) (began res
     → node_of scheme again.setting ≡ node_of scheme node.setting → KeepsBase scheme node began → KeepsBase scheme again restarted → IsLegal (node_of scheme node.setting) left
     → Begins (began ++ events one.firm) left → Begins (restarted ++ events other.firm) left → IsPutOutBy scheme node one first → IsPutOutBy scheme again other second
     → vote_in first ≡ Some vote → vote_in second ≡ Some also → vote.author ≡ also.author → vote.round ≡ also.round → vote.header ≡ also.header
+
+-- ---- orders
+
+-- a seat read these digests, from a place on: from each base on, the rest of the order after what it knows as settled
+abbrev pub IsReadBy : {S : Type 0} → Scheme S → NodeView S → View → ℕ → List Digest → Type 0
+IsReadBy scheme node view from digests = (base : State) → IsBase scheme node base → digests ≡ drop from (after_all (node_of scheme node.setting) base (events view.firm)).order
+
+-- digests stand in an order, from a place on
+abbrev pub StandFrom : List Digest → ℕ → List Digest → Type 0
+StandFrom whole from digests = digests ≡ take (length digests) (drop from whole)
+
+-- each piece of the order that a seat collected, and each that it read, stands in one order at its place
+pub record IsOfOrder {S : Type 0} (scheme : Scheme S) (node : NodeView S) (view : View) (whole : List Digest) : Type 0 where
+  pub collected : (start : ℕ) (digests : List Digest) → IsPutOutBy scheme node view (output.Order start digests) → StandFrom whole start digests
+  pub read : (from : ℕ) (digests : List Digest) → IsReadBy scheme node view from digests → StandFrom whole from digests
+
+-- That is the order after each legal history that has all that the seat knows as settled, after one that keeps a base. So seats of one
+-- run of a node or of several, that such a history is of, have collected and read pieces of one order.
+abbrev pub CollectedOrdersAgree : Type 0 → Type 0
+CollectedOrdersAgree S = (scheme : Scheme S) (node : NodeView S) (began left : History) (view : View)
+    → KeepsBase scheme node began → IsLegal (node_of scheme node.setting) left → Begins (began ++ events view.firm) left
+    → IsOfOrder scheme node view (order (node_of scheme node.setting) left)

@@ -60,3 +60,20 @@ still_seen first before later seen firm so_far turn few =
 pub or_second : (one other : Bool) → other ≡ true → one || other ≡ true
 or_second true other is = refl
 or_second false other is = is
+
+-- ---- what is known of down
+
+-- what is known of down after some turns in which another seat told: as before them all, or with what the other knows
+pub data IsToldDown (first other later : Bool) : Type 0 where
+  not_yet : later ≡ first → IsToldDown first other later
+  once_told : later ≡ (first || other) → IsToldDown first other later
+
+or_again : (one other : Bool) → (one || other) || other ≡ (one || other)
+or_again true other = refl
+or_again false true = refl
+or_again false false = refl
+
+-- after one turn more it is so with what the other knows
+pub told_down : (first other before later : Bool) → IsToldDown first other before → later ≡ (before || other) → later ≡ (first || other)
+told_down first other before later (not_yet is) turn = turn ∙ ap (λ d. d || other) is
+told_down first other before later (once_told is) turn = turn ∙ ap (λ d. d || other) is ∙ or_again first other

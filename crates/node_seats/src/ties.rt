@@ -1,6 +1,6 @@
 //! How two seats come to know the same.
 
-ghost use Rattle.std.specs.Prelude.{◌≡◌, ◌≤◌, ◌<◌, ◌+◌, ◌^◌, ◌++◌, ◌∷◌, [], true, length, take};
+ghost use Rattle.std.specs.Prelude.{◌≡◌, ◌≤◌, ◌<◌, ◌+◌, ◌^◌, ◌||◌, ◌++◌, ◌∷◌, [], true, length, take};
 ghost use Rattle.spec_model.specs.Histories.{History};
 ghost use Rattle.wire.specs.Lists.{Begins};
 ghost use Rattle.node_seats.specs.Views.{events, mark, HasOwn, IsSame};
@@ -20,6 +20,7 @@ impl<K, L: Law<K>> Words<K, L> {
         requires judge { (list : History) → L.legal self.now.key list → J.judged list }
         ensures other { other.new ≡ other.old }
         ensures same { IsSame seat.old seat.new }
+        ensures down { seat.new.view.down ≡ (seat.old.view.down || other.old.view.down) }
         ensures firm { seat.new.view.firm ≡ seat.old.view.firm }
         ensures seen { seat.new.view.seen ≡ other.old.view.seen }
         ensures more { Begins seat.old.view.seen seat.new.view.seen }
@@ -49,6 +50,7 @@ impl<K, L: Law<K>> Words<K, L> {
         requires judge { (list : History) → L.legal self.now.key list → J.judged list }
         ensures other { other.new ≡ other.old }
         ensures same { IsSame seat.old seat.new }
+        ensures down { seat.new.view.down ≡ (seat.old.view.down || other.old.view.down) }
         ensures firm { seat.new.view.firm ≡ other.old.view.firm }
         ensures more { Begins seat.old.view.firm seat.new.view.firm }
         ensures firm_seen { Begins seat.new.view.firm seat.new.view.seen }
@@ -75,6 +77,7 @@ impl<K, L: Law<K>> Words<K, L> {
         requires seen { count ≤ length seat.old.view.seen }
         ensures other { other.new ≡ other.old }
         ensures same { IsSame seat.old seat.new }
+        ensures down { seat.new.view.down ≡ (seat.old.view.down || other.old.view.down) }
         ensures firm { seat.new.view.firm ≡ seat.old.view.firm }
         ensures seen { seat.new.view.seen ≡ seat.old.view.seen }
         ensures covers { Begins other.old.view.firm seat.new.view.firm }
@@ -117,6 +120,7 @@ impl<K, L: Law<K>> Words<K, L> {
         requires rising { from ≤ to }
         requires seen { to ≤ length seat.old.view.seen }
         ensures same { IsSame seat.old seat.new }
+        ensures down { seat.new.view.down ≡ seat.old.view.down }
         ensures seen { seat.new.view.seen ≡ seat.old.view.seen }
         ensures firm { seat.new.view.firm ≡ take to seat.old.view.seen }
     {
@@ -137,7 +141,7 @@ impl<K, L: Law<K>> Words<K, L> {
         ensures first { IsSame first.old first.new × Begins first.old.view.seen first.new.view.seen × (first.new.view.firm ≡ first.old.view.firm) }
         ensures second { IsSame second.old second.new × Begins second.old.view.seen second.new.view.seen × (second.new.view.firm ≡ second.old.view.firm) }
         ensures meets { Begins first.new.view.seen second.new.view.seen }
-        ensures down { first.old.view.down ≡ true → second.new.view.down ≡ true }
+        ensures down { (first.new.view.down ≡ first.old.view.down) × (second.new.view.down ≡ (second.old.view.down || first.old.view.down)) }
         ensures count { result ≡ length second.new.view.seen }
         ensures own_first { first.old.view.numbered ≡ true → HasOwn first.new.view }
         ensures own_second { second.old.view.numbered ≡ true → HasOwn second.new.view }

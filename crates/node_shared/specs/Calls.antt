@@ -48,11 +48,12 @@ pub record Stays (before later : SeatView) : Type 0 where
   pub seen : later.view.seen ≡ before.view.seen
   pub firm : later.view.firm ≡ before.view.firm
 
--- a seat that has seen nothing since its node began
+-- a seat that has seen nothing since its node began, and doesn't know that this is down
 pub record HasNothing (seat : SeatView) : Type 0 where
   pub seen : seat.view.seen ≡ []
   pub firm : seat.view.firm ≡ []
   pub mine : seat.view.mine ≡ []
+  pub up : seat.view.down ≡ false
 
 -- a seat of the node beside another knows what that one does, and has brought no event
 pub record IsBeside {S : Type 0} (node : NodeView S) (seat other : SeatView) : Type 0 where

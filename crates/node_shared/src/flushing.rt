@@ -1,6 +1,6 @@
 //! What a node hands over for its disk, and what it is told of that.
 
-ghost use Rattle.std.specs.Prelude.{◌≡◌, ◌≤◌, true, false, is_some};
+ghost use Rattle.std.specs.Prelude.{◌≡◌, ◌≤◌, ◌||◌, true, false, is_some};
 ghost use Rattle.wire.specs.Lists.{Begins};
 ghost use Rattle.spec_machine.specs.After.{IsLegalAfter};
 ghost use Rattle.spec_model.specs.States.{State};
@@ -119,6 +119,7 @@ impl<'a, S: Sign> Node<'a, S> {
         requires of { IsOf self.now seat.old }
         ensures flush { flush.new ≡ flush.old }
         ensures learned { Learned S.scheme self.now seat.old seat.new }
+        ensures down { seat.new.view.down ≡ (seat.old.view.down || flush.old.seat.view.down) }
         ensures firm { seat.new.view.firm ≡ flush.old.seat.view.firm }
     {
         let count = flush.settled;
@@ -133,6 +134,7 @@ impl<'a, S: Sign> Node<'a, S> {
         ensures flush { IsFlushOf self.now flush.new }
         ensures stays { Stays flush.old.seat flush.new.seat }
         ensures counts { CountsAs flush.old flush.new }
+        ensures down { flush.new.seat.view.down ≡ (flush.old.seat.view.down || seat.old.view.down) }
         ensures seat { seat.new ≡ seat.old }
         ensures covers { Begins seat.old.view.firm flush.new.seat.view.firm }
     {
@@ -158,6 +160,7 @@ impl<'a, S: Sign> Node<'a, S> {
         ensures locked { locked.new ≡ locked.old }
         ensures of { IsOf self.now flush.new.seat }
         ensures same { IsSame flush.old.seat flush.new.seat }
+        ensures down { flush.new.seat.view.down ≡ (flush.old.seat.view.down || locked.old.seat.view.down) }
         ensures counts { CountsAs flush.old flush.new }
         ensures firm { Begins flush.old.seat.view.firm flush.new.seat.view.firm }
         ensures seen { Begins flush.old.seat.view.seen flush.new.seat.view.seen }

@@ -1,6 +1,6 @@
 //! What a node tells, and what it gives out.
 
-ghost use Rattle.std.specs.Prelude.{◌≡◌, ◌⊎◌, ◌↔◌, true, None, drop, length, is_some, if◌then◌else◌, IsNone, IsTrue, IsErrOf, IfOk, IfErr, IfSome};
+ghost use Rattle.std.specs.Prelude.{◌≡◌, ◌⊎◌, ◌↔◌, ◌||◌, None, drop, length, is_some, if◌then◌else◌, IsNone, IsTrue, IsErrOf, IfOk, IfErr, IfSome};
 ghost use Rattle.book.specs.Book.{releasable};
 ghost use Rattle.header.specs.Checks.{fault_of, accepts_all};
 ghost use Rattle.wire.specs.Lists.{Begins};
@@ -28,6 +28,7 @@ impl<'a, S: Sign> Node<'a, S> {
     pub fn accepted(&self, seat: &mut Seat) -> u64
         requires of { IsOf self.now seat.old }
         ensures looked { Looked S.scheme self.now seat.old seat.new }
+        ensures down { seat.new.view.down ≡ seat.old.view.down }
         ensures count { result ≡ length seat.new.view.seen }
     {
         self.words.look::<Brand>(seat)
@@ -37,6 +38,7 @@ impl<'a, S: Sign> Node<'a, S> {
     pub fn synced(&self, seat: &mut Seat) -> u64
         requires of { IsOf self.now seat.old }
         ensures learned { Learned S.scheme self.now seat.old seat.new }
+        ensures down { seat.new.view.down ≡ seat.old.view.down }
         ensures count { result ≡ length seat.new.view.firm }
     {
         self.words.read::<Brand>(seat)
@@ -60,7 +62,7 @@ impl<'a, S: Sign> Node<'a, S> {
         ensures first { Looked S.scheme self.now first.old first.new }
         ensures second { Looked S.scheme self.now second.old second.new }
         ensures meets { Begins first.new.view.seen second.new.view.seen }
-        ensures down { first.old.view.down ≡ true → second.new.view.down ≡ true }
+        ensures down { (first.new.view.down ≡ first.old.view.down) × (second.new.view.down ≡ (second.old.view.down || first.old.view.down)) }
         ensures count { result ≡ length second.new.view.seen }
     {
         self.words.meet::<Brand>(first, second)
@@ -72,6 +74,7 @@ impl<'a, S: Sign> Node<'a, S> {
         requires of { IsOf self.now seat.old }
         ensures locked { locked.new ≡ locked.old }
         ensures looked { Looked S.scheme self.now seat.old seat.new }
+        ensures down { seat.new.view.down ≡ (seat.old.view.down || locked.old.seat.view.down) }
         ensures seen { seat.new.view.seen ≡ locked.old.seat.view.seen }
     {
         let count = locked.book.accepted();
@@ -85,6 +88,7 @@ impl<'a, S: Sign> Node<'a, S> {
         requires of { IsOf self.now seat.old }
         ensures locked { locked.new ≡ locked.old }
         ensures learned { Learned S.scheme self.now seat.old seat.new }
+        ensures down { seat.new.view.down ≡ (seat.old.view.down || locked.old.seat.view.down) }
         ensures firm { seat.new.view.firm ≡ locked.old.seat.view.firm }
     {
         let count = locked.book.settled();

@@ -1,7 +1,8 @@
 use Rattle.std.proofs.Common.{ap, ◌∙◌, subst}
+use Rattle.std.specs.Prelude.{◌||◌}
 use Rattle.wire.specs.Lists.{Begins}
 use Rattle.node_seats.proofs.Beginnings.{begins_trans}
-use Rattle.node_seats.proofs.Same.{same_then, same_seat, same_told, looked}
+use Rattle.node_seats.proofs.Same.{same_then, same_seat, same_told, looked, once_told, told_down}
 use Rattle.node_seats.proofs.words.Words.catch_up.Goals as goal
 
 pub loop-preserved : goal.loop-preserved
@@ -18,4 +19,5 @@ loop-preserved g c =
       ap (λ v. v.firm) looks.rest ∙ ap (λ s. s.view.firm) told ∙ until.4,
       begins_trans c.args.seat.now.view.seen c.loop.seat.view.seen c.look.new.seat.view.seen until.5
           (subst (λ l. Begins l c.look.new.seat.view.seen) (ap (λ s. s.view.seen) told) looks.seen),
+      once_told (told_down c.args.seat.now.view.down c.args.other.now.view.down c.loop.seat.view.down c.look.new.seat.view.down until.6 (ap (λ v. v.down) looks.rest ∙ ap (λ s. s.view.down) told ∙ ap (λ o. c.loop.seat.view.down || o.view.down) until.2)),
     )

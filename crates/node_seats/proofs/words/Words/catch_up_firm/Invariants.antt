@@ -1,6 +1,7 @@
 use Rattle.std.proofs.Common.{◌≡◌, ◌≤◌, length}
 use Rattle.wire.specs.Lists.{Begins}
 use Rattle.node_seats.specs.Views.{IsSame}
+use Rattle.node_seats.proofs.Same.{IsToldDown}
 use Rattle.node_seats.proofs.words.Words.catch_up_firm.Given as goal
 
 abbrev pub invariant-loop : goal.invariant-loop
@@ -11,3 +12,4 @@ invariant-loop g l =
     × Begins l.initial.seat.view.firm l.seat.view.firm
     × Begins l.initial.seat.view.seen l.seat.view.seen
     × (length l.seat.view.firm ≤ length l.initial.seat.view.seen → l.seat.view.seen ≡ l.initial.seat.view.seen)
+    × IsToldDown l.initial.seat.view.down l.initial.other.view.down l.seat.view.down

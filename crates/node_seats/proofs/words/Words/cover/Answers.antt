@@ -1,7 +1,8 @@
 use Rattle.std.proofs.Common.{◌≡◌, ◌≤◌, length, ap, ◌∙◌, subst}
+use Rattle.std.specs.Prelude.{◌||◌}
 use Rattle.wire.specs.Lists.{Begins}
 use Rattle.node_seats.proofs.Beginnings.{begins_trans}
-use Rattle.node_seats.proofs.Same.{same_then, same_seat, same_told, still_seen}
+use Rattle.node_seats.proofs.Same.{same_then, same_seat, same_told, still_seen, once_told, told_down}
 use Rattle.node_seats.proofs.words.Words.cover.Goals as goal
 
 pub loop-preserved : goal.loop-preserved
@@ -21,4 +22,5 @@ loop-preserved g c =
       begins_trans c.args.seat.now.view.seen c.loop.seat.view.seen c.read.new.seat.view.seen until.5 (subst (λ l. Begins l c.read.new.seat.view.seen) seen reads.seen),
       still_seen c.args.seat.now.view c.loop.seat.view c.read.new.seat.view until.5 firm until.6
           (subst (λ l. length c.read.new.seat.view.firm ≤ length l → c.read.new.seat.view.seen ≡ l) seen reads.same),
+      once_told (told_down c.args.seat.now.view.down c.args.other.now.view.down c.loop.seat.view.down c.read.new.seat.view.down until.7 (ap (λ v. v.down) reads.rest ∙ ap (λ s. s.view.down) told ∙ ap (λ o. c.loop.seat.view.down || o.view.down) until.2)),
     )

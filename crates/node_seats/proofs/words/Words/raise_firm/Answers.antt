@@ -1,3 +1,4 @@
+use Rattle.std.proofs.Common.{ap, ◌∙◌}
 use Rattle.node_seats.proofs.Beginnings.{begins_trans}
 use Rattle.node_seats.proofs.Same.{same_then, same_seat, still_seen}
 use Rattle.node_seats.proofs.words.Words.raise_firm.Goals as goal
@@ -12,4 +13,5 @@ loop-preserved g c =
       begins_trans c.args.seat.now.view.firm c.loop.seat.view.firm c.settle.new.seat.view.firm until.3 reads.firm,
       begins_trans c.args.seat.now.view.seen c.loop.seat.view.seen c.settle.new.seat.view.seen until.4 reads.seen,
       still_seen c.args.seat.now.view c.loop.seat.view c.settle.new.seat.view until.4 reads.firm until.5 reads.same,
+      ap (λ v. v.down) reads.rest ∙ until.6,
     )

@@ -10,3 +10,4 @@ invariant-loop g l =
     × Begins l.initial.seat.view.firm l.seat.view.firm
     × Begins l.initial.seat.view.seen l.seat.view.seen
     × (length l.seat.view.firm ≤ length l.initial.seat.view.seen → l.seat.view.seen ≡ l.initial.seat.view.seen)
+    × (l.seat.view.down ≡ l.initial.seat.view.down)
