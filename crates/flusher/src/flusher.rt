@@ -1,6 +1,6 @@
 //! The flusher.
 
-ghost use Rattle.std.specs.Prelude.{◌≡◌, ◌⊎◌, ◌↔◌, ◌+◌, ◌<◌, true, false, length, IfOk, IfErr, IsErrOf, OnOk, OnErr};
+ghost use Rattle.std.specs.Prelude.{◌≡◌, ◌⊎◌, ◌↔◌, ◌+◌, ◌<◌, true, false, length, IfOk, IfErr, IfSome, IsErrOf, IsNone, IsTrue, OnOk, OnErr};
 ghost use Rattle.diskmodel.specs.Disk.{AtEachMoment, TellsFault};
 ghost use Rattle.journal.specs.Format.{group_bytes};
 ghost use Rattle.journal.specs.Journal.{disk_of, spare_of, IsAlive};
@@ -66,6 +66,18 @@ impl<D: Disk> Flusher<D> {
         journal
     }
 
+    /// How long the area of the journal that is read is, in bytes. None where a round or a checkpoint took the node down.
+    pub fn len<'a, S: Sign>(&self, node: &Node<'a, S>) -> Option<u64>
+        requires flusher { IsFlusherOf S.scheme D.device node.now self.now }
+        ensures down { IsNone result ↔ IsTrue (is_down self.now) }
+        ensures len { IfSome result (λ len. len ≡ length (D.device.content (disk_of (journal_of self.now)))) }
+    {
+        match self.down {
+            true => None,
+            false => Some(self.journal.len()),
+        }
+    }
+
     /// Takes a group of what the node accepted, adds it to the journal and settles it. The lock is held for the take and for the
     /// settle, not while the disk is written. What the seat had seen is there to be taken; after the round the seat knows what is
     /// settled, and where the round took the node down, that it is. The answer is how many records the group has; 0 where all was
@@ -88,6 +100,8 @@ impl<D: Disk> Flusher<D> {
         ensures settles { TakesAndSettles seat.old seat.new self.old self.new result }
         ensures room { TellsRoom D.device self.old self.new result }
         ensures cause { TellsFault FlushError.Device (D.device.faults (disk_of (journal_of self.old))) (D.device.faults (disk_of (journal_of self.new))) result }
+        // One that brings nothing leaves the journal.
+        ensures nothing { IfOk result (λ count. count ≡ 0 → journal_of self.new ≡ journal_of self.old) }
         // Of two disks it writes to one alone.
         ensures spare { spare_of (journal_of self.new) ≡ spare_of (journal_of self.old) }
 
@@ -143,6 +157,7 @@ impl<D: Disk> Flusher<D> {
         ensures taken { taken_in self.new ≡ taken_in self.old }
         ensures any_moment { AtEachMoment D.device (disk_of (journal_of self.old)) (disk_of (journal_of self.new)) (λ left. HoldsEither S.scheme node.now (settled_in self.old) (taken_in self.old) (areas_of D.device (journal_of self.old)) (areas_at D.device (journal_of self.old) left)) }
         ensures earlier { OnOk result (KeepsEarlier S.scheme node.now (settled_in self.old) (taken_in self.old) (areas_of D.device (journal_of self.old)) (areas_of D.device (journal_of self.new))) }
+        ensures some { IfOk result (λ count. 0 < count) }
         ensures ok { IfOk result (λ count. (count ≡ length group) × (settled_in self.new ≡ taken_in self.old) × (is_down self.new ≡ false)) }
         ensures err { OnErr result ((settled_in self.new ≡ settled_in self.old) × (is_down self.new ≡ true)) }
         ensures seat { OnOk result (seat.new ≡ seat.old) }

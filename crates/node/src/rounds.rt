@@ -1,6 +1,6 @@
 //! What a thread flushes a node with.
 
-ghost use Rattle.std.specs.Prelude.{◌≡◌, ◌⊎◌, IsOk, IfOk, IsSome, IsErrOf, OnOk, OnErr};
+ghost use Rattle.std.specs.Prelude.{◌≡◌, ◌⊎◌, ◌↔◌, length, IsOk, IfOk, IfSome, IsNone, IsSome, IsTrue, IsErrOf, OnOk, OnErr};
 ghost use Rattle.diskmodel.specs.Disk.{AtEachMoment, TellsFault};
 ghost use Rattle.journal.specs.Journal.{disk_of, spare_of};
 ghost use Rattle.journal.specs.Pairs.{HaveChangedPlaces, HaveKeptPlaces, areas_of, areas_with, generation_in, spare_disk, store_of, rewritten_disk, untouched_disk};
@@ -8,7 +8,7 @@ ghost use Rattle.wire.specs.Lists.{Begins};
 ghost use Rattle.validator.specs.Setting.{node_of};
 ghost use Rattle.node_shared.specs.Calls.{IsBeside};
 ghost use Rattle.node_shared.specs.Home.{IsOf};
-ghost use Rattle.flusher.specs.Rounds.{journal_of, settled_in, taken_in, areas_at, IsFlusherOf, HoldsEither, KeepsEarlier, GoesDown, IsToldOf, TakesAndSettles, TakesAllAndSettles, TellsRoom, TellsRoomToRewrite, StaysAsIs};
+ghost use Rattle.flusher.specs.Rounds.{journal_of, is_down, settled_in, taken_in, areas_at, IsFlusherOf, HoldsEither, KeepsEarlier, GoesDown, IsToldOf, TakesAndSettles, TakesAllAndSettles, TellsRoom, TellsRoomToRewrite, StaysAsIs};
 ghost use Rattle.node.specs.Rounds.{Flushes};
 
 use crate::caller::Caller;
@@ -93,6 +93,7 @@ impl<'n, 'a, S: Sign, D: Disk> Rounds<'n, 'a, S, D> {
         ensures settles { TakesAndSettles self.old.seat self.new.seat self.old.flusher self.new.flusher result }
         ensures room { TellsRoom D.device self.old.flusher self.new.flusher result }
         ensures cause { TellsFault FlushError.Device (D.device.faults (disk_of (journal_of self.old.flusher))) (D.device.faults (disk_of (journal_of self.new.flusher))) result }
+        ensures nothing { IfOk result (λ count. count ≡ 0 → journal_of self.new.flusher ≡ journal_of self.old.flusher) }
         ensures spare { spare_of (journal_of self.new.flusher) ≡ spare_of (journal_of self.old.flusher) }
         ensures any_moment { IsErrOf result FlushError.Down ⊎ AtEachMoment D.device (disk_of (journal_of self.old.flusher)) (disk_of (journal_of self.new.flusher)) (λ left. HoldsEither S.scheme self.old.node (settled_in self.old.flusher) (taken_in self.new.flusher) (areas_of D.device (journal_of self.old.flusher)) (areas_at D.device (journal_of self.old.flusher) left)) }
         ensures earlier { OnOk result (KeepsEarlier S.scheme self.old.node (settled_in self.old.flusher) (settled_in self.new.flusher) (areas_of D.device (journal_of self.old.flusher)) (areas_of D.device (journal_of self.new.flusher))) }
@@ -121,6 +122,14 @@ impl<'n, 'a, S: Sign, D: Disk> Rounds<'n, 'a, S, D> {
         ensures flushes { Flushes S.scheme D.device self.old.node self.old.flusher self.new.flusher result }
     {
         self.flusher.checkpoint(rt, self.node, &mut self.seat)
+    }
+
+    /// How long the area of the journal that is read is, in bytes. None where a round or a checkpoint took the node down.
+    pub fn len(&self) -> Option<u64>
+        ensures down { IsNone result ↔ IsTrue (is_down self.now.flusher) }
+        ensures len { IfSome result (λ len. len ≡ length (D.device.content (disk_of (journal_of self.now.flusher)))) }
+    {
+        self.flusher.len(self.node)
     }
 
     /// A caller is then known to know as settled no more than is settled here, so that what it collected is in what a stop leaves.

@@ -1,4 +1,4 @@
-use Rattle.std.proofs.Common.{rules, ◌≡◌, inr, List, ◌+◌, length, refl, sym, ap, ◌∙◌, subst}
+use Rattle.std.proofs.Common.{rules, ◌≡◌, inr, List, ◌+◌, ◌<◌, length, refl, sym, ap, ◌∙◌, subst, arith}
 use Rattle.wire.specs.Lists.{Begins}
 use Rattle.node_seats.specs.Views.{IsSame}
 use Rattle.node_seats.specs.Plays.{with_down}
@@ -190,3 +190,9 @@ returns-in_err-count-in-Some-clause-any_moment g c =
     AtEachMoment device (disk_of journal) (disk_of c.add.new.self.journal) (λ left. HoldsEither g.S.Sign.scheme c.args.node.now s t (areas_of device journal) (areas_at device journal left)) in
     inr (subst (λ s. leaves s (taken_by c.add.new.self.seat)) c.in-Ok.ensures.flush_firm
     (subst (leaves c.take.new.flush.seat.view.firm) (sym c.in_err-count-in-Some.ensures.taken) c.in_err-count-in-Some.ensures.any_moment))
+
+pub returns-clause-nothing : goal.returns-clause-nothing
+returns-clause-nothing g c = elim c.match-found.branch [
+  | in-Some+in_ok-count-in-Some w ↦ λ none. absurd (let some = w.in_ok-count-in-Some.ensures.some in omega (arith, some, w.count-is, none))
+  | in-None w ↦ λ none. ap (λ (f : _). f.journal) w.self-is
+]
