@@ -1,5 +1,5 @@
 -- What the threads of a node wrote, and the disks that they leave.
-use Rattle.std.proofs.Common.{◌≡◌, Bool, false, List, Option, Some, ℕ, sym, subst, ◌∙◌}
+use Rattle.std.proofs.Common.{◌≡◌, Bool, false, List, Option, Some, None, ℕ, sym, subst, ◌∙◌}
 use Rattle.std.proofs.lemmas.Bool.{or_parts}
 use Rattle.std.specs.Prelude.{◌||◌, All, IfSome}
 use Rattle.diskmodel.specs.Disk.{Device}
@@ -8,26 +8,29 @@ use Rattle.journal.specs.Pairs.{store_of}
 use Rattle.journal.specs.declared.store.Store.{Store}
 use Rattle.node.specs.Callers.{RoundsView}
 use Rattle.node.specs.Disks.{MayBeLeft}
+use Rattle.node_io.specs.Endings.{first_of}
 use Rattle.node_io.specs.declared.faults.Faults.{Faults}
 use Rattle.node_seats.proofs.Beginnings.{begins_trans}
 use Rattle.node_seats.specs.declared.view.View.{View}
 use Rattle.node_shared.specs.Home.{NodeView}
 use Rattle.sigface.specs.Scheme.{Scheme}
 use Rattle.wire.specs.Lists.{Begins}
+use Rattle.node_run.proofs.Pending.{none_of_both}
 use Rattle.node_run.proofs.Written.{written_weaker}
-use Rattle.node_run.specs.Runs.{AreSettled, HasFlushed}
+use Rattle.node_run.specs.Runs.{AreSettled, ComesByRule, HasFlushed}
 use Rattle.node_run.specs.Writing.{HasWritten, MayGo}
+use Rattle.node_run.specs.declared.rule.Rule.{Rule}
 
 -- none of three threads tells that the writer failed
 second_fine : (one other third : Bool) → ((one || other) || third) ≡ false → other ≡ false
 second_fine one other third fine = (or_parts one other (or_parts (one || other) third fine).0).1
 
 -- What was written is on the disks, where the one that wrote knew no more as settled than the rounds had settled on it.
-pub is_settled : {S D : Type 0} (scheme : Scheme S) (device : Device D) (first later : RoundsView S D) (tells : Faults) (node : NodeView S) (view : View) (left : Store D) (one other third all : Bool)
-    (old new : Option (List ℕ)) → HasFlushed scheme device first later tells → is_down first.flusher ≡ false → node ≡ first.node
+pub is_settled : {S D : Type 0} (scheme : Scheme S) (device : Device D) (rule : Rule) (first later : RoundsView S D) (tells : Faults) (node : NodeView S) (view : View) (left : Store D) (one other third all : Bool)
+    (old new : Option (List ℕ)) → HasFlushed scheme device rule first later tells → is_down first.flusher ≡ false → node ≡ first.node
     → left ≡ store_of (journal_of later.flusher) → Begins view.firm (settled_in later.flusher) → all ≡ ((one || other) || third)
     → HasWritten (All (MayGo scheme node view)) (other ≡ false) old new → HasWritten (AreSettled scheme device first.node first.flusher left) (all ≡ false) old new
-is_settled {S} {D} scheme device first later tells node view left one other third all old new flushed up same is_left firm is_all written =
+is_settled {S} {D} scheme device rule first later tells node view left one other third all old new flushed up same is_left firm is_all written =
     written_weaker (All (MayGo scheme node view)) (AreSettled scheme device first.node first.flusher left) (other ≡ false) (all ≡ false) old new
     (λ outputs each. record {
       view = view;
@@ -37,6 +40,17 @@ is_settled {S} {D} scheme device first later tells node view left one other thir
           (it.0, begins_trans view.firm (settled_in later.flusher) it.0.more firm it.1);
     })
     (λ fine. second_fine one other third (sym is_all ∙ fine)) written
+
+-- What was brought to the disks was brought by the rule, where nothing is told.
+pub comes_by_rule : {S D : Type 0} (scheme : Scheme S) (device : Device D) (rule : Rule) (first later : RoundsView S D) (others tells all : Faults) (left : Store D)
+    → HasFlushed scheme device rule first later tells → is_down first.flusher ≡ false → left ≡ store_of (journal_of later.flusher)
+    → all.journal ≡ first_of others.journal tells.journal → all.memory ≡ (others.memory || tells.memory) → all.journal ≡ None → all.memory ≡ false
+    → ComesByRule device rule (journal_of first.flusher) left
+comes_by_rule scheme device rule first later others tells all left flushed up is_left journal_is memory_is none fine =
+    let both = none_of_both others.journal tells.journal (sym journal_is ∙ none) in
+    let memory = or_parts others.memory tells.memory (sym memory_is ∙ fine) in
+    let by = flushed.by_rule up both.1 memory.1 in
+    record { last = journal_of later.flusher; last_rule = by.0; by_rule = by.1; is_left = is_left }
 
 -- what holds of what there is
 pub of_some : {X : Type 0} (P : X → Type 0) (found : Option X) (one : X) → found ≡ Some one → IfSome found P → P one

@@ -7,4 +7,7 @@ mod Flushed
 mod Opened
 mod Asking
 mod Moments
+mod Once
+mod Pending
+mod Rewritten
 mod Runs

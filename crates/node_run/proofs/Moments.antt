@@ -130,6 +130,38 @@ module _ {S D : Type 0} (scheme : Scheme S) (device : Device D) where
           let it = call_leaves node at first now later here begins taken so_far found here_now in
           (it.0, subst (λ (l : List Marked). Begins l it.0.more) (sym same) it.1)
 
+  -- more after a call is more after what came before it
+  holds_on : (node at : NodeView S) (first now : Flusher D) → at ≡ node → Begins (settled_in first) (settled_in now) → Keeps node first now
+      → (a : Areas) (old : HoldsMore scheme at (settled_in now) (areas now) a) → (it : May node first a) × (it.more ≡ old.more)
+  holds_on node at first now here begins before a old =
+      let here_it = subst (λ n. LeavesAfter scheme n (settled_in now) old.more (areas now) a) here old.leaves in (
+        record {
+          more = old.more;
+          begins = begins_trans (settled_in first) (settled_in now) old.more begins old.begins;
+          leaves = record { holds = here_it.holds; earlier = λ base there. here_it.earlier base (before base there) };
+        },
+        refl,
+      )
+
+  -- what a call leaves, after others
+  pub leaves_on : (node at : NodeView S) (first now later : Flusher D) → at ≡ node → Begins (settled_in first) (settled_in now) → SoFar node first now → Leaves at now later → Leaves node first later
+  leaves_on node at first now later here begins so_far leaves = by so_far
+    where
+      more : (a : Areas) → HoldsMore scheme at (settled_in now) (areas now) a → May node first a
+      more a old = (holds_on node at first now here begins (keeps_so_far node first now so_far) a old).0
+
+      by : SoFar node first now → Leaves node first later
+      by (inl same) = subst (λ (f : Flusher D). AtEachMomentOn device (May node first) (disks f) (disks later)) same
+          (on_weaker device (May node first) (HoldsMore scheme at (settled_in now) (areas now)) (disks now) (disks later) leaves more)
+      by (inr before) = on_joins device (May node first) (HoldsMore scheme at (settled_in now) (areas now)) (disks first) (disks now) (disks later) before.0 leaves more
+
+  -- and at its end
+  pub ends_after : (node at : NodeView S) (first now later : Flusher D) → at ≡ node → Begins (settled_in first) (settled_in now) → SoFar node first now → Ends at now later → Ends node first later
+  ends_after node at first now later here begins so_far ends = λ found may.
+      let old = ends found may in
+      let it = holds_on node at first now here begins (keeps_so_far node first now so_far) found old.0 in
+      (it.0, subst (Begins (settled_in later)) (sym it.1) old.1)
+
   -- what a call that failed leaves settled
   pub fails_on : (node : NodeView S) (now later : Flusher D) (round : Result ℕ FlushError) (error : FlushError) → round ≡ Err error → is_down later ≡ false → GoesDown now later round
       → Flushes scheme device node now later round → Keeps node now later

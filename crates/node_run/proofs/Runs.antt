@@ -5,17 +5,19 @@ use Rattle.std.proofs.lemmas.List.{map-append}
 use Rattle.std.proofs.lemmas.List.Elements.{All-weaker}
 use Rattle.std.proofs.lemmas.Option.{none-some}
 use Rattle.std.specs.Option.{option_map_or}
-use Rattle.std.specs.Prelude.{◌≢◌, ◌⊎◌, Ok, IfSome, if◌then◌else◌}
+use Rattle.std.specs.Prelude.{◌≢◌, ◌⊎◌, ◌||◌, Ok, IfSome, IsSome, if◌then◌else◌}
 use Rattle.diskmodel.specs.Disk.{Device}
 use Rattle.admission.proofs.OneState.{one_state}
 use Rattle.book.specs.Book.{GoesOutAfter}
 use Rattle.flusher.specs.Rounds.{journal_of, settled_in, HoldsAfter}
 use Rattle.flusher.specs.declared.flusher.Flusher.{Flusher}
 use Rattle.journal.specs.Areas.{Areas, alone, pair}
+use Rattle.journal.specs.Journal.{spare_of}
 use Rattle.journal.specs.Pairs.{areas_in, areas_of}
 use Rattle.journal.specs.Stores.{faults_in}
 use Rattle.journal.specs.declared.error.JournalError.{JournalError}
 use Rattle.journal.specs.declared.error.JournalError.TheVariants as journal
+use Rattle.journal.specs.declared.journal.Journal.{Journal}
 use Rattle.journal.specs.declared.store.Store.{Store}
 use Rattle.journal.specs.declared.store.Store.TheVariants.{One, Two}
 use Rattle.node.specs.Disks.{AtEachMomentOn}
@@ -30,7 +32,7 @@ use Rattle.node_seats.specs.declared.view.View.{View}
 use Rattle.wire.specs.Lists.{Begins}
 use Rattle.node_seats.specs.declared.view.Marked.{Marked}
 use Rattle.node_shared.specs.Home.{NodeView}
-use Rattle.opening.specs.Laws.{IsLeftIn, IsNoRefusalOfBoth}
+use Rattle.opening.specs.Laws.{IsLeftIn, IsNoRefusalOfBoth, IsReadIn}
 use Rattle.opening.specs.Renewing.{KeepsStatesIn}
 use Rattle.opening.specs.Stages.{IsToldAsBoth, IsToldThroughout}
 use Rattle.opening.specs.Told.{told_in, StandsAt, Tells, IsToldAsOneOf}
@@ -46,7 +48,7 @@ use Rattle.node_run.specs.Ends.{TellsRounds}
 use Rattle.wire.specs.declared.keys.Key.{Key}
 use Rattle.node_run.specs.Members.{IsConfigOf, RefusesOpening}
 use Rattle.node_run.proofs.Written.{written_weaker, wrote_nothing}
-use Rattle.node_run.specs.Runs.{HoldsMore, GoesOn, GoesOutAfterPrefix, AreSettled, IsReadAsOneOf, NoneOrOnDisk, GivesOnly, IsOfLoss, RunsOver, RunsAs, is_all_written}
+use Rattle.node_run.specs.Runs.{HoldsMore, GoesOn, GoesOutAfterPrefix, AreSettled, IsReadAsOneOf, NoneOrOnDisk, GivesOnly, IsOfLoss, AreTwo, ComesByRule, RunsOver, RunsAs, every_on, is_all_brought, is_all_written, rule_on}
 use Rattle.node_run.specs.Writing.{no_memory, HasWritten, MayGo}
 use Rattle.node_run.specs.declared.ran.Ran.{Ran}
 use Rattle.sigface.specs.Scheme.{Scheme}
@@ -103,6 +105,32 @@ wrote_all_unless (Some journal.Full) true other whole = absurd (let bad : false 
 
 wrote_all : (faults : Faults) → is_all_written (ending_of faults) ≡ true → faults.output ≡ false
 wrote_all faults whole = wrote_all_unless faults.journal faults.output _ whole
+
+-- a run whose ending hides no fault of what was brought to the disks had none
+nothing_unless : (fault : Option JournalError) (output memory lacks input : Bool) → IfSome fault (λ error. (error ≡ journal.Device) ⊎ (error ≡ journal.Full))
+    → is_all_brought (unless_journal fault (if output then ends.Output else if memory || lacks then ends.Memory else if input then ends.Input else ends.Done)) ≡ true
+    → (fault ≡ None) × (memory ≡ false)
+nothing_unless None true memory lacks input which brought = absurd (let bad : false ≡ true = brought in cc)
+nothing_unless None false true lacks input which brought = absurd (let bad : false ≡ true = brought in cc)
+nothing_unless None false false lacks input which brought = (refl, refl)
+nothing_unless (Some journal.Memory) output memory lacks input (inl is) brought = absurd (let bad : journal.Memory ≡ journal.Device = is in cc)
+nothing_unless (Some journal.Memory) output memory lacks input (inr is) brought = absurd (let bad : journal.Memory ≡ journal.Full = is in cc)
+nothing_unless (Some journal.Device) output memory lacks input which brought = absurd (let bad : false ≡ true = brought in cc)
+nothing_unless (Some (journal.Damaged place)) output memory lacks input which brought = absurd (let bad : false ≡ true = brought in cc)
+nothing_unless (Some journal.ConfigMismatch) output memory lacks input which brought = absurd (let bad : false ≡ true = brought in cc)
+nothing_unless (Some journal.Full) output memory lacks input which brought = absurd (let bad : false ≡ true = brought in cc)
+
+told_nothing : (faults : Faults) → IfSome faults.journal (λ error. (error ≡ journal.Device) ⊎ (error ≡ journal.Full)) → is_all_brought (ending_of faults) ≡ true
+    → (faults.journal ≡ None) × (faults.memory ≡ false)
+told_nothing faults which brought = nothing_unless faults.journal faults.output faults.memory _ faults.input which brought
+
+-- one that couldn't begin
+nothing_brought : (error : JournalError) → is_all_brought (of_journal error) ≡ true → ⊥
+nothing_brought journal.Memory brought = let bad : false ≡ true = brought in cc
+nothing_brought journal.Device brought = let bad : false ≡ true = brought in cc
+nothing_brought (journal.Damaged place) brought = let bad : false ≡ true = brought in cc
+nothing_brought journal.ConfigMismatch brought = let bad : false ≡ true = brought in cc
+nothing_brought journal.Full brought = let bad : false ≡ true = brought in cc
 
 -- one whose writer was lost tells of it
 loss_unless : (fault : Option JournalError) (output lacks : Bool) (other : Ending) → output ≡ false → lacks ≡ true
@@ -177,39 +205,47 @@ module _ {S D : Type 0} (scheme : Scheme S) (device : Device D) where
   some_left : (later : Store D) (ending : Ending) → Some later ≡ None → ending ≡ ends.Memory
   some_left later ending none = absurd (none-some later (sym none))
 
+  -- a journal that is ever rewritten is on two disks
+  pub two_where_due : (node : Node) (store : Store D) (every : ℕ) (opened : Journal D) → IsReadIn node device store opened → IsSome (every_on store every) → IsSome (spare_of opened)
+  two_where_due node (One disk) every opened read some = absurd (let bad : false ≡ true = some in cc)
+  two_where_due node (Two first second) every opened read some = read.0
+
   -- the node wasn't opened
-  pub not_opened : (node : Node) (store later : Store D) (error : JournalError) → (error ≢ journal.Device → error ≢ journal.Full → Tells error (told_in node (areas_in device store)))
+  pub not_opened : (node : Node) (store later : Store D) (every : ℕ) (error : JournalError) → (error ≢ journal.Device → error ≢ journal.Full → Tells error (told_in node (areas_in device store)))
       → (error ≡ journal.Device → faults_in device store < faults_in device later) × (error ≢ journal.Device → faults_in device later ≡ faults_in device store)
-      → IsToldThroughout node device store later → (IsLeftIn node (areas_in device store) → IsNoRefusalOfBoth error) → RunsOver node device store (of_journal error) (Some later)
-  not_opened node store later error tells cause leaves never_refused = record {
+      → IsToldThroughout node device store later → (IsLeftIn node (areas_in device store) → IsNoRefusalOfBoth error) → RunsOver node device store every (of_journal error) (Some later)
+  not_opened node store later every error tells cause leaves never_refused = record {
     device = λ is. cause.0 (opening_told error journal.Device is);
     no_fault = λ other. cause.1 (λ is. other (ap of_journal is));
     told_as = λ named is. subst (IsOfRun node (areas_in device store)) (opening_told error named is) (kind_of node (areas_in device store) error tells);
     never_refused = λ left named is. not_refused error named is (never_refused left);
     lost = some_left later (of_journal error);
     any_moment = from_opening node store later leaves;
+    rewritten = λ brought. absurd (nothing_brought error brought);
   }
 
   -- it was opened, and memory was refused then
-  pub not_run : (node : Node) (store now : Store D) → faults_in device now ≡ faults_in device store → IsToldThroughout node device store now → RunsOver node device store ends.Memory (Some now)
-  not_run node store now same leaves = record {
+  pub not_run : (node : Node) (store now : Store D) (every : ℕ) → faults_in device now ≡ faults_in device store → IsToldThroughout node device store now → RunsOver node device store every ends.Memory (Some now)
+  not_run node store now every same leaves = record {
     device = λ is. absurd (none-some journal.Device (ap fault_in is));
     no_fault = λ other. same;
     told_as = λ named is. absurd (none-some named (ap fault_in is));
     never_refused = λ left named is. absurd (none-some named (ap fault_in is));
     lost = λ none. refl;
     any_moment = from_opening node store now leaves;
+    rewritten = λ brought. absurd (let bad : false ≡ true = brought in cc);
   }
 
   -- the disks were lost
-  run_lost : (node : Node) (store : Store D) (told_of : Faults) → told_of ≡ no_memory → RunsOver node device store (ending_of told_of) None
-  run_lost node store told_of is = record {
+  run_lost : (node : Node) (store : Store D) (every : ℕ) (told_of : Faults) → told_of ≡ no_memory → RunsOver node device store every (ending_of told_of) None
+  run_lost node store every told_of is = record {
     device = λ device. tt;
     no_fault = λ other. tt;
     told_as = λ named so. absurd (none-some named (ap fault_in (sym ends_so ∙ so)));
     never_refused = λ left named so. absurd (none-some named (ap fault_in (sym ends_so ∙ so)));
     lost = λ none. ends_so;
     any_moment = tt;
+    rewritten = λ brought. tt;
   }
     where
       ends_so : ending_of told_of ≡ ends.Memory
@@ -246,18 +282,22 @@ module _ {S D : Type 0} (scheme : Scheme S) (device : Device D) where
           subst (λ (l : List Marked). Holds (node_of scheme shared.setting) now (after_all (node_of scheme shared.setting) began (events l))) (sym none) after
 
   -- it ran
-  has_run : (shared : NodeView S) (node : Node) (store now : Store D) (areas : Areas) (later : Store D) (told_of : Faults) → node_of scheme shared.setting ≡ node
+  has_run : (shared : NodeView S) (node : Node) (store now : Store D) (every : ℕ) (opened : Journal D) (areas : Areas) (later : Store D) (told_of : Faults) → node_of scheme shared.setting ≡ node
       → StandsAt node (told_in node (areas_in device store)) shared.begun → faults_in device now ≡ faults_in device store
       → TellsRounds (faults_in device now) (faults_in device later) told_of.journal → IsToldThroughout node device store now
       → AtEachMomentOn device (HoldsMore scheme shared [] areas) now later → KeepsStatesIn node (areas_in device store) areas
-      → RunsOver node device store (ending_of told_of) (Some later)
-  has_run shared node store now areas later told_of of_node begins same tells opening leaves kept_all = record {
+      → IsReadIn node device store opened → (told_of.journal ≡ None → told_of.memory ≡ false → ComesByRule device (rule_on device store every opened) opened later)
+      → RunsOver node device store every (ending_of told_of) (Some later)
+  has_run shared node store now every opened areas later told_of of_node begins same tells opening leaves kept_all read by_rule = record {
     device = λ is. subst (λ n. n < faults_in device later) same (tells.disk.device (told_of_journal told_of journal.Device is));
     no_fault = λ other. tells.disk.no_fault (λ is. other (ends_with_device told_of.journal _ is)) ∙ same;
     told_as = λ named is. elim (which named is) [ inl device ↦ inl device | inr full ↦ inr (inl full) ];
     never_refused = λ left. which;
     lost = some_left later (ending_of told_of);
     any_moment = on_joins device (May node store) (HoldsMore scheme shared [] areas) store now later (from_opening node store now opening) leaves more;
+    rewritten = λ brought.
+        let fine = told_nothing told_of tells.which brought in
+        record { opened = opened; read = read; comes = by_rule fine.0 fine.1 };
   }
     where
       which : (named : JournalError) → ending_of told_of ≡ ends.Journal named → (named ≡ journal.Device) ⊎ (named ≡ journal.Full)
@@ -267,15 +307,16 @@ module _ {S D : Type 0} (scheme : Scheme S) (device : Device D) where
       more left it = inr (goes_on shared node store areas [] of_node begins kept_all refl left it).0
 
   -- its threads have ended
-  pub ended : (shared : NodeView S) (node : Node) (store now : Store D) (areas : Areas) (told_of : Faults) (left : Option (Store D)) → node_of scheme shared.setting ≡ node
+  pub ended : (shared : NodeView S) (node : Node) (store now : Store D) (every : ℕ) (opened : Journal D) (areas : Areas) (told_of : Faults) (left : Option (Store D)) → node_of scheme shared.setting ≡ node
       → StandsAt node (told_in node (areas_in device store)) shared.begun → faults_in device now ≡ faults_in device store
       → IfSome left (λ later. TellsRounds (faults_in device now) (faults_in device later) told_of.journal) → (left ≡ None → told_of ≡ no_memory)
       → IsToldThroughout node device store now
       → IfSome left (λ later. AtEachMomentOn device (HoldsMore scheme shared [] areas) now later) → KeepsStatesIn node (areas_in device store) areas
-      → RunsOver node device store (ending_of told_of) left
-  ended shared node store now areas told_of None of_node begins same tells lost opening leaves kept_all = run_lost node store told_of (lost refl)
-  ended shared node store now areas told_of (Some later) of_node begins same tells lost opening leaves kept_all =
-      has_run shared node store now areas later told_of of_node begins same tells opening leaves kept_all
+      → IsReadIn node device store opened → (told_of.journal ≡ None → told_of.memory ≡ false → IfSome left (ComesByRule device (rule_on device store every opened) opened))
+      → RunsOver node device store every (ending_of told_of) left
+  ended shared node store now every opened areas told_of None of_node begins same tells lost opening leaves kept_all read by_rule = run_lost node store every told_of (lost refl)
+  ended shared node store now every opened areas told_of (Some later) of_node begins same tells lost opening leaves kept_all read by_rule =
+      has_run shared node store now every opened areas later told_of of_node begins same tells opening leaves kept_all read by_rule
 
   -- ---- what it gave out
 
@@ -346,9 +387,9 @@ gives_nothing {D} {W} node device contents store writer ran back = record {
 
 -- a member whom a number names ran
 pub run_as : {O D W : Type 0} (scheme : Scheme Key) (device : Device D) (contents : W → Option (List ℕ))
-    (named : Option O) (bytes_of : O → List ℕ) (config : ConfigView Key) (store : Store D) (writer : W) (ran : Ran D W) (text : List ℕ) → IfSome named (λ own. IsConfigOf text (bytes_of own) config)
-    → RunsOver (node_of scheme config) device store ran.ending ran.store → GivesOnly (node_of scheme config) device contents store writer ran
-    → IfSome named (λ own. (RefusesOpening (bytes_of own) ran.ending × (ran.writer ≡ Some writer)) ⊎ RunsAs scheme device contents (bytes_of own) writer ran)
-run_as scheme device contents None bytes_of config store writer ran text is_of runs gives = tt
-run_as scheme device contents (Some own) bytes_of config store writer ran text is_of runs gives =
-    inr (record { text = text; config = config; is_of = is_of; store = store; runs = runs; gives = gives })
+    (named : Option O) (bytes_of : O → List ℕ) (config : ConfigView Key) (store : Store D) (every : ℕ) (writer : W) (ran : Ran D W) (text : List ℕ) → IfSome named (λ own. IsConfigOf text (bytes_of own) config)
+    → AreTwo store → RunsOver (node_of scheme config) device store every ran.ending ran.store → GivesOnly (node_of scheme config) device contents store writer ran
+    → IfSome named (λ own. (RefusesOpening (bytes_of own) ran.ending × (ran.writer ≡ Some writer)) ⊎ RunsAs scheme device contents (bytes_of own) every writer ran)
+run_as scheme device contents None bytes_of config store every writer ran text is_of two runs gives = tt
+run_as scheme device contents (Some own) bytes_of config store every writer ran text is_of two runs gives =
+    inr (record { text = text; config = config; is_of = is_of; store = store; two = two; runs = runs; gives = gives })

@@ -1,7 +1,9 @@
 pub mod Asking
 pub mod Bringing
 pub mod Ends
+pub mod Flushing
 pub mod Members
+pub mod Rewriting
 pub mod Taking
 pub mod Writing
 pub mod Runs

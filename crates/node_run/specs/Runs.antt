@@ -1,5 +1,5 @@
 -- How a node's run over its disks ends, and what a stop at any moment of it leaves.
-use Rattle.std.specs.Prelude.{◌≡◌, ◌≢◌, ◌⊎◌, ◌<◌, ℕ, Bool, true, false, List, [], Option, None, Ok, All, IfSome}
+use Rattle.std.specs.Prelude.{◌≡◌, ◌≢◌, ◌⊎◌, ◌<◌, ⊤, ℕ, Bool, true, false, List, [], Option, Some, None, Ok, All, IfSome}
 use Rattle.book.specs.Book.{GoesOutAfter}
 use Rattle.diskmodel.specs.Disk.{Device}
 use Rattle.flusher.specs.Rounds.{journal_of, is_down, settled_in, LeavesAfter}
@@ -10,17 +10,18 @@ use Rattle.journal.specs.Stores.{faults_in}
 use Rattle.journal.specs.declared.error.JournalError.{JournalError}
 use Rattle.journal.specs.declared.error.JournalError.TheVariants as errors
 use Rattle.journal.specs.declared.error.JournalError.TheVariants.{Full}
+use Rattle.journal.specs.declared.journal.Journal.{Journal}
 use Rattle.journal.specs.declared.store.Store.{Store}
+use Rattle.journal.specs.declared.store.Store.TheVariants.{One, Two}
 use Rattle.node_io.specs.declared.ending.Ending.{Ending}
 use Rattle.node_io.specs.declared.faults.Faults.{Faults}
-use Rattle.node_io.specs.declared.ending.Ending.TheVariants.{Journal, Memory}
 use Rattle.node_io.specs.declared.ending.Ending.TheVariants as endings
 use Rattle.node.specs.Callers.{RoundsView}
 use Rattle.node.specs.Disks.{MayBeLeft, AtEachMomentOn}
 use Rattle.node_seats.specs.declared.view.Marked.{Marked}
 use Rattle.node_seats.specs.declared.view.View.{View}
 use Rattle.node_shared.specs.Home.{NodeView}
-use Rattle.opening.specs.Laws.{IsLeftIn}
+use Rattle.opening.specs.Laws.{IsLeftIn, IsReadIn}
 use Rattle.opening.specs.Told.{told_in, Tells}
 use Rattle.spec_machine.specs.After.{after_all, IsLegalAfter}
 use Rattle.spec_model.specs.Histories.{History}
@@ -33,8 +34,10 @@ use Rattle.validator.specs.Setting.{ConfigView, node_of}
 use Rattle.wire.specs.declared.keys.Key.{Key}
 use Rattle.node_run.specs.Ends.{TellsRounds}
 use Rattle.node_run.specs.Members.{IsConfigOf}
+use Rattle.node_run.specs.Rewriting.{length_in, ByTheRule}
 use Rattle.node_run.specs.Writing.{HasWritten, MayGo}
 use Rattle.node_run.specs.declared.ran.Ran.{Ran}
+use Rattle.node_run.specs.declared.rule.Rule.{Rule}
 use Rattle.sigface.specs.Scheme.{Scheme}
 
 -- areas are a node's journal with what was settled, and perhaps more after it, after the same state as before
@@ -51,8 +54,9 @@ LeavesSettled scheme device node first settled left =
     → (it : HoldsMore scheme node (settled_in first) (areas_of device (journal_of first)) found) × Begins settled it.more
 
 -- A node's rounds went on at the same node, and report these faults: of its journal as rounds do, and none of outputs or of the input. A stop at
--- any moment leaves what was settled, and perhaps more after it; at the end it leaves all that is settled then.
-pub record HasFlushed {S D : Type 0} (scheme : Scheme S) (device : Device D) (before later : RoundsView S D) (tells : Faults) : Type 0 where
+-- any moment leaves what was settled, and perhaps more after it; at the end it leaves all that is settled then. Unless a fault is reported, all
+-- was brought to the disks by the rule.
+pub record HasFlushed {S D : Type 0} (scheme : Scheme S) (device : Device D) (rule : Rule) (before later : RoundsView S D) (tells : Faults) : Type 0 where
   pub node : later.node ≡ before.node
   pub told : TellsRounds (faults_in device (store_of (journal_of before.flusher))) (faults_in device (store_of (journal_of later.flusher))) tells.journal
   pub others : (tells.output ≡ false) × (tells.input ≡ false)
@@ -60,6 +64,20 @@ pub record HasFlushed {S D : Type 0} (scheme : Scheme S) (device : Device D) (be
       → AtEachMomentOn device (HoldsMore scheme before.node (settled_in before.flusher) (areas_of device (journal_of before.flusher)))
       (store_of (journal_of before.flusher)) (store_of (journal_of later.flusher))
   pub at_end : is_down before.flusher ≡ false → LeavesSettled scheme device before.node before.flusher (settled_in later.flusher) (store_of (journal_of later.flusher))
+  pub by_rule : is_down before.flusher ≡ false → tells.journal ≡ None → tells.memory ≡ false
+      → (last : Rule) × ByTheRule device rule (journal_of before.flusher) last (journal_of later.flusher)
+
+-- what contracts see of the thread that flushes: its rounds, and its rule
+pub record FlushingView (S D : Type 0) : Type 0 where
+  pub rounds : RoundsView S D
+  pub rule : Rule
+
+-- A journal on these disks was brought there from an earlier one by a rule.
+pub record ComesByRule {D : Type 0} (device : Device D) (rule : Rule) (first : Journal D) (left : Store D) : Type 0 where
+  pub last : Journal D
+  pub last_rule : Rule
+  pub by_rule : ByTheRule device rule first last_rule last
+  pub is_left : left ≡ store_of last
 
 -- Outputs might go out after events that a node has settled on its disks: each of them went after some of what a seat knows as settled,
 -- and whatever a stop leaves of the disks now has all of that, after the same state as when a flusher was as given.
@@ -84,17 +102,41 @@ pub record IsReadAsOneOf {D : Type 0} (node : Node) (disks : Device D) (store : 
   pub might : MayBeLeft disks store was
   pub same : told_in node left ≡ told_in node was
 
+-- an ending hides no fault of what was brought to the disks
+abbrev pub is_all_brought : Ending → Bool
+is_all_brought endings.Done = true
+is_all_brought endings.Input = true
+is_all_brought other = false
+
+-- a journal on two disks is rewritten each time that it is so many bytes longer, and one on one disk never
+abbrev pub every_on : {D : Type 0} → Store D → ℕ → Option ℕ
+every_on (One disk) every = None
+every_on (Two first second) every = Some every
+
+-- the rule of a journal that was opened on these disks
+abbrev pub rule_on : {D : Type 0} → Device D → Store D → ℕ → Journal D → Rule
+rule_on device store every opened = record { every = every_on store every; since = length_in device opened }
+
+-- A journal was opened on disks. All that was brought there until these are left was brought by rounds, and by a checkpoint after them wherever
+-- they left the area which is read so many bytes longer than it was at the opening, or after the last checkpoint, and nowhere else.
+pub record IsRewrittenEach {D : Type 0} (node : Node) (disks : Device D) (store : Store D) (every : ℕ) (left : Store D) : Type 0 where
+  pub opened : Journal D
+  pub read : IsReadIn node disks store opened
+  pub comes : ComesByRule disks (rule_on disks store every opened) opened left
+
 -- A node was opened on one disk or on two, if it could be, and ran until this ending; this is left of the disks. A fault of a disk is told
 -- exactly where one of them counted one. Of the journal's other faults a full one is told after the opening, and what the opening refused. That
 -- is what the disks were told as, and nothing that a stop leaves in a world of the node. The disks are lost only with a thread that couldn't be
--- made. A stop at any moment leaves what is told as an outcome from before it is, or what the disks were told as with more after it.
-pub record RunsOver {D : Type 0} (node : Node) (disks : Device D) (store : Store D) (ending : Ending) (left : Option (Store D)) : Type 0 where
-  pub device : ending ≡ Journal errors.Device → IfSome left (λ later. faults_in disks store < faults_in disks later)
-  pub no_fault : ending ≢ Journal errors.Device → IfSome left (λ later. faults_in disks later ≡ faults_in disks store)
-  pub told_as : (error : JournalError) → ending ≡ Journal error → (error ≡ errors.Device) ⊎ (error ≡ Full) ⊎ Tells error (told_in node (areas_in disks store))
-  pub never_refused : IsLeftIn node (areas_in disks store) → (error : JournalError) → ending ≡ Journal error → (error ≡ errors.Device) ⊎ (error ≡ Full)
-  pub lost : left ≡ None → ending ≡ Memory
+-- made. A stop at any moment leaves what is told as an outcome from before it is, or what the disks were told as with more after it. Where
+-- the run ends without a fault of what was brought to the disks, a journal on two disks was rewritten where it was so many bytes longer.
+pub record RunsOver {D : Type 0} (node : Node) (disks : Device D) (store : Store D) (every : ℕ) (ending : Ending) (left : Option (Store D)) : Type 0 where
+  pub device : ending ≡ endings.Journal errors.Device → IfSome left (λ later. faults_in disks store < faults_in disks later)
+  pub no_fault : ending ≢ endings.Journal errors.Device → IfSome left (λ later. faults_in disks later ≡ faults_in disks store)
+  pub told_as : (error : JournalError) → ending ≡ endings.Journal error → (error ≡ errors.Device) ⊎ (error ≡ Full) ⊎ Tells error (told_in node (areas_in disks store))
+  pub never_refused : IsLeftIn node (areas_in disks store) → (error : JournalError) → ending ≡ endings.Journal error → (error ≡ errors.Device) ⊎ (error ≡ Full)
+  pub lost : left ≡ None → ending ≡ endings.Memory
   pub any_moment : IfSome left (λ later. AtEachMomentOn disks (λ areas. IsReadAsOneOf node disks store areas ⊎ GoesOn node (areas_in disks store) areas) store later)
+  pub rewritten : is_all_brought ending ≡ true → IfSome left (λ later. IsRewrittenEach node disks store every later)
 
 -- an output goes out after a prefix of these events, from a state on
 pub record GoesOutAfterPrefix (node : Node) (base : State) (settled : History) (output : Output) : Type 0 where
@@ -124,7 +166,7 @@ is_all_written other = true
 
 -- an ending tells that memory was refused, or of the journal's fault, which is reported before that
 abbrev pub IsOfLoss : Ending → Type 0
-IsOfLoss ending = (ending ≡ Memory) ⊎ ((error : JournalError) × (ending ≡ Journal error))
+IsOfLoss ending = (ending ≡ endings.Memory) ⊎ ((error : JournalError) × (ending ≡ endings.Journal error))
 
 -- What a run gives out is on the disks that it gives back. All that it wrote are frames of outputs, one after the other, which the disks hold
 -- whatever a stop leaves of them; only where the writer failed the last of the frames may be missing or cut short. A writer that is lost is
@@ -133,11 +175,17 @@ pub record GivesOnly {D W : Type 0} (node : Node) (disks : Device D) (contents :
   pub written : IfSome ran.store (λ left. IfSome ran.writer (λ later. HasWritten (NoneOrOnDisk node disks store left) (is_all_written ran.ending ≡ true) (contents writer) (contents later)))
   pub lost : ran.writer ≡ None → IsOfLoss ran.ending
 
--- the member whom a number names in the committee of some text ran over some disks, and gave this back
-pub record RunsAs {D W : Type 0} (scheme : Scheme Key) (device : Device D) (contents : W → Option (List ℕ)) (own : List ℕ) (writer : W) (ran : Ran D W) : Type 0 where
+-- there are two disks
+abbrev pub AreTwo : {D : Type 0} → Store D → Type 0
+AreTwo (One disk) = ⊥
+AreTwo (Two first second) = ⊤
+
+-- the member whom a number names in the committee of some text ran over two disks, and gave this back
+pub record RunsAs {D W : Type 0} (scheme : Scheme Key) (device : Device D) (contents : W → Option (List ℕ)) (own : List ℕ) (every : ℕ) (writer : W) (ran : Ran D W) : Type 0 where
   pub text : List ℕ
   pub config : ConfigView Key
   pub is_of : IsConfigOf text own config
   pub store : Store D
-  pub runs : RunsOver (node_of scheme config) device store ran.ending ran.store
+  pub two : AreTwo store
+  pub runs : RunsOver (node_of scheme config) device store every ran.ending ran.store
   pub gives : GivesOnly (node_of scheme config) device contents store writer ran

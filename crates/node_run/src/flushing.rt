@@ -1,17 +1,19 @@
 //! The thread that brings records to the disks.
 
 ghost use Rattle.std.specs.Prelude.{◌≡◌, ◌↔◌, true, false, Some, None, IsSome, IsTrue};
-ghost use Rattle.journal.specs.Journal.{disk_of};
+ghost use Rattle.journal.specs.Journal.{spare_of};
 ghost use Rattle.journal.specs.Pairs.{areas_of, store_of};
 ghost use Rattle.journal.specs.Stores.{faults_in};
 ghost use Rattle.node.specs.Disks.{AtEachMomentOn};
 ghost use Rattle.wire.specs.Lists.{Begins};
-ghost use Rattle.validator.specs.Setting.{node_of};
-ghost use Rattle.flusher.specs.Rounds.{journal_of, is_down, settled_in, taken_in, HasNoRoom, KeepsEarlier, TakesLongest};
+ghost use Rattle.flusher.specs.Rounds.{journal_of, is_down, settled_in, taken_in, KeepsEarlier, TakesLongest};
 ghost use Rattle.node_run.specs.Ends.{faults_behind, TellsRounds, TellsJournal};
+ghost use Rattle.node_run.specs.Flushing.{FlushesOnce};
+ghost use Rattle.node_run.specs.Rewriting.{length_in, ByTheRule, RewritesWhereDue, HasNoPlace};
 ghost use Rattle.node_run.specs.Runs.{HoldsMore, LeavesSettled};
 
 use crate::bell::Bell;
+use crate::rule::Rule;
 use diskmodel::Disk;
 use journal::JournalError;
 use node::{FlushError, Rounds};
@@ -19,17 +21,22 @@ use node_io::Faults;
 use sigface::Sign;
 use std::sync::Wait;
 
-/// Brings all records to the disk each time that the first bell is rung, and then rings the second, until the first is closed and all
-/// records are there.
+/// Brings all records to the disks each time that the first bell is rung, and then rings the second, until the first is closed and all
+/// records are there. Rewrites the journal to a checkpoint where the rule says so.
 pub(crate) fn flush_all<S: Sign, D: Disk, R: Wait>(
     rt: &R,
     rounds: &mut Rounds<'_, '_, S, D>,
+    mut rule: Rule,
     pending: &Bell,
     settled: &Bell,
 ) -> Faults
-    ensures journal { TellsJournal (faults_in D.device (store_of (journal_of rounds.old.flusher))) (faults_in D.device (store_of (journal_of rounds.new.flusher))) (is_down rounds.old.flusher) (is_down rounds.new.flusher) result.journal (HasNoRoom (D.device.content (disk_of (journal_of rounds.new.flusher))) (settled_in rounds.new.flusher) (taken_in rounds.new.flusher)) }
+    // Only a journal on two disks is rewritten.
+    requires pair { IsSome rule.every → IsSome (spare_of (journal_of rounds.old.flusher)) }
+    ensures journal { TellsJournal (faults_in D.device (store_of (journal_of rounds.old.flusher))) (faults_in D.device (store_of (journal_of rounds.new.flusher))) (is_down rounds.old.flusher) (is_down rounds.new.flusher) result.journal (HasNoPlace S.scheme D.device rounds.old.node rounds.new.flusher) }
     ensures others { (result.output ≡ false) × (result.input ≡ false) }
     ensures node { rounds.new.node ≡ rounds.old.node }
+    // Unless a fault is told, a checkpoint was taken after each round after which one was due, and after no other.
+    ensures by_rule { is_down rounds.old.flusher ≡ false → result.journal ≡ None → result.memory ≡ false → (later : Rule) × ByTheRule D.device rule (journal_of rounds.old.flusher) later (journal_of rounds.new.flusher) }
     // A stop at any moment leaves what was settled, and perhaps more after it.
     ensures any_moment { is_down rounds.old.flusher ≡ false → AtEachMomentOn D.device (HoldsMore S.scheme rounds.old.node (settled_in rounds.old.flusher) (areas_of D.device (journal_of rounds.old.flusher))) (store_of (journal_of rounds.old.flusher)) (store_of (journal_of rounds.new.flusher)) }
     // At the end it leaves all that is settled.
@@ -38,7 +45,7 @@ pub(crate) fn flush_all<S: Sign, D: Disk, R: Wait>(
     let mut faults = Faults::none();
     for _ in rt.forever() {
         let may_go_on = pending.wait(rt);
-        faults = faults.and(flush_pending(rt, rounds, settled));
+        faults = faults.and(flush_pending(rt, rounds, &mut rule, settled));
         if !may_go_on {
             settled.close(rt);
             return faults;
@@ -47,18 +54,24 @@ pub(crate) fn flush_all<S: Sign, D: Disk, R: Wait>(
     unreachable!()
 }
 
-// Rounds until all records are on the disk, or one fails.
+// Rounds until all records are on the disks, and the checkpoints that are due after them, or until one fails.
 fn flush_pending<S: Sign, D: Disk, R: Wait>(
     rt: &R,
     rounds: &mut Rounds<'_, '_, S, D>,
+    rule: &mut Rule,
     settled: &Bell,
 ) -> Faults
+    requires pair { IsSome rule.old.every → IsSome (spare_of (journal_of rounds.old.flusher)) }
+    ensures pair { IsSome rule.new.every → IsSome (spare_of (journal_of rounds.new.flusher)) }
     ensures rounds { TellsRounds (faults_in D.device (store_of (journal_of rounds.old.flusher))) (faults_in D.device (store_of (journal_of rounds.new.flusher))) result.journal }
 
     // A round that takes the node down is told as the journal's fault: the disk's, or that the group has no place.
     ensures down { is_down rounds.old.flusher ≡ false → IsSome result.journal ↔ IsTrue (is_down rounds.new.flusher) }
     ensures stays { IsTrue (is_down rounds.old.flusher) → (result.journal ≡ None) × (rounds.new.flusher ≡ rounds.old.flusher) }
-    ensures full { is_down rounds.old.flusher ≡ false → result.journal ≡ Some JournalError.Full → HasNoRoom (D.device.content (disk_of (journal_of rounds.new.flusher))) (settled_in rounds.new.flusher) (taken_in rounds.new.flusher) }
+    ensures full { is_down rounds.old.flusher ≡ false → result.journal ≡ Some JournalError.Full → HasNoPlace S.scheme D.device rounds.old.node rounds.new.flusher }
+
+    // Unless a fault is told, a checkpoint was taken after each round after which one was due, and after no other.
+    ensures by_rule { is_down rounds.old.flusher ≡ false → result.journal ≡ None → result.memory ≡ false → ByTheRule D.device rule.old (journal_of rounds.old.flusher) rule.new (journal_of rounds.new.flusher) }
 
     // Unless the node is down or memory was refused, of some list of what was accepted, with all of it that the seat had seen before,
     // nothing more fits a group after what is settled.
@@ -74,15 +87,67 @@ fn flush_pending<S: Sign, D: Disk, R: Wait>(
     ensures at_end { is_down rounds.old.flusher ≡ false → LeavesSettled S.scheme D.device rounds.old.node rounds.old.flusher (settled_in rounds.new.flusher) (store_of (journal_of rounds.new.flusher)) }
 {
     for _ in rt.forever() {
-        let round = rounds.round(rt);
-        settled.ring(rt);
-        match round {
+        match flush_once(rt, rounds, rule, settled) {
             Ok(0) => return Faults::none(),
             Ok(_) => (),
             Err(error) => return faults_of(error),
         }
     }
     unreachable!()
+}
+
+// A round, and the checkpoint that is due after it. Answers how many records the round brought to the disks, 0 where all had been.
+fn flush_once<S: Sign, D: Disk, R: Wait>(
+    rt: &R,
+    rounds: &mut Rounds<'_, '_, S, D>,
+    rule: &mut Rule,
+    settled: &Bell,
+) -> Result<u64, FlushError>
+    requires pair { IsSome rule.old.every → IsSome (spare_of (journal_of rounds.old.flusher)) }
+    ensures once { FlushesOnce S.scheme D.device rule.old rule.new rounds.old rounds.new result }
+{
+    let round = rounds.round(rt);
+    settled.ring(rt);
+    match round {
+        Ok(0) => Ok(0),
+        Ok(count) => match rewrite_if_due(rt, rounds, rule, settled) {
+            Ok(()) => Ok(count),
+            Err(error) => Err(error),
+        },
+        Err(error) => Err(error),
+    }
+}
+
+// Rewrites the journal to a checkpoint, if one is due.
+fn rewrite_if_due<S: Sign, D: Disk, R: Wait>(
+    rt: &R,
+    rounds: &mut Rounds<'_, '_, S, D>,
+    rule: &mut Rule,
+    settled: &Bell,
+) -> Result<(), FlushError>
+    requires up { is_down rounds.old.flusher ≡ false }
+    requires pair { IsSome rule.old.every → IsSome (spare_of (journal_of rounds.old.flusher)) }
+    ensures rewrites { RewritesWhereDue S.scheme D.device rule.old rule.new rounds.old rounds.new result }
+{
+    if !rule.is_due(length_of(rounds)) {
+        return Ok(());
+    }
+    let rewritten = rounds.checkpoint(rt);
+    settled.ring(rt);
+    rewritten?;
+    rule.since = length_of(rounds);
+    Ok(())
+}
+
+/// How long the area that is read is, in bytes, of a node that is up.
+pub(crate) fn length_of<S: Sign, D: Disk>(rounds: &Rounds<'_, '_, S, D>) -> u64
+    requires { is_down rounds.now.flusher ≡ false }
+    ensures { result ≡ length_in D.device (journal_of rounds.now.flusher) }
+{
+    match rounds.len() {
+        Some(len) => len,
+        None => unreachable!(),
+    }
 }
 
 // What a round that failed means for the run. That of a node which is down was told before.

@@ -1,10 +1,13 @@
 //! A member's node over its disks.
 
+ghost use Rattle.std.specs.Prelude.{◌≡◌};
 ghost use Rattle.validator.specs.Setting.{node_of};
-ghost use Rattle.node_run.specs.Runs.{RunsOver, GivesOnly};
+ghost use Rattle.node_run.specs.Runs.{RunsOver, GivesOnly, every_on};
 
 use crate::bell::Bells;
+use crate::flushing::length_of;
 use crate::ran::Ran;
+use crate::rule::Rule;
 use crate::threads::{Desks, run_threads};
 use diskmodel::Disk;
 use journal::{Failed, Store};
@@ -17,13 +20,15 @@ use std::sync::Wait;
 use std::thread::Threads;
 use validator::Config;
 
-/// Opens a member's node on one disk or on two and runs it. Answers how that ended, the disks, if they weren't lost with a thread that
-/// couldn't be made, and the writer, if it wasn't lost so or where an allocation failed.
+/// Opens a member's node on one disk or on two and runs it. A journal on two is rewritten to a checkpoint after each round that leaves
+/// the area which is read so many bytes longer than it was at the opening, or after the last checkpoint. Answers how the run ended, the
+/// disks, if they weren't lost with a thread that couldn't be made, and the writer, if it wasn't lost so or where an allocation failed.
 pub(crate) fn run_member<R, S, D, I, W, E>(
     rt: &R,
     alloc: Global,
     config: &Config<S>,
     store: Store<D>,
+    every: u64,
     reader: I,
     writer: W,
     errors: &mut E,
@@ -35,9 +40,10 @@ where
     I: Read + Drop,
     W: Write + Drop + Send,
     E: Write,
-    ensures runs { RunsOver (node_of S.scheme config.now) D.device store result.ending result.store }
+    ensures runs { RunsOver (node_of S.scheme config.now) D.device store every result.ending result.store }
     ensures gives { GivesOnly (node_of S.scheme config.now) D.device W.contents store writer result }
 {
+    let every = every_on(&store, every);
     let (node, seat, flusher) = match start(alloc, config, store) {
         Ok(started) => started,
         Err(Failed { error, disk }) => return Ran {
@@ -48,9 +54,13 @@ where
     };
     let bells = Bells::new();
     let mut rounds = Rounds::new(&node, seat, flusher);
+    let rule = Rule {
+        every,
+        since: length_of(&rounds),
+    };
     match Desks::new(alloc, config, &bells, &mut rounds, reader, writer, errors) {
         Ok(desks) => {
-            let (faults, store, writer) = run_threads(rt, rounds, desks);
+            let (faults, store, writer) = run_threads(rt, rounds, rule, desks);
             Ran {
                 ending: faults.ending(),
                 store,
@@ -62,5 +72,15 @@ where
             store: Some(rounds.into_store()),
             writer: None,
         },
+    }
+}
+
+// How much longer a journal gets before it is rewritten: one on one disk never is.
+fn every_on<D>(store: &Store<D>, every: u64) -> Option<u64>
+    ensures { result ≡ every_on store.now every }
+{
+    match store {
+        Store::One(_) => None,
+        Store::Two(..) => Some(every),
     }
 }

@@ -1,6 +1,6 @@
 //! A run of a node.
 
-ghost use Rattle.std.specs.Prelude.{◌≡◌, ◌≢◌, ◌⊎◌, Some, IfSome, length, slice_get, string_bytes};
+ghost use Rattle.std.specs.Prelude.{◌≡◌, ◌≢◌, ◌⊎◌, ◌^◌, Some, IfSome, length, slice_get, string_bytes};
 ghost use Rattle.wire.specs.declared.keys.Key.{Key};
 ghost use Rattle.validator.specs.Setting.{ConfigView, node_of};
 ghost use Rattle.node_io.specs.Endings.{status_of};
@@ -8,6 +8,7 @@ ghost use Rattle.node_run.specs.Members.{IsConfigOf, RefusesConfig, RefusesOpeni
 ghost use Rattle.node_run.specs.Runs.{RunsOver, GivesOnly, RunsAs};
 ghost use Rattle.disk_file.specs.declared.disk.FileDisk.{FileDisk};
 ghost use Rattle.node_run.specs.declared.ran.Ran.{Ran};
+ghost use Rattle.node_run.specs.declared.running.TheConstants.{CHECKPOINT_BYTES};
 
 use crate::member::run_member;
 use crate::ran::Ran;
@@ -24,9 +25,17 @@ use std::rt::Files;
 use std::sync::Wait;
 use std::thread::Threads;
 
-/// Runs a node. The arguments are a committee file, the own number and a journal file. Frames are read until they end, refusals go to
-/// the errors, a line each, and outputs to the writer. Answers the exit status, and the writer, if it wasn't lost; where the status
-/// isn't 0 the last line of the errors says why.
+/// How much longer the area that is read gets before a checkpoint, in bytes: what an opening has to read beside the state stays below it.
+pub const CHECKPOINT_BYTES: u64 = 1 << 30;
+
+/// That in numbers.
+pub fn checkpoint_bytes_in_numbers()
+    ensures { CHECKPOINT_BYTES ≡ 2 ^ 30 }
+{}
+
+/// Runs a node. The arguments are a committee file, the own number and the first of the journal's two files. Frames are read until they
+/// end, refusals go to the errors, a line each, and outputs to the writer. Answers the exit status, and the writer, if it wasn't lost;
+/// where the status isn't 0 the last line of the errors says why.
 pub fn run<R, I, W, E>(
     rt: &R,
     alloc: Global,
@@ -43,13 +52,37 @@ where
     ensures arguments { length args.now ≢ 3 → (result.0 ≡ 2) × (result.1 ≡ Some writer) }
     // Either the ending says why nothing was opened, and nothing was written, or the member of that number ran over its disks.
     ensures ending { (ran : Ran FileDisk W) × (result.0 ≡ status_of ran.ending) × (result.1 ≡ ran.writer) × IfSome (slice_get args.now 1) (λ own. (RefusesOpening (string_bytes own) ran.ending × (ran.writer ≡ Some writer))
-        ⊎ RunsAs ⟦<HashSign as Sign>⟧.scheme ⟦<FileDisk as Disk>⟧.device W.contents (string_bytes own) writer ran) }
+        ⊎ RunsAs ⟦<HashSign as Sign>⟧.scheme ⟦<FileDisk as Disk>⟧.device W.contents (string_bytes own) CHECKPOINT_BYTES writer ran) }
+{
+    run_every(rt, alloc, args, CHECKPOINT_BYTES, reader, writer, errors)
+}
+
+/// The same, with a checkpoint after a round that leaves the area which is read so many bytes longer than at the opening or after the last
+/// one.
+pub fn run_every<R, I, W, E>(
+    rt: &R,
+    alloc: Global,
+    args: &[String],
+    every: u64,
+    reader: I,
+    writer: W,
+    errors: &mut E,
+) -> (u8, Option<W>)
+where
+    R: Files<File = File> + AllocGlobal + Threads + Wait + Sync,
+    I: Read + Drop,
+    W: Write + Drop + Send,
+    E: Write,
+    ensures arguments { length args.now ≢ 3 → (result.0 ≡ 2) × (result.1 ≡ Some writer) }
+    // Either the ending says why nothing was opened, and nothing was written, or the member of that number ran over its disks.
+    ensures ending { (ran : Ran FileDisk W) × (result.0 ≡ status_of ran.ending) × (result.1 ≡ ran.writer) × IfSome (slice_get args.now 1) (λ own. (RefusesOpening (string_bytes own) ran.ending × (ran.writer ≡ Some writer))
+        ⊎ RunsAs ⟦<HashSign as Sign>⟧.scheme ⟦<FileDisk as Disk>⟧.device W.contents (string_bytes own) every writer ran) }
 {
     let Ran {
         ending,
         store: _,
         writer,
-    } = run_named(rt, alloc, args, reader, writer, errors);
+    } = run_named(rt, alloc, args, every, reader, writer, errors);
     ending.write_to(errors);
     (ending.status(), writer)
 }
@@ -59,6 +92,7 @@ fn run_named<R, I, W, E>(
     rt: &R,
     alloc: Global,
     args: &[String],
+    every: u64,
     reader: I,
     writer: W,
     errors: &mut E,
@@ -70,13 +104,13 @@ where
     E: Write,
     ensures arguments { length args.now ≢ 3 → (result.ending ≡ Ending.Usage) × (result.writer ≡ Some writer) }
     ensures named { IfSome (slice_get args.now 1) (λ own. (RefusesOpening (string_bytes own) result.ending × (result.writer ≡ Some writer))
-        ⊎ RunsAs ⟦<HashSign as Sign>⟧.scheme ⟦<FileDisk as Disk>⟧.device W.contents (string_bytes own) writer result) }
+        ⊎ RunsAs ⟦<HashSign as Sign>⟧.scheme ⟦<FileDisk as Disk>⟧.device W.contents (string_bytes own) every writer result) }
 {
     let (config, store) = match open_all(rt, alloc, args) {
         Ok(opened) => opened,
         Err(ending) => return not_run(ending, None, writer),
     };
-    run_member(rt, alloc, &config, store, reader, writer, errors)
+    run_member(rt, alloc, &config, store, every, reader, writer, errors)
 }
 
 // What a run gives back that could not be opened.
@@ -92,13 +126,16 @@ fn not_run<D, W>(ending: Ending, store: Option<Store<D>>, writer: W) -> Ran<D, W
     }
 }
 
-/// The same over one disk or over two, with the text of the committee file and the own number. Answers how the run ended, the disks, if
-/// they weren't lost with a thread that couldn't be made, and the writer, if it wasn't lost so or where an allocation failed.
+/// The same over one disk or over two, with the text of the committee file and the own number. A journal on two disks is rewritten to a
+/// checkpoint after each round that leaves the area which is read so many bytes longer than it was at the opening, or after the last
+/// checkpoint. Answers how the run ended, the disks, if they weren't lost with a thread that couldn't be made, and the writer, if it
+/// wasn't lost so or where an allocation failed.
 pub fn run_over<R, D, I, W, E>(
     rt: &R,
     alloc: Global,
     named: (&[u8], &str),
     store: Store<D>,
+    every: u64,
     reader: I,
     writer: W,
     errors: &mut E,
@@ -111,13 +148,13 @@ where
     E: Write,
     // Either the text and the number make a configuration, with which it runs, and what it wrote is on the disks; or the ending says why
     // not, and the disks and the writer are as they were.
-    ensures { ((config : ConfigView Key) × IsConfigOf named.entry.0.now named.entry.1.now config × RunsOver (node_of ⟦<HashSign as Sign>⟧.scheme config) D.device store result.ending result.store
+    ensures { ((config : ConfigView Key) × IsConfigOf named.entry.0.now named.entry.1.now config × RunsOver (node_of ⟦<HashSign as Sign>⟧.scheme config) D.device store every result.ending result.store
         × GivesOnly (node_of ⟦<HashSign as Sign>⟧.scheme config) D.device W.contents store writer result)
         ⊎ (RefusesConfig named.entry.0.now named.entry.1.now result.ending × (result.store ≡ Some store) × (result.writer ≡ Some writer)) }
 {
     let (text, own) = named;
     let ran = match config_of(alloc, text, own) {
-        Ok(config) => run_member(rt, alloc, &config, store, reader, writer, errors),
+        Ok(config) => run_member(rt, alloc, &config, store, every, reader, writer, errors),
         Err(ending) => not_run(ending, Some(store), writer),
     };
     ran.ending.write_to(errors);

@@ -1,7 +1,8 @@
 //! The threads of a node.
 
-ghost use Rattle.std.specs.Prelude.{◌≡◌, Bool, true, false, [], None, IfOk, IfSome};
+ghost use Rattle.std.specs.Prelude.{◌≡◌, Bool, true, false, [], None, IfOk, IfSome, IsSome};
 ghost use Rattle.std.specs.Io.Buffered.{writer_buffer, writer_contents, writer_inner};
+ghost use Rattle.journal.specs.Journal.{spare_of};
 ghost use Rattle.journal.specs.Pairs.{areas_of, store_of};
 ghost use Rattle.journal.specs.Stores.{faults_in};
 ghost use Rattle.node.specs.Disks.{AtEachMomentOn};
@@ -10,7 +11,7 @@ ghost use Rattle.wire.specs.Lists.{Begins};
 ghost use Rattle.node_io.specs.Endings.{behind_input};
 ghost use Rattle.node_io.specs.declared.input.End.{End};
 ghost use Rattle.node_run.specs.Ends.{TellsRounds};
-ghost use Rattle.node_run.specs.Runs.{HoldsMore, AreSettled};
+ghost use Rattle.node_run.specs.Runs.{HoldsMore, AreSettled, ComesByRule};
 ghost use Rattle.node_run.specs.Writing.{no_faults, no_memory, HasWritten};
 
 use crate::bell::{Bell, Bells};
@@ -19,6 +20,7 @@ use crate::caller::Caller;
 use crate::flushing::flush_all;
 use crate::intake::Intake;
 use crate::reading::read_all;
+use crate::rule::Rule;
 use crate::writing::{Sink, write_outputs};
 use diskmodel::Disk;
 use journal::Store;
@@ -36,36 +38,43 @@ use validator::Config;
 #[derive(Drop)]
 struct Flushing<'n, 'a, S: Sign, D: Disk> {
     rounds: Rounds<'n, 'a, S, D>,
+    rule: Rule,
     bells: &'n Bells,
     // The signer lives as long as the node's configuration.
     config: PhantomData<&'a Config<S>>,
 }
 
 impl<'n, 'a, S: Sign, D: Disk> Model for Flushing<'n, 'a, S, D> {
+    ghost use Rattle.std.specs.Prelude.{IsSome};
     ghost use Rattle.std.specs.Coded.{codes};
     ghost use Rattle.votebook.specs.contracts.book.VoteBook as votes;
-    ghost use Rattle.node.specs.Callers.{RoundsView};
+    ghost use Rattle.flusher.specs.Rounds.{journal_of};
+    ghost use Rattle.journal.specs.Journal.{spare_of};
+    ghost use Rattle.node_run.specs.Runs.{FlushingView};
 
-    ghost Value = { RoundsView S D };
+    ghost Value = { FlushingView S D };
 
     ghost coded = { Prim.hlevel (codes, S.code, D.code, votes.the_row.coded) };
 
-    ghost view = { λ f. f.rounds };
+    ghost view = { λ f. record { rounds = f.rounds; rule = f.rule } };
+
+    ghost invariant = { λ f. IsSome f.rule.every → IsSome (spare_of (journal_of f.rounds.flusher)) };
 }
 
 impl<'n, 'a, R: Wait, S: Sign, D: Disk + Drop> Work<R, (Faults, Rounds<'n, 'a, S, D>)>
     for Flushing<'n, 'a, S, D> {
     ghost use Rattle.node_run.specs.Runs.{HasFlushed};
 
-    ghost does = { λ work result. HasFlushed S.scheme D.device work result.1 result.0 };
+    ghost does = { λ work result. HasFlushed S.scheme D.device work.rule work.rounds result.1 result.0 };
 
     fn work(self, rt: &R) -> (Faults, Rounds<'n, 'a, S, D>) {
         let Flushing {
             mut rounds,
+            rule,
             bells,
             config: _,
         } = self;
-        let faults = flush_all(rt, &mut rounds, &bells.pending, &bells.settled);
+        let faults = flush_all(rt, &mut rounds, rule, &bells.pending, &bells.settled);
         (faults, rounds)
     }
 }
@@ -199,6 +208,7 @@ fn buffered<W: Write + Drop>(alloc: Global, writer: W) -> Result<BufWriter<W>, A
 pub(crate) fn run_threads<'n, 'a, 'e, R, S, D, I, W, E>(
     rt: &R,
     rounds: Rounds<'n, 'a, S, D>,
+    rule: Rule,
     desks: Desks<'n, 'a, 'e, S, I, W, E>,
 ) -> (Faults, Option<Store<D>>, Option<W>)
 where
@@ -209,6 +219,8 @@ where
     W: Write + Drop + Send,
     E: Write,
     requires faults { desks.writing.sink.faults ≡ no_faults }
+    // Only a journal on two disks is rewritten.
+    requires pair { IsSome rule.every → IsSome (spare_of (journal_of rounds.flusher)) }
     requires node { desks.writing.caller.node ≡ rounds.node }
     ensures told { IfSome result.1 (λ left. TellsRounds (faults_in D.device (store_of (journal_of rounds.entry.flusher))) (faults_in D.device left) result.0.journal) }
     ensures lost { result.1 ≡ None → result.0 ≡ no_memory }
@@ -216,6 +228,8 @@ where
     ensures unwritten { result.2 ≡ None → (result.0.output ≡ false) × (result.0.memory ≡ true) }
     // A stop at any moment leaves what was settled, and perhaps more after it.
     ensures any_moment { is_down rounds.entry.flusher ≡ false → IfSome result.1 (λ left. AtEachMomentOn D.device (HoldsMore S.scheme rounds.entry.node (settled_in rounds.entry.flusher) (areas_of D.device (journal_of rounds.entry.flusher))) (store_of (journal_of rounds.entry.flusher)) left) }
+    // Unless a fault is told, all was brought to the disks by the rule.
+    ensures by_rule { is_down rounds.entry.flusher ≡ false → result.0.journal ≡ None → result.0.memory ≡ false → IfSome result.1 (ComesByRule D.device rule (journal_of rounds.entry.flusher)) }
     // What was written is on the disks.
     ensures given { is_down rounds.entry.flusher ≡ false → IfSome result.1 (λ left. IfSome result.2 (λ later. HasWritten (AreSettled S.scheme D.device rounds.entry.node rounds.entry.flusher left) (result.0.output ≡ false) (writer_contents W.contents desks.entry.writing.sink.writer) (W.contents later))) }
 {
@@ -226,6 +240,7 @@ where
     } = desks;
     let flushing = Flushing {
         rounds,
+        rule,
         bells,
         config: PhantomData,
     };

@@ -1,15 +1,17 @@
 use Rattle.std.proofs.Common.{rules, Option, false, sym, subst, ◌∙◌, inr}
 use Rattle.std.specs.Prelude.{◌≡◌, IsTrue}
-use Rattle.journal.specs.Journal.{disk_of}
 use Rattle.journal.specs.Pairs.{store_of}
 use Rattle.journal.specs.Stores.{faults_in}
 use Rattle.journal.specs.declared.error.JournalError.{JournalError}
-use Rattle.flusher.specs.Rounds.{journal_of, is_down, settled_in, taken_in, HasNoRoom}
+use Rattle.flusher.specs.Rounds.{journal_of, is_down, settled_in}
 use Rattle.flusher.specs.declared.flusher.Flusher.{Flusher}
 use Rattle.node_run.specs.Ends.{TellsJournal}
+use Rattle.node_run.specs.Rewriting.{HasNoPlace}
 use Rattle.node_run.proofs.Flushed.{told_on}
 use Rattle.node_run.proofs.Moments.{all_on}
+use Rattle.node_run.proofs.Pending.{by_rule_on}
 use Rattle.node_seats.proofs.Beginnings.{begins_trans}
+use Rattle.node_shared.specs.Home.{NodeView}
 use Rattle.node_run.proofs.flushing.flush_all.Goals as goal
 
 pub loop-preserved : goal.loop-preserved
@@ -17,33 +19,44 @@ loop-preserved g c =
     let first = c.args.rounds.now.flusher in
     let mid = c.loop.rounds.flusher in
     let now = c.flush_pending.new.rounds.flusher in
-    let lacks = λ (f : Flusher g.row.D.Denot). HasNoRoom (g.D.Disk.device.content (disk_of (journal_of f))) (settled_in f) (taken_in f) in
+    let lacks = λ (f : Flusher g.row.D.Denot). HasNoPlace g.S.Sign.scheme g.D.Disk.device c.args.rounds.now.node f in
     let faults = λ (f : Flusher g.row.D.Denot). faults_in g.D.Disk.device (store_of (journal_of f)) in
     let done = c.flush_pending.ensures in
     let told = subst (λ (j : Option JournalError). TellsJournal (faults first) (faults now) (is_down first) (is_down now) j (lacks now)) (sym c.and-faults.ensures.journal)
     (told_on (faults first) (faults mid) (faults now) (is_down first) (is_down mid) (is_down now) c.loop.faults.journal c.flush_pending.result.journal (lacks mid) (lacks now) c.loop.invariant.4
     done.rounds done.down
     (λ down. let it = done.stays down in (it.0, subst (λ (f : Flusher g.row.D.Denot). IsTrue (is_down f)) (sym it.1) down, subst lacks (sym it.1)))
-    done.full) in
+    (λ up is. subst (λ (n : NodeView g.row.S.Denot). HasNoPlace g.S.Sign.scheme g.D.Disk.device n now) c.loop.invariant.5 (done.full up is))) in
     let output : c.and-faults.result.output ≡ false = search rules in
     let input : c.and-faults.result.input ≡ false = search rules in
     let leaves = all_on g.S.Sign.scheme g.D.Disk.device c.args.rounds.now.node c.loop.rounds.node first mid now c.loop.invariant.5 c.loop.invariant.6 c.loop.invariant.7
-    (λ down. (done.stays down).1) done.any_moment done.at_end done.earlier in
-    (tt, tt, output, input, told, done.node ∙ c.loop.invariant.5, begins_trans (settled_in first) (settled_in mid) (settled_in now) c.loop.invariant.6 done.more, inr leaves)
+    (λ down. (done.stays down).1) done.any_moment done.at_end done.earlier in (
+      tt,
+      tt,
+      output,
+      input,
+      told,
+      done.node ∙ c.loop.invariant.5,
+      begins_trans (settled_in first) (settled_in mid) (settled_in now) c.loop.invariant.6 done.more,
+      inr leaves,
+      by_rule_on g.D.Disk.device c.args.rule c.loop.rule c.flush_pending.new.rule first mid now (lacks mid) c.loop.faults c.flush_pending.result c.and-faults.result (faults first) (faults mid)
+          c.loop.invariant.4 c.loop.invariant.8 done.by_rule c.and-faults.ensures.journal c.and-faults.ensures.memory,
+      done.pair,
+    )
 
 pub returns-then-not-may_go_on-clause-journal : goal.returns-then-not-may_go_on-clause-journal
 returns-then-not-may_go_on-clause-journal g c =
     let first = c.args.rounds.now.flusher in
     let mid = c.loop.rounds.flusher in
     let now = c.flush_pending.new.rounds.flusher in
-    let lacks = λ (f : Flusher g.row.D.Denot). HasNoRoom (g.D.Disk.device.content (disk_of (journal_of f))) (settled_in f) (taken_in f) in
+    let lacks = λ (f : Flusher g.row.D.Denot). HasNoPlace g.S.Sign.scheme g.D.Disk.device c.args.rounds.now.node f in
     let faults = λ (f : Flusher g.row.D.Denot). faults_in g.D.Disk.device (store_of (journal_of f)) in
     let done = c.flush_pending.ensures in
     let told = subst (λ (j : Option JournalError). TellsJournal (faults first) (faults now) (is_down first) (is_down now) j (lacks now)) (sym c.and-faults.ensures.journal)
     (told_on (faults first) (faults mid) (faults now) (is_down first) (is_down mid) (is_down now) c.loop.faults.journal c.flush_pending.result.journal (lacks mid) (lacks now) c.loop.invariant.4
     done.rounds done.down
     (λ down. let it = done.stays down in (it.0, subst (λ (f : Flusher g.row.D.Denot). IsTrue (is_down f)) (sym it.1) down, subst lacks (sym it.1)))
-    done.full) in
+    (λ up is. subst (λ (n : NodeView g.row.S.Denot). HasNoPlace g.S.Sign.scheme g.D.Disk.device n now) c.loop.invariant.5 (done.full up is))) in
     told
 
 pub returns-then-not-may_go_on-clause-any_moment : goal.returns-then-not-may_go_on-clause-any_moment
@@ -57,3 +70,14 @@ returns-then-not-may_go_on-clause-at_end g c = λ up.
     let done = c.flush_pending.ensures in
     (all_on g.S.Sign.scheme g.D.Disk.device c.args.rounds.now.node c.loop.rounds.node c.args.rounds.now.flusher c.loop.rounds.flusher c.flush_pending.new.rounds.flusher
     c.loop.invariant.5 c.loop.invariant.6 c.loop.invariant.7 (λ down. (done.stays down).1) done.any_moment done.at_end done.earlier up).1
+
+pub returns-then-not-may_go_on-clause-by_rule : goal.returns-then-not-may_go_on-clause-by_rule
+returns-then-not-may_go_on-clause-by_rule g c = λ up none fine.
+    let first = c.args.rounds.now.flusher in
+    let mid = c.loop.rounds.flusher in
+    let now = c.flush_pending.new.rounds.flusher in
+    let faults = λ (f : Flusher g.row.D.Denot). faults_in g.D.Disk.device (store_of (journal_of f)) in (
+      c.flush_pending.new.rule,
+      by_rule_on g.D.Disk.device c.args.rule c.loop.rule c.flush_pending.new.rule first mid now (HasNoPlace g.S.Sign.scheme g.D.Disk.device c.args.rounds.now.node mid) c.loop.faults c.flush_pending.result
+          c.and-faults.result (faults first) (faults mid) c.loop.invariant.4 c.loop.invariant.8 c.flush_pending.ensures.by_rule c.and-faults.ensures.journal c.and-faults.ensures.memory up none fine,
+    )

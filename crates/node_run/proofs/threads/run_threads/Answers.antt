@@ -4,7 +4,7 @@ use Rattle.std.specs.Prelude.{◌||◌, All, Bool}
 use Rattle.flusher.specs.Rounds.{journal_of, settled_in}
 use Rattle.journal.specs.Pairs.{store_of}
 use Rattle.wire.specs.Lists.{Begins}
-use Rattle.node_run.proofs.Given.{is_settled, of_some}
+use Rattle.node_run.proofs.Given.{comes_by_rule, is_settled, of_some}
 use Rattle.node_run.proofs.threads.run_threads.Goals as goal
 use Rattle.node_run.specs.Writing.{HasWritten, MayGo}
 
@@ -16,7 +16,7 @@ returns-clause-given g c = λ up.
     let covers : Begins c.in-Some-others.wrote.caller.seat.view.firm (settled_in c.in-Some.rounds.flusher) = search rules in
     let read = c.in-Some-others.read.output in
     let all = c.and-faults.ensures.output ∙ ap (λ (it : Bool). it || c.in-Some.flushed.output) c.and-2.ensures.output in
-    is_settled g.S.Sign.scheme g.D.Disk.device c.args.rounds c.in-Some.rounds c.in-Some.flushed c.args.desks.writing.caller.node c.in-Some-others.wrote.caller.seat.view
+    is_settled g.S.Sign.scheme g.D.Disk.device c.args.rule c.args.rounds c.in-Some.rounds c.in-Some.flushed c.args.desks.writing.caller.node c.in-Some-others.wrote.caller.seat.view
     c.give_back-store.result.0 read c.in-Some-others.wrote.faults.output c.in-Some.flushed.output c.and-faults.result.output
     (writer_contents g.W.Write.contents c.args.desks.writing.sink.writer) (g.W.Write.contents c.give_back-store.result.1)
     c.in-Some.ensures.first up c.requires.node store covers all
@@ -24,3 +24,9 @@ returns-clause-given g c = λ up.
     (λ writer. HasWritten (All (MayGo g.S.Sign.scheme c.args.desks.writing.caller.node c.in-Some-others.wrote.caller.seat.view)) (c.in-Some-others.wrote.faults.output ≡ false)
     (writer_contents g.W.Write.contents c.args.desks.writing.sink.writer) (g.W.Write.contents writer))
     (sym c.give_back-store.ensures.writer) wrote.0.1)
+
+pub returns-clause-by_rule : goal.returns-clause-by_rule
+returns-clause-by_rule g c = λ up none fine.
+    let store : c.give_back-store.result.0 ≡ store_of (journal_of c.in-Some.rounds.flusher) = search rules in
+    comes_by_rule g.S.Sign.scheme g.D.Disk.device c.args.rule c.args.rounds c.in-Some.rounds c.and-2.result c.in-Some.flushed c.and-faults.result c.give_back-store.result.0
+    c.in-Some.ensures.first up store c.and-faults.ensures.journal c.and-faults.ensures.memory none fine

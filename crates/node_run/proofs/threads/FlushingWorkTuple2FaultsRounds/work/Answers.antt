@@ -5,10 +5,11 @@ use Rattle.node_run.specs.Runs.{HasFlushed}
 pub returns : goal.returns
 returns g c =
     let all = c.flush_all-faults in
-    subst (λ work. HasFlushed g.S.Sign.scheme g.D.Disk.device work all.new.rounds all.result) c.self.view_is (record {
+    subst (λ work. HasFlushed g.S.Sign.scheme g.D.Disk.device work.rule work.rounds all.new.rounds all.result) c.self.view_is (record {
       node = all.ensures.node;
       told = all.ensures.journal.rounds;
       others = all.ensures.others;
       any_moment = all.ensures.any_moment;
       at_end = all.ensures.at_end;
+      by_rule = all.ensures.by_rule;
     })

@@ -1,0 +1,270 @@
+-- Rounds until nothing is pending, and the checkpoints that are due after them.
+use Rattle.std.proofs.Common.{◌≡◌, ◌<◌, ℕ, Bool, true, false, List, [], ◌∷◌, ◌++◌, Option, Some, None, Result, Ok, Err, refl, sym, ap, subst, ◌∙◌, inl, inr}
+use Rattle.std.proofs.lemmas.Bool.{or_parts}
+use Rattle.std.specs.Prelude.{◌⊎◌, ◌↔◌, ◌||◌, IsErrOf, IsSome, IsTrue}
+use Rattle.book.specs.declared.own.error.FlushError.{FlushError}
+use Rattle.book.specs.declared.own.error.FlushError.TheVariants as flush
+use Rattle.diskmodel.specs.Disk.{Device, TellsFault}
+use Rattle.flusher.specs.Rounds.{journal_of, is_down, settled_in, taken_in, GoesDown, KeepsEarlier, TakesLongest}
+use Rattle.flusher.specs.declared.flusher.Flusher.{Flusher}
+use Rattle.journal.specs.Journal.{spare_of}
+use Rattle.journal.specs.Pairs.{areas_of, store_of}
+use Rattle.journal.specs.Stores.{faults_in}
+use Rattle.journal.specs.declared.error.JournalError.{JournalError}
+use Rattle.journal.specs.declared.error.JournalError.TheVariants as journal
+use Rattle.journal.specs.declared.journal.Journal.{Journal}
+use Rattle.node.specs.Callers.{RoundsView}
+use Rattle.node.specs.Disks.{AtEachMomentOn}
+use Rattle.node_io.specs.Endings.{first_of}
+use Rattle.node_io.specs.declared.faults.Faults.{Faults}
+use Rattle.node_seats.proofs.Beginnings.{begins_same, begins_trans}
+use Rattle.node_seats.specs.declared.view.Marked.{Marked}
+use Rattle.node_shared.specs.Home.{NodeView}
+use Rattle.sigface.specs.Scheme.{Scheme}
+use Rattle.wire.specs.Lists.{Begins}
+use Rattle.node_run.specs.Ends.{faults_behind, TellsRounds, TellsJournal}
+use Rattle.node_run.specs.Flushing.{FlushesOnce}
+use Rattle.node_run.specs.Rewriting.{AreSteps, ByTheRule, HasNoPlace, Step, journal_after, rule_after}
+use Rattle.node_run.specs.Runs.{HoldsMore, LeavesSettled}
+use Rattle.node_run.specs.Writing.{no_faults}
+use Rattle.node_run.specs.declared.rule.Rule.{Rule}
+use Rattle.node_run.proofs.Moments.{SoFar, keeps_so_far, keeps_on, leaves_on, ends_after}
+use Rattle.node_run.proofs.Once.{error_in, was_up, is_up}
+
+-- ---- the steps of several rounds
+
+steps_join : {D : Type 0} (device : Device D) (rule : Rule) (first : Journal D) (steps : List (Step D)) (mid_rule : Rule) (mid : Journal D) (more : List (Step D)) (later : Rule) (last : Journal D)
+    → AreSteps device rule first steps mid_rule mid → AreSteps device mid_rule mid more later last → AreSteps device rule first (steps ++ more) later last
+steps_join {D} device rule first [] mid_rule mid more later last here there =
+    subst (λ (r : Rule). AreSteps device r first more later last) here.0 (subst (λ (j : Journal D). AreSteps device mid_rule j more later last) here.1 there)
+steps_join device rule first (step ∷ steps) mid_rule mid more later last here there =
+    (here.0, steps_join device (rule_after device rule step) (journal_after step) steps mid_rule mid more later last here.1 there)
+
+pub by_rule_joins : {D : Type 0} (device : Device D) (rule mid_rule later : Rule) (first mid last : Journal D) → ByTheRule device rule first mid_rule mid → ByTheRule device mid_rule mid later last
+    → ByTheRule device rule first later last
+by_rule_joins device rule mid_rule later first mid last here there = (here.0 ++ there.0, steps_join device rule first here.0 mid_rule mid there.0 later last here.1 there.1)
+
+-- ---- what is told
+
+tells_failed : (first mid now : ℕ) (error : FlushError) → mid ≡ first → TellsFault {T = ℕ} flush.Device mid now (Err error) → TellsRounds first now (faults_behind error).journal
+tells_failed first mid now flush.Memory same tells = record {
+  disk = record { device = λ is. absurd (cc); no_fault = λ other. tells.1.1 (λ is. let bad : flush.Memory ≡ flush.Device = is in cc) ∙ same };
+  which = tt;
+}
+tells_failed first mid now flush.Device same tells = record {
+  disk = record { device = λ is. subst (λ (n : ℕ). n < now) same (tells.1.0 refl); no_fault = λ other. absurd (other refl) };
+  which = inl refl;
+}
+tells_failed first mid now flush.Full same tells = record {
+  disk = record { device = λ is. absurd (cc); no_fault = λ other. tells.1.1 (λ is. let bad : flush.Full ≡ flush.Device = is in cc) ∙ same };
+  which = inr refl;
+}
+tells_failed first mid now flush.Down same tells = record {
+  disk = record { device = λ is. absurd (cc); no_fault = λ other. tells.1.1 (λ is. let bad : flush.Down ≡ flush.Device = is in cc) ∙ same };
+  which = tt;
+}
+
+no_others : (error : FlushError) → ((faults_behind error).output ≡ false) × ((faults_behind error).input ≡ false)
+no_others flush.Memory = (refl, refl)
+no_others flush.Device = (refl, refl)
+no_others flush.Full = (refl, refl)
+no_others flush.Down = (refl, refl)
+
+-- an error that isn't of a node which is down
+error_is : (one other : FlushError) → ◌≡◌ {A = Result ℕ FlushError} (Err one) (Err other) → one ≡ other
+error_is one other is = ap error_in is
+
+fell : {D : Type 0} (before later : Flusher D) (error : FlushError) → is_down before ≡ false → GoesDown before later (Err error) → IsSome (faults_behind error).journal ↔ IsTrue (is_down later)
+fell before later flush.Memory up goes = ((λ some. absurd (cc)), (λ down. absurd (by (goes.nothing_else down))))
+  where
+    by : IsErrOf {T = ℕ} (Err flush.Memory) flush.Device ⊎ IsErrOf {T = ℕ} (Err flush.Memory) flush.Full ⊎ IsErrOf {T = ℕ} (Err flush.Memory) flush.Down → ⊥
+    by (inl is) = let bad : flush.Memory ≡ flush.Device = error_is flush.Memory flush.Device is in cc
+    by (inr (inl is)) = let bad : flush.Memory ≡ flush.Full = error_is flush.Memory flush.Full is in cc
+    by (inr (inr is)) = let bad : flush.Memory ≡ flush.Down = error_is flush.Memory flush.Down is in cc
+fell before later flush.Device up goes = ((λ some. goes.device refl), (λ down. refl))
+fell before later flush.Full up goes = ((λ some. goes.full refl), (λ down. refl))
+fell before later flush.Down up goes = absurd (let bad : true ≡ false = sym (goes.down.0 refl) ∙ up in cc)
+
+-- what there is in the loop
+pub record Looped {S D : Type 0} (scheme : Scheme S) (device : Device D) (rule now_rule : Rule) (first now : RoundsView S D) : Type 0 where
+  pub faults : faults_in device (store_of (journal_of now.flusher)) ≡ faults_in device (store_of (journal_of first.flusher))
+  pub down : is_down now.flusher ≡ is_down first.flusher
+  pub seen : Begins first.seat.view.seen now.seat.view.seen
+  pub stays : IsTrue (is_down first.flusher) → now.flusher ≡ first.flusher
+  pub node : now.node ≡ first.node
+  pub more : Begins (settled_in first.flusher) (settled_in now.flusher)
+  pub so_far : SoFar scheme device first.node first.flusher now.flusher
+  pub by_rule : ByTheRule device rule (journal_of first.flusher) now_rule (journal_of now.flusher)
+  pub pair : IsSome now_rule.every → IsSome (spare_of (journal_of now.flusher))
+
+-- what is left, and reported
+pub record Ended {S D : Type 0} (scheme : Scheme S) (device : Device D) (rule later_rule : Rule) (first later : RoundsView S D) (faults : Faults) : Type 0 where
+  pub pair : IsSome later_rule.every → IsSome (spare_of (journal_of later.flusher))
+  pub rounds : TellsRounds (faults_in device (store_of (journal_of first.flusher))) (faults_in device (store_of (journal_of later.flusher))) faults.journal
+  pub down : is_down first.flusher ≡ false → IsSome faults.journal ↔ IsTrue (is_down later.flusher)
+  pub stays : IsTrue (is_down first.flusher) → (faults.journal ≡ None) × (later.flusher ≡ first.flusher)
+  pub full : is_down first.flusher ≡ false → faults.journal ≡ Some journal.Full → HasNoPlace scheme device first.node later.flusher
+  pub by_rule : is_down first.flusher ≡ false → faults.journal ≡ None → faults.memory ≡ false → ByTheRule device rule (journal_of first.flusher) later_rule (journal_of later.flusher)
+  pub all : is_down later.flusher ≡ false → faults.memory ≡ false → TakesLongest first.seat.view.seen (settled_in later.flusher) (settled_in later.flusher)
+  pub memory : faults.memory ≡ true → taken_in later.flusher ≡ settled_in later.flusher
+  pub others : (faults.output ≡ false) × (faults.input ≡ false)
+  pub node : later.node ≡ first.node
+  pub more : Begins (settled_in first.flusher) (settled_in later.flusher)
+  pub earlier : is_down later.flusher ≡ false
+      → KeepsEarlier scheme first.node (settled_in first.flusher) (settled_in later.flusher) (areas_of device (journal_of first.flusher)) (areas_of device (journal_of later.flusher))
+  pub any_moment : is_down first.flusher ≡ false
+      → AtEachMomentOn device (HoldsMore scheme first.node (settled_in first.flusher) (areas_of device (journal_of first.flusher)))
+      (store_of (journal_of first.flusher)) (store_of (journal_of later.flusher))
+  pub at_end : is_down first.flusher ≡ false → LeavesSettled scheme device first.node first.flusher (settled_in later.flusher) (store_of (journal_of later.flusher))
+
+pub loop_begins : {S D : Type 0} (scheme : Scheme S) (device : Device D) (rule : Rule) (first : RoundsView S D) → (IsSome rule.every → IsSome (spare_of (journal_of first.flusher)))
+    → Looped scheme device rule rule first first
+loop_begins scheme device rule first pair = record {
+  faults = refl;
+  down = refl;
+  seen = begins_same first.seat.view.seen;
+  stays = λ down. refl;
+  node = refl;
+  more = begins_same (settled_in first.flusher);
+  so_far = inl refl;
+  by_rule = ([], (refl, refl));
+  pair = pair;
+}
+
+-- of some list of what was accepted, with all that the seat had seen earlier
+longest_first : (first seen settled : List Marked) → Begins first seen → TakesLongest seen settled settled → TakesLongest first settled settled
+longest_first first seen settled begins takes = record {
+  all = takes.all;
+  had_seen = begins_trans first seen takes.all begins takes.had_seen;
+  begins = takes.begins;
+  within = takes.within;
+  takes = takes.takes;
+}
+
+module _ {S D : Type 0} (scheme : Scheme S) (device : Device D) (rule now_rule later_rule : Rule) (first now later : RoundsView S D) (loop : Looped scheme device rule now_rule first now) where
+  -- a round more, and the checkpoint after it
+  pub looped : (count : ℕ) → FlushesOnce scheme device now_rule later_rule now later (Ok count) → Looped scheme device rule later_rule first later
+  looped count once =
+      let up = was_up now.flusher later.flusher count once.down in
+      let still = is_up now.flusher later.flusher count once.down in
+      record {
+        faults = once.cause.0 ∙ loop.faults;
+        down = still ∙ sym up ∙ loop.down;
+        seen = begins_trans first.seat.view.seen now.seat.view.seen later.seat.view.seen loop.seen once.seen;
+        stays = λ down. absurd (let bad : false ≡ true = sym up ∙ loop.down ∙ down in cc);
+        node = once.node ∙ loop.node;
+        more = begins_trans (settled_in first.flusher) (settled_in now.flusher) (settled_in later.flusher) loop.more once.more;
+        so_far = inr (
+          leaves_on scheme device first.node now.node first.flusher now.flusher later.flusher loop.node loop.more loop.so_far (once.any_moment up),
+          keeps_on scheme device first.node now.node first.flusher now.flusher later.flusher loop.node (keeps_so_far scheme device first.node first.flusher now.flusher loop.so_far) (once.earlier still),
+        );
+        by_rule = by_rule_joins device rule now_rule later_rule (journal_of first.flusher) (journal_of now.flusher) (journal_of later.flusher) loop.by_rule once.by_rule;
+        pair = once.pair loop.pair;
+      }
+
+  -- nothing was pending
+  pub ended_well : FlushesOnce scheme device now_rule later_rule now later (Ok 0) → Ended scheme device rule later_rule first later no_faults
+  ended_well once =
+      let next = looped 0 once in
+      let still = is_up now.flusher later.flusher 0 once.down in
+      record {
+        pair = next.pair;
+        rounds = record { disk = record { device = λ is. absurd (cc); no_fault = λ other. next.faults }; which = tt };
+        down = λ up. ((λ some. absurd (cc)), (λ down. absurd (let bad : false ≡ true = sym still ∙ down in cc)));
+        stays = λ down. (refl, next.stays down);
+        full = λ up is. absurd (cc);
+        by_rule = λ up none fine. next.by_rule;
+        all = λ up fine. longest_first first.seat.view.seen now.seat.view.seen (settled_in later.flusher) loop.seen (once.nothing refl);
+        memory = λ bad. absurd (let clash : false ≡ true = bad in cc);
+        others = (refl, refl);
+        node = next.node;
+        more = next.more;
+        earlier = λ up. keeps_so_far scheme device first.node first.flusher later.flusher next.so_far;
+        any_moment = λ up. leaves_on scheme device first.node now.node first.flusher now.flusher later.flusher loop.node loop.more loop.so_far (once.any_moment (loop.down ∙ up));
+        at_end = λ up. ends_after scheme device first.node now.node first.flusher now.flusher later.flusher loop.node loop.more loop.so_far (once.at_end refl (loop.down ∙ up));
+      }
+
+  -- a fault came
+  pub ended_by : (error : FlushError) → FlushesOnce scheme device now_rule later_rule now later (Err error) → Ended scheme device rule later_rule first later (faults_behind error)
+  ended_by error once = record {
+    pair = once.pair loop.pair;
+    rounds = tells_failed (faults_in device (store_of (journal_of first.flusher))) (faults_in device (store_of (journal_of now.flusher))) (faults_in device (store_of (journal_of later.flusher)))
+        error loop.faults once.cause;
+    down = λ up. fell now.flusher later.flusher error (loop.down ∙ up) once.down;
+    stays = λ down. stayed error once.down (loop.down ∙ down) (loop.stays down);
+    full = λ up is. no_place error once.full is;
+    by_rule = λ up none fine. no_end error once.down (loop.down ∙ up) none fine;
+    all = λ up fine. never_up error once.down up fine;
+    memory = λ lacks. none_taken error once.memory lacks;
+    others = no_others error;
+    node = once.node ∙ loop.node;
+    more = begins_trans (settled_in first.flusher) (settled_in now.flusher) (settled_in later.flusher) loop.more once.more;
+    earlier = λ up. keeps_on scheme device first.node now.node first.flusher now.flusher later.flusher loop.node
+        (keeps_so_far scheme device first.node first.flusher now.flusher loop.so_far) (once.earlier up);
+    any_moment = λ up. leaves_on scheme device first.node now.node first.flusher now.flusher later.flusher loop.node loop.more loop.so_far (once.any_moment (loop.down ∙ up));
+    at_end = λ up. ends_after scheme device first.node now.node first.flusher now.flusher later.flusher loop.node loop.more loop.so_far (once.at_end tt (loop.down ∙ up));
+  }
+    where
+      stayed : (it : FlushError) → GoesDown now.flusher later.flusher (Err it) → is_down now.flusher ≡ true → now.flusher ≡ first.flusher
+          → ((faults_behind it).journal ≡ None) × (later.flusher ≡ first.flusher)
+      stayed flush.Memory goes down same = absurd (let bad : flush.Memory ≡ flush.Down = error_is flush.Memory flush.Down (goes.down.1 down) in cc)
+      stayed flush.Device goes down same = absurd (let bad : flush.Device ≡ flush.Down = error_is flush.Device flush.Down (goes.down.1 down) in cc)
+      stayed flush.Full goes down same = absurd (let bad : flush.Full ≡ flush.Down = error_is flush.Full flush.Down (goes.down.1 down) in cc)
+      stayed flush.Down goes down same = (refl, goes.same refl ∙ same)
+
+      no_place : (it : FlushError) → (IsErrOf {T = ℕ} (Err it) flush.Full → HasNoPlace scheme device now.node later.flusher) → (faults_behind it).journal ≡ Some journal.Full
+          → HasNoPlace scheme device first.node later.flusher
+      no_place flush.Memory full is = absurd (cc)
+      no_place flush.Device full is = absurd (let bad : ◌≡◌ {A = Option JournalError} (Some journal.Device) (Some journal.Full) = is in cc)
+      no_place flush.Full full is = subst (λ (n : NodeView S). HasNoPlace scheme device n later.flusher) loop.node (full refl)
+      no_place flush.Down full is = absurd (cc)
+
+      no_end : (it : FlushError) → GoesDown now.flusher later.flusher (Err it) → is_down now.flusher ≡ false → (faults_behind it).journal ≡ None → (faults_behind it).memory ≡ false
+          → ByTheRule device rule (journal_of first.flusher) later_rule (journal_of later.flusher)
+      no_end flush.Memory goes up none fine = absurd (let bad : true ≡ false = fine in cc)
+      no_end flush.Device goes up none fine = absurd (let bad : ◌≡◌ {A = Option JournalError} (Some journal.Device) None = none in cc)
+      no_end flush.Full goes up none fine = absurd (let bad : ◌≡◌ {A = Option JournalError} (Some journal.Full) None = none in cc)
+      no_end flush.Down goes up none fine = absurd (let bad : true ≡ false = sym (goes.down.0 refl) ∙ up in cc)
+
+      never_up : (it : FlushError) → GoesDown now.flusher later.flusher (Err it) → is_down later.flusher ≡ false → (faults_behind it).memory ≡ false
+          → TakesLongest first.seat.view.seen (settled_in later.flusher) (settled_in later.flusher)
+      never_up flush.Memory goes up fine = absurd (let bad : true ≡ false = fine in cc)
+      never_up flush.Device goes up fine = absurd (let bad : true ≡ false = sym (goes.device refl) ∙ up in cc)
+      never_up flush.Full goes up fine = absurd (let bad : true ≡ false = sym (goes.full refl) ∙ up in cc)
+      never_up flush.Down goes up fine = absurd (let bad : true ≡ false = sym (goes.down.0 refl) ∙ ap (λ (f : Flusher D). is_down f) (sym (goes.same refl)) ∙ up in cc)
+
+      none_taken : (it : FlushError) → (IsErrOf {T = ℕ} (Err it) flush.Memory → taken_in later.flusher ≡ settled_in later.flusher) → (faults_behind it).memory ≡ true
+          → taken_in later.flusher ≡ settled_in later.flusher
+      none_taken flush.Memory none lacks = none refl
+      none_taken flush.Device none lacks = absurd (let bad : false ≡ true = lacks in cc)
+      none_taken flush.Full none lacks = absurd (let bad : false ≡ true = lacks in cc)
+      none_taken flush.Down none lacks = absurd (let bad : false ≡ true = lacks in cc)
+
+-- ---- over all bells
+
+pub none_of_both : (one other : Option JournalError) → first_of one other ≡ None → (one ≡ None) × (other ≡ None)
+none_of_both None other none = (refl, none)
+none_of_both (Some journal.Memory) None none = absurd (let bad : ◌≡◌ {A = Option JournalError} (Some journal.Memory) None = none in cc)
+none_of_both (Some journal.Memory) (Some other) none = absurd (let bad : ◌≡◌ {A = Option JournalError} (Some other) None = none in cc)
+none_of_both (Some journal.Device) other none = absurd (let bad : ◌≡◌ {A = Option JournalError} (Some journal.Device) None = none in cc)
+none_of_both (Some (journal.Damaged place)) other none = absurd (let bad : ◌≡◌ {A = Option JournalError} (Some (journal.Damaged place)) None = none in cc)
+none_of_both (Some journal.ConfigMismatch) other none = absurd (let bad : ◌≡◌ {A = Option JournalError} (Some journal.ConfigMismatch) None = none in cc)
+none_of_both (Some journal.Full) other none = absurd (let bad : ◌≡◌ {A = Option JournalError} (Some journal.Full) None = none in cc)
+
+-- where nothing was reported, the node is up
+up_so_far : (first mid : ℕ) (was down : Bool) (fault : Option JournalError) (Lacks : Type 0) → TellsJournal first mid was down fault Lacks → was ≡ false → fault ≡ None → down ≡ false
+up_so_far first mid was false fault Lacks told up none = refl
+up_so_far first mid was true fault Lacks told up none = absurd (let bad : false ≡ true = subst (λ (f : Option JournalError). IsSome f) none (told.told up refl) in cc)
+
+-- all was brought by the rule before, and is then
+pub by_rule_on : {D : Type 0} (device : Device D) (rule mid_rule later : Rule) (first mid now : Flusher D) (Lacks : Type 0) (faults more all : Faults) (at_first at_mid : ℕ)
+    → TellsJournal at_first at_mid (is_down first) (is_down mid) faults.journal Lacks
+    → (is_down first ≡ false → faults.journal ≡ None → faults.memory ≡ false → ByTheRule device rule (journal_of first) mid_rule (journal_of mid))
+    → (is_down mid ≡ false → more.journal ≡ None → more.memory ≡ false → ByTheRule device mid_rule (journal_of mid) later (journal_of now))
+    → all.journal ≡ first_of faults.journal more.journal → all.memory ≡ (faults.memory || more.memory)
+    → is_down first ≡ false → all.journal ≡ None → all.memory ≡ false → ByTheRule device rule (journal_of first) later (journal_of now)
+by_rule_on device rule mid_rule later first mid now Lacks faults more all at_first at_mid told before after journal_is memory_is up none fine =
+    let both = none_of_both faults.journal more.journal (sym journal_is ∙ none) in
+    let memory = or_parts faults.memory more.memory (sym memory_is ∙ fine) in
+    by_rule_joins device rule mid_rule later (journal_of first) (journal_of mid) (journal_of now) (before up both.0 memory.0)
+    (after (up_so_far at_first at_mid (is_down first) (is_down mid) faults.journal Lacks told up both.0) both.1 memory.1)

@@ -1,0 +1,60 @@
+-- A checkpoint, where one is due.
+use Rattle.std.proofs.Common.{◌≡◌, ℕ, Option, Some, None, Result, Err, refl, sym, subst, ◌∙◌, inl, inr}
+use Rattle.std.specs.Prelude.{◌⊎◌, IsErrOf, IsSome, OnErr, OnOk}
+use Rattle.book.specs.Checkpoints.{HasNoRoomFor}
+use Rattle.book.specs.declared.own.error.FlushError.{FlushError}
+use Rattle.book.specs.declared.own.error.FlushError.TheVariants as flush
+use Rattle.diskmodel.specs.Disk.{Device}
+use Rattle.flusher.specs.Rounds.{journal_of, GoesDown, IsToldOf, TellsRoomToRewrite}
+use Rattle.flusher.specs.declared.flusher.Flusher.{Flusher}
+use Rattle.journal.specs.Pairs.{HaveChangedPlaces}
+use Rattle.journal.specs.declared.journal.Journal.{Journal}
+use Rattle.node.specs.Callers.{RoundsView}
+use Rattle.node.specs.Rounds.{Flushes}
+use Rattle.node_shared.specs.Home.{NodeView}
+use Rattle.sigface.specs.Scheme.{Scheme}
+use Rattle.node_run.specs.Rewriting.{IsDue, IsLonger, HasNoRoomToRewrite, RewritesWhereDue, counted_from, length_in, without_number}
+use Rattle.node_run.specs.declared.rule.Rule.{Rule}
+
+-- where a checkpoint is due there are so many bytes after which it is
+pub some_every : (every : Option ℕ) (was len : ℕ) → IsLonger every was len → IsSome every
+some_every None was len due = absurd due
+some_every (Some every) was len due = refl
+
+-- one that answered Full had no room
+no_room : {S D : Type 0} (scheme : Scheme S) (node : NodeView S) (before later : Flusher D) (answer : Result ℕ FlushError)
+    → IsErrOf answer flush.Down ⊎ IsErrOf answer flush.Memory ⊎ TellsRoomToRewrite scheme node before later answer → IsErrOf answer flush.Full → HasNoRoomToRewrite scheme node later
+no_room {S} {D} scheme node before later answer = by
+  where
+    by : IsErrOf answer flush.Down ⊎ IsErrOf answer flush.Memory ⊎ TellsRoomToRewrite scheme node before later answer → IsErrOf answer flush.Full → HasNoRoomToRewrite scheme node later
+    by (inl down) full = absurd (let bad : ◌≡◌ {A = Result ℕ FlushError} (Err flush.Full) (Err flush.Down) = sym full ∙ down in cc)
+    by (inr (inl memory)) full = absurd (let bad : ◌≡◌ {A = Result ℕ FlushError} (Err flush.Full) (Err flush.Memory) = sym full ∙ memory in cc)
+    by (inr (inr room)) full = record {
+      records = room.records;
+      checkpoint = room.checkpoint;
+      full = subst (λ (j : Journal D). HasNoRoomFor j room.records) (sym (room.same full)) (room.full.0 full);
+    }
+
+-- it was due, and taken
+pub was_due : {S D : Type 0} (scheme : Scheme S) (device : Device D) (rule later_rule : Rule) (before later : RoundsView S D) (answer : Result ℕ FlushError) (result : Result (Unit {0}) FlushError)
+    → IsDue rule (length_in device (journal_of before.flusher)) → result ≡ without_number answer → later.node ≡ before.node → GoesDown before.flusher later.flusher answer
+    → IsToldOf before.seat later.seat answer → Flushes scheme device before.node before.flusher later.flusher answer
+    → OnOk answer (HaveChangedPlaces (journal_of before.flusher) (journal_of later.flusher)) → OnOk answer (later_rule ≡ counted_from device rule (journal_of later.flusher))
+    → OnErr answer (later_rule ≡ rule)
+    → IsErrOf answer flush.Down ⊎ IsErrOf answer flush.Memory ⊎ TellsRoomToRewrite scheme before.node before.flusher later.flusher answer
+    → RewritesWhereDue scheme device rule later_rule before later result
+was_due scheme device rule later_rule before later answer result due answered node down told flushes swapped counts keeps room = inl (
+  due,
+  record {
+    answer = answer;
+    answered = answered;
+    node = node;
+    down = down;
+    told = told;
+    flushes = flushes;
+    swapped = swapped;
+    counts = counts;
+    keeps = keeps;
+    full = no_room scheme before.node before.flusher later.flusher answer room;
+  },
+)

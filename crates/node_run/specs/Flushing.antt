@@ -1,0 +1,45 @@
+-- What a round does, and the checkpoint that is due after it.
+use Rattle.std.specs.Prelude.{◌≡◌, ⊤, ℕ, false, Result, Ok, Err, IsErrOf, IsSome, OnOk}
+use Rattle.book.specs.declared.own.error.FlushError.{FlushError}
+use Rattle.book.specs.declared.own.error.FlushError.TheVariants as errors
+use Rattle.diskmodel.specs.Disk.{Device, TellsFault}
+use Rattle.flusher.specs.Rounds.{journal_of, is_down, settled_in, taken_in, GoesDown, KeepsEarlier, TakesLongest}
+use Rattle.journal.specs.Journal.{spare_of}
+use Rattle.journal.specs.Pairs.{areas_of, store_of}
+use Rattle.journal.specs.Stores.{faults_in}
+use Rattle.node.specs.Callers.{RoundsView}
+use Rattle.node.specs.Disks.{AtEachMomentOn}
+use Rattle.wire.specs.Lists.{Begins}
+use Rattle.node_run.specs.Rewriting.{ByTheRule, HasNoPlace}
+use Rattle.node_run.specs.Runs.{HoldsMore, LeavesSettled}
+use Rattle.node_run.specs.declared.rule.Rule.{Rule}
+use Rattle.sigface.specs.Scheme.{Scheme}
+
+-- nothing is to be done after this answer: nothing was pending, or a fault came
+abbrev pub IsOver : Result ℕ FlushError → Type 0
+IsOver (Ok count) = count ≡ 0
+IsOver (Err error) = ⊤
+
+-- A round of a node, and the checkpoint that is due after it. A stop at any moment leaves what was settled, and perhaps more after it.
+pub record FlushesOnce {S D : Type 0} (scheme : Scheme S) (device : Device D) (rule later_rule : Rule) (before later : RoundsView S D) (result : Result ℕ FlushError) : Type 0 where
+  pub node : later.node ≡ before.node
+  pub seen : Begins before.seat.view.seen later.seat.view.seen
+  pub more : Begins (settled_in before.flusher) (settled_in later.flusher)
+  pub down : GoesDown before.flusher later.flusher result
+  pub cause : TellsFault errors.Device (faults_in device (store_of (journal_of before.flusher))) (faults_in device (store_of (journal_of later.flusher))) result
+  pub full : IsErrOf result errors.Full → HasNoPlace scheme device before.node later.flusher
+  -- where nothing was pending, nothing more fits a group after what is settled
+  pub nothing : result ≡ Ok 0 → TakesLongest before.seat.view.seen (settled_in later.flusher) (settled_in later.flusher)
+  -- where memory is refused, nothing is taken that isn't settled
+  pub memory : IsErrOf result errors.Memory → taken_in later.flusher ≡ settled_in later.flusher
+  -- what came before stays as it was
+  pub earlier : is_down later.flusher ≡ false
+      → KeepsEarlier scheme before.node (settled_in before.flusher) (settled_in later.flusher) (areas_of device (journal_of before.flusher)) (areas_of device (journal_of later.flusher))
+  pub any_moment : is_down before.flusher ≡ false
+      → AtEachMomentOn device (HoldsMore scheme before.node (settled_in before.flusher) (areas_of device (journal_of before.flusher)))
+      (store_of (journal_of before.flusher)) (store_of (journal_of later.flusher))
+  pub at_end : IsOver result → is_down before.flusher ≡ false → LeavesSettled scheme device before.node before.flusher (settled_in later.flusher) (store_of (journal_of later.flusher))
+  -- a checkpoint was taken exactly where one was due
+  pub by_rule : OnOk result (ByTheRule device rule (journal_of before.flusher) later_rule (journal_of later.flusher))
+  -- a journal that may be rewritten is on two disks
+  pub pair : (IsSome rule.every → IsSome (spare_of (journal_of before.flusher))) → IsSome later_rule.every → IsSome (spare_of (journal_of later.flusher))
