@@ -8,7 +8,7 @@ use crate::storing::empty_disk;
 use crate::task::Task;
 use crate::working::put_frame;
 use journal::Store;
-use node_run::{Ending as RunEnding, Ran, run_over};
+use node_run::{CHECKPOINT_BYTES, Ending as RunEnding, Ran, run_over};
 use sigface::HashSign;
 use sim_script::member_list;
 use std::io::{self, Write};
@@ -44,6 +44,7 @@ pub fn run_stream<R: Threads + Wait + Sync>(
         task.alloc,
         member,
         store,
+        CHECKPOINT_BYTES,
         stream.as_slice(),
         writer,
         &mut lines,

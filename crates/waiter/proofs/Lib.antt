@@ -1,1 +1,2 @@
+pub mod ByRound
 pub mod Keeping

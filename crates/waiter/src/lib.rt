@@ -3,6 +3,8 @@
 
 mod refusal;
 mod waiter;
+mod waiters;
 
 pub use refusal::WaitRefusal;
 pub use waiter::{MAX_WAITING, Waiter, limits_in_numbers};
+pub use waiters::Waiters;

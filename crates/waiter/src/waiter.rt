@@ -1,6 +1,6 @@
 //! The waiting certificates.
 
-ghost use Rattle.std.specs.Prelude.{◌≡◌, ◌≢◌, ◌<◌, ◌≤◌, ◌++◌, [], ◌∷◌, ◌↔◌, Some, None, Ok, true, length, take, slice_get, IfSome, IfNone, OnOk, OnErr, IsErrOf};
+ghost use Rattle.std.specs.Prelude.{◌≡◌, ◌≢◌, ◌<◌, ◌≤◌, ◌++◌, [], ◌∷◌, ◌↔◌, Some, None, Ok, true, length, take, slice_get, IfSome, IfNone, IsTrue, OnOk, OnErr, IsErrOf, option_copied};
 ghost use Rattle.std.specs.Fn.{CalledAt};
 ghost use Rattle.wire.specs.Events.{Event};
 ghost use Rattle.header.specs.Digested.{certificate_digest_in};
@@ -82,6 +82,32 @@ impl Waiter {
         }
         self.waiting.insert(digest, checked)?;
         Ok(())
+    }
+
+    /// Whether one of a certificate's digest waits.
+    pub fn has(&self, checked: &Checked) -> bool
+        ensures waits { IsTrue result ↔ Waits self.now checked.now }
+        ensures certificate { IsTrue result → certificate_digest_in checked.now.message ≢ None }
+    {
+        match checked.certificate_digest() {
+            Some(digest) => self.waiting.contains_key(digest),
+            None => false,
+        }
+    }
+
+    /// Whether none waits.
+    pub fn is_empty(&self) -> bool
+        ensures { IsTrue result ↔ (self.now ≡ []) }
+    {
+        self.waiting.is_empty()
+    }
+
+    /// The first that waits.
+    pub fn first(&self) -> Option<&Checked>
+        ensures { option_copied result ≡ slice_get self.now 0 }
+    {
+        let (_, checked) = self.waiting.get_index(0)?;
+        Some(checked)
     }
 
     /// Asks of each in turn whether it is ready, and takes out the first that is. It takes no memory.

@@ -9,7 +9,7 @@ use crate::memory::{disk_with, failing_disk};
 use diskmodel::{CallKind, MemDisk};
 use journal::Store;
 use node_io::Blocking;
-use node_run::{Ran, run_over};
+use node_run::{CHECKPOINT_BYTES, Ran, run_over};
 use std::alloc::{AllocError, Global};
 use std::collections::VecDeque;
 use std::fs::File;
@@ -178,7 +178,16 @@ fn run_steps<R: Threads + Wait + Sync>(
         ending,
         store,
         writer: _,
-    } = run_over(rt, alloc, member, store, reader, writer, &mut lines);
+    } = run_over(
+        rt,
+        alloc,
+        member,
+        store,
+        CHECKPOINT_BYTES,
+        reader,
+        writer,
+        &mut lines,
+    );
     match store {
         Some(Store::One(disk)) => (ending.status(), Some(disk)),
         _ => (ending.status(), None),

@@ -1,0 +1,192 @@
+//! The waiting certificates by their rounds.
+
+ghost use Rattle.std.specs.Prelude.{◌≡◌, ◌≢◌, ◌≤◌, ◌<◌, ◌++◌, ◌∷◌, ◌↔◌, ◌+◌, [], ℕ, Some, None, Ok, true, false, List, IfSome, IfNone, IfErr, OnOk, OnErr, IsErrOf};
+ghost use Rattle.wire.specs.Events.{Event};
+ghost use Rattle.waiter.specs.declared.waiter.TheConstants.{MAX_WAITING};
+ghost use Rattle.header.specs.Digested.{certificate_digest_in};
+ghost use Rattle.waiter.specs.Rounds.{HeldWith, IsWithOne, NoneIsEmpty, WaitsThere, held, held_in, none_waits, round_of, waiting_in};
+ghost use Rattle.waiter.specs.Waiting.{Waits, AnswersNo, IsFirstReady};
+
+use crate::refusal::WaitRefusal;
+use crate::waiter::{MAX_WAITING, Waiter};
+use header::Checked;
+use sigface::TableSeed;
+use std::alloc::Global;
+use std::collections::BTreeMap;
+use std::marker::Model;
+use wire::Message;
+
+/// Certificates that wait for their parents, by round. So those of one round can be asked alone. Contracts see those of each round in
+/// the order of offering, and how many there are.
+pub struct Waiters {
+    alloc: Global,
+    seed: TableSeed,
+    // No round is here without a certificate.
+    rounds: BTreeMap<u64, Waiter>,
+    count: usize,
+}
+
+impl Drop for Waiters {
+    fn drop(self) {
+        let Waiters {
+            alloc: _,
+            seed: _,
+            rounds: _,
+            count: _,
+        } = self;
+    }
+}
+
+impl Model for Waiters {
+    ghost use Rattle.std.specs.Prelude.{◌≡◌, ◌≤◌};
+    ghost use Rattle.waiter.specs.declared.waiter.TheConstants.{MAX_WAITING};
+    ghost use Rattle.waiter.specs.Rounds.{WaitersView, NoneIsEmpty, waiting_in};
+
+    ghost Value = { WaitersView };
+
+    ghost view = { λ w. record { rounds = w.rounds.entries; count = w.count } };
+
+    ghost invariant = { λ w. NoneIsEmpty w.rounds.entries × (w.count ≡ waiting_in w.rounds.entries) × (w.count ≤ MAX_WAITING) };
+}
+
+impl Waiters {
+    /// No certificate waits. The tables begin their hashes at the seed.
+    pub fn new(alloc: Global, seed: TableSeed) -> Waiters
+        ensures { result ≡ none_waits }
+    {
+        Waiters {
+            alloc,
+            seed,
+            rounds: BTreeMap::new(alloc),
+            count: 0,
+        }
+    }
+
+    /// Lets a certificate wait, behind the others of its round. Where one of its digest waits there already, that one stays alone.
+    pub fn offer(&mut self, checked: Checked) -> Result<(), WaitRefusal>
+        ensures not_a_certificate { IsErrOf result WaitRefusal.NotACertificate ↔ (certificate_digest_in checked.message ≡ None) }
+        ensures full { IsErrOf result WaitRefusal.Full ↔ ((certificate_digest_in checked.message ≢ None) × (¬ WaitsThere self.old checked) × (self.old.count ≡ MAX_WAITING)) }
+        ensures again { WaitsThere self.old checked → result ≡ Ok tt }
+        ensures same { WaitsThere self.old checked → self.new ≡ self.old }
+        ensures added { OnOk result (¬ WaitsThere self.old checked → IsWithOne self.old self.new checked) }
+        ensures few { self.new.count ≤ MAX_WAITING }
+        ensures err { OnErr result (self.new ≡ self.old) }
+    {
+        let count = self.count;
+        let round = round_of(&checked);
+        if waits(&self.rounds, round, &checked) {
+            return Ok(());
+        }
+        let Some(_digest) = checked.certificate_digest() else {
+            return Err(WaitRefusal::NotACertificate);
+        };
+        if count >= MAX_WAITING {
+            return Err(WaitRefusal::Full);
+        }
+        add(self.alloc, self.seed, &mut self.rounds, round, checked)?;
+        self.count += 1;
+        Ok(())
+    }
+
+    /// The first that waits of the lowest round, with that round. It takes no memory.
+    pub fn lowest(&self) -> Option<(u64, &Checked)>
+        ensures first { IfSome result (λ found. (rest : List Event) × (held self.now found.0 ≡ found.1.now ∷ rest)) }
+        ensures least { IfSome result (λ found. (round : ℕ) → round < found.0 → held self.now round ≡ []) }
+        ensures none { IfNone result ((round : ℕ) → held self.now round ≡ []) }
+    {
+        let (round, waiter) = self.rounds.first_key_value()?;
+        let first = waiter.first()?;
+        Some((*round, first))
+    }
+
+    /// Asks of each of a round in turn whether it is ready, and takes out the first that is. It takes no memory.
+    pub fn next_ready_of<F: FnMut(&Checked) -> bool>(
+        &mut self,
+        round: u64,
+        ready: F,
+    ) -> Option<Checked>
+        requires { F.IsAlwaysCallable ready }
+        ensures first { IfSome result (λ checked. IsFirstReady F.FnMut ready (held self.old round) checked (held self.new round)) }
+        ensures others { (other : ℕ) → other ≢ round → held self.new other ≡ held self.old other }
+        ensures count { IfSome result (λ _. self.new.count + 1 ≡ self.old.count) }
+        ensures asked { IfNone result ((last : F) × AnswersNo F.FnMut ready (held self.old round) last) }
+        ensures none { IfNone result (self.new ≡ self.old) }
+    {
+        let found = take_ready(&mut self.rounds, round, ready)?;
+        self.count -= 1;
+        Some(found)
+    }
+}
+
+// The round of a certificate.
+fn round_of(checked: &Checked) -> u64
+    ensures { result ≡ round_of checked.now }
+{
+    match checked.message() {
+        Message::Certificate(certificate) => certificate.header.round.number(),
+        _ => 0,
+    }
+}
+
+// Whether one of a certificate's digest waits of a round.
+fn waits(rounds: &BTreeMap<u64, Waiter>, round: u64, checked: &Checked) -> bool
+    ensures yes { result ≡ true → Waits (held_in rounds.now.entries round) checked.now }
+    ensures no { result ≡ false → ¬ Waits (held_in rounds.now.entries round) checked.now }
+    ensures certificate { result ≡ true → certificate_digest_in checked.now.message ≢ None }
+{
+    match rounds.get(&round) {
+        Some(waiter) => waiter.has(checked),
+        None => false,
+    }
+}
+
+// Lets a certificate wait of its round, of which none of its digest waits. The tree is as it was where an allocation failed.
+fn add(
+    alloc: Global,
+    seed: TableSeed,
+    rounds: &mut BTreeMap<u64, Waiter>,
+    round: u64,
+    checked: Checked,
+) -> Result<(), WaitRefusal>
+    requires of_it { round_of checked ≡ round }
+    requires certificate { certificate_digest_in checked.message ≢ None }
+    requires new { ¬ Waits (held_in rounds.old.entries round) checked }
+    requires few { waiting_in rounds.old.entries < MAX_WAITING }
+    requires kept { NoneIsEmpty rounds.old.entries }
+    ensures held { OnOk result (HeldWith (held_in rounds.old.entries) (held_in rounds.new.entries) round (held_in rounds.old.entries round ++ checked ∷ [])) }
+    ensures count { OnOk result (waiting_in rounds.new.entries ≡ waiting_in rounds.old.entries + 1) }
+    ensures kept { OnOk result (NoneIsEmpty rounds.new.entries) }
+    ensures err { OnErr result (rounds.new.entries ≡ rounds.old.entries) }
+    ensures why { IfErr result (λ refusal. refusal ≡ WaitRefusal.Memory) }
+{
+    if let Some(waiter) = rounds.get_mut(&round) {
+        return waiter.offer(checked);
+    }
+    let mut waiter = Waiter::new(alloc, seed);
+    waiter.offer(checked)?;
+    rounds.insert(round, waiter)?;
+    Ok(())
+}
+
+// Takes out the first of a round that is ready. A round of which none waits any more goes.
+fn take_ready<F: FnMut(&Checked) -> bool>(
+    rounds: &mut BTreeMap<u64, Waiter>,
+    round: u64,
+    ready: F,
+) -> Option<Checked>
+    requires callable { F.IsAlwaysCallable ready }
+    requires kept { NoneIsEmpty rounds.old.entries }
+    ensures first { IfSome result (λ checked. IsFirstReady F.FnMut ready (held_in rounds.old.entries round) checked (held_in rounds.new.entries round)) }
+    ensures others { (other : ℕ) → other ≢ round → held_in rounds.new.entries other ≡ held_in rounds.old.entries other }
+    ensures count { IfSome result (λ _. waiting_in rounds.new.entries + 1 ≡ waiting_in rounds.old.entries) }
+    ensures asked { IfNone result ((last : F) × AnswersNo F.FnMut ready (held_in rounds.old.entries round) last) }
+    ensures kept { NoneIsEmpty rounds.new.entries }
+    ensures none { IfNone result (rounds.new.entries ≡ rounds.old.entries) }
+{
+    let waiter = rounds.get_mut(&round)?;
+    let found = waiter.next_ready(ready)?;
+    if waiter.is_empty() {
+        rounds.remove(&round);
+    }
+    Some(found)
+}
