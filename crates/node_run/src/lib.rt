@@ -6,6 +6,7 @@ mod bell;
 mod beside;
 mod caller;
 mod due;
+mod files;
 mod flushing;
 mod intake;
 mod member;
