@@ -1,4 +1,1 @@
 pub mod Accounting
-pub mod Files
-pub mod Reached
-pub mod States

@@ -6,7 +6,6 @@ mod bell;
 mod beside;
 mod caller;
 mod due;
-mod files;
 mod flushing;
 mod intake;
 mod member;

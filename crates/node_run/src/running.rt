@@ -33,9 +33,9 @@ pub fn checkpoint_bytes_in_numbers()
     ensures { CHECKPOINT_BYTES ≡ 2 ^ 30 }
 {}
 
-/// Runs a node. The arguments are a committee file, the own number and the first of the journal's two files. Frames are read until they
-/// end, refusals go to the errors, a line each, and outputs to the writer. Answers the exit status, and the writer, if it wasn't lost;
-/// where the status isn't 0 the last line of the errors says why.
+/// Runs a node. The arguments are a committee file, the own number and a journal file. Frames are read until they end, refusals go to
+/// the errors, a line each, and outputs to the writer. Answers the exit status, and the writer, if it wasn't lost; where the status
+/// isn't 0 the last line of the errors says why. A journal on one file is never rewritten.
 pub fn run<R, I, W, E>(
     rt: &R,
     alloc: Global,

@@ -1,8 +1,6 @@
 //! Three threads that submit to one node, while a fourth flushes.
 
-ghost use Rattle.std.specs.Prelude.{◌≡◌, IsSome, IsTrue};
-ghost use Rattle.flusher.specs.Rounds.{journal_of};
-ghost use Rattle.journal.specs.Journal.{spare_of};
+ghost use Rattle.std.specs.Prelude.{◌≡◌};
 ghost use Rattle.node_shared.specs.Home.{IsOf};
 
 use crate::committees::{FOUR, own_config};
@@ -32,9 +30,6 @@ const ALL: u64 = 3_000;
 // How often the thread that flushes does so, before it ends without all.
 const TURNS: u64 = 10_000_000;
 
-// On two disks a checkpoint follows each so many rounds, of which there are at least as many.
-const EVERY: u64 = 20;
-
 // Who submits, and through which seat.
 #[derive(Drop)]
 struct Member<'n, 'a> {
@@ -42,19 +37,15 @@ struct Member<'n, 'a> {
     author: Author,
 }
 
-/// Submits all batches to a node in three threads, beside one that flushes, and that makes checkpoints where the words ask for them; stops
-/// the node in a way that loses what isn't synced, opens it again and submits them once more.
-pub fn crowd<R>(rt: &R, alloc: Global, words: &str, answer: &mut String) -> Result<(), Ending>
+/// Submits all batches to a node in three threads; stops it in a way that loses what isn't synced, opens it again and submits them once
+/// more.
+pub fn crowd<R>(rt: &R, alloc: Global, answer: &mut String) -> Result<(), Ending>
 where
     R: Threads + Wait + Sync,
 {
     let config = own_config(alloc, &FOUR)?;
-    let rewrites = words == "checkpoints";
-    let left = match submit_all(rt, alloc, &config, rewrites, answer)? {
-        Store::One(disk) => Store::One(stopped(alloc, disk)?),
-        Store::Two(first, second) => Store::Two(stopped(alloc, first)?, stopped(alloc, second)?),
-    };
-    let known = submit_again(rt, alloc, &config, left)?;
+    let disk = submit_all(rt, alloc, &config, answer)?;
+    let known = submit_again(rt, alloc, &config, stopped(alloc, disk)?)?;
     put_count(answer, "", known, " known\n");
     Ok(())
 }
@@ -63,25 +54,20 @@ fn submit_all<R>(
     rt: &R,
     alloc: Global,
     config: &Config<HashSign>,
-    rewrites: bool,
     answer: &mut String,
-) -> Result<Store<MemDisk>, Ending>
+) -> Result<MemDisk, Ending>
 where
     R: Threads + Wait + Sync,
 {
-    let disk = disk_with(alloc, &[])?;
-    let store = match rewrites {
-        true => Store::Two(disk, disk_with(alloc, &[])?),
-        false => Store::One(disk),
-    };
+    let store = Store::One(disk_with(alloc, &[])?);
     let (node, mut seat, flusher) = start(alloc, config, store)?;
     let mut first = node.split(&mut seat)?;
     let mut second = node.split(&mut first)?;
     let rounds = Rounds::new(&node, seat, flusher);
-    let left = submit_beside(rt, alloc, config, rounds, rewrites, answer)?;
+    let disk = submit_beside(rt, alloc, config, rounds, answer)?;
     let count = look(&node, &mut first, &mut second);
     put_number(answer, "two seats meet at", count);
-    Ok(left)
+    Ok(disk)
 }
 
 // How many events two seats that meet have seen. No handle lets this function wait, so its types say that none of the calls does.
@@ -100,19 +86,17 @@ fn submit_beside<'a, R>(
     alloc: Global,
     config: &'a Config<HashSign>,
     mut rounds: Rounds<'_, 'a, HashSign, MemDisk>,
-    rewrites: bool,
     answer: &mut String,
-) -> Result<Store<MemDisk>, Ending>
+) -> Result<MemDisk, Ending>
 where
     R: Threads + Wait + Sync,
-    requires setting { rounds.node.setting ≡ config.now }
-    requires pair { IsTrue rewrites → IsSome (spare_of (journal_of rounds.flusher)) }
+    requires { rounds.node.setting ≡ config.now }
 {
-    let (caller, watcher) = (rounds.caller(config)?, rounds.caller(config)?);
+    let caller = rounds.caller(config)?;
     let (told, flushed) = thread::join(
         rt,
         move || submit_each(rt, alloc, caller),
-        move || flush_all(rt, rounds, watcher, rewrites),
+        move || flush_all(rt, rounds),
     );
     put(answer, told?.as_str());
     flushed
@@ -187,45 +171,26 @@ fn submit<R: Wait>(
     Ok(caller.submit(rt, event)?)
 }
 
-// Flushes until all are settled, and answers what the node was opened on.
+// Flushes until all are settled, and answers the disk.
 fn flush_all<R: Wait>(
     rt: &R,
     mut rounds: Rounds<'_, '_, HashSign, MemDisk>,
-    mut watcher: Caller<'_, '_, HashSign>,
-    rewrites: bool,
-) -> Result<Store<MemDisk>, Ending>
-    requires pair { IsTrue rewrites → IsSome (spare_of (journal_of rounds.flusher)) }
-{
-    let mut is_over = false;
-    for turn in 1..TURNS {
-        flush(rt, &mut rounds, rewrites && turn % EVERY == 0)?;
-        is_over = turn >= EVERY && watcher.synced() >= ALL;
-        if is_over {
+) -> Result<MemDisk, Ending> {
+    let mut settled = 0;
+    for _ in 0..TURNS {
+        let count = rounds.round(rt)?;
+        settled = count.saturating_add(settled);
+        if settled >= ALL {
             break;
         }
+        if count == 0 {
+            thread::yield_now();
+        }
     }
-    match is_over {
-        true => Ok(rounds.into_store()),
-        false => Err(Ending::Unexpected),
+    match rounds.into_store() {
+        Store::One(disk) if settled == ALL => Ok(disk),
+        _ => Err(Ending::Unexpected),
     }
-}
-
-// A round, and a checkpoint after it, if one is to follow.
-fn flush<R: Wait>(
-    rt: &R,
-    rounds: &mut Rounds<'_, '_, HashSign, MemDisk>,
-    rewrites: bool,
-) -> Result<(), Ending>
-    requires pair { IsTrue rewrites → IsSome (spare_of (journal_of rounds.old.flusher)) }
-    ensures pair { IsSome (spare_of (journal_of rounds.old.flusher)) → IsSome (spare_of (journal_of rounds.new.flusher)) }
-{
-    if rounds.round(rt)? == 0 {
-        thread::yield_now();
-    }
-    if rewrites {
-        rounds.checkpoint(rt)?;
-    }
-    Ok(())
 }
 
 fn tell_tickets(
@@ -279,9 +244,9 @@ fn submit_again<R: Wait>(
     rt: &R,
     alloc: Global,
     config: &Config<HashSign>,
-    store: Store<MemDisk>,
+    disk: MemDisk,
 ) -> Result<u64, Ending> {
-    let (node, seat, _) = start(alloc, config, store)?;
+    let (node, seat, _) = start(alloc, config, Store::One(disk))?;
     let mut caller = Caller::new(&node, config, seat);
     let mut known = 0_u64;
     for number in 1..MEMBERS {

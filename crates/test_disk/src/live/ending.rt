@@ -1,11 +1,9 @@
 //! What ends a test before its end.
 
-use crate::live::words::Told;
 use diskmodel::TooManyTold;
 use header::CheckError;
 use journal::{Failed, JournalError};
 use node::{FlushError, Refusal};
-use sim_script::FormError;
 use std::alloc::{AllocError, AllocFailed};
 use wire::WireError;
 
@@ -16,17 +14,6 @@ pub enum Ending {
     Memory,
     /// A call answered what it never should there.
     Unexpected,
-}
-
-impl Ending {
-    /// Says so in the answer of a command that ended, unless memory was refused.
-    pub fn tell(ended: Result<(), Ending>, answer: &mut String) -> Told {
-        match ended {
-            Ok(()) => Ok(()),
-            Err(Ending::Memory) => Err(AllocError),
-            Err(Ending::Unexpected) => answer.push_str("this should not come\n"),
-        }
-    }
 }
 
 impl From<AllocError> for Ending {
@@ -55,12 +42,6 @@ impl From<WireError> for Ending {
 
 impl From<CheckError> for Ending {
     fn from(_: CheckError) -> Ending {
-        Ending::Unexpected
-    }
-}
-
-impl From<FormError> for Ending {
-    fn from(_: FormError) -> Ending {
         Ending::Unexpected
     }
 }
