@@ -70,7 +70,8 @@ fn play(
     number: u64,
     report: &mut Report,
 ) -> Told {
-    let mut schedule = Schedule::new(alloc, settings, honest, task.start.wrapping_add(number))?;
+    let start = task.start.wrapping_add(number);
+    let mut schedule = Schedule::new(alloc, settings, honest, task.depth, start)?;
     move_all(&mut schedule, task.moves, report)?;
     report.end(&schedule);
     Ok(())
