@@ -66,12 +66,6 @@ pub enum Kind {
     Put,
     /// Batches that a running node reads, beside certificates that wait.
     Run,
-    /// Certificates that a running node takes, beside certificates that wait.
-    Waiting,
-    /// Certificates that a running node reads in their order.
-    InOrder,
-    /// Certificates that a running node reads in the reversed order, so that each waits for its parents.
-    Reversed,
     /// Rounds of all members' certificates, with a coin a wave, in a committee of some depth.
     Deep,
     /// Certificates after rounds without a coin.
@@ -177,14 +171,6 @@ const WAITING: Sizes = Sizes {
     members: Some(4),
 };
 
-/// The same in the largest committee.
-const MANY_WAITING: Sizes = Sizes {
-    usual: 16,
-    least: 0,
-    most: 4_096,
-    members: Some(31),
-};
-
 /// Rounds that are ordered below a leader.
 const DEPTH: Sizes = Sizes {
     usual: 1_000,
@@ -202,7 +188,7 @@ const ROUNDS: Sizes = Sizes {
 };
 
 /// The kinds of work: the word of each, how many pieces are done where no words are given, and its sizes.
-pub const WORKS: [(&str, Kind, u64, Sizes); 42] = [
+pub const WORKS: [(&str, Kind, u64, Sizes); 38] = [
     ("hash", Kind::Hash, 1_000, NO_SIZE),
     (
         "decode-header",
@@ -348,10 +334,6 @@ pub const WORKS: [(&str, Kind, u64, Sizes); 42] = [
     ("submit", Kind::Submit, 1_500, FLUSH),
     ("put", Kind::Put, 30, HELD),
     ("run", Kind::Run, 20, WAITING),
-    ("waiting", Kind::Waiting, 20, WAITING),
-    ("waiting-many", Kind::Waiting, 70, MANY_WAITING),
-    ("in-order", Kind::InOrder, 40, MEMBERS),
-    ("reversed", Kind::Reversed, 40, MEMBERS),
     ("deep", Kind::Deep, 70, DEPTH),
     ("behind", Kind::Behind, 80, ROUNDS),
     ("late", Kind::Late, 2, ROUNDS),

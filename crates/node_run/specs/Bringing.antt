@@ -1,5 +1,5 @@
 -- What comes of a message that a frame brings to who takes frames.
-use Rattle.std.specs.Prelude.{◌≡◌, ◌≢◌, ◌⊎◌, Bool, true, false, Option, Result, Ok, Err, IfErr, OnErr}
+use Rattle.std.specs.Prelude.{◌≡◌, ◌≢◌, ◌⊎◌, Bool, true, false, List, [], ◌∷◌, ◌++◌, length, Option, Result, Ok, Err, IfErr, OnErr}
 use Rattle.header.specs.declared.error.CheckError.{CheckError}
 use Rattle.spec_model.specs.Words.{Author, Event}
 use Rattle.header.specs.declared.refusal.Refusal.TheVariants as refusal
@@ -8,7 +8,7 @@ use Rattle.node_io.specs.declared.told.Told.TheVariants.{Refused}
 use Rattle.node.specs.Callers.{CallerView}
 use Rattle.node_shared.specs.Home.{NodeView}
 use Rattle.sigface.specs.Scheme.{Scheme}
-use Rattle.waiter.specs.Rounds.{IsWithOne, WaitersView, WaitsThere}
+use Rattle.waiter.specs.Waiting as waiting
 use Rattle.waiter.specs.declared.waiter.TheConstants.{MAX_WAITING}
 use Rattle.wire.specs.Batches.{BatchView}
 use Rattle.wire.specs.declared.message.Message.TheVariants as message
@@ -16,20 +16,20 @@ use Rattle.node_run.specs.Taking.{Handles, OnlyLooks}
 use Rattle.node_run.specs.declared.caller.Taken.{Taken}
 use Rattle.node_run.specs.declared.caller.Taken.TheVariants.{New, Known, Waits}
 
--- a certificate waits after the others of its round, or one of its digest waits there already
-pub record Enters (event : Event) (old new : WaitersView) : Type 0 where
-  pub again : WaitsThere old event → new ≡ old
-  pub first : (WaitsThere old event → ⊥) → IsWithOne old new event
+-- a certificate waits after the others, or one of its digest waits already
+pub record Enters (event : Event) (old new : List Event) : Type 0 where
+  pub again : waiting.Waits old event → new ≡ old
+  pub first : (waiting.Waits old event → ⊥) → new ≡ old ++ event ∷ []
 
 -- why a certificate can't wait: the node is down, memory was refused, or as many wait as may, and none of its digest
-abbrev pub CantWait : Event → WaitersView → Told → Type 0
+abbrev pub CantWait : Event → List Event → Told → Type 0
 CantWait event held why =
     (why ≡ Refused refusal.Down) ⊎ (why ≡ Refused refusal.Memory)
-    ⊎ ((why ≡ Refused refusal.MissingParents) × (WaitsThere held event → ⊥) × (held.count ≡ MAX_WAITING))
+    ⊎ ((why ≡ Refused refusal.MissingParents) × (waiting.Waits held event → ⊥) × (length held ≡ MAX_WAITING))
 
 -- What the caller made of it is told: whether it was a new record, or why it was refused. One that has to wait does so, or can't. After
 -- that the caller's seat stays as it is, but for a look where it waits.
-pub record Brings {S : Type 0} (scheme : Scheme S) (node : NodeView S) (fault : Option CheckError) (event : Event) (before now : CallerView S) (old new : WaitersView) (result : Result Bool Told) : Type 0 where
+pub record Brings {S : Type 0} (scheme : Scheme S) (node : NodeView S) (fault : Option CheckError) (event : Event) (before now : CallerView S) (old new : List Event) (result : Result Bool Told) : Type 0 where
   pub told : Result Taken Told
   pub later : CallerView S
   pub handles : Handles scheme node fault event before later told

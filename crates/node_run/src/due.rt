@@ -1,63 +1,36 @@
 //! What is due to be asked after a record.
 
-ghost use Rattle.std.specs.Prelude.{◌≡◌, ◌↔◌, IsTrue, suc, true};
-ghost use Rattle.node_run.specs.Asking.{Leaves, LacksNothingBelow, nothing_due, first_due, both_due, both_waiting};
+ghost use Rattle.std.specs.Prelude.{◌≡◌, ◌↔◌, IsTrue};
+ghost use Rattle.node_run.specs.Asking.{Leaves, nothing_due, all_due, both_due};
 
-use wire::{Author, Message, Round};
-
-/// Of which rounds certificates that wait may be ready.
-#[derive(Clone, Copy)]
-pub(crate) enum Waiting {
-    /// Of none.
-    Nothing,
-    /// Of each round from the lowest on that is below the end, which may be none. Others are ready only where the floor has risen over
-    /// the lowest that waits.
-    Rounds {
-        /// The lowest of the rounds.
-        low: u64,
-        /// The round after the highest of them.
-        end: u64,
-    },
-}
-
-impl Waiting {
-    // Those of either.
-    fn and(self, other: Waiting) -> Waiting
-        ensures { result ≡ both_waiting self other }
-    {
-        match (self, other) {
-            (Waiting::Nothing, _) => other,
-            (_, Waiting::Nothing) => self,
-            (
-                Waiting::Rounds { low, end },
-                Waiting::Rounds {
-                    low: other_low,
-                    end: other_end,
-                },
-            ) => Waiting::Rounds {
-                low: low.min(other_low),
-                end: end.max(other_end),
-            },
-        }
-    }
-}
+use wire::{Author, Message};
 
 /// What a node is due to be asked: which of the waiting certificates are ready, and what it proposes.
 #[derive(Clone, Copy)]
 pub(crate) struct Due {
-    /// Of which rounds waiting certificates may be ready.
-    pub(crate) waiting: Waiting,
+    /// Which of the waiting certificates are ready.
+    pub(crate) waiting: bool,
     /// What is proposed.
     pub(crate) proposal: bool,
 }
 
 impl Due {
-    /// What is due of a node of which nothing was asked yet: what it proposes. No certificate waits then.
-    pub(crate) const fn first() -> Due
-        ensures { result ≡ first_due }
+    /// Nothing is due.
+    pub(crate) const fn nothing() -> Due
+        ensures { result ≡ nothing_due }
     {
         Due {
-            waiting: Waiting::Nothing,
+            waiting: false,
+            proposal: false,
+        }
+    }
+
+    /// Both are due, as where nothing was asked yet.
+    pub(crate) const fn all() -> Due
+        ensures { result ≡ all_due }
+    {
+        Due {
+            waiting: true,
             proposal: true,
         }
     }
@@ -66,7 +39,7 @@ impl Due {
     pub(crate) fn is_nothing(self) -> bool
         ensures { IsTrue result ↔ (self ≡ nothing_due) }
     {
-        matches!(self.waiting, Waiting::Nothing) && !self.proposal
+        !self.waiting && !self.proposal
     }
 
     /// What is due here or there.
@@ -74,58 +47,35 @@ impl Due {
         ensures { result ≡ both_due self other }
     {
         Due {
-            waiting: self.waiting.and(other.waiting),
+            waiting: self.waiting || other.waiting,
             proposal: self.proposal || other.proposal,
         }
     }
 }
 
 /// What is due after a new event of a member's node. What isn't due is answered as before the event: no certificate entered and no
-/// floor moved where no waiting ones are, and no round, availability or own header changed where the proposal isn't. A certificate
-/// that enters concerns those of its round, since one of them may be of its slot, and those of the round after it, whose parent it may
-/// be.
+/// floor moved where the waiting ones aren't, and no round, availability or own header changed where the proposal isn't.
 pub(crate) fn due_behind(own: Author, message: &Message) -> Due
     ensures left { Leaves own message.now result }
 {
     spec_machine::sound_stays();
     match message {
         Message::Batch(batch) => Due {
-            waiting: Waiting::Nothing,
+            waiting: false,
             proposal: batch.author() == own,
         },
         Message::BatchAck(_) => Due {
-            waiting: Waiting::Nothing,
+            waiting: false,
             proposal: true,
         },
-        // No header brings a certificate.
-        Message::Header(header) => Due {
-            waiting: Waiting::Nothing,
-            proposal: header.body.author == own,
-        },
-        // A vote may complete the certificate of the own header of its round.
-        Message::Vote(vote) => certificate_due(vote.round),
-        Message::Certificate(certificate) => certificate_due(certificate.header.round),
+        // The own vote is on the own header from the beginning, and a vote may complete its certificate.
+        Message::Header(header) if header.body.author == own => Due::all(),
+        Message::Header(_) => Due::nothing(),
+        Message::Vote(_) | Message::Certificate(_) => Due::all(),
         // A coin moves the floor, and gives no certificate.
         Message::Coin(_) => Due {
-            waiting: Waiting::Rounds { low: 0, end: 0 },
+            waiting: true,
             proposal: false,
         },
     }
 }
-
-// What is due after a certificate of this round entered.
-fn certificate_due(round: Round) -> Due
-    ensures { result ≡ record { waiting = Waiting.Rounds round (suc (suc round)); proposal = true } }
-{
-    let low = round.number();
-    Due {
-        waiting: Waiting::Rounds { low, end: low + 2 },
-        proposal: true,
-    }
-}
-
-/// Where the floor has risen over a certificate that waits, it lacks no parents, and neither does one of a lower round. So where the
-/// lowest lacks one, the floor has risen over none.
-pub(crate) fn low_ones_lack_nothing()
-    ensures { LacksNothingBelow }
-{}

@@ -7,15 +7,14 @@ ghost use Rattle.node_io.specs.Makers.{fresh_makers};
 ghost use Rattle.sigface.specs.Pair.{is_pair_signature};
 ghost use Rattle.node.specs.Callers.{StaysWith};
 ghost use Rattle.wire.specs.declared.message.Message.TheVariants as message;
-ghost use Rattle.waiter.specs.Rounds.{none_waits};
-ghost use Rattle.node_run.specs.Asking.{IsDueBehind, IsLess, nothing_due, first_due};
+ghost use Rattle.node_run.specs.Asking.{IsDueBehind, nothing_due, all_due};
 ghost use Rattle.node_run.specs.Bringing.{Brings, CantWait, Enters, own_batch};
 ghost use Rattle.node_run.specs.Ends.{told_of_wait};
 ghost use Rattle.node_run.specs.Taking.{IsProposed, OnlyLooks};
 
 use crate::bell::Bell;
 use crate::caller::{Caller, Taken};
-use crate::due::{Due, Waiting, due_behind};
+use crate::due::{Due, due_behind};
 use header::Checked;
 use node_io::{Makers, Request, Told, request_of};
 use sigface::{Sign, TableSeed};
@@ -23,7 +22,7 @@ use std::alloc::{AllocError, Global};
 use std::io::Write;
 use std::sync::Wait;
 use validator::Refusal;
-use waiter::{MAX_WAITING, WaitRefusal, Waiters};
+use waiter::{MAX_WAITING, WaitRefusal, Waiter};
 use wire::{Author, Batch, Message};
 
 /// Who takes what frames bring.
@@ -31,7 +30,7 @@ use wire::{Author, Batch, Message};
 pub(crate) struct Intake<'n, 'a, S: Sign> {
     alloc: Global,
     caller: Caller<'n, 'a, S>,
-    waiters: Waiters,
+    waiter: Waiter,
     makers: Makers,
     pending: &'n Bell,
     // What is to be asked after the next record.
@@ -48,7 +47,7 @@ impl<'n, 'a, S: Sign> Intake<'n, 'a, S> {
     ) -> Result<Intake<'n, 'a, S>, AllocError>
         ensures caller { IfOk result (λ intake. intake.caller ≡ caller.entry) }
         ensures makers { IfOk result (λ intake. intake.makers ≡ fresh_makers caller.entry.setting.own caller.entry.setting.charter.workers) }
-        ensures fresh { IfOk result (λ intake. (intake.waiters ≡ none_waits) × (intake.was_refused_memory ≡ false) × (intake.due ≡ first_due)) }
+        ensures fresh { IfOk result (λ intake. (intake.waiter ≡ []) × (intake.was_refused_memory ≡ false) × (intake.due ≡ all_due)) }
     {
         let config = caller.config();
         let makers = Makers::new(alloc, config.committee(), config.own())?;
@@ -56,10 +55,10 @@ impl<'n, 'a, S: Sign> Intake<'n, 'a, S> {
         Ok(Intake {
             alloc,
             caller,
-            waiters: Waiters::new(alloc, seed),
+            waiter: Waiter::new(alloc, seed),
             makers,
             pending,
-            due: Due::first(),
+            due: Due::all(),
             was_refused_memory: false,
         })
     }
@@ -102,26 +101,23 @@ impl<'n, 'a, S: Sign> Intake<'n, 'a, S> {
             let Some(event) = self.next_ready(rt) else {
                 return;
             };
-            if let Err(told) = self.take_ready(rt, event) {
-                write_line(errors, told);
-            }
+            self.take_ready(rt, event, errors);
         }
     }
 
-    // Takes a certificate that has waited. Says whether it is a new record, after which what it left as it was stays undue.
-    fn take_ready<R: Wait>(&mut self, rt: &R, event: Checked) -> Result<bool, Told>
-        ensures due { IsDueBehind self.old.caller.setting.own event.message self.old.due self.new.due result }
-        ensures waiters { self.new.waiters ≡ self.old.waiters }
+    // Takes a certificate that has waited.
+    fn take_ready<R: Wait, E: Write>(&mut self, rt: &R, event: Checked, errors: &mut E)
         ensures mark { self.new.was_refused_memory ≡ self.old.was_refused_memory }
     {
-        let behind = due_behind(self.caller.config().own(), event.message());
-        let taken = self.caller.take_waiting(rt, event)?;
-        let is_new = matches!(taken, Taken::New);
-        if is_new {
-            self.due = self.due.and(behind);
+        match self.caller.take_waiting(rt, event) {
+            Ok(taken) => {
+                if matches!(taken, Taken::New) {
+                    self.due = Due::all();
+                }
+                self.pending.ring(rt);
+            }
+            Err(told) => write_line(errors, told),
         }
-        self.pending.ring(rt);
-        Ok(is_new)
     }
 
     // Whether what a frame of this body brings is a new record.
@@ -152,7 +148,7 @@ impl<'n, 'a, S: Sign> Intake<'n, 'a, S> {
         ensures stays { StaysWith self.old.caller self.new.caller }
         ensures none { batch ≡ None → (result ≡ Ok false) × (self.new ≡ self.old) }
         ensures due { IfSome batch (λ given. IsDueBehind self.old.caller.setting.own (message.Batch given) self.old.due self.new.due result) }
-        ensures some { IfSome batch (λ given. Brings S.scheme self.old.caller.node (fault_of self.old.caller.setting.charter is_pair_signature (own_batch self.old.caller.setting.own given)) (own_batch self.old.caller.setting.own given) self.old.caller self.new.caller self.old.waiters self.new.waiters result) }
+        ensures some { IfSome batch (λ given. Brings S.scheme self.old.caller.node (fault_of self.old.caller.setting.charter is_pair_signature (own_batch self.old.caller.setting.own given)) (own_batch self.old.caller.setting.own given) self.old.caller self.new.caller self.old.waiter self.new.waiter result) }
     {
         match batch {
             Some(batch) => {
@@ -169,7 +165,7 @@ impl<'n, 'a, S: Sign> Intake<'n, 'a, S> {
         ensures makers { self.new.makers ≡ self.old.makers }
         ensures mark { self.new.was_refused_memory ≡ self.old.was_refused_memory }
         ensures stays { StaysWith self.old.caller self.new.caller }
-        ensures brings { Brings S.scheme self.old.caller.node (fault_of self.old.caller.setting.charter is_pair_signature (record { sender = sender; message = message })) (record { sender = sender; message = message }) self.old.caller self.new.caller self.old.waiters self.new.waiters result }
+        ensures brings { Brings S.scheme self.old.caller.node (fault_of self.old.caller.setting.charter is_pair_signature (record { sender = sender; message = message })) (record { sender = sender; message = message }) self.old.caller self.new.caller self.old.waiter self.new.waiter result }
     {
         let behind = due_behind(self.caller.config().own(), &message);
         match self.caller.take(rt, sender, message) {
@@ -196,79 +192,56 @@ impl<'n, 'a, S: Sign> Intake<'n, 'a, S> {
         ensures looks { OnlyLooks self.old.caller.seat self.new.caller.seat }
         ensures due { self.new.due ≡ self.old.due }
         ensures never_new { result ≢ Ok true }
-        ensures ok { OnOk result (Enters event self.old.waiters self.new.waiters) }
-        ensures err { OnErr result (self.new.waiters ≡ self.old.waiters) }
-        ensures why { IfErr result (CantWait event self.old.waiters) }
+        ensures ok { OnOk result (Enters event self.old.waiter self.new.waiter) }
+        ensures err { OnErr result (self.new.waiter ≡ self.old.waiter) }
+        ensures why { IfErr result (CantWait event self.old.waiter) }
     {
         if let Err(told) = self.caller.test_up() {
             return Err(told);
         }
-        match self.waiters.offer(event) {
+        match self.waiter.offer(event) {
             Ok(()) => Ok(false),
             Err(refusal) => Err(told_of_wait(refusal)),
         }
     }
 
-    // Takes what the validator proposes, where that is due. It stays due where memory was refused, and after a new own header, which
-    // brings no certificate that another one may wait for.
+    // Takes what the validator proposes, where that is due. It stays due where memory was refused, and is again after a new own header.
     // The mark is set only where no event of the caller's was accepted, and stays.
     fn propose<R: Wait>(&mut self, rt: &R)
         ensures memory { self.new.was_refused_memory ≢ self.old.was_refused_memory → self.new.caller.seat.view.mine ≡ self.old.caller.seat.view.mine }
         ensures stays { self.old.was_refused_memory ≡ true → self.new.was_refused_memory ≡ true }
         ensures idle { self.old.due.proposal ≡ false → self.new ≡ self.old }
         ensures asked { self.old.due.proposal ≡ true → self.new.due.proposal ≡ false → IsProposed S.scheme self.old.caller.node self.old.caller self.new.caller false }
-        ensures waiting { self.new.due.waiting ≡ self.old.due.waiting }
+        ensures waiting { self.old.due.waiting ≡ true → self.new.due.waiting ≡ true }
     {
         if !self.due.proposal {
             return;
         }
         match self.caller.propose(rt) {
-            Ok(true) => self.pending.ring(rt),
+            Ok(true) => {
+                self.due = Due::all();
+                self.pending.ring(rt);
+            }
             Ok(false) => self.due.proposal = false,
             Err(AllocError) => self.was_refused_memory = true,
         }
     }
 
-    // A waiting certificate that is ready, where one may be: where the floor has risen over the lowest the first of its round, and else
-    // the first of the lowest round that has one. The rounds before it aren't due any more, and none is where none has one.
+    // The first waiting certificate that is ready, where that is due. It stays due until none is.
     fn next_ready<R: Wait>(&mut self, rt: &R) -> Option<Checked>
-        ensures idle { self.old.due.waiting ≡ Waiting.Nothing → (result ≡ None) × (self.new ≡ self.old) }
-        ensures some { IfSome result (λ _. IsLess self.old.due.waiting self.new.due.waiting) }
-        ensures none { IfNone result ((self.new.waiters ≡ self.old.waiters) × (self.new.due.waiting ≡ Waiting.Nothing)) }
+        ensures idle { self.old.due.waiting ≡ false → (result ≡ None) × (self.new ≡ self.old) }
+        ensures some { IfSome result (λ _. self.new.due ≡ self.old.due) }
+        ensures none { IfNone result (self.new.waiter ≡ self.old.waiter) }
         ensures proposal { self.new.due.proposal ≡ self.old.due.proposal }
         ensures mark { self.new.was_refused_memory ≡ self.old.was_refused_memory }
     {
-        let Waiting::Rounds { low, end } = self.due.waiting else {
+        if !self.due.waiting {
             return None;
-        };
-        if let Some((lowest, first)) = self.waiters.lowest() {
-            let is_due = low <= lowest && lowest < end;
-            if !is_due && self.caller.is_ready(rt, first) {
-                let found = self.ready_of(rt, lowest);
-                if found.is_some() {
-                    return found;
-                }
-            }
-            for round in low.max(lowest)..end {
-                if let Some(found) = self.ready_of(rt, round) {
-                    self.due.waiting = Waiting::Rounds { low: round, end };
-                    return Some(found);
-                }
-            }
         }
-        self.due.waiting = Waiting::Nothing;
-        None
-    }
-
-    // The first of a round that waits and is ready.
-    fn ready_of<R: Wait>(&mut self, rt: &R, round: u64) -> Option<Checked>
-        ensures due { self.new.due ≡ self.old.due }
-        ensures none { IfNone result (self.new.waiters ≡ self.old.waiters) }
-        ensures mark { self.new.was_refused_memory ≡ self.old.was_refused_memory }
-    {
         let caller = &mut self.caller;
-        self.waiters
-            .next_ready_of(round, |event| caller.is_ready(rt, event))
+        let found = self.waiter.next_ready(|event| caller.is_ready(rt, event));
+        self.due.waiting = found.is_some();
+        found
     }
 }
 

@@ -1,3 +1,2 @@
 pub mod Lookups
-pub mod Low
 pub mod Rising

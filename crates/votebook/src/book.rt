@@ -109,12 +109,7 @@ impl VoteBook {
         ensures { ForgetsTo round self.old self.new }
     {
         let last = round.number();
-        while let Some((slot, _)) = self.votes.first_key_value() {
-            if slot.round > last {
-                return;
-            }
-            self.votes.pop_first();
-        }
+        self.votes.retain(|slot, _| slot.round > last);
     }
 }
 

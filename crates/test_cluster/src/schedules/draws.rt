@@ -9,11 +9,9 @@ pub struct Draws {
 }
 
 impl Draws {
-    /// Before the first number of the schedule of this start value.
+    /// Before the first number.
     pub fn from(start: u64) -> Draws {
-        Draws {
-            state: start.wrapping_mul(11_400_714_819_323_198_485) % (1 << 48),
-        }
+        Draws { state: start }
     }
 
     /// A number below this one.

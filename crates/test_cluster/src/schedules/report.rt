@@ -23,14 +23,7 @@ pub struct Report {
     growths: u64,
     longest: usize,
     grown: u64,
-    /// In how many schedules came to pass what is marked.
-    unlike: u64,
-    skipped: u64,
-    dishonest: u64,
-    risen: u64,
     wrong: u64,
-    /// The start value of the first schedule in which something was wrong.
-    first_wrong: Option<u64>,
 }
 
 impl Report {
@@ -47,12 +40,7 @@ impl Report {
             growths: 0,
             longest: 0,
             grown: 0,
-            unlike: 0,
-            skipped: 0,
-            dishonest: 0,
-            risen: 0,
             wrong: 0,
-            first_wrong: None,
         }
     }
 
@@ -94,12 +82,9 @@ impl Report {
         increase(&mut self.growths);
     }
 
-    /// Of two orders none begins the other, or one was taken back, in the schedule of this start value.
-    pub fn go_wrong(&mut self, start: u64) {
+    /// Of two orders none begins the other.
+    pub fn disagree(&mut self) {
         increase(&mut self.wrong);
-        if self.first_wrong.is_none() {
-            self.first_wrong = Some(start);
-        }
     }
 
     /// Counts what a schedule came to.
@@ -114,11 +99,9 @@ impl Report {
                 self.sum = added(self.sum, &digest.0);
             }
         }
-        count_if(&mut self.grown, any);
-        count_if(&mut self.unlike, schedule.marks.unlike);
-        count_if(&mut self.skipped, schedule.marks.skipped);
-        count_if(&mut self.dishonest, schedule.marks.dishonest);
-        count_if(&mut self.risen, schedule.marks.risen);
+        if any {
+            increase(&mut self.grown);
+        }
     }
 
     /// Tells all of it.
@@ -133,24 +116,8 @@ impl Report {
         tell_count(answer, "growths of orders", self.growths);
         tell_count(answer, "longest order", self.longest as u64);
         tell_count(answer, "schedules with orders", self.grown);
-        tell_count(
-            answer,
-            "schedules with orders of unlike length",
-            self.unlike,
-        );
-        tell_count(answer, "schedules with waves skipped", self.skipped);
-        tell_count(answer, "schedules with dishonest leaders", self.dishonest);
-        tell_count(answer, "schedules with floors risen", self.risen);
         tell_count(answer, "sum", self.sum);
-        self.tell_wrong(answer);
-    }
-
-    fn tell_wrong(&self, answer: &mut String) {
-        let wrong = self.wrong;
-        let _ = match self.first_wrong {
-            Some(start) => writeln!(answer, "wrong {wrong}, first in the schedule from {start}"),
-            None => writeln!(answer, "wrong {wrong}"),
-        };
+        tell_count(answer, "wrong", self.wrong);
     }
 }
 
@@ -160,12 +127,6 @@ fn tell_count(answer: &mut String, name: &str, count: u64) {
 
 fn increase(count: &mut u64) {
     *count = count.saturating_add(1);
-}
-
-fn count_if(count: &mut u64, holds: bool) {
-    if holds {
-        increase(count);
-    }
 }
 
 // FNV-1a of 64 bits.
