@@ -69,9 +69,13 @@ fn walk_from(alloc: Global, bytes: &[u8], base: u64) -> Result<(Vec<Record>, u64
     Ok((records, gate as u64))
 }
 
-// What an area with these bytes in front tells by its first group.
+/// What a file of a journal with these bytes in front tells by its first group: `None` where its first gate isn't open; else its
+/// generation, or none where that group is no first group of a journal.
+///
+/// # Errors
+/// Out of memory.
 #[tactic(auto, unfolding(crate::specs::Areas::tells))]
-pub(crate) fn tells(alloc: Global, bytes: &[u8]) -> Result<Option<Option<u64>>, AllocError>
+pub fn tells(alloc: Global, bytes: &[u8]) -> Result<Option<Option<u64>>, AllocError>
     ensures { IfOk result (λ told. told ≡ tells bytes.now) }
 {
     if bytes.len() < 2 || bytes[0] == CLOSED {

@@ -41,7 +41,7 @@ one_more old new s d h = same_map slots_total exact_slots _ _ (λ q.
     get-entries new q ∙ h q ∙ ap (λ b. cond b (Some d) (digest_at old q)) ((eq_by_cmp_equiv slots_total).symm s q)
     ∙ sym (get-insert slots_total (from_entries old) s d q ∙ ap (cond (is_at (slot_cmp q) s) (Some d)) (get-entries old q)))
 
-is_equal : (o : Ordering) → is_eq o ≡ true → o ≡ Equal
+pub is_equal : (o : Ordering) → is_eq o ≡ true → o ≡ Equal
 is_equal Less h = absurd cc
 is_equal Equal h = refl
 is_equal Greater h = absurd cc

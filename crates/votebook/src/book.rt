@@ -109,7 +109,12 @@ impl VoteBook {
         ensures { ForgetsTo round self.old self.new }
     {
         let last = round.number();
-        self.votes.retain(|slot, _| slot.round > last);
+        while let Some((slot, _)) = self.votes.first_key_value() {
+            if slot.round > last {
+                return;
+            }
+            self.votes.pop_first();
+        }
     }
 }
 

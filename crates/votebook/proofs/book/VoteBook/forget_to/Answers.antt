@@ -1,15 +1,17 @@
-use Rattle.std.proofs.Common.{rules, cond, None, ap, ◌∙◌, sym, leb, ltb}
-use Rattle.std.specs.FinMap as map
-use Rattle.std.proofs.lemmas.Map.Made.{filter_same_pairs}
-use Rattle.votebook.proofs.Lookups.{digest_at, get-entries, digest_at-filter}
+use Rattle.std.proofs.Common.{rules}
+use Rattle.votebook.proofs.Low.{forgets, none_low, none_left}
 use Rattle.votebook.proofs.book.VoteBook.forget_to.Goals as goal
 
-pub returns : goal.returns
-returns c = λ slot.
+pub returns-then-slot-last : goal.returns-then-slot-last
+returns-then-slot-last c =
+    let left = c.loop-slot.self-inside.votes.entries in
     let last = c.number-last.result in
-    let old = c.self.inside.votes.entries in
-    let new = c.retain.new.self.entries in
-    let kept = filter_same_pairs _ (λ e. ltb last e.0.round) _ (λ k v b w f' t. search rules) old new c.retain.ensures.filtered in
-    get-entries new slot ∙ ap (λ es. digest_at es slot) kept ∙ digest_at-filter last old slot
-    ∙ ap (λ r. cond (leb slot.round r) None (digest_at old slot)) c.number-last.ensures.value
-    ∙ ap (cond (leb slot.round c.args.round) None) (sym (get-entries old slot) ∙ ap (λ m. map.get m slot) c.self.view_is)
+    forgets c.args.round last c.self.inside.votes.entries left c.args.self.now c.number-last.ensures.value c.self.view_is c.loop-slot.invariant
+    (none_low left c.in-Some.slot.now last c.if-slot-last.true c.in-Some.ensures.least)
+
+pub returns : goal.returns
+returns c =
+    let left = c.loop-slot.self-inside.votes.entries in
+    let last = c.number-last.result in
+    forgets c.args.round last c.self.inside.votes.entries left c.args.self.now c.number-last.ensures.value c.self.view_is c.loop-slot.invariant
+    (none_left last left (search rules))
