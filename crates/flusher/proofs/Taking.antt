@@ -11,6 +11,7 @@ use Rattle.spec_model.specs.Nodes.{Node}
 use Rattle.spec_model.specs.States.{State}
 use Rattle.wire.specs.Lists.{Begins}
 use Rattle.spec_records.specs.Records.{record_of}
+use Rattle.node_seats.specs.Plays.{with_down}
 use Rattle.node_seats.specs.Views.{events}
 use Rattle.node_seats.specs.declared.view.Marked.{Marked}
 use Rattle.node_seats.proofs.Beginnings.{begins_take, take_begins}
@@ -23,6 +24,18 @@ use Rattle.book.specs.declared.own.error.FlushError.TheVariants.{Full, Down}
 use Rattle.sigface.specs.Scheme.{Scheme}
 use Rattle.flusher.specs.Rounds.{journal_of, is_down, taken_in, records_behind, TakesLongest, TakesAll, GoesDown, HasNoRoom, TellsRoomToRewrite}
 use Rattle.flusher.specs.declared.flusher.Flusher.{Flusher}
+
+-- a flush seat that took its node down is still the node's
+pub still_flush : {S : Type 0} (node : NodeView S) (flush later : FlushSeat) → later ≡ record flush { seat = record flush.seat { view = with_down flush.seat.view } } → IsFlushOf node flush
+    → IsFlushOf node later
+still_flush node flush later is of =
+    subst (IsFlushOf node) (sym is) (record {
+      of_node = record { table = of.of_node.table; live = of.of_node.live; numbered = of.of_node.numbered };
+      settled = of.settled;
+      rising = of.rising;
+      seen = of.seen;
+      begins = of.begins;
+    })
 
 module _ {S : Type 0} (node : NodeView S) (flush : FlushSeat) (of : IsFlushOf node flush) where
   -- where no more is taken than is settled

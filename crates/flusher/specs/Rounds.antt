@@ -1,5 +1,5 @@
 -- A flusher, and what its rounds and checkpoints do.
-use Rattle.std.specs.Prelude.{◌≡◌, ◌⊎◌, ◌↔◌, ℕ, ◌+◌, ◌<◌, false, Bool, List, length, map, drop, Result, IsErrOf, IsTrue, IfOk, OnOk, OnErr}
+use Rattle.std.specs.Prelude.{◌≡◌, ◌⊎◌, ◌↔◌, ℕ, ◌+◌, ◌<◌, false, not, Bool, List, length, map, drop, Result, IsErrOf, IsTrue, IfOk, OnOk, OnErr}
 use Rattle.std.specs.Option.{option_map_or}
 use Rattle.diskmodel.specs.Disk.{Device}
 use Rattle.journal.specs.Areas.{Areas, alone, pair_of}
@@ -68,10 +68,11 @@ pub record LeavesAfter {S : Type 0} (scheme : Scheme S) (node : NodeView S) (set
   pub holds : HoldsAfter scheme node more left
   pub earlier : KeepsEarlier scheme node settled more before left
 
--- A flusher is a node's: its seat is, and unless it took the node down it has taken no more than is settled, no checkpoint is in flight, and
--- its journal can be added to and has exactly that.
+-- A flusher is a node's: its seat is, and unless it took the node down it has the right to that, has taken no more than is settled, no
+-- checkpoint is in flight, and its journal can be added to and has exactly that.
 pub record IsFlusherOf {S D : Type 0} (scheme : Scheme S) (device : Device D) (node : NodeView S) (flusher : Flusher D) : Type 0 where
   pub seat : IsFlushOf node (seat_of flusher)
+  pub right : (seat_of flusher).seat.view.may_fail ≡ not (is_down flusher)
   pub rests : is_down flusher ≡ false → (seat_of flusher).taken ≡ (seat_of flusher).settled
   pub idle : is_down flusher ≡ false → (seat_of flusher).rewriting ≡ false
   pub alive : is_down flusher ≡ false → IsAlive device (journal_of flusher)

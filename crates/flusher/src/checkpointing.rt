@@ -8,8 +8,7 @@ ghost use Rattle.journal.specs.Pairs.{HaveChangedPlaces, HaveKeptPlaces, areas_o
 ghost use Rattle.spec_machine.specs.After.{IsLegalAfter};
 ghost use Rattle.spec_model.specs.States.{State};
 ghost use Rattle.validator.specs.Setting.{node_of};
-ghost use Rattle.node_seats.specs.Plays.{with_down};
-ghost use Rattle.node_seats.specs.Views.{events};
+ghost use Rattle.node_seats.specs.Views.{events, informed};
 ghost use Rattle.node_shared.specs.Home.{IsBase, IsOf, IsFlushOf, IsCheckpointAfter};
 ghost use Rattle.flusher.specs.Rounds.{journal_of, seat_of, is_down, settled_in, taken_in, IsFlusherOf, HoldsAfter, HoldsEither, KeepsEarlier, GoesDown, IsToldOf, TakesAllAndSettles, TellsRoomToRewrite};
 
@@ -78,6 +77,7 @@ impl<D: Disk> Flusher<D> {
         snapshot: Snapshot,
     ) -> Result<u64, FlushError>
         requires flush_seat { IsFlushOf node.now (seat_of self.old) }
+        requires right { (seat_of self.old).seat.view.may_fail ≡ true }
         requires rewriting { (seat_of self.old).rewriting ≡ true }
         requires up { is_down self.old ≡ false }
         requires alive { IsAlive D.device (journal_of self.old) }
@@ -95,7 +95,8 @@ impl<D: Disk> Flusher<D> {
         ensures swapped { OnOk result (HaveChangedPlaces (journal_of self.old) (journal_of self.new)) }
         ensures keeps { OnErr result (HaveKeptPlaces (journal_of self.old) (journal_of self.new)) }
         ensures seat { OnOk result (seat.new ≡ seat.old) }
-        ensures seat_err { OnErr result (seat.new ≡ record seat.old { view = with_down seat.old.view }) }
+        ensures seat_err { OnErr result (seat.new ≡ record seat.old { view = informed seat.old.view (seat_of self.new).seat.view }) }
+        ensures told_err { OnErr result ((seat_of self.new).seat.view.down ≡ true) }
         ensures errors { IfErr result (λ error. (error ≡ FlushError.Device) ⊎ (error ≡ FlushError.Full)) }
         ensures full { IsErrOf result FlushError.Full ↔ HasNoRoomFor (journal_of self.old) snapshot }
         ensures full_same { IsErrOf result FlushError.Full → journal_of self.new ≡ journal_of self.old }
@@ -108,7 +109,7 @@ impl<D: Disk> Flusher<D> {
                 Ok(self.journal.generation())
             }
             Err(error) => {
-                node.fail(seat);
+                node.fail(&mut self.seat, seat);
                 self.down = true;
                 match error {
                     JournalError::Full => Err(FlushError::Full),

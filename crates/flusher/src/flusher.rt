@@ -10,8 +10,7 @@ ghost use Rattle.wire.specs.Lists.{Begins};
 ghost use Rattle.spec_machine.specs.After.{IsLegalAfter};
 ghost use Rattle.spec_model.specs.States.{State};
 ghost use Rattle.validator.specs.Setting.{node_of};
-ghost use Rattle.node_seats.specs.Plays.{with_down};
-ghost use Rattle.node_seats.specs.Views.{events};
+ghost use Rattle.node_seats.specs.Views.{events, informed};
 ghost use Rattle.node_shared.specs.Home.{IsBase, IsOf, IsFlushOf, group_of};
 ghost use Rattle.flusher.specs.Rounds.{journal_of, seat_of, is_down, settled_in, taken_in, areas_at, IsFlusherOf, HoldsAfter, HoldsEither, KeepsEarlier, GoesDown, IsToldOf, TakesAndSettles, TellsRoom, StaysAsIs};
 
@@ -146,6 +145,7 @@ impl<D: Disk> Flusher<D> {
         group: Group,
     ) -> Result<u64, FlushError>
         requires flush_seat { IsFlushOf node.now (seat_of self.old) }
+        requires right { (seat_of self.old).seat.view.may_fail ≡ true }
         requires up { is_down self.old ≡ false }
         requires alive { IsAlive D.device (journal_of self.old) }
         requires idle { (seat_of self.old).rewriting ≡ false }
@@ -161,7 +161,8 @@ impl<D: Disk> Flusher<D> {
         ensures ok { IfOk result (λ count. (count ≡ length group) × (settled_in self.new ≡ taken_in self.old) × (is_down self.new ≡ false)) }
         ensures err { OnErr result ((settled_in self.new ≡ settled_in self.old) × (is_down self.new ≡ true)) }
         ensures seat { OnOk result (seat.new ≡ seat.old) }
-        ensures seat_err { OnErr result (seat.new ≡ record seat.old { view = with_down seat.old.view }) }
+        ensures seat_err { OnErr result (seat.new ≡ record seat.old { view = informed seat.old.view (seat_of self.new).seat.view }) }
+        ensures told_err { OnErr result ((seat_of self.new).seat.view.down ≡ true) }
         ensures errors { IfErr result (λ error. (error ≡ FlushError.Device) ⊎ (error ≡ FlushError.Full)) }
         ensures full { IsErrOf result FlushError.Full ↔ (MAX_JOURNAL_BYTES < length (D.device.content (disk_of (journal_of self.old))) + length (group_bytes group)) }
         ensures full_same { IsErrOf result FlushError.Full → journal_of self.new ≡ journal_of self.old }
@@ -175,7 +176,7 @@ impl<D: Disk> Flusher<D> {
                 Ok(count)
             }
             Err(error) => {
-                node.fail(seat);
+                node.fail(&mut self.seat, seat);
                 self.down = true;
                 match error {
                     JournalError::Full => Err(FlushError::Full),

@@ -1,6 +1,6 @@
 -- Where a node begins after an opening.
-use Rattle.std.proofs.Common.{◌≡◌, false, List, [], length, inl, inr, sym, subst, ap, ◌∙◌}
-use Rattle.std.specs.Prelude.{Result, Ok, Err, IfOk, IfErr}
+use Rattle.std.proofs.Common.{◌≡◌, true, false, List, [], length, inl, inr, sym, subst, ap, ◌∙◌}
+use Rattle.std.specs.Prelude.{not, Result, Ok, Err, IfOk, IfErr}
 use Rattle.diskmodel.specs.Disk.{Device}
 use Rattle.journal.specs.declared.error.Failed.{Failed}
 use Rattle.journal.specs.declared.error.JournalError.{JournalError}
@@ -15,7 +15,7 @@ use Rattle.spec_machine.proofs.AfterAll.{after_none, legal_none}
 use Rattle.spec_model.specs.Nodes.{Node, IsNode}
 use Rattle.validator.specs.Setting.{ConfigView, node_of}
 use Rattle.node_shared.specs.Home.{NodeView, IsFlushOf}
-use Rattle.flusher.specs.Rounds.{journal_of, seat_of, HoldsAfter, IsFlusherOf}
+use Rattle.flusher.specs.Rounds.{journal_of, seat_of, is_down, HoldsAfter, IsFlusherOf}
 use Rattle.flusher.specs.declared.flusher.Flusher.{Flusher}
 use Rattle.node_seats.specs.declared.view.Marked.{Marked}
 use Rattle.node_shared.specs.Calls.{HasNothing}
@@ -43,8 +43,8 @@ holds_first scheme node areas is_node held =
 -- a flusher over that journal, whose seat has seen nothing
 pub flusher_first : {S D : Type 0} (scheme : Scheme S) (device : Device D) (node : NodeView S) (flusher : Flusher D) (journal : Journal D) (seat : FlushSeat) (setting : ConfigView S) (tables : Tables)
     → node.setting ≡ setting → node.begun ≡ tables → journal_of flusher ≡ journal → seat_of flusher ≡ seat → IsFlushOf node seat → HasNothing seat.seat → seat.taken ≡ 0 → seat.rewriting ≡ false
-    → IsNode (node_of scheme setting) → IsAlive device journal → HoldsIn (node_of scheme setting) (areas_of device journal) tables → IsFlusherOf scheme device node flusher
-flusher_first {S} {D} scheme device node flusher journal seat setting tables setting_is begun_is journal_is seat_is of nothing taken idle is_node alive held =
+    → seat.seat.view.may_fail ≡ true → is_down flusher ≡ false → IsNode (node_of scheme setting) → IsAlive device journal → HoldsIn (node_of scheme setting) (areas_of device journal) tables → IsFlusherOf scheme device node flusher
+flusher_first {S} {D} scheme device node flusher journal seat setting tables setting_is begun_is journal_is seat_is of nothing taken idle right up is_node alive held =
     let areas = areas_of device journal in
     let here : HoldsIn (node_of scheme node.setting) areas node.begun = subst (λ (t : Tables). HoldsIn (node_of scheme node.setting) areas t) (sym begun_is)
     (subst (λ (s : ConfigView S). HoldsIn (node_of scheme s) areas tables) (sym setting_is) held) in
@@ -53,6 +53,7 @@ flusher_first {S} {D} scheme device node flusher journal seat setting tables set
     subst (λ (l : List Marked). HoldsAfter scheme node l areas) (sym nothing.firm) (holds_first scheme node areas is_here here) in
     record {
       seat = subst (IsFlushOf node) (sym seat_is) of;
+      right = ap (λ (s : FlushSeat). s.seat.view.may_fail) seat_is ∙ right ∙ sym (ap not up);
       rests = λ _. subst (λ (s : FlushSeat). s.taken ≡ s.settled) (sym seat_is) (taken ∙ sym (of.settled ∙ ap length nothing.firm));
       idle = λ _. ap (λ (s : FlushSeat). s.rewriting) seat_is ∙ idle;
       alive = λ _. subst (IsAlive device) (sym journal_is) alive;

@@ -17,6 +17,7 @@ same_then one two three first second = record {
   number = second.number ∙ first.number;
   mine = second.mine ∙ first.mine;
   down = λ is. second.down (first.down is);
+  right = second.right ∙ first.right;
 }
 
 -- a seat that has seen more, and knows more as settled, is the same
@@ -30,6 +31,7 @@ same_seat before later of rest = record {
   number = ap (λ v. v.number) rest;
   mine = ap (λ v. v.mine) rest;
   down = λ is. ap (λ v. v.down) rest ∙ is;
+  right = ap (λ v. v.may_fail) rest;
 }
 
 -- and one that was told what another knows
@@ -42,6 +44,7 @@ same_told before later other told = record {
   number = ap (λ s. s.view.number) told;
   mine = ap (λ s. s.view.mine) told;
   down = λ is. ap (λ s. s.view.down) told ∙ ap (λ d. d || other.down) is;
+  right = ap (λ s. s.view.may_fail) told;
 }
 
 -- a look changes nothing of what is known as settled

@@ -1,5 +1,5 @@
 -- What each kind of step tells the seat that makes it.
-use Rattle.std.specs.Prelude.{◌≡◌, ◌≢◌, ◌≤◌, ℕ, true, [], ◌∷◌, ◌++◌, length, take}
+use Rattle.std.specs.Prelude.{◌≡◌, ◌≢◌, ◌≤◌, ℕ, true, false, [], ◌∷◌, ◌++◌, length, take}
 use Rattle.spec_model.specs.Histories.{History}
 use Rattle.wire.specs.Lists.{Begins}
 use Rattle.spec_model.specs.Words.{Event}
@@ -52,6 +52,6 @@ pub record ReadsDown (before : View) (count : ℕ) (later : View) : Type 0 where
   pub stays : before.down ≡ true → later.down ≡ true
   pub count_is : flag later.down ≡ count
 
--- the node is down
+-- the node is down, and the right to take it down is spent
 abbrev pub with_down : View → View
-with_down view = record view { down = true }
+with_down view = record view { down = true; may_fail = false }

@@ -28,11 +28,22 @@ HasOwn view = events_by view.number view.seen ≡ view.mine
 abbrev pub flag : Bool → ℕ
 flag down = if down then 1 else 0
 
--- the first seat of a node
+-- the first seat of a node, which alone has the right to take it down
 abbrev pub first_view : View
-first_view = record { live = true; numbered = true; number = 0; seen = []; firm = []; mine = []; down = false; told = []; told_firm = [] }
+first_view = record {
+  live = true;
+  numbered = true;
+  number = 0;
+  seen = [];
+  firm = [];
+  mine = [];
+  down = false;
+  may_fail = true;
+  told = [];
+  told_firm = [];
+}
 
--- a seat that knows what this one does and has brought nothing; it doesn't know its number yet
+-- a seat that knows what this one does, has brought nothing and can't take the node down; it doesn't know its number yet
 abbrev pub newcomer : View → View
 newcomer view = record {
   live = view.live;
@@ -42,6 +53,7 @@ newcomer view = record {
   firm = view.firm;
   mine = [];
   down = view.down;
+  may_fail = false;
   told = [];
   told_firm = [];
 }
@@ -52,7 +64,18 @@ informed view other = record view { down = view.down || other.down; told = other
 
 -- one that another seat took in
 abbrev pub spent : View
-spent = record { live = false; numbered = false; number = 0; seen = []; firm = []; mine = []; down = false; told = []; told_firm = [] }
+spent = record {
+  live = false;
+  numbered = false;
+  number = 0;
+  seen = [];
+  firm = [];
+  mine = [];
+  down = false;
+  may_fail = false;
+  told = [];
+  told_firm = [];
+}
 
 -- an event, for where none is meant
 abbrev pub no_event : Event
@@ -60,7 +83,8 @@ no_event = record { sender = record { 0 = 0 }; message = message.Coin (record { 
 
 -- ---- what a step leaves of a seat
 
--- it is the same seat, at the same words, with the events that it brought, and knows that the node is down if it did
+-- It is the same seat, at the same words, with the events that it brought. It knows that the node is down if it did, and has the right to
+-- take it down if it had.
 pub record IsSame (before later : SeatView) : Type 0 where
   pub table : later.table ≡ before.table
   pub id : later.id ≡ before.id
@@ -69,3 +93,4 @@ pub record IsSame (before later : SeatView) : Type 0 where
   pub number : later.view.number ≡ before.view.number
   pub mine : later.view.mine ≡ before.view.mine
   pub down : before.view.down ≡ true → later.view.down ≡ true
+  pub right : later.view.may_fail ≡ before.view.may_fail

@@ -98,7 +98,7 @@ impl<K, L: Law<K>> Words<K, L> {
         requires seen { length seat.old.view.seen ≡ from }
         requires room { from + 1 < 2 ^ 64 }
         requires legal { L.legal self.now.key (events seat.old.view.seen ++ C.event ∷ []) }
-        ensures same { (seat.new.table ≡ seat.old.table) × (seat.new.id ≡ seat.old.id) × (seat.new.view.live ≡ true) × (seat.new.view.numbered ≡ true) × (seat.new.view.number ≡ seat.old.view.number) }
+        ensures same { (seat.new.table ≡ seat.old.table) × (seat.new.id ≡ seat.old.id) × (seat.new.view.live ≡ true) × (seat.new.view.numbered ≡ true) × (seat.new.view.number ≡ seat.old.view.number) × (seat.new.view.may_fail ≡ seat.old.view.may_fail) }
         ensures down { seat.new.view.down ≡ seat.old.view.down }
         ensures firm { seat.new.view.firm ≡ seat.old.view.firm }
         ensures seen { seat.new.view.seen ≡ seat.old.view.seen ++ mark seat.old.view.number C.event ∷ [] }

@@ -22,6 +22,8 @@ pub struct View {
     pub mine: LinkedList<Checked>,
     /// Whether it knows that the node is down.
     pub down: bool,
+    /// Whether it has the right to take the node down, which one seat has at first, and which is spent so.
+    pub may_fail: bool,
     /// What it was told by another seat, of what was accepted and of what is settled.
     pub told: LinkedList<Marked>,
     pub told_firm: LinkedList<Marked>,

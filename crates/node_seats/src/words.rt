@@ -47,7 +47,7 @@ impl<K, L: Law<K>> Model for Words<K, L> {
 }
 
 impl<K, L: Law<K>> Words<K, L> {
-    /// The words at 0, and the first seat at them. `AllocError` where an allocation failed.
+    /// The words at 0, and the first seat at them, which alone may take the node down. `AllocError` where an allocation failed.
     pub fn new(alloc: Global, about: &K) -> Result<(Words<K, L>, Seat), AllocError>
         requires legal { L.legal about.now [] }
         ensures key { IfOk result (λ made. made.0.key ≡ about.now) }
@@ -117,10 +117,11 @@ impl<K, L: Law<K>> Words<K, L> {
         self.table.shared.load::<DownRead>(&mut seat.place, DOWN) == 1
     }
 
-    /// Takes the node down, which the seat then knows.
+    /// Takes the node down, which the seat then knows, and spends its right to that.
     pub fn raise_down(&self, seat: &mut Seat)
         requires of { seat.old.table ≡ self.now.table }
         requires live { seat.old.view.live ≡ true }
+        requires right { seat.old.view.may_fail ≡ true }
         ensures down { seat.new ≡ record seat.old { view = with_down seat.old.view } }
     {
         self.table.shared.store::<Downed>(&mut seat.place, DOWN, 1);

@@ -38,6 +38,7 @@ stays_read before later down is keeps = record {
     number = ap (λ s. s.view.number) is;
     mine = ap (λ s. s.view.mine) is;
     down = λ was. ap (λ s. s.view.down) is ∙ keeps was;
+    right = ap (λ s. s.view.may_fail) is;
   };
   seen = ap (λ s. s.view.seen) is;
   firm = ap (λ s. s.view.firm) is;
@@ -45,7 +46,7 @@ stays_read before later down is keeps = record {
 
 pub stays_same : (seat : SeatView) → Stays seat seat
 stays_same seat = record {
-  same = record { table = refl; id = refl; live = refl; numbered = refl; number = refl; mine = refl; down = λ was. was };
+  same = record { table = refl; id = refl; live = refl; numbered = refl; number = refl; mine = refl; down = λ was. was; right = refl };
   seen = refl;
   firm = refl;
 }
@@ -87,6 +88,7 @@ module _ {S : Type 0} (scheme : Scheme S) (shared : NodeView S) where
     id = looked.same.id;
     number = looked.same.number;
     down = looked.same.down;
+    right = looked.same.right;
     firm = looked.firm;
     own = looked.own;
     legal = looked.legal;
@@ -94,7 +96,7 @@ module _ {S : Type 0} (scheme : Scheme S) (shared : NodeView S) where
 
   -- and one whose event is new has it after that
   pub brought_new : (before mid later : SeatView) (event : Event) → Looked scheme shared before mid
-      → (later.table ≡ mid.table) × (later.id ≡ mid.id) × (later.view.live ≡ true) × (later.view.numbered ≡ true) × (later.view.number ≡ mid.view.number)
+      → (later.table ≡ mid.table) × (later.id ≡ mid.id) × (later.view.live ≡ true) × (later.view.numbered ≡ true) × (later.view.number ≡ mid.view.number) × (later.view.may_fail ≡ mid.view.may_fail)
       → later.view.down ≡ mid.view.down → later.view.firm ≡ mid.view.firm → later.view.seen ≡ mid.view.seen ++ mark mid.view.number event ∷ [] → later.view.mine ≡ mid.view.mine ++ event ∷ []
       → ((base : State) → IsBase scheme shared base → IsLegalAfter (node_of scheme shared.setting) base (events mid.view.seen ++ event ∷ [])) → Brought scheme shared before later
   brought_new before mid later event looked same down firm seen mine legal = record {
@@ -102,6 +104,7 @@ module _ {S : Type 0} (scheme : Scheme S) (shared : NodeView S) where
     id = same.1 ∙ looked.same.id;
     number = same.4 ∙ looked.same.number;
     down = λ is. down ∙ looked.same.down is;
+    right = same.5 ∙ looked.same.right;
     firm = firm ∙ looked.firm;
     own = (λ i. events_by (same.4 i) (seen i)) ∙ by_same mid.view.number event mid.view.seen ∙ ap (λ (h : History). h ++ event ∷ []) looked.own ∙ sym mine;
     legal = λ base at. subst (λ (l : History). IsLegalAfter (node_of scheme shared.setting) base l)

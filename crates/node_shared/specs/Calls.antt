@@ -31,13 +31,14 @@ pub record Learned {S : Type 0} (scheme : Scheme S) (node : NodeView S) (before 
   pub own : HasOwn later.view
   pub legal : (base : State) → IsBase scheme node base → IsLegalAfter (node_of scheme node.setting) base (events later.view.firm)
 
--- A seat brought an event, which is new or isn't: it is the same one of the node but for that, knows as settled what it did, and that the
--- node is down if it did. What it has seen is legal after each base, and its own events are those of that which are marked with its number.
+-- A seat brought an event, which is new or isn't: it is the same one of the node but for that, knows as settled what it did, that the
+-- node is down if it did, and has the right to take it down if it had. What it has seen is legal after each base, and its own events are those of that which are marked with its number.
 pub record Brought {S : Type 0} (scheme : Scheme S) (node : NodeView S) (before later : SeatView) : Type 0 where
   pub of_node : IsOf node later
   pub id : later.id ≡ before.id
   pub number : later.view.number ≡ before.view.number
   pub down : before.view.down ≡ true → later.view.down ≡ true
+  pub right : later.view.may_fail ≡ before.view.may_fail
   pub firm : later.view.firm ≡ before.view.firm
   pub own : HasOwn later.view
   pub legal : (base : State) → IsBase scheme node base → IsLegalAfter (node_of scheme node.setting) base (events later.view.seen)
@@ -55,7 +56,7 @@ pub record HasNothing (seat : SeatView) : Type 0 where
   pub mine : seat.view.mine ≡ []
   pub up : seat.view.down ≡ false
 
--- a seat of the node beside another knows what that one does, and has brought no event
+-- a seat of the node beside another knows what that one does, has brought no event, and can't take the node down
 pub record IsBeside {S : Type 0} (node : NodeView S) (seat other : SeatView) : Type 0 where
   pub of_node : IsOf node other
   pub seen : other.view.seen ≡ seat.view.seen
@@ -63,6 +64,7 @@ pub record IsBeside {S : Type 0} (node : NodeView S) (seat other : SeatView) : T
   pub down : other.view.down ≡ seat.view.down
   pub mine : other.view.mine ≡ []
   pub own : HasOwn other.view
+  pub right : other.view.may_fail ≡ false
 
 -- ---- the seat of who flushes
 

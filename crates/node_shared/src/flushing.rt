@@ -5,7 +5,7 @@ ghost use Rattle.wire.specs.Lists.{Begins};
 ghost use Rattle.spec_machine.specs.After.{IsLegalAfter};
 ghost use Rattle.spec_model.specs.States.{State};
 ghost use Rattle.validator.specs.Setting.{node_of};
-ghost use Rattle.node_seats.specs.Views.{events, IsSame};
+ghost use Rattle.node_seats.specs.Views.{events, IsSame, informed};
 ghost use Rattle.node_seats.specs.Plays.{with_down};
 ghost use Rattle.node_shared.specs.Calls.{Looked, Learned, Stays, Takes, TakesAll, SettlesTaken, CountsAs};
 ghost use Rattle.node_shared.specs.Home.{IsBase, IsOf, IsAtHome, IsFlushOf, IsTied, IsCheckpointAfter, taken_by, group_of};
@@ -144,11 +144,15 @@ impl<'a, S: Sign> Node<'a, S> {
 
     /// Takes the node down, as where a device call failed or the journal is full, which the seat then knows. From now on nothing is
     /// accepted or given out. It waits for nobody.
-    pub fn fail(&self, seat: &mut Seat)
+    pub fn fail(&self, flush: &mut FlushSeat, seat: &mut Seat)
+        requires flush { IsFlushOf self.now flush.old }
+        requires right { flush.old.seat.view.may_fail ≡ true }
         requires of { IsOf self.now seat.old }
-        ensures down { seat.new ≡ record seat.old { view = with_down seat.old.view } }
+        ensures flush { flush.new ≡ record flush.old { seat = record flush.old.seat { view = with_down flush.old.seat.view } } }
+        ensures seat { seat.new ≡ record seat.old { view = informed seat.old.view flush.new.seat.view } }
     {
-        self.words.raise_down(seat);
+        self.words.raise_down(&mut flush.seat);
+        self.words.tell(&mut flush.seat, seat);
     }
 
     // The flush seat then knows what the book's seat does. The answer is whether it counts as the book does, which it will at once

@@ -1,6 +1,6 @@
 //! The node.
 
-ghost use Rattle.std.specs.Prelude.{◌≡◌, false, IsOk, IfOk};
+ghost use Rattle.std.specs.Prelude.{◌≡◌, true, false, IsOk, IfOk};
 ghost use Rattle.validator.specs.Setting.{node_of};
 ghost use Rattle.validator.specs.Standing.{StandSomewhere};
 ghost use Rattle.node_shared.specs.Calls.{HasNothing, IsBeside};
@@ -60,11 +60,14 @@ impl<'a, S: Sign> Node<'a, S> {
         ensures flush_seat { IfOk result (λ made. IsFlushOf made.0 made.2) }
         ensures flush_nothing { IfOk result (λ made. HasNothing made.2.seat × (made.2.taken ≡ 0)) }
         ensures flush_idle { IfOk result (λ made. made.2.rewriting ≡ false) }
+        // Who flushes may take the node down, and nobody else.
+        ensures right { IfOk result (λ made. (made.2.seat.view.may_fail ≡ true) × (made.1.view.may_fail ≡ false)) }
     {
         validator.limits_hold();
-        let (words, mut own) = Words::new(alloc, &validator)?;
-        let flush = words.split(&mut own);
-        let seat = words.split(&mut own);
+        // The first seat is that of who flushes: it alone may take the node down.
+        let (words, mut flush) = Words::new(alloc, &validator)?;
+        let own = words.split(&mut flush);
+        let seat = words.split(&mut flush);
         let book = Book::new(alloc, validator);
         let locked = Box::new(alloc, Locked { book, seat: own })?;
         let lock = Lock::new(alloc, locked, &words)?;
@@ -84,7 +87,7 @@ impl<'a, S: Sign> Node<'a, S> {
         let _ = &self.words;
     }
 
-    /// A seat more, which has seen what this one has and has made no call. It takes no memory.
+    /// A seat more, which has seen what this one has and has made no call. It can't take the node down. It takes no memory.
     pub fn split(&self, seat: &mut Seat) -> Result<Seat, AllocError>
         requires of { IsOf self.now seat.old }
         ensures ok { IsOk result }

@@ -1,12 +1,12 @@
 -- Where a node begins on two disks.
-use Rattle.std.proofs.Common.{◌≡◌, ◌≢◌, ℕ, ◌+◌, ◌≤◌, ◌<◌, inl, inr, false, List, [], ◌∷◌, ◌++◌, length, get_or, Option, Some, None, Result, Ok, Err, refl, sym, ap, ◌∙◌, subst, arith}
-use Rattle.std.specs.Prelude.{All, ◌⊎◌, IsSome, IfSome}
+use Rattle.std.proofs.Common.{◌≡◌, ◌≢◌, ℕ, ◌+◌, ◌≤◌, ◌<◌, inl, inr, true, false, List, [], ◌∷◌, ◌++◌, length, get_or, Option, Some, None, Result, Ok, Err, refl, sym, ap, ◌∙◌, subst, arith}
+use Rattle.std.specs.Prelude.{not, All, ◌⊎◌, IsSome, IfSome}
 use Rattle.std.specs.Option.{option_map, option_and_then, option_map_or}
 use Rattle.std.proofs.lemmas.Bool.{cases_eq, cases_lt}
 use Rattle.std.proofs.lemmas.List.Elements.{All-nil, All-cons, All-head}
 use Rattle.admission.specs.declared.tables.Tables.{Tables}
 use Rattle.diskmodel.specs.Disk.{AtEachMoment, Device}
-use Rattle.flusher.specs.Rounds.{journal_of, seat_of, HoldsAfter, IsFlusherOf}
+use Rattle.flusher.specs.Rounds.{journal_of, seat_of, is_down, HoldsAfter, IsFlusherOf}
 use Rattle.flusher.specs.declared.flusher.Flusher.{Flusher}
 use Rattle.journal.specs.Areas.{Areas, alone, pair, pair_of, generation_of, tells, moved, stands_at, stands_in, IsOlder}
 use Rattle.journal.specs.Configuration.{shaped_version}
@@ -63,9 +63,9 @@ holds_first scheme node areas is_node held =
 pub begun_one : {S D : Type 0} (scheme : Scheme S) (device : Device D) (node : NodeView S) (own : SeatView) (flusher : Flusher D) (journal : Journal D) (seat : FlushSeat) (setting : ConfigView S)
     (tables : Tables)
     → node.setting ≡ setting → node.begun ≡ tables → journal_of flusher ≡ journal → seat_of flusher ≡ seat → IsOf node own → IsFlushOf node seat → HasNothing seat.seat → seat.taken ≡ 0
-    → seat.rewriting ≡ false → IsNode (node_of scheme setting) → IsAlive device journal → IsSome (spare_of journal) → HoldsIn (node_of scheme setting) (areas_of device journal) tables
+    → seat.rewriting ≡ false → seat.seat.view.may_fail ≡ true → is_down flusher ≡ false → IsNode (node_of scheme setting) → IsAlive device journal → IsSome (spare_of journal) → HoldsIn (node_of scheme setting) (areas_of device journal) tables
     → AreOne scheme device setting node own flusher
-begun_one {S} {D} scheme device node own flusher journal seat setting tables setting_is begun_is journal_is seat_is of_node of nothing taken idle is_node alive two held =
+begun_one {S} {D} scheme device node own flusher journal seat setting tables setting_is begun_is journal_is seat_is of_node of nothing taken idle right up is_node alive two held =
     let areas = areas_of device journal in
     let here : HoldsIn (node_of scheme node.setting) areas node.begun = subst (λ (t : Tables). HoldsIn (node_of scheme node.setting) areas t) (sym begun_is)
     (subst (λ (s : ConfigView S). HoldsIn (node_of scheme s) areas tables) (sym setting_is) held) in
@@ -77,6 +77,7 @@ begun_one {S} {D} scheme device node own flusher journal seat setting tables set
       of_node = of_node;
       flushes = record {
         seat = subst (IsFlushOf node) (sym seat_is) of;
+        right = ap (λ (s : FlushSeat). s.seat.view.may_fail) seat_is ∙ right ∙ sym (ap not up);
         rests = λ _. subst (λ (s : FlushSeat). s.taken ≡ s.settled) (sym seat_is) (taken ∙ sym (of.settled ∙ ap length nothing.firm));
         idle = λ _. ap (λ (s : FlushSeat). s.rewriting) seat_is ∙ idle;
         alive = λ _. subst (IsAlive device) (sym journal_is) alive;

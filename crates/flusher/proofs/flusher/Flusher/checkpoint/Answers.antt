@@ -8,8 +8,8 @@ use Rattle.diskmodel.specs.Disk.{AtEachMoment}
 use Rattle.journal.specs.Journal.{disk_of}
 use Rattle.journal.specs.Pairs.{areas_of, areas_with, spare_disk, rewritten_disk}
 use Rattle.node_seats.proofs.Beginnings.{begins_same, begins_trans}
-use Rattle.node_seats.proofs.Same.{same_then}
-use Rattle.node_seats.specs.Plays.{with_down}
+use Rattle.node_seats.proofs.Same.{same_then, same_told, or_second}
+use Rattle.node_seats.specs.Sights.{SeatView}
 use Rattle.node_seats.specs.Views.{IsSame}
 use Rattle.node_seats.specs.declared.view.Marked.{Marked}
 use Rattle.node_shared.specs.Home.{IsFlushOf, taken_by}
@@ -75,14 +75,14 @@ returns-in_err-generation-clause-told g c =
     let mid = c.take_all.new.seat in
     let looked = c.in-Ok.ensures.looked in
     let is = c.in_err-generation.ensures.seat_err in
-    let downed : IsSame mid (record mid { view = with_down mid.view }) = record { table = refl; id = refl; live = refl; numbered = refl; number = refl; mine = refl; down = λ _. refl } in
+    let knows = ap (λ (s : SeatView). s.view.down) is ∙ or_second mid.view.down c.rewrite.new.self.seat.seat.view.down c.in_err-generation.ensures.told_err in
     record {
-      same = same_then before mid c.rewrite.new.seat looked.same (subst (λ s. IsSame mid s) (sym is) downed);
+      same = same_then before mid c.rewrite.new.seat looked.same (same_told mid c.rewrite.new.seat c.rewrite.new.self.seat.seat.view is);
       more = subst (λ s. Begins before.view.seen s.view.seen) (sym is) looked.more;
       more_firm = subst (λ s. Begins before.view.firm s.view.firm) (sym is) (subst (λ l. Begins before.view.firm l) (sym looked.firm) (begins_same before.view.firm));
       no_change = search rules;
-      device = λ _. ap (λ s. s.view.down) is;
-      full = λ _. ap (λ s. s.view.down) is;
+      device = λ _. knows;
+      full = λ _. knows;
     }
 
 pub returns-in-Err-clause-any_moment : goal.returns-in-Err-clause-any_moment

@@ -1,8 +1,11 @@
-use Rattle.std.proofs.Common.{◌≡◌, true, false, List, ℕ, sym, ◌∙◌, subst}
+use Rattle.std.proofs.Common.{◌≡◌, true, false, List, ℕ, sym, ap, ◌∙◌, subst}
+use Rattle.std.specs.Prelude.{not}
 use Rattle.diskmodel.proofs.Clock.{weaker}
 use Rattle.journal.specs.Journal.{disk_of}
 use Rattle.journal.specs.Pairs.{StandsAsOrAfter, areas_of, spare_disk}
 use Rattle.node_seats.specs.declared.view.Marked.{Marked}
+use Rattle.flusher.proofs.Taking.{still_flush}
+use Rattle.node_shared.specs.declared.flush_seat.FlushSeat.{FlushSeat}
 use Rattle.node_shared.specs.Home.{IsCheckpointAfter, taken_by}
 use Rattle.validator.specs.Setting.{node_of}
 use Rattle.flusher.specs.Rounds.{HoldsAfter}
@@ -29,6 +32,7 @@ returns-in-Ok-clause-flusher g c =
     c.requires.pair c.args.snapshot c.requires.checkpoint c.rewrite.new.self c.in-Ok.ensures.swapped.pair c.in-Ok.ensures.records in
     record {
       seat = settles.flush_of;
+      right = settles.same.right ∙ c.requires.right ∙ sym (ap not c.requires.up);
       rests = λ up. settles.taken ∙ sym settles.settled;
       idle = λ up. settles.idle;
       alive = λ up. c.in-Ok.ensures.alive;
@@ -51,7 +55,8 @@ returns-in-Ok-clause-earlier g c =
 
 pub returns-in_default-clause-flusher : goal.returns-in_default-clause-flusher
 returns-in_default-clause-flusher g c = record {
-  seat = c.requires.flush_seat;
+  seat = still_flush c.args.node.now c.args.self.now.seat (c.fail.new.flush) c.fail.ensures.flush c.requires.flush_seat;
+  right = ap (λ (f : FlushSeat). f.seat.view.may_fail) c.fail.ensures.flush;
   rests = λ up. let bad : true ≡ false = up in absurd cc;
   idle = λ up. let bad : true ≡ false = up in absurd cc;
   alive = λ up. let bad : true ≡ false = up in absurd cc;

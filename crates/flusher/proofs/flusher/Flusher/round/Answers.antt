@@ -1,9 +1,9 @@
 use Rattle.std.proofs.Common.{rules, ◌≡◌, inr, List, ◌+◌, ◌<◌, length, refl, sym, ap, ◌∙◌, subst, arith}
 use Rattle.wire.specs.Lists.{Begins}
 use Rattle.node_seats.specs.Views.{IsSame}
-use Rattle.node_seats.specs.Plays.{with_down}
+use Rattle.node_seats.specs.Sights.{SeatView}
 use Rattle.node_seats.proofs.Beginnings.{begins_same, begins_trans}
-use Rattle.node_seats.proofs.Same.{same_then}
+use Rattle.node_seats.proofs.Same.{same_then, same_told, or_second}
 use Rattle.node_shared.specs.Home.{IsFlushOf, taken_by}
 use Rattle.flusher.specs.Rounds.{areas_at, IsFlusherOf, HoldsAfter, HoldsEither, KeepsEarlier}
 use Rattle.flusher.specs.declared.flusher.Flusher.{Flusher}
@@ -86,6 +86,7 @@ returns-clause-flusher g c =
       | in-None w ↦
           subst (λ f. IsFlusherOf g.S.Sign.scheme g.D.Disk.device c.args.node.now f) (sym w.self-is) (record {
             seat = c.in-Ok.ensures.flush;
+            right = c.in-Ok.ensures.flush_same.right ∙ had.right;
             rests = λ up. (c.in-Ok.ensures.takes.none (is_none _ w.in-None.is)).0 ∙ had.rests up ∙ sym c.in-Ok.ensures.flush_settled;
             idle = λ up. c.in-Ok.ensures.flush_idle;
             alive = had.alive;
@@ -120,14 +121,14 @@ returns-in_err-count-in-Some-clause-told g c =
     let mid = c.take.new.seat in
     let looked = c.in-Ok.ensures.looked in
     let is = c.in_err-count-in-Some.ensures.seat_err in
-    let downed : IsSame mid (record mid { view = with_down mid.view }) = record { table = refl; id = refl; live = refl; numbered = refl; number = refl; mine = refl; down = λ _. refl } in
+    let knows = ap (λ (s : SeatView). s.view.down) is ∙ or_second mid.view.down c.add.new.self.seat.seat.view.down c.in_err-count-in-Some.ensures.told_err in
     record {
-      same = same_then before mid c.add.new.seat looked.same (subst (λ s. IsSame mid s) (sym is) downed);
+      same = same_then before mid c.add.new.seat looked.same (same_told mid c.add.new.seat c.add.new.self.seat.seat.view is);
       more = subst (λ s. Begins before.view.seen s.view.seen) (sym is) looked.more;
       more_firm = subst (λ s. Begins before.view.firm s.view.firm) (sym is) (subst (λ l. Begins before.view.firm l) (sym looked.firm) (begins_same before.view.firm));
       no_change = search rules;
-      device = λ _. ap (λ s. s.view.down) is;
-      full = λ _. ap (λ s. s.view.down) is;
+      device = λ _. knows;
+      full = λ _. knows;
     }
 
 pub returns-in-Err-clause-any_moment : goal.returns-in-Err-clause-any_moment
