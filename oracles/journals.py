@@ -6,16 +6,24 @@
     oracles/journals.py compare JOURNAL OTHER
     oracles/journals.py graph JOURNAL [--rounds FIRST-LAST]
     oracles/journals.py --compare PROGRAM JOURNAL ..
+    oracles/journals.py --compare-pairs PROGRAM
     oracles/journals.py --make-skipped > JOURNAL
+    oracles/journals.py --make-pairs FOLDER
 
-The formats are those of docs/FORMATS.md, the rules those of docs/RULES.md. What events are answered is taken from oracles/histories.py,
-and how groups and messages are read from oracles/recoveries.py. Of damage the place is told, and not what is wrong there.
+A journal is two files: JOURNAL, and the one whose name has `.2` after it, where that is there. The formats are those of docs/FORMATS.md, the
+rules those of docs/RULES.md. What events are answered is taken from oracles/histories.py, how groups and messages are read from
+oracles/recoveries.py, which file is read from oracles/areas.py, and what a checkpoint says from oracles/checkpoints.py. Of damage the place
+is told, and not what is wrong there.
 
 With --make-skipped it makes the journal of member 0 of a committee of four: three waves, of which the second one's leader is skipped, so
 that two leaders are ordered. Its signatures are zeros.
 
+With --make-pairs it writes journals of two files: some with checkpoints of histories in the one file or the other, with events after it and
+without, beside older files, new ones and ones that are half written; and pairs that are damaged.
+
 With --compare the commands of PROGRAM are run on each of the journals, with --json too, and where it has at most 2000 bytes on each cut
-of it, and `verify` and `list` with each byte changed. Their lines and their status are compared, and the file may not have changed.
+of either file, and `verify` and `list` with each byte changed. Their lines and their status are compared, and no file may have changed.
+With --compare-pairs so it is with the pairs that --make-pairs writes, of which one is cut and changed.
 
 The status is 0, 1 where the journal is damaged or PROGRAM told something else, and 2 for other arguments.
 """
@@ -28,6 +36,8 @@ import tempfile
 
 sys.dont_write_bytecode = True
 sys.path.insert(0, os.path.dirname(os.path.abspath(__file__)))
+import areas  # noqa: E402
+import checkpoints  # noqa: E402
 import histories  # noqa: E402
 import recoveries  # noqa: E402
 from recoveries import Damaged, Fault  # noqa: E402
@@ -61,22 +71,33 @@ class Setting:
 
 
 class Journal:
-    """A journal that was read: its events, and the node after them."""
+    """A journal that was read: what its checkpoint says, its events, and the node after them."""
 
-    def __init__(self, file):
-        records, _ = recoveries.walk(file)
-        self.events, self.node = [], None
+    def __init__(self, files):
+        opening = areas.Opening(*files)
+        if opening.is_damaged():
+            raise Damaged(int(opening.answer.split()[-1]))
+        records, self.live, self.generation = opening.records, opening.live, opening.generation
+        self.state, self.events, self.node, self.first = [], [], None, 0
         if not records:
             return
-        first, others = records[0][1], records[1:]
-        if recoveries.version_of(first) is None or any(place == 0 for place, _ in others):
-            raise Damaged(0)
-        self.setting = Setting(first)
+        first = records[0]
+        self.setting = Setting(first[1])
         if not self.setting.is_committee():
-            raise Damaged(0)
+            raise Damaged(first[0])
         self.use()
-        self.node = histories.Node(self.setting.depth, histories.Committee(self.setting.stakes))
-        for place, record in others:
+        committee = checkpoints.Committee(self.setting.stakes, self.setting.own, self.setting.depth, self.setting.batches)
+        # A generation is told by a head, the second record.
+        others = records[2 if self.generation else 1:]
+        count = next((place for place, (_, one) in enumerate(others) if one[:1] == b"\1"), len(others)) if self.generation else 0
+        state = others[:count]
+        fault = checkpoints.load(committee, [committee.configuration()] + [one for _, one in state])
+        if fault != "Ok":
+            raise Damaged(first[0] if fault == checkpoints.WHOLE else ([first] + state)[int(fault.split()[-1])][0])
+        self.state = [one for _, one in state]
+        self.node = checkpoints.Loaded(committee, self.state)
+        self.first = self.node.floor()
+        for place, record in others[count:]:
             try:
                 recoveries.take(self.node, record)
                 self.events.append((record, *recoveries.message_of(record, self.node.committee)))
@@ -89,44 +110,66 @@ class Journal:
         recoveries.MEMBERS, recoveries.WORKERS = len(self.setting.keys), self.setting.workers
         recoveries.BATCHES = self.setting.batches
 
+    def kept(self, kind):
+        """What the checkpoint says with records of this kind."""
+        return [one for one in checkpoints.read(self.state, self.setting.own) if one.kind == kind] if self.state else []
+
     def order(self):
-        """The certificates of the order, each with the wave with whose leader it is ordered."""
+        """The digests of the order, each with its certificate and the wave with whose leader it is ordered, where the certificate is known."""
         if not self.node:
             return []
-        ordered, told = self.node.order(), []
-        leaders = {(c.round, c.author): (c.round + 1) // 2 for c in self.node.chain()}
-        wave = None
-        for one in reversed(ordered):
-            wave = leaders.get((one.round, one.author), wave)
-            told.insert(0, (one, wave))
+        known = {one.certificate: one for one in self.node.certificates.values()}
+        leaders = {c.certificate: (c.round + 1) // 2 for c in self.node.chain()}
+        told, wave = [], None
+        for digest in reversed(self.node.whole):
+            wave = leaders.get(digest, wave)
+            told.insert(0, (digest, known.get(digest), wave if digest in known else None))
         return told
 
 
-def verify(file):
-    journal = Journal(file)
+def verify(files):
+    journal = Journal(files)
     node = journal.node
     numbers = (node.round(), node.floor()) if node else (1, 0)
-    return [dict(zip(("events", "order", "round", "floor"), (len(journal.events), len(journal.order()), *numbers)))]
+    told = dict(zip(("events", "order", "round", "floor"), (len(journal.events), len(journal.order()), *numbers)))
+    return [{**told, "checkpoint": journal.generation, "area": journal.live} if journal.generation else told]
 
 
-def votes(file):
-    found = [m.header for _, _, m in Journal(file).events if m.tag == 3]
-    return [dict(zip(VOTES, (h.author, h.round, h.digest.hex()))) for h in found]
+def verified(told):
+    line = "%(events)d events, order of %(order)d, round %(round)d, floor %(floor)d" % told
+    return line + (", after checkpoint %(checkpoint)d in area %(area)d" % told if "checkpoint" in told else "")
 
 
-def last_header(file):
-    journal = Journal(file)
-    own = [record for record, _, m in journal.events if m.tag == 3 and m.header.author == journal.setting.own]
-    return [histories.u32(len(own[-1]) - 1) + own[-1][1:]] if own else []
+def votes(files):
+    journal = Journal(files)
+    found = [(one.author, one.round, one.digest.hex()) for one in journal.kept(5)]
+    given = [one.header for one in journal.kept(6)] + [m.header for _, _, m in journal.events if m.tag == 3]
+    return [dict(zip(VOTES, told)) for told in found + [(h.author, h.round, h.digest.hex()) for h in given]]
 
 
-def order(file, start):
-    told = [dict(zip(ORDER, (place, c.certificate.hex(), c.author, c.round, wave))) for place, (c, wave) in enumerate(Journal(file).order())]
-    return told[start:]
+def header_bytes(record):
+    """The header and its signature in the record of an own header."""
+    reader = recoveries.Reader(record[1:])
+    reader.header()
+    reader.bytes(64)
+    return record[1:1 + reader.place]
+
+
+def last_header(files):
+    journal = Journal(files)
+    own = [record[1:] for record, _, m in journal.events if m.tag == 3 and m.header.author == journal.setting.own]
+    if not own:
+        own = [histories.u16(journal.setting.own) + b"\3" + header_bytes(record) for record in journal.state if record[0] == 6]
+    return [histories.u32(len(own[-1])) + own[-1]] if own else []
+
+
+def order(files, start):
+    told = [(place, digest.hex(), c.author if c else None, c.round if c else None, wave) for place, (digest, c, wave) in enumerate(Journal(files).order())]
+    return [dict(zip(ORDER, one)) for one in told[start:]]
 
 
 def compare(left, right):
-    left, right = ([c.certificate for c, _ in Journal(file).order()] for file in (left, right))
+    left, right = ([digest for digest, _, _ in Journal(files).order()] for files in (left, right))
     same = next((i for i, (a, b) in enumerate(zip(left, right)) if a != b), None)
     head = "the orders of %d and %d " % (len(left), len(right))
     if same is not None:
@@ -137,12 +180,39 @@ def compare(left, right):
     return head + "agree: the %s is a prefix of the %s" % (first, second), 0
 
 
+def kept_row(told, record):
+    """The same of a record of a checkpoint."""
+    reader = recoveries.Reader(record[1:])
+    try:
+        if record[0] == 2:
+            told.update(kind="head" if len(record) == 9 else "unreadable")
+        elif record[0] in (3, 8):
+            told.update(kind="state-order" if record[0] == 3 else "state-coins")
+        elif record[0] == 4:
+            reader.bytes(1)
+            reader.bytes(2 * reader.number(2))
+            batch = reader.batch()
+            told.update(kind="state-batch", author=batch.author, digest=batch.digest[:4].hex())
+        elif record[0] == 5 and len(record) == 43:
+            told.update(kind="state-vote", author=reader.number(2), round=reader.number(8), digest=reader.bytes(4).hex())
+        elif record[0] in (6, 7):
+            header = reader.header()
+            reader.bytes(64) if record[0] == 6 else checkpoints.Reader(record[1 + reader.place:]).entries()
+            digest = header.digest if record[0] == 6 else header.certificate
+            told.update(kind="state-header" if record[0] == 6 else "state-certificate", author=header.author, round=header.round, digest=digest[:4].hex())
+    except Fault:
+        pass
+    return told
+
+
 def row(place, gate, record):
     told = dict.fromkeys(LIST)
     told.update(place=place, gate=gate, kind="unreadable")
     if record[:1] == b"\0":
         own = int.from_bytes(record[2:4], "big") if len(record) >= 4 else None
         told.update(kind="configuration", sender=own)
+    elif 2 <= record[0] <= 8 if record else False:
+        return kept_row(told, record)
     elif len(record) >= 3 and record[0] == 1:
         told.update(sender=int.from_bytes(record[1:3], "big"))
         try:
@@ -162,8 +232,34 @@ def row(place, gate, record):
     return told
 
 
-def list_all(file, start):
+def side_listed(files):
+    """The file that is listed: the one that is read, or where that can't be told the only one with an open gate in front, or else the first."""
+    is_open = [len(file) >= 2 and file[0] != 0 for file in files]
+    if not all(is_open):
+        return 1 if is_open[1] else 0
+    told = []
+    for side, file in enumerate(files):
+        try:
+            told.append(areas.generation_of(file))
+        except areas.Damaged:
+            raise Damaged(side * areas.SECOND) from None
+    if told[0] == told[1]:
+        raise Damaged(areas.SECOND)
+    return 0 if told[0] > told[1] else 1
+
+
+def list_all(files, start):
     """The rows of the groups, and the place of an open gate with no whole group behind it, if there is one."""
+    try:
+        side = side_listed(files)
+    except Damaged as damaged:
+        return [], damaged.args[0]
+    file, base = files[side], side * areas.SECOND
+    rows, damaged = list_file(file, start - base)
+    return [{**one, "place": one["place"] + base} for one in rows], None if damaged is None else damaged + base
+
+
+def list_file(file, start):
     place, rows = 0, []
     while len(file) >= 2 and place < len(file):
         gate = "open" if file[place] else "closed"
@@ -203,14 +299,15 @@ def place(node, waves, low, round_, author):
     return told + (', style="filled,dashed"' if round_ < low else "")
 
 
-def graph(file, first, last):
+def graph(files, first, last):
     """The lines of a graph of these rounds."""
     lines = ["digraph journal {", "  rankdir=BT", "  node [shape=box, style=filled, colorscheme=set312, fillcolor=white]"]
-    journal = Journal(file)
+    journal = Journal(files)
     node = journal.node
     if not node:
         return lines + ["}"]
-    waves = {(c.round, c.author): wave for c, wave in journal.order()}
+    first = max(first, journal.first)
+    waves = {(c.round, c.author): wave for _, c, wave in journal.order() if c}
     committed = {(c.round + 1) // 2 for c in node.chain()}
     members = list(node.committee.members)
     for round_ in range(first, min(last, max(r for r, _ in node.certificates)) + 1):
@@ -282,7 +379,7 @@ def told(words, files, start=0, as_json=False, rounds=(0, 2 ** 64 - 1)):
             return lines_of(rows, LIST, as_json), 0 if damaged is None else 1
         if words == "verify":
             rows = verify(files[0])
-            return lines_of(rows, [], True) if as_json else ["%(events)d events, order of %(order)d, round %(round)d, floor %(floor)d" % rows[0]], 0
+            return lines_of(rows, [], True) if as_json else [verified(rows[0])], 0
         if words == "votes":
             return lines_of(votes(files[0]), VOTES, as_json), 0
         if words == "order":
@@ -298,19 +395,110 @@ def told(words, files, start=0, as_json=False, rounds=(0, 2 ** 64 - 1)):
         return [('{"wrong":"%s' % line) if as_json else line] if words == "verify" else [], 1
 
 
+# ---- journals of two files
+
+def in_turn(records):
+    """The groups of one record each, behind open gates."""
+    return b"".join(b"\1" + group(record) for record in records)
+
+
+def histories_told():
+    """Names, configurations and events: waves of which one is skipped, and events of every kind."""
+    records, _ = recoveries.walk(skipped())
+    yield "waves", records[0][1], [one for _, one in records[1:]]
+    yield "kinds", recoveries.CONFIG, recoveries.every_kind()
+
+
+def state_after(setting, events):
+    """The records of a checkpoint of the node after some events."""
+    histories.OWN = recoveries.OWN = setting.own
+    recoveries.MEMBERS, recoveries.WORKERS, recoveries.BATCHES = len(setting.keys), setting.workers, setting.batches
+    node = histories.Node(setting.depth, histories.Committee(setting.stakes))
+    for one in events:
+        recoveries.take(node, one)
+    return checkpoints.state_records(node, setting.own)
+
+
+def pairs():
+    """Names, and the bytes of both files. Where there is no second file these are None."""
+    for name, first, events in histories_told():
+        for count in sorted({0, 1, len(events) // 4, len(events) // 2, 3 * len(events) // 4, len(events)}):
+            state = in_turn(state_after(Setting(first), events[:count]))
+            old = b"\1" + group(first) + in_turn(events[:count]) + b"\0"
+            new = b"\1" + group(first, checkpoints.head(2)) + state + in_turn(events[count:]) + b"\0"
+            newer = b"\1" + group(first, checkpoints.head(2 ** 64 - 1)) + state + b"\0"
+            for what, one, other in (
+                ("in the second file", old, new), ("in the first file", newer, new), ("half written", new, b"\0" + newer[1:-20]),
+                ("alone", new, None), ("in the second file alone", b"", newer), ("twice", new, new),
+            ):
+                yield "%s after %d events, a checkpoint %s" % (name, count, what), one, other
+    records, _ = recoveries.walk(skipped())
+    first, vote, own = recoveries.CONFIG, recoveries.EVENT, recoveries.record(0, recoveries.header_message(recoveries.OWN_HEADER))
+    small = state_after(Setting(first), [vote, own])
+    head, whole = checkpoints.head(1), in_turn(small)
+    fresh = b"\1" + group(first) + b"\0"
+    for what, other in (
+        ("small", b"\1" + group(first, head) + whole + b"\0"),
+        ("small, with an event", b"\1" + group(first, head) + whole + in_turn([recoveries.record(1, recoveries.vote_message(recoveries.OWN_HEADER, 1))]) + b"\0"),
+        ("an event that the state has", b"\1" + group(first, head) + whole + in_turn([vote]) + b"\0"),
+        ("the state's records in the wrong order", b"\1" + group(first, head) + in_turn(small[::-1]) + b"\0"),
+        ("an event before the state", b"\1" + group(first, head) + in_turn([vote] + small) + b"\0"),
+        ("no state after the head", b"\1" + group(first, head) + b"\0"),
+        ("a state that isn't sound as a whole", b"\1" + group(first, head) + in_turn([checkpoints.order_piece([bytes(32)])]) + b"\0"),
+        ("the version before", b"\1" + group(recoveries.configuration(version=1), head) + whole + b"\0"),
+    ):
+        yield what, fresh, other
+
+
+def write_pairs(folder):
+    """Writes the journals, with their names in the file `names`, and says how many they are."""
+    names = []
+    for number, (name, first, second) in enumerate(pairs()):
+        path = os.path.join(folder, "%d.journal" % number)
+        names.append("%d %s" % (number, name))
+        write_both(path, (first, second))
+    with open(os.path.join(folder, "names"), "w") as out:
+        out.write("\n".join(names) + "\n")
+    print("%d journals" % len(names))
+
+
 # ---- a program compared
+
+SECOND = ".2"
+# The pair of --make-pairs of which each cut and each changed byte is tried.
+VARIED = "small, with an event"
+
 
 def read(path):
     with open(path, "rb") as file:
         return file.read()
 
 
-def differs(program, words, path, file, options=()):
-    """Runs a command on a file that is at the path, and says what differs, if anything does."""
+def read_both(path):
+    """The bytes of both files; of the second one none where it isn't there."""
+    return read(path), read(path + SECOND) if os.path.exists(path + SECOND) else None
+
+
+def write_both(path, files):
+    for name, file in zip((path, path + SECOND), files):
+        if file is not None:
+            with open(name, "wb") as out:
+                out.write(file)
+        elif os.path.exists(name):
+            os.remove(name)
+
+
+def known(files):
+    """The same where a second file that isn't there is empty."""
+    return files[0], files[1] or b""
+
+
+def differs(program, words, path, files, options=()):
+    """Runs a command on files that are at the path, and says what differs, if anything does."""
     ran = subprocess.run([program, *words, path, *options], stdout=subprocess.PIPE, stderr=subprocess.PIPE)
     start = int(options[options.index("--from") + 1]) if "--from" in options else 0
     rounds = tuple(map(int, options[1].split("-"))) if "--rounds" in options else (0, 2 ** 64 - 1)
-    lines, status = told(words[0], [file], start, "--json" in options, rounds)
+    lines, status = told(words[0], [known(files)], start, "--json" in options, rounds)
     printed = ran.stdout.decode().splitlines()
     if status == 1 and words[0] == "verify":
         printed = [line.split(":", 2 if "--json" in options else 1) for line in printed]
@@ -320,16 +508,18 @@ def differs(program, words, path, file, options=()):
     return None
 
 
-def variants(file):
-    """The file, and a small one cut at each length and with each byte changed to some others."""
-    yield "whole", file
-    if len(file) > SMALL:
+def variants(files, varied):
+    """The files, and where they are small and to be varied each of them cut at each length and with each byte changed to some others."""
+    yield "whole", files
+    if not varied or sum(map(len, known(files))) > SMALL:
         return
-    for length in range(len(file)):
-        yield "cut to %d" % length, file[:length]
-    for place in range(len(file)):
-        for other in {0, 255, file[place] ^ 1} - {file[place]}:
-            yield "byte %d is %d" % (place, other), file[:place] + bytes([other]) + file[place + 1:]
+    for side, file in enumerate(files):
+        for length in range(len(file or b"")):
+            yield "file %d cut to %d" % (side, length), files[:side] + (file[:length],) + files[side + 1:]
+    for side, file in enumerate(files):
+        for place in range(len(file or b"")):
+            for other in {0, 255, file[place] ^ 1} - {file[place]}:
+                yield "byte %d of file %d is %d" % (place, side, other), files[:side] + (file[:place] + bytes([other]) + file[place + 1:],) + files[side + 1:]
 
 
 def read_nothing(program, folder, journal):
@@ -346,28 +536,30 @@ def read_nothing(program, folder, journal):
             yield None if (printed, ended) == (b"", status) else "%s: printed %r, status %s, and not %d" % (" ".join(words), printed, ended, status)
 
 
-def compare_program(program, paths):
+def compare_program(program, named, varied=lambda name: True):
+    """Compares PROGRAM on journals, each given by a name and both files, and on some of them varied."""
     tried, wrong = 0, 0
     with tempfile.TemporaryDirectory(prefix="narwhal-journals-") as folder:
-        for difference in read_nothing(program, folder, paths[0]):
-            tried, wrong = tried + 1, wrong + (difference is not None)
-            if difference:
-                print(difference)
         path = os.path.join(folder, "journal")
-        for name in paths:
-            for what, file in variants(read(name)):
-                with open(path, "wb") as out:
-                    out.write(file)
+        for number, (name, first) in enumerate(named):
+            if number == 0:
+                write_both(path, first)
+                for difference in read_nothing(program, folder, path):
+                    tried, wrong = tried + 1, wrong + (difference is not None)
+                    if difference:
+                        print(difference)
+            for what, files in variants(first, varied(name)):
+                write_both(path, files)
                 commands = [("verify",), ("list",)] + [("votes",), ("order",), ("last-header",), ("graph",)] * (not what.startswith("byte"))
                 for words in commands:
-                    more = {"last-header": [], "graph": [("--rounds", "2-4")]}.get(words[0], [("--json",)])
-                    for options in [()] + more * (what == "whole"):
-                        difference = differs(program, words, path, file, options)
+                    more = {"last-header": [], "graph": [("--rounds", "2-4")], "list": [("--json",), ("--from", str(areas.SECOND + 200))]}
+                    for options in [()] + more.get(words[0], [("--json",)]) * (what == "whole"):
+                        difference = differs(program, words, path, files, options)
                         tried, wrong = tried + 1, wrong + (difference is not None)
                         if difference and wrong <= 10:
                             print("%s, %s: %s" % (name, what, difference))
-                if read(path) != file:
-                    print("%s, %s: the file was changed" % (name, what))
+                if read_both(path) != files:
+                    print("%s, %s: a file was changed" % (name, what))
                     wrong += 1
     print("%d commands, %d were not as expected" % (tried, wrong))
     return 1 if wrong or not tried else 0
@@ -375,7 +567,12 @@ def compare_program(program, paths):
 
 def main(words):
     if words[:1] == ["--compare"] and len(words) > 2:
-        return compare_program(words[1], words[2:])
+        return compare_program(words[1], [(path, read_both(path)) for path in words[2:]])
+    if words[:1] == ["--compare-pairs"] and len(words) == 2:
+        return compare_program(words[1], [(name, (first, second)) for name, first, second in pairs()], lambda name: name == VARIED)
+    if words[:1] == ["--make-pairs"] and len(words) == 2:
+        write_pairs(words[1])
+        return 0
     if words == ["--make-skipped"]:
         sys.stdout.buffer.write(skipped())
         return 0
@@ -391,7 +588,7 @@ def main(words):
     if not words or counts.get(words[0]) != len(words) - 1:
         print(__doc__, file=sys.stdout if words == ["--help"] else sys.stderr)
         return 0 if words == ["--help"] else 2
-    lines, status = told(words[0], [read(path) for path in words[1:]], start, as_json, rounds)
+    lines, status = told(words[0], [known(read_both(path)) for path in words[1:]], start, as_json, rounds)
     for line in lines:
         print(line)
     return status

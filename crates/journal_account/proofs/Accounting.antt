@@ -1,148 +1,224 @@
--- That a journal's records are those of a history, which has as many events, and gives the votes that the records have.
-use Rattle.std.proofs.Common.{◌≡◌, ℕ, ◌+◌, ◌-◌, List, [], ◌∷◌, ◌++◌, length, map, get_or, drop, Option, Some, None, Result, Ok, Err, refl, sym, ap, ◌∙◌, subst, arith, append_assoc}
-use Rattle.std.specs.Prelude.{All, IfOk, OnOk}
+-- That a journal's records are read as a state and events after it, and give the votes that the records have.
+use Rattle.std.proofs.Common.{◌≡◌, ℕ, ◌+◌, inl, inr, Bool, cond, List, [], ◌∷◌, ◌++◌, length, map, get_or, drop, Option, Some, None, Result, Ok, Err, refl, sym, ap, ◌∙◌, subst, arith, append_assoc}
+use Rattle.std.specs.Prelude.{◌==◌, ◌≢◌, All}
 use Rattle.std.specs.List.{filter_map, cons_option}
-use Rattle.std.specs.Option.{option_and_then, option_map, option_to_list}
+use Rattle.std.specs.Option.{option_and_then, option_map, option_map_or, option_to_list}
+use Rattle.std.proofs.lemmas.Bool.{cases_Bool}
 use Rattle.std.proofs.lemmas.List.{append-nil, length-map}
 use Rattle.std.proofs.lemmas.List.Elements.{All-head, All-tail}
-use Rattle.std.proofs.lemmas.Option.{same_Some}
-use Rattle.journal.specs.Areas.{alone, stands_in}
-use Rattle.journal.specs.Format.{stands}
+use Rattle.journal.specs.Areas.{Areas, stands_in}
+use Rattle.journal.specs.Format.{FailsAs}
 use Rattle.journal.specs.declared.error.JournalError.{JournalError}
+use Rattle.journal.specs.declared.error.JournalError.TheVariants.{Memory, Device, Damaged, ConfigMismatch, Full}
 use Rattle.journal.specs.declared.record.Record.{Record}
-use Rattle.journal.specs.declared.version.Version.{Version}
-use Rattle.spec_machine.specs.After.{after_all, IsLegalAfter}
+use Rattle.spec_machine.specs.After.{after_all}
 use Rattle.spec_machine.specs.Laws.{StartsFresh}
-use Rattle.spec_machine.proofs.AfterAll.{after_is_kept, legal_again}
-use Rattle.spec_model.specs.Admitting.{IsTaken, IsLegal}
-use Rattle.spec_model.specs.Giving.{kept}
-use Rattle.spec_model.specs.Holdings.{order, round, floor}
+use Rattle.spec_machine.specs.Machine.{fresh, round_in}
+use Rattle.spec_machine.specs.Sound.{IsSound}
+use Rattle.spec_model.specs.Admitting.{IsTaken}
 use Rattle.spec_model.specs.Histories.{History, headers, as_header}
 use Rattle.spec_model.specs.Nodes.{Node, IsNode}
-use Rattle.spec_model.specs.States.{State}
+use Rattle.spec_model.specs.States.{State, floor_in}
 use Rattle.spec_model.specs.Words.{Digest, Event, Header}
 use Rattle.spec_records.specs.Records.{record_of}
 use Rattle.spec_world.specs.World as world
-use Rattle.spec_world.specs.World.{bytes_of, IsJournal, own_configuration, BeginsAs, as_fresh, as_checkpoint, StandsFor}
+use Rattle.spec_world.specs.World.{bytes_of, IsPair, StandsFor}
 use Rattle.spec_world.proofs.Recovering.{stands_once}
-use Rattle.opening.specs.Told.{IsText, event_in, read_journal, told, Tells, StandsAt}
+use Rattle.opening.specs.Told.{IsText, event_in, events_part, go_on, is_event, or_damaged, own_fault, read_behind, read_checkpoint, read_events, read_pair, read_state, state_part, told_in, Tells, unless, StandsAt}
 use Rattle.opening.proofs.EventRecords.{record_read}
-use Rattle.opening.proofs.Laws.{alone_stands, legal_empty, found_records}
-use Rattle.opening.proofs.Telling.{told_records, tells_same}
+use Rattle.opening.proofs.Histories.{read_back}
+use Rattle.opening.proofs.Laws.{unless_ok}
+use Rattle.opening.proofs.PairLaws.{areas_begin, found_in}
+use Rattle.opening.proofs.PairTelling.{checkpoint_is, pair_fails, pair_first, pair_none, told_pair_records}
+use Rattle.opening.proofs.Telling.{read_nil}
 use Rattle.admission.specs.declared.tables.Tables.{Tables}
 use Rattle.validator.specs.Standing.{AreAtSound}
-use Rattle.journal_account.specs.Accounts.{HasEvents, as_journal, as_new, IsReadAt, given_to, given_by, given_in, Sums, AreVotes, AreOrdered}
+use Rattle.journal_account.specs.Accounts.{behind_head, events_in, base_of, base_in, generation_in, side_in, IsReadAs, IsReadAt, given_to, given_by, given_in, AreKeptVotes, AreOrdered, AreVotes, Sums}
 use Rattle.journal_account.specs.declared.summary.Summary.{Summary}
 use Rattle.journal_account.specs.declared.votes.Given.{Given}
 
--- ---- the history of a journal
+-- ---- the parts of its records
+
+ok_is : {E : Type 0} (one other : State) → ◌≡◌ {A = Result State E} (Ok one) (Ok other) → one ≡ other
+ok_is one other same = cc
+
+no_ok : {E : Type 0} (state : State) (error : E) → ◌≡◌ {A = Result State E} (Ok state) (Err error) → ⊥
+no_ok state error same = cc
 
 records_are : (one other : List Record) → ◌≡◌ {A = Result (List Record) ℕ} (Ok one) (Ok other) → one ≡ other
 records_are one other same = cc
 
--- events that a node takes are known by their records
-same_events : (node : Node) (one other : History) → IsNode node → All (IsTaken node) one → All (IsTaken node) other → map record_of one ≡ map record_of other → one ≡ other
-same_events node [] [] sound taken too same = refl
-same_events node [] (event ∷ events) sound taken too same = absurd (omega (arith, ap length same))
-same_events node (event ∷ events) [] sound taken too same = absurd (omega (arith, ap length same))
-same_events node (event ∷ events) (next ∷ more) sound taken too same =
-    let bytes : record_of event ≡ record_of next = ap (λ (l : List (List ℕ)). get_or l 0 []) same in
-    let first : event ≡ next =
-    same_Some event next (sym (record_read node event sound (All-head (IsTaken node) event events taken)) ∙ ap (event_in node.charter) bytes
-    ∙ record_read node next sound (All-head (IsTaken node) next more too)) in
-    let others = same_events node events more sound (All-tail (IsTaken node) event events taken) (All-tail (IsTaken node) next more too)
-    (ap (λ (l : List (List ℕ)). drop 1 l) same) in
-    λ i. first i ∷ others i
+-- what comes after the configuration is the state with which it begins, and events
+behind_is : (node : Node) (first : Record) (rest : List Record)
+    → read_behind node first rest ≡ go_on (λ state. read_events node state (events_in (first ∷ rest))) (base_of node first rest)
+unfolding behind_head events_in base_of
+behind_is node first [] = refl
+behind_is node first (second ∷ more) =
+    elim (cases_Bool (second.gate == first.gate)) [
+      | inl shares ↦
+          (λ i. cond (shares i) (read_checkpoint node first more) (read_events node (fresh node) (second ∷ more)))
+          ∙ checkpoint_is node first more
+          ∙ sym (λ i. go_on (λ state. read_events node state (option_map_or events_part (cond (shares i) (Some more) None) (second ∷ more)))
+          (option_map_or (λ records. read_state node first (state_part records)) (cond (shares i) (Some more) None) (Ok (fresh node))))
+      | inr apart ↦
+          (λ i. cond (apart i) (read_checkpoint node first more) (read_events node (fresh node) (second ∷ more)))
+          ∙ sym (λ i. go_on (λ state. read_events node state (option_map_or events_part (cond (apart i) (Some more) None) (second ∷ more)))
+          (option_map_or (λ records. read_state node first (state_part records)) (cond (apart i) (Some more) None) (Ok (fresh node))))
+    ]
 
--- what stands for no records is no journal
-no_journal : (node : Node) (bytes : List ℕ) (version : Version) (events : History) → IsJournal (stands bytes) (own_configuration version node ∷ []) 1 events → stands bytes ≡ Ok [] → ⊥
-no_journal node bytes version events is none =
-    let same = records_are is.records [] (sym is.stands_for ∙ none) in
-    omega (arith, ap length (sym (ap bytes_of same) ∙ is.are))
+-- where nothing is wrong with the configuration
+free : (node : Node) (first : Record) (rest : List Record) → own_fault node first ≡ None
+    → read_pair node (first ∷ rest) ≡ or_damaged (go_on (λ state. read_events node state (events_in (first ∷ rest))) (base_of node first rest))
+free node first rest none =
+    pair_first node first rest ∙ ap (λ (f : Option JournalError). unless f (read_behind node first rest)) none ∙ ap or_damaged (behind_is node first rest)
 
--- bytes are a journal with one list of events
-one_history : (node : Node) (bytes : List ℕ) (history other : History) → IsNode node → HasEvents node bytes history → HasEvents node bytes other → other ≡ history
-one_history node bytes history other sound (as_journal version can one taken) (as_journal version' can' two too) =
-    let records = records_are two.records one.records (sym two.stands_for ∙ one.stands_for) in
-    let same : own_configuration version' node ∷ map record_of other ≡ own_configuration version node ∷ map record_of history = sym two.are ∙ ap bytes_of records ∙ one.are in
-    same_events node other history sound too taken (ap (λ (l : List (List ℕ)). drop 1 l) same)
-one_history node bytes history other sound (as_journal version can one taken) (as_new none empty) = absurd (no_journal node bytes version history one none)
-one_history node bytes history other sound (as_new none empty) (as_journal version can two taken) = absurd (no_journal node bytes version other two none)
-one_history node bytes history other sound (as_new none empty) (as_new nothing too) = too ∙ sym empty
+-- a journal that begins with a state, from which its events lead to another one, is read as that
+pub read_on : (node : Node) (records : List Record) (base state : State) → base_in node records ≡ Ok base → read_events node base (events_in records) ≡ Ok state
+    → read_pair node records ≡ Ok state
+unfolding base_in events_in
+read_on node [] base state begins read = pair_none node ∙ begins ∙ ap Ok (ok_is base state (sym (read_nil node base) ∙ read))
+read_on node (first ∷ rest) base state begins read =
+    let parts = unless_ok (own_fault node first) (base_of node first rest) base begins in
+    free node first rest parts.0 ∙ ap or_damaged (ap (go_on (λ s. read_events node s (events_in (first ∷ rest)))) parts.1 ∙ read)
 
--- bytes are a journal with the events of a legal history, of which a state is kept
-record IsOfEvents (node : Node) (bytes : List ℕ) (state : State) : Type 0 where
-  pub history : History
-  pub legal : IsLegal node history
-  pub has : HasEvents node bytes history
-  pub keeps : kept node history ≡ state
+-- ---- what is wrong
 
--- so they are where they are a journal that begins with the configuration alone
-begun_events : StartsFresh → (node : Node) (bytes : List ℕ) (front : List (List ℕ)) (in_first : ℕ) (base state : State) (events : History) → IsLegalAfter node base events
-    → after_all node base events ≡ state → IsJournal (stands_in (alone bytes)) front in_first events → BeginsAs node (alone bytes) front in_first base → IsOfEvents node bytes state
-begun_events starts node bytes front in_first base state events after leads is (as_fresh version can front_is first base_is) =
-    let fresh_is : base ≡ kept node [] = base_is ∙ sym (starts node) in
-    let legal : IsLegal node events = legal_again node [] events (legal_empty node after.node_is) (subst (λ (s : State). IsLegalAfter node s events) fresh_is after) in
+fault_on : (node : Node) (first : Record) (rest : List Record) (error : JournalError) (fault : Option JournalError) (base : Result State ℕ) → own_fault node first ≡ fault
+    → base_of node first rest ≡ base → unless fault base ≡ Err error → read_pair node (first ∷ rest) ≡ Err error
+fault_on node first rest error (Some found) base own is wrong = pair_fails node first rest found own ∙ wrong
+fault_on node first rest error None (Ok state) own is wrong = absurd (no_ok state error wrong)
+fault_on node first rest error None (Err place) own is wrong =
+    free node first rest own ∙ ap or_damaged (ap (go_on (λ s. read_events node s (events_in (first ∷ rest)))) is) ∙ wrong
+
+begins_wrong : (node : Node) (records : List Record) (error : JournalError) → base_in node records ≡ Err error → read_pair node records ≡ Err error
+unfolding base_in
+begins_wrong node [] error wrong = absurd (no_ok (fresh node) error wrong)
+begins_wrong node (first ∷ rest) error wrong = fault_on node first rest error (own_fault node first) (base_of node first rest) refl refl wrong
+
+-- a journal whose beginning is at fault is so
+pub begin_tells : (node : Node) (records : List Record) (error : JournalError) → Tells error (base_in node records) → Tells error (read_pair node records)
+begin_tells node records Memory tells = tt
+begin_tells node records Device tells = begins_wrong node records Device tells
+begin_tells node records (Damaged place) tells = begins_wrong node records (Damaged place) tells
+begin_tells node records ConfigMismatch tells = begins_wrong node records ConfigMismatch tells
+begin_tells node records Full tells = begins_wrong node records Full tells
+
+events_wrong : (node : Node) (records : List Record) (base : State) (place : ℕ) → base_in node records ≡ Ok base → read_events node base (events_in records) ≡ Err place
+    → read_pair node records ≡ Err (Damaged place)
+unfolding base_in events_in
+events_wrong node [] base place begins wrong = absurd (no_ok base place (sym (read_nil node base) ∙ wrong))
+events_wrong node (first ∷ rest) base place begins wrong =
+    let parts = unless_ok (own_fault node first) (base_of node first rest) base begins in
+    free node first rest parts.0 ∙ ap or_damaged (ap (go_on (λ s. read_events node s (events_in (first ∷ rest)))) parts.1 ∙ wrong)
+
+-- and so is one whose events are
+pub events_tell : (node : Node) (records : List Record) (base : State) (error : JournalError) → base_in node records ≡ Ok base
+    → FailsAs error (read_events node base (events_in records)) → Tells error (read_pair node records)
+events_tell node records base Memory begins fails = tt
+events_tell node records base Device begins fails = absurd fails
+events_tell node records base (Damaged place) begins fails = events_wrong node records base place begins fails
+events_tell node records base ConfigMismatch begins fails = absurd fails
+events_tell node records base Full begins fails = absurd fails
+
+-- what is told of areas is told of their records
+pub tells_areas : (node : Node) (areas : Areas) (records : List Record) (error : JournalError) → IsPair areas → stands_in areas ≡ Ok records → Tells error (read_pair node records)
+    → Tells error (told_in node areas)
+tells_areas node areas records error two is tells = subst (Tells error) (sym (told_pair_records node areas records two is)) tells
+
+-- ---- the records of events
+
+part_texts : (records : List Record) → All IsText records → All IsText (events_part records)
+unfolding events_part
+part_texts [] all = all
+part_texts (one ∷ records) all = elim (cases_Bool (is_event one)) [
+  | inl event ↦ subst (λ (b : Bool). All IsText (cond b (one ∷ records) (events_part records))) (sym event) all
+  | inr other ↦ subst (λ (b : Bool). All IsText (cond b (one ∷ records) (events_part records))) (sym other) (part_texts records (All-tail IsText one records all))
+]
+
+event_texts : (records : List Record) → All IsText records → All IsText (events_in records)
+unfolding events_in behind_head
+event_texts [] all = all
+event_texts (first ∷ []) all = All-tail IsText first [] all
+event_texts (first ∷ second ∷ more) all =
+    let rest = All-tail IsText first (second ∷ more) all in
+    elim (cases_Bool (second.gate == first.gate)) [
+      | inl shares ↦ subst (λ (b : Bool). All IsText (option_map_or events_part (cond b (Some more) None) (second ∷ more))) (sym shares)
+          (part_texts more (All-tail IsText second more rest))
+      | inr apart ↦ subst (λ (b : Bool). All IsText (option_map_or events_part (cond b (Some more) None) (second ∷ more))) (sym apart) rest
+    ]
+
+-- the events of records
+abbrev read_each : Node → List Record → List (Option Event)
+read_each node records = map (λ one. event_in node.charter one.bytes) records
+
+abbrev each_some : History → List (Option Event)
+each_some events = map (λ event. Some event) events
+
+-- records of events that a node takes are read as these
+events_read : (node : Node) (records : List Record) (events : History) → IsNode node → bytes_of records ≡ map record_of events → All (IsTaken node) events
+    → read_each node records ≡ each_some events
+events_read node [] [] sound same taken = refl
+events_read node [] (event ∷ events) sound same taken = absurd (omega (arith, ap length same))
+events_read node (one ∷ rest) [] sound same taken = absurd (omega (arith, ap length same))
+events_read node (one ∷ rest) (event ∷ events) sound same taken =
+    let bytes : one.bytes ≡ record_of event = ap (λ (l : List (List ℕ)). get_or l 0 []) same in
+    let some : event_in node.charter one.bytes ≡ Some event = ap (event_in node.charter) bytes ∙ record_read node event sound (All-head (IsTaken node) event events taken) in
+    let others = events_read node rest events sound (ap (λ (l : List (List ℕ)). drop 1 l) same) (All-tail (IsTaken node) event events taken) in
+    (λ i. some i ∷ others i)
+
+-- ---- what the bytes are read as
+
+one_state : (node : Node) (areas : Areas) (state other : State) → StandsFor node areas state → StandsFor node areas other → other ≡ state
+one_state node areas state other (world.as_journal held) also = stands_once node areas state other held also
+one_state node areas state other (world.as_empty none is) (world.as_journal held) = sym (stands_once node areas other state held (world.as_empty none is))
+one_state node areas state other (world.as_empty none is) (world.as_empty nothing too) = too ∙ sym is
+
+-- the bytes of a journal are read as a state and events that lead to another one
+pub record IsFoundAs (node : Node) (areas : Areas) (records : List Record) (base state : State) : Type 0 where
+  pub events : History
+  pub read_as : IsReadAs node areas base events
+  pub same : read_as.records ≡ records
+  pub leads : state ≡ after_all node base events
+
+pub found_as : StartsFresh → (node : Node) (areas : Areas) (records : List Record) (base state : State) → IsPair areas → IsNode node → IsSound node base → All IsText records
+    → stands_in areas ≡ Ok records → base_in node records ≡ Ok base → read_events node base (events_in records) ≡ Ok state → IsFoundAs node areas records base state
+found_as starts node areas records base state two sound base_sound texts is begins read =
+    let more = read_back node base state (events_in records) (event_texts records texts) read in
+    let whole = read_on node records base state begins read in
+    let stands : StandsFor node areas state =
+    (found_in starts node areas two sound records state texts is (λ first rest same. areas_begin areas two first rest (is ∙ ap Ok same)) whole).stands_for in
     record {
-      history = events;
-      legal = legal;
-      has = as_journal version can
-          (subst (λ (n : ℕ). IsJournal (stands bytes) (own_configuration version node ∷ []) n events) first
-          (subst (λ (l : List (List ℕ)). IsJournal (stands bytes) l in_first events) front_is
-          (subst (λ (read : Result (List Record) ℕ). IsJournal read front in_first events) (alone_stands bytes) is)))
-          after.taken;
-      keeps = sym (after_is_kept node [] events legal) ∙ ap (λ (s : State). after_all node s events) (sym fresh_is) ∙ leads;
+      events = more.events;
+      read_as = record {
+        records = records;
+        stand = is;
+        begins = begins;
+        has = events_read node (events_in records) more.events sound more.are.same more.are.taken;
+        legal = record { node_is = sound; sound = base_sound; taken = more.are.taken; new = more.are.new };
+        stands_for = subst (StandsFor node areas) more.parts stands;
+        one_state = λ other stands_too. one_state node areas state other stands stands_too ∙ more.parts;
+        is_told = told_pair_records node areas records two is ∙ whole ∙ ap Ok more.parts;
+      };
+      same = refl;
+      leads = more.parts;
     }
-begun_events starts node bytes front in_first base state events after leads is (as_checkpoint version generation kept_data two can written front_is first base_is) = absurd two
 
--- and so where they stand for a state
-of_events : StartsFresh → (node : Node) (bytes : List ℕ) (state : State) → IsNode node → StandsFor node (alone bytes) state → IsOfEvents node bytes state
-of_events starts node bytes state sound (world.as_journal held) = begun_events starts node bytes held.front held.in_first held.base state held.events held.legal held.leads held.journal held.begins
-of_events starts node bytes state sound (world.as_empty none is) = record {
-  history = [];
-  legal = legal_empty node sound;
-  has = as_new (sym (alone_stands bytes) ∙ none) refl;
-  keeps = starts node ∙ sym is;
+-- tables stand where they lead
+pub found_at : (node : Node) (areas : Areas) (records : List Record) (base state : State) (tables : Tables) → IsFoundAs node areas records base state → AreAtSound node tables state
+    → IsReadAt node areas tables
+found_at node areas records base state tables found at = record {
+  base = base;
+  events = found.events;
+  read_as = found.read_as;
+  at = subst (AreAtSound node tables) found.leads at;
 }
 
--- bytes stand for one state
-one_state : (node : Node) (bytes : List ℕ) (state other : State) → StandsFor node (alone bytes) state → StandsFor node (alone bytes) other → other ≡ state
-one_state node bytes state other (world.as_journal held) also = stands_once node (alone bytes) state other held also
-one_state node bytes state other (world.as_empty none is) (world.as_journal held) = sym (stands_once node (alone bytes) other state held (world.as_empty none is))
-one_state node bytes state other (world.as_empty none is) (world.as_empty nothing too) = too ∙ sym is
+-- ---- what is told of it
 
--- where tables stand at what records are read as, they stand at what is kept of a history that bytes are read as
-read_at : StartsFresh → (node : Node) (bytes : List ℕ) (records : List Record) (tables : Tables) → IsNode node → All IsText (drop 1 records)
-    → StandsAt node (read_journal node records) tables → stands bytes ≡ Ok records → IsReadAt node bytes tables
-read_at starts node bytes records tables sound texts found is =
-    let stands_for = (found_records starts node bytes found.state records sound texts is found.is_read).stands_for in
-    let of_bytes = of_events starts node bytes found.state sound stands_for in
-    record {
-      history = of_bytes.history;
-      read_as = record {
-        legal = of_bytes.legal;
-        has = of_bytes.has;
-        only = λ other has. one_history node bytes of_bytes.history other sound of_bytes.has has;
-        stands_for = subst (StandsFor node (alone bytes)) (sym of_bytes.keeps) stands_for;
-        one_state = λ other stands. one_state node bytes found.state other stands_for stands ∙ sym of_bytes.keeps;
-        is_told = told_records node bytes records is ∙ found.is_read ∙ ap Ok (sym of_bytes.keeps);
-      };
-      at = subst (AreAtSound node tables) (sym of_bytes.keeps) found.at;
-    }
-
--- what holds anyway holds of what was answered
-pub on_each : {V E : Type 0} {P : Type 0} (answer : Result V E) → P → OnOk answer P
-on_each (Ok v) is = is
-on_each (Err e) is = tt
-
--- so it is with what was answered, if it is a validator
-pub answered_at : {V E : Type 0} (node : Node) (bytes : List ℕ) (records : List Record) (tables : V → Tables) (answer : Result V E) → StartsFresh → IsNode node
-    → OnOk answer (All IsText (drop 1 records)) → IfOk answer (λ v. StandsAt node (read_journal node records) (tables v)) → stands bytes ≡ Ok records
-    → IfOk answer (λ v. IsReadAt node bytes (tables v))
-answered_at node bytes records tables (Ok v) starts sound texts found is = read_at starts node bytes records (tables v) sound texts found is
-answered_at node bytes records tables (Err e) starts sound texts found is = tt
-
--- ---- its events, and their records
+-- there are as many events as records of events
+pub counted : (node : Node) (records : List Record) (events : History) → read_each node records ≡ each_some events → length records ≡ length events
+counted node records events has =
+    sym (length-map records (λ (one : Record). event_in node.charter one.bytes)) ∙ ap length has ∙ length-map events (λ (event : Event). Some event)
 
 -- the vote of an event before others
 vote_first : (event : Event) (found : Option Header) (events : History) → as_header event.message ≡ found
@@ -151,74 +227,15 @@ vote_first event None events is = refl
 vote_first event (Some header) events is = refl
 
 -- the records of events give the votes that the events give
-votes_in : (node : Node) (records : List Record) (events : History) → IsNode node → bytes_of records ≡ map record_of events → All (IsTaken node) events
+pub votes_in : (node : Node) (records : List Record) (events : History) → read_each node records ≡ each_some events
     → filter_map (given_in node.charter) records ≡ map given_to (headers events)
-votes_in node [] [] sound same taken = refl
-votes_in node [] (event ∷ events) sound same taken = absurd (omega (arith, ap length same))
-votes_in node (one ∷ rest) [] sound same taken = absurd (omega (arith, ap length same))
-votes_in node (one ∷ rest) (event ∷ events) sound same taken =
-    let bytes : one.bytes ≡ record_of event = ap (λ (l : List (List ℕ)). get_or l 0 []) same in
-    let some : event_in node.charter one.bytes ≡ Some event = ap (event_in node.charter) bytes ∙ record_read node event sound (All-head (IsTaken node) event events taken) in
-    let others = votes_in node rest events sound (ap (λ (l : List (List ℕ)). drop 1 l) same) (All-tail (IsTaken node) event events taken) in
+votes_in node [] [] has = refl
+votes_in node [] (event ∷ events) has = absurd (omega (arith, ap length has))
+votes_in node (one ∷ rest) [] has = absurd (omega (arith, ap length has))
+votes_in node (one ∷ rest) (event ∷ events) has =
+    let some : event_in node.charter one.bytes ≡ Some event = ap (λ (l : List (Option Event)). get_or l 0 None) has in
+    let others = votes_in node rest events (ap (λ (l : List (Option Event)). drop 1 l) has) in
     (λ i. cons_option (option_and_then given_by (some i)) (others i)) ∙ vote_first event (as_header event.message) events refl
-
--- a history has as many events as there are records after the first, and gives the votes that these have
-pub record IsCounted (node : Node) (records : List Record) (history : History) : Type 0 where
-  pub counts : length history ≡ length (drop 1 records)
-  pub votes : filter_map (given_in node.charter) (drop 1 records) ≡ map given_to (headers history)
-
-counted_held : (version : Version) (node : Node) (records : List Record) (history : History) → IsLegal node history → bytes_of records ≡ own_configuration version node ∷ map record_of history
-    → IsCounted node records history
-counted_held version node [] history legal are = absurd (omega (arith, ap length are))
-counted_held version node (first ∷ rest) history legal are =
-    let same : bytes_of rest ≡ map record_of history = ap (λ (l : List (List ℕ)). drop 1 l) are in
-    record {
-      counts = sym (length-map history record_of) ∙ sym (ap length same) ∙ length-map rest (λ (one : Record). one.bytes);
-      votes = votes_in node rest history legal.sound same legal.taken;
-    }
-
-counted : (node : Node) (bytes : List ℕ) (records : List Record) (history : History) → stands bytes ≡ Ok records → IsLegal node history → HasEvents node bytes history
-    → IsCounted node records history
-counted node bytes records history is legal (as_journal version can held taken) =
-    subst (λ (l : List Record). IsCounted node l history) (records_are held.records records (sym held.stands_for ∙ is))
-    (counted_held version node held.records history legal held.are)
-counted node bytes records history is legal (as_new none empty) =
-    let new : IsCounted node [] [] = record { counts = refl; votes = refl } in
-    subst (λ (l : List Record). IsCounted node l history) (records_are [] records (sym none ∙ is)) (subst (λ (h : History). IsCounted node [] h) (sym empty) new)
-
--- ---- what is told of it
-
-behind_first : (records : List Record) → length (drop 1 records) ≡ length records - 1
-behind_first [] = refl
-behind_first (first ∷ rest) = omega (arith)
-
-module _ (node : Node) (bytes : List ℕ) (records : List Record) (tables : Tables) (is : stands bytes ≡ Ok records) (found : IsReadAt node bytes tables) where
-  are_counted : IsCounted node records found.history
-  are_counted = counted node bytes records found.history is found.read_as.legal found.read_as.has
-
-  pub sums_are : (summary : Summary) → summary.events ≡ length records - 1
-      → ((history : History) → AreAtSound node tables (kept node history) → summary.order ≡ length (order node history))
-      → ((history : History) → IsLegal node history → AreAtSound node tables (kept node history) → summary.round ≡ round node history)
-      → ((history : History) → IsLegal node history → AreAtSound node tables (kept node history) → summary.floor ≡ floor node history)
-      → Sums node bytes summary
-  sums_are summary events ordered rounded floored = record {
-    history = found.history;
-    read_as = found.read_as;
-    events = events ∙ sym (behind_first records) ∙ sym are_counted.counts;
-    order = ordered found.history found.at;
-    round = rounded found.history found.read_as.legal found.at;
-    floor = floored found.history found.read_as.legal found.at;
-  }
-
-  pub votes_are : (votes : List Given) → votes ≡ filter_map (given_in node.charter) (drop 1 records) → AreVotes node bytes votes
-  votes_are votes given = record { history = found.history; read_as = found.read_as; are = given ∙ are_counted.votes }
-
-  pub order_is : (digests : List Digest) → ((history : History) → AreAtSound node tables (kept node history) → digests ≡ order node history) → AreOrdered node bytes digests
-  order_is digests ordered = record { history = found.history; read_as = found.read_as; are = ordered found.history found.at }
-
-pub tells_bytes : (node : Node) (bytes : List ℕ) (records : List Record) (error : JournalError) → stands bytes ≡ Ok records → Tells error (read_journal node records)
-    → Tells error (told node bytes)
-tells_bytes node bytes records error is tells = tells_same error _ _ (sym (told_records node bytes records is)) tells
 
 -- ---- votes so far, and those of the records that are left
 
@@ -241,3 +258,97 @@ module _ {X Y : Type 0} (make : X → Option Y) where
   pub made_end : (so_far : List Y) (xs : List X) (count : ℕ) → drop count xs ≡ [] → so_far ++ filter_map make (drop count xs) ≡ filter_map make xs
       → so_far ≡ filter_map make xs
   made_end so_far xs count none all = sym (append-nil so_far) ∙ ap (λ (l : List X). so_far ++ filter_map make l) (sym none) ∙ all
+
+-- ---- the state with which a journal begins
+
+pub base_some : (node : Node) (first : Record) (rest others : List Record) → Some others ≡ behind_head first rest → base_of node first rest ≡ read_state node first (state_part others)
+unfolding base_of
+base_some node first rest others is =
+    sym (ap (λ (o : Option (List Record)). option_map_or (λ records. read_state node first (state_part records)) o (Ok (fresh node))) is)
+
+pub base_none : (node : Node) (first : Record) (rest : List Record) → None ≡ behind_head first rest → base_of node first rest ≡ Ok (fresh node)
+unfolding base_of
+base_none node first rest is =
+    sym (ap (λ (o : Option (List Record)). option_map_or (λ records. read_state node first (state_part records)) o (Ok (fresh node))) is)
+
+pub base_free : (node : Node) (first : Record) (rest : List Record) (base : Result State ℕ) → own_fault node first ≡ None → base_of node first rest ≡ base
+    → base_in node (first ∷ rest) ≡ or_damaged base
+unfolding base_in
+base_free node first rest base own is = (λ i. unless (own i) (is i))
+
+pub base_fault : (node : Node) (first : Record) (rest : List Record) (error : JournalError) → own_fault node first ≡ Some error → base_in node (first ∷ rest) ≡ Err error
+unfolding base_in
+base_fault node first rest error own = ap (λ (f : Option JournalError). unless f (base_of node first rest)) own
+
+pub base_nil : (node : Node) → base_in node [] ≡ Ok (fresh node)
+unfolding base_in
+base_nil node = refl
+
+-- what stands at the state with which it begins
+pub begun_stands : (node : Node) (first : Record) (rest : List Record) (tables : Tables) → own_fault node first ≡ None → StandsAt node (base_of node first rest) tables
+    → StandsAt node (base_in node (first ∷ rest)) tables
+begun_stands node first rest tables own at = record { state = at.state; is_read = base_free node first rest (Ok at.state) own at.is_read; at = at.at }
+
+-- and what is wrong with it
+pub begun_fails : (node : Node) (first : Record) (rest : List Record) (error : JournalError) → own_fault node first ≡ None → FailsAs error (base_of node first rest)
+    → Tells error (base_in node (first ∷ rest))
+begun_fails node first rest Memory own fails = tt
+begun_fails node first rest Device own fails = absurd fails
+begun_fails node first rest (Damaged place) own fails = base_free node first rest (Err place) own fails
+begun_fails node first rest ConfigMismatch own fails = absurd fails
+begun_fails node first rest Full own fails = absurd fails
+
+pub first_fails : (node : Node) (first : Record) (rest : List Record) (error : JournalError) → (error ≢ Memory → own_fault node first ≡ Some error)
+    → Tells error (base_in node (first ∷ rest))
+first_fails node first rest Memory own = tt
+first_fails node first rest Device own = base_fault node first rest Device (own (λ same. cc))
+first_fails node first rest (Damaged place) own = base_fault node first rest (Damaged place) (own (λ same. cc))
+first_fails node first rest ConfigMismatch own = base_fault node first rest ConfigMismatch (own (λ same. cc))
+first_fails node first rest Full own = base_fault node first rest Full (own (λ same. cc))
+
+-- ---- the numbers, the order and the votes
+
+pub ordered : (node : Node) (areas : Areas) (tables : Tables) (found : IsReadAt node areas tables) (digests : List Digest)
+    → ((state : State) → AreAtSound node tables state → digests ≡ state.order) → AreOrdered node areas digests
+ordered node areas tables found digests is = record {
+  base = found.base;
+  events = found.events;
+  read_as = found.read_as;
+  are = is (after_all node found.base found.events) found.at;
+}
+
+pub summed : (node : Node) (areas : Areas) (tables : Tables) (records : List Record) (found : IsReadAt node areas tables) (summary : Summary) → stands_in areas ≡ Ok records
+    → summary.events ≡ length (events_in records)
+    → ((state : State) → AreAtSound node tables state → summary.order ≡ length state.order)
+    → ((state : State) → AreAtSound node tables state → summary.round ≡ round_in node state)
+    → ((state : State) → AreAtSound node tables state → summary.floor ≡ floor_in node state)
+    → summary.checkpoint ≡ option_map (λ generation. (generation, side_in records)) (generation_in records) → Sums node areas summary
+summed node areas tables records found summary is events order round floor checkpoint =
+    let state = after_all node found.base found.events in
+    let same : found.read_as.records ≡ records = records_are found.read_as.records records (sym found.read_as.stand ∙ is) in
+    record {
+      base = found.base;
+      events = found.events;
+      read_as = found.read_as;
+      count = events ∙ ap (λ (l : List Record). length (events_in l)) (sym same) ∙ counted node (events_in found.read_as.records) found.events found.read_as.has;
+      order = order state found.at;
+      round = round state found.at;
+      floor = floor state found.at;
+      checkpoint = checkpoint ∙ ap (λ (l : List Record). option_map (λ generation. (generation, side_in l)) (generation_in l)) (sym same);
+    }
+
+pub voted : (node : Node) (areas : Areas) (records : List Record) (base state : State) (found : IsFoundAs node areas records base state) (kept votes : List Given) → AreKeptVotes node base kept
+    → votes ≡ kept ++ filter_map (given_in node.charter) (events_in records) → AreVotes node areas votes
+voted node areas records base state found kept votes of_base are = record {
+  base = base;
+  events = found.events;
+  read_as = found.read_as;
+  kept = kept;
+  of_base = of_base;
+  are = are ∙ ap (λ (l : List Given). kept ++ l)
+      (votes_in node (events_in records) found.events (subst (λ (l : List Record). read_each node l ≡ each_some found.events) (ap events_in found.same) found.read_as.has));
+}
+
+pub map_both : {X Y Z : Type 0} (f : Y → Z) (g : X → Y) (xs : List X) → map (λ x. f (g x)) xs ≡ map f (map g xs)
+map_both f g [] = refl
+map_both f g (x ∷ xs) = λ i. f (g x) ∷ map_both f g xs i

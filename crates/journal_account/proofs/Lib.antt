@@ -1,1 +1,4 @@
 pub mod Accounting
+pub mod Files
+pub mod Reached
+pub mod States

@@ -1,58 +1,94 @@
--- What is told of a journal: what the definitions say of the history that its bytes are read as.
-use Rattle.std.specs.Prelude.{◌≡◌, All, ℕ, List, [], ◌∷◌, length, map, Ok, Option}
-use Rattle.std.specs.Option.{option_and_then, option_map}
+-- What is told of a journal: what the definitions say of the state and the events that the bytes of its two files are read as.
+use Rattle.std.specs.Prelude.{◌≡◌, ℕ, ◌==◌, ◌++◌, List, [], ◌∷◌, length, map, Result, Ok, Option, Some, None, nat_le, if◌then◌else◌}
+use Rattle.std.specs.Option.{option_and_then, option_map, option_map_or}
 use Rattle.committee.specs.Charter.{Charter}
-use Rattle.journal.specs.Areas.{alone}
-use Rattle.journal.specs.Format.{stands}
+use Rattle.journal.specs.Areas.{Areas, head_in, stands_in}
+use Rattle.journal.specs.declared.error.JournalError.{JournalError}
+use Rattle.journal.specs.declared.layout.TheConstants.{SECOND_AREA}
 use Rattle.journal.specs.declared.record.Record.{Record}
-use Rattle.journal.specs.declared.version.Version.{Version}
-use Rattle.spec_model.specs.Admitting.{IsTaken, IsLegal}
-use Rattle.spec_model.specs.Giving.{kept}
+use Rattle.journal.specs.declared.side.Side.{Side}
+use Rattle.journal.specs.declared.side.Side.TheVariants as sides
+use Rattle.spec_checkpoint.specs.Data.{Checkpoint, KeptHeader, KeptVote, IsWritten}
+use Rattle.spec_checkpoint.specs.Meaning.{state_in}
+use Rattle.spec_machine.specs.After.{after_all, IsLegalAfter}
+use Rattle.spec_machine.specs.Machine.{fresh, round_in}
 use Rattle.spec_model.specs.Histories.{History, headers, as_header}
-use Rattle.spec_model.specs.Holdings.{order, round, floor}
 use Rattle.spec_model.specs.Nodes.{Node}
 use Rattle.spec_model.specs.Slots.{header_digest}
-use Rattle.spec_model.specs.States.{State}
+use Rattle.spec_model.specs.States.{State, floor_in}
 use Rattle.spec_model.specs.Words.{Digest, Event, Header}
-use Rattle.spec_records.specs.Records.{CanTell}
-use Rattle.spec_world.specs.World.{IsJournal, own_configuration, StandsFor}
-use Rattle.opening.specs.Told.{event_in, told}
+use Rattle.spec_world.specs.World.{StandsFor}
+use Rattle.opening.specs.Told.{event_in, events_part, own_fault, read_state, state_part, told_in, unless}
 use Rattle.admission.specs.declared.tables.Tables.{Tables}
 use Rattle.validator.specs.Standing.{AreAtSound}
 use Rattle.journal_account.specs.declared.summary.Summary.{Summary}
 use Rattle.journal_account.specs.declared.votes.Given.{Given}
 
--- bytes are a journal with these events: their records are the node's configuration, alone in the first group, in a version that can tell
--- its committee, and those of the events, each as the node takes it; or there is no record yet, and no event
-pub data HasEvents (node : Node) (bytes : List ℕ) (events : History) : Type 0 where
-  as_journal : (version : Version) → CanTell version node.charter → IsJournal (stands bytes) (own_configuration version node ∷ []) 1 events
-      → All (IsTaken node) events → HasEvents node bytes events
-  as_new : stands bytes ≡ Ok [] → events ≡ [] → HasEvents node bytes events
+-- ---- the parts of a journal's records
 
--- bytes are read as a history: each of its events is new, they are a journal with these events and no others, they stand for what is kept
--- of it and for no other state, and an opening finds that
-pub record IsReadAs (node : Node) (bytes : List ℕ) (history : History) : Type 0 where
-  pub legal : IsLegal node history
-  pub has : HasEvents node bytes history
-  pub only : (other : History) → HasEvents node bytes other → other ≡ history
-  pub stands_for : StandsFor node (alone bytes) (kept node history)
-  pub one_state : (other : State) → StandsFor node (alone bytes) other → other ≡ kept node history
-  pub is_told : told node bytes ≡ Ok (kept node history)
+-- the records after a head, where one stands in the group of the first record
+unfoldable pub behind_head : Record → List Record → Option (List Record)
+behind_head first [] = None
+behind_head first (second ∷ rest) = if second.gate == first.gate then Some rest else None
 
--- bytes are read as a history, and tables stand at what is kept of it
-pub record IsReadAt (node : Node) (bytes : List ℕ) (tables : Tables) : Type 0 where
-  pub history : History
-  pub read_as : IsReadAs node bytes history
-  pub at : AreAtSound node tables (kept node history)
+-- the records of events: those after the first group, and after those of a checkpoint's state
+unfoldable pub events_in : List Record → List Record
+events_in [] = []
+events_in (first ∷ rest) = option_map_or events_part (behind_head first rest) rest
 
--- these numbers are those of the history that bytes are read as
-pub record Sums (node : Node) (bytes : List ℕ) (summary : Summary) : Type 0 where
-  pub history : History
-  pub read_as : IsReadAs node bytes history
-  pub events : summary.events ≡ length history
-  pub order : summary.order ≡ length (order node history)
-  pub round : summary.round ≡ round node history
-  pub floor : summary.floor ≡ floor node history
+-- the state with which a journal begins, by the records after the configuration: that of a checkpoint, or the fresh one
+unfoldable pub base_of : Node → Record → List Record → Result State ℕ
+base_of node first rest = option_map_or (λ records. read_state node first (state_part records)) (behind_head first rest) (Ok (fresh node))
+
+-- the same of all records, or why they are none of the node's
+unfoldable pub base_in : Node → List Record → Result State JournalError
+base_in node [] = Ok (fresh node)
+base_in node (first ∷ rest) = unless (own_fault node first) (base_of node first rest)
+
+-- the generation of the checkpoint with which records begin, if they begin with one
+unfoldable pub generation_in : List Record → Option ℕ
+generation_in [] = None
+generation_in (first ∷ []) = None
+generation_in (first ∷ second ∷ rest) = if second.gate == first.gate then head_in second.bytes else None
+
+-- the file in which records are, by the place of the first one
+unfoldable pub side_in : List Record → Side
+side_in [] = sides.First
+side_in (first ∷ rest) = if nat_le SECOND_AREA first.gate then sides.Second else sides.First
+
+-- ---- what the bytes are read as
+
+-- The bytes of a journal are read as a state and events after it: its records begin with the state and have these events, each is new, and
+-- they lead to what the bytes stand for, which is no other state; an opening finds that.
+pub record IsReadAs (node : Node) (areas : Areas) (base : State) (events : History) : Type 0 where
+  pub records : List Record
+  pub stand : stands_in areas ≡ Ok records
+  pub begins : base_in node records ≡ Ok base
+  pub has : map (λ one. event_in node.charter one.bytes) (events_in records) ≡ map (λ event. Some event) events
+  pub legal : IsLegalAfter node base events
+  pub stands_for : StandsFor node areas (after_all node base events)
+  pub one_state : (other : State) → StandsFor node areas other → other ≡ after_all node base events
+  pub is_told : told_in node areas ≡ Ok (after_all node base events)
+
+-- so they are, and tables stand at the state to which the events lead
+pub record IsReadAt (node : Node) (areas : Areas) (tables : Tables) : Type 0 where
+  pub base : State
+  pub events : History
+  pub read_as : IsReadAs node areas base events
+  pub at : AreAtSound node tables (after_all node base events)
+
+-- ---- what is told
+
+-- these numbers are those of the state and the events that a journal is read as
+pub record Sums (node : Node) (areas : Areas) (summary : Summary) : Type 0 where
+  pub base : State
+  pub events : History
+  pub read_as : IsReadAs node areas base events
+  pub count : summary.events ≡ length events
+  pub order : summary.order ≡ length (after_all node base events).order
+  pub round : summary.round ≡ round_in node (after_all node base events)
+  pub floor : summary.floor ≡ floor_in node (after_all node base events)
+  pub checkpoint : summary.checkpoint ≡ option_map (λ generation. (generation, side_in read_as.records)) (generation_in read_as.records)
 
 -- the vote that a header stands for: each header that is taken is voted for, an own one too
 abbrev pub given_to : Header → Given
@@ -66,14 +102,33 @@ given_by event = option_map given_to (as_header event.message)
 abbrev pub given_in : Charter → Record → Option Given
 given_in charter one = option_and_then given_by (event_in charter one.bytes)
 
--- these are the votes of the history that bytes are read as, in the order in which they were given
-pub record AreVotes (node : Node) (bytes : List ℕ) (votes : List Given) : Type 0 where
-  pub history : History
-  pub read_as : IsReadAs node bytes history
-  pub are : votes ≡ map given_to (headers history)
+-- the vote that a checkpoint says for another's header, and that of an own header
+abbrev pub given_for : KeptVote → Given
+given_for vote = record { author = record { 0 = vote.author }; round = vote.round; digest = vote.header }
 
--- these digests are the order of the history that bytes are read as
-pub record AreOrdered (node : Node) (bytes : List ℕ) (digests : List Digest) : Type 0 where
-  pub history : History
-  pub read_as : IsReadAs node bytes history
-  pub are : digests ≡ order node history
+abbrev pub given_as : KeptHeader → Given
+given_as voted = given_to voted.header
+
+-- these are the votes that the checkpoint of a state says, those for others first
+pub record AreKeptVotes (node : Node) (state : State) (votes : List Given) : Type 0 where
+  pub checkpoint : Checkpoint
+  pub written : IsWritten node checkpoint
+  pub is : state_in node checkpoint ≡ state
+  pub are : votes ≡ map given_for checkpoint.votes ++ map given_as checkpoint.headers
+
+-- these are the votes of the state and the events that a journal is read as: those that the state has, and then those that the events gave,
+-- in that order
+pub record AreVotes (node : Node) (areas : Areas) (votes : List Given) : Type 0 where
+  pub base : State
+  pub events : History
+  pub read_as : IsReadAs node areas base events
+  pub kept : List Given
+  pub of_base : AreKeptVotes node base kept
+  pub are : votes ≡ kept ++ map given_to (headers events)
+
+-- these digests are the order of the state to which the events lead that a journal is read as
+pub record AreOrdered (node : Node) (areas : Areas) (digests : List Digest) : Type 0 where
+  pub base : State
+  pub events : History
+  pub read_as : IsReadAs node areas base events
+  pub are : digests ≡ (after_all node base events).order

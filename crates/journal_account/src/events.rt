@@ -1,23 +1,22 @@
 //! The events of a journal's records, and what a validator is after them. An opening of a node reads them by the same definitions.
 
-ghost use Rattle.std.specs.Prelude.{◌≡◌, ◌≢◌, true, All, IfOk, IfErr, OnOk};
+ghost use Rattle.std.specs.Prelude.{◌≡◌, ◌≢◌, true, IfErr, OnOk};
 ghost use Rattle.journal.specs.Format.{FailsAs};
 ghost use Rattle.journal.specs.declared.error.JournalError.TheVariants as errors;
-ghost use Rattle.spec_machine.specs.Machine.{fresh};
 ghost use Rattle.spec_model.specs.States.{State};
 ghost use Rattle.admission.specs.Answers.{is_new_step};
 ghost use Rattle.validator.specs.Setting.{node_of};
 ghost use Rattle.validator.specs.Standing.{AreAtSound};
-ghost use Rattle.opening.specs.Told.{IsText, read_event, read_events, StandsAt, IsOld};
+ghost use Rattle.opening.specs.Told.{read_event, read_events, StandsAt, IsOld};
 
 use crate::flaw::{Flaw, Why};
 use committee::Committee;
 use header::recheck;
 use journal::Record;
-use opening::{EVENT, FRONT_BYTES, event_of, is_text};
+use opening::{EVENT, FRONT_BYTES, event_of};
 use sigface::Sign;
 use std::alloc::Global;
-use validator::{Config, Refusal, Step, Validator};
+use validator::{Refusal, Step, Validator};
 use wire::Author;
 use wire_read::decode;
 
@@ -70,21 +69,20 @@ fn only_new(step: Result<Step, Refusal>, gate: u64) -> Result<(), Flaw>
     }
 }
 
-/// The validator after the events of these records, of which each has to be new.
-pub(crate) fn replay<'a, S: Sign>(
+/// Takes the events of these records, of which each has to be new.
+pub(crate) fn replay<S: Sign>(
     alloc: Global,
-    config: &'a Config<S>,
+    validator: &mut Validator<'_, S>,
     records: &[Record],
-) -> Result<Validator<'a, S>, Flaw>
-    ensures setting { IfOk result (λ validator. validator.setting ≡ config.now) }
-    ensures ok { let node = node_of S.scheme config.now in IfOk result (λ validator. StandsAt node (read_events node (fresh node) records.now) validator.tables) }
-    ensures err { let node = node_of S.scheme config.now in IfErr result (λ flaw. FailsAs flaw.error (read_events node (fresh node) records.now)) }
-    ensures texts { OnOk result (All IsText records.now) }
+) -> Result<(), Flaw>
+    ensures setting { validator.new.setting ≡ validator.old.setting }
+    ensures ok { let node = node_of S.scheme validator.old.setting in OnOk result ((state : State) → AreAtSound node validator.old.tables state
+        → StandsAt node (read_events node state records.now) validator.new.tables) }
+    ensures err { let node = node_of S.scheme validator.old.setting in IfErr result (λ flaw. (state : State) → AreAtSound node validator.old.tables state
+        → FailsAs flaw.error (read_events node state records.now)) }
 {
-    let mut validator = Validator::new(alloc, config)?;
     for one in records {
-        is_text(one.bytes.as_slice(), one.gate);
-        take_event(alloc, &mut validator, one)?;
+        take_event(alloc, validator, one)?;
     }
-    Ok(validator)
+    Ok(())
 }

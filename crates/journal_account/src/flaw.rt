@@ -21,9 +21,18 @@ pub enum Why {
     /// Behind an open gate there is no whole group.
     #[error("no whole group stands behind this open gate")]
     Group,
-    /// The first group isn't one record with the shape of a configuration.
-    #[error("the first group isn't a configuration alone")]
+    /// No first group stands in front: neither a configuration alone nor one with the head of a checkpoint.
+    #[error("the first group isn't a configuration, alone or with a checkpoint's head")]
     FirstGroup,
+    /// The first groups of both files have the same generation.
+    #[error("both files have the same generation")]
+    Same,
+    /// A record of a checkpoint's state doesn't follow the format, or what it says isn't sound.
+    #[error("a record of the checkpoint is at fault")]
+    State,
+    /// Each record of a checkpoint's state is sound by itself, and all of them together aren't.
+    #[error("the records of the checkpoint don't go together")]
+    WholeState,
     /// No committee has the keys, stakes and limits of the configuration.
     #[error("the configuration is no committee's: {0}")]
     NoCommittee(CommitteeError),

@@ -1,29 +1,41 @@
 //! The last own header, as a frame that gives it to its node again.
 
+use crate::flaw::Flaw;
+use crate::kept::kept_in;
+use crate::parts::events_of;
 use committee::Committee;
 use journal::Record;
 use opening::event_of;
+use sigface::Sign;
 use std::alloc::{AllocError, Global};
-use wire::{Author, Message};
+use validator::Config;
+use wire::{Author, Header, Message, encode};
 
 /// The bytes of a record before its sender: its kind.
 const KIND_BYTES: usize = 1;
 
-/// The frame of the last own header among the events of these records: its length in four bytes, the sender, and the message. None
-/// where there is no own header. `AllocError` where an allocation failed.
-pub fn last_frame(
+/// The frame of the last own header of a journal of these records: its length in four bytes, the sender, and the message. It is that of
+/// the last event that is an own header; where there is none, of the last own header that the checkpoint says. None where it says none.
+///
+/// # Errors
+/// As `after_records`, but that events aren't tested.
+pub fn last_frame<S: Sign>(
     alloc: Global,
-    committee: &Committee,
-    own: Author,
+    config: &Config<S>,
     records: &[Record],
-) -> Result<Option<Vec<u8>>, AllocError> {
-    for one in records.iter().rev() {
+) -> Result<Option<Vec<u8>>, Flaw> {
+    let (committee, own) = (config.committee(), config.own());
+    for one in events_of(records).iter().rev() {
         let bytes = one.bytes.as_slice();
         if is_own_header(alloc, committee, own, bytes)? {
-            return frame_of(alloc, bytes);
+            return Ok(frame_of(alloc, bytes.get(KIND_BYTES..).unwrap_or(&[]))?);
         }
     }
-    Ok(None)
+    let kept = kept_in(alloc, config, records)?;
+    match kept.headers.last() {
+        Some(voted) => Ok(header_frame(alloc, own, voted.header.try_clone()?)?),
+        None => Ok(None),
+    }
 }
 
 // Whether a record's event is an own header.
@@ -42,9 +54,16 @@ fn is_own_header(
     }
 }
 
-// The frame of an event's record: its bytes after the kind. None where four bytes don't hold its length, as they do in any group.
-fn frame_of(alloc: Global, bytes: &[u8]) -> Result<Option<Vec<u8>>, AllocError> {
-    let body = bytes.get(KIND_BYTES..).unwrap_or(&[]);
+// The frame of an own header.
+fn header_frame(alloc: Global, own: Author, header: Header) -> Result<Option<Vec<u8>>, AllocError> {
+    let mut body = Vec::new(alloc);
+    body.extend_from_slice(&own.0.to_be_bytes())?;
+    body.extend_from_slice(&encode(alloc, &Message::Header(header))?)?;
+    frame_of(alloc, &body)
+}
+
+// The frame with this body. None where four bytes don't hold its length, as they do in any group.
+fn frame_of(alloc: Global, body: &[u8]) -> Result<Option<Vec<u8>>, AllocError> {
     let Ok(len) = u32::try_from(body.len()) else {
         return Ok(None);
     };

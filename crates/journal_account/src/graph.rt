@@ -1,8 +1,11 @@
 //! The certificates of a journal as a graph: what each of them names, and what became of it.
 
 use crate::flaw::Flaw;
+use crate::kept::kept_in;
+use crate::parts::events_of;
 use crate::reading::after_records;
 use crate::waves::{Named, Waves, certificate_of, waves_of};
+use admission::{Kept, VotedHeader};
 use committee::Committee;
 use header::Checked;
 use journal::Record;
@@ -42,6 +45,8 @@ pub struct Graph {
     // The last committed wave, or 0.
     last_committed: u64,
     floor: u64,
+    // The floor of the checkpoint, or 0.
+    first: u64,
     members: u16,
 }
 
@@ -52,6 +57,7 @@ impl Drop for Graph {
             waves: _,
             last_committed: _,
             floor: _,
+            first: _,
             members: _,
         } = self;
     }
@@ -69,9 +75,11 @@ impl Graph {
     ) -> Result<Graph, Flaw> {
         let validator = after_records(alloc, config, records)?;
         let committee = config.committee();
-        let waves = Waves::new(alloc, committee, records)?;
+        let waves = Waves::new(alloc, config, records)?;
         let ordered = waves_of(alloc, &waves, validator.order())?;
-        let mut vertices = vertices_in(alloc, committee, config.own(), records)?;
+        let kept = kept_in(alloc, config, records)?;
+        let events = events_of(records);
+        let mut vertices = vertices_in(alloc, committee, config.own(), &kept, events)?;
         for (digest, wave) in validator.order().iter().zip(&ordered) {
             mark(&mut vertices, &waves, digest, *wave);
         }
@@ -84,6 +92,7 @@ impl Graph {
             waves,
             last_committed,
             floor: validator.floor().number(),
+            first: kept.floor.number(),
             members: committee.size(),
         })
     }
@@ -96,6 +105,11 @@ impl Graph {
     /// The floor, a round: what lies below it is held no longer.
     pub fn floor(&self) -> u64 {
         self.floor
+    }
+
+    /// The first round: that of the genesis, or with a checkpoint its floor. Of lower rounds it has nothing.
+    pub fn first_round(&self) -> u64 {
+        self.first
     }
 
     /// The greatest round of a certificate, or 0.
@@ -119,7 +133,7 @@ impl Graph {
         self.waves.leader_of(wave)
     }
 
-    /// What became of a wave.
+    /// What became of a wave whose first round isn't below the first one here.
     pub fn fate_of(&self, wave: u64) -> Fate {
         if wave > self.last_committed {
             return Fate::Open;
@@ -144,23 +158,52 @@ struct Voted {
     weight: u64,
 }
 
-// The certificates of the events of these records, by round and then by author: those that came in, and those of own headers, once they
-// were voted for by a quorum.
+// The certificates of a checkpoint and of the events of these records, by round and then by author: those that came in, and those of own
+// headers, once they were voted for by a quorum.
 fn vertices_in(
     alloc: Global,
     committee: &Committee,
     own: Author,
-    records: &[Record],
+    kept: &Kept,
+    events: &[Record],
 ) -> Result<Vec<Vertex>, AllocError> {
     let mut vertices = Vec::new(alloc);
+    for (certificate, _) in &kept.certificates {
+        vertices.push(vertex_of(alloc, &certificate.header)?)?;
+    }
     let mut voted = Vec::new(alloc);
-    for one in records {
+    for one in &kept.headers {
+        add_voted(alloc, committee, own, one, &mut voted)?;
+    }
+    for one in events {
         if let Some(event) = event_of(alloc, committee, one.bytes.as_slice())? {
             add(alloc, committee, own, &event, &mut vertices, &mut voted)?;
         }
     }
     vertices.sort_by_key(|vertex| (vertex.named.round, vertex.named.author))?;
     Ok(vertices)
+}
+
+// Adds an own header of a checkpoint, unless its certificate is complete: then the checkpoint has that too.
+fn add_voted(
+    alloc: Global,
+    committee: &Committee,
+    own: Author,
+    one: &VotedHeader,
+    voted: &mut Vec<Voted>,
+) -> Result<(), AllocError> {
+    let mut weight = committee.stake(own).unwrap_or(0);
+    for vote in &one.votes {
+        weight = weight.saturating_add(committee.stake(vote.voter).unwrap_or(0));
+    }
+    if weight < committee.quorum() {
+        voted.push(Voted {
+            header: header_digest(&one.header.body),
+            vertex: vertex_of(alloc, &one.header.body)?,
+            weight,
+        })?;
+    }
+    Ok(())
 }
 
 // Adds what an event has of certificates.

@@ -1,24 +1,30 @@
-//! What a journal comes to, told from its bytes without running a node: what an opening of a node on the same bytes would find.
+//! What a journal comes to, told from the bytes of its two files without running a node: what an opening of a node on the same bytes would
+//! find.
 #![tactic(auto)]
 
+mod areas;
 mod events;
 mod flaw;
 mod frame;
 mod graph;
+mod kept;
+mod loading;
 mod order;
 mod own;
+mod parts;
 mod reading;
 mod settings;
 mod summary;
 mod votes;
 mod waves;
 
+pub use areas::{records_in, side_read};
 pub use flaw::{Flaw, Why};
 pub use frame::last_frame;
 pub use graph::{Fate, Graph, Vertex};
 pub use opening::{EVENT, FRONT_BYTES};
 pub use order::order_of;
-pub use reading::{after_records, records_in};
+pub use reading::after_records;
 pub use settings::{config_in, own_number};
 pub use summary::{Summary, summary_of};
 pub use votes::{Given, votes_of};

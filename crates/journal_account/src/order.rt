@@ -1,9 +1,10 @@
 //! The order that a journal's member has come to.
 
-ghost use Rattle.std.specs.Prelude.{◌≡◌, ℕ, List, Ok, IfOk, IfErr};
-ghost use Rattle.journal.specs.Format.{stands};
+ghost use Rattle.std.specs.Prelude.{◌≡◌, Ok, IfOk, IfErr};
+ghost use Rattle.journal.specs.Areas.{Areas, stands_in};
+ghost use Rattle.spec_world.specs.World.{IsPair};
 ghost use Rattle.validator.specs.Setting.{node_of};
-ghost use Rattle.opening.specs.Told.{told, Tells};
+ghost use Rattle.opening.specs.Told.{told_in, Tells};
 ghost use Rattle.journal_account.specs.Accounts.{AreOrdered};
 
 use crate::flaw::Flaw;
@@ -23,8 +24,8 @@ pub fn order_of<S: Sign>(
     config: &Config<S>,
     records: &[Record],
 ) -> Result<Vec<Digest>, Flaw>
-    ensures ok { (bytes : List ℕ) → stands bytes ≡ Ok records.now → IfOk result (λ digests. AreOrdered (node_of S.scheme config.now) bytes digests.items) }
-    ensures err { (bytes : List ℕ) → stands bytes ≡ Ok records.now → IfErr result (λ flaw. Tells flaw.error (told (node_of S.scheme config.now) bytes)) }
+    ensures ok { (areas : Areas) → IsPair areas → stands_in areas ≡ Ok records.now → IfOk result (λ digests. AreOrdered (node_of S.scheme config.now) areas digests.items) }
+    ensures err { (areas : Areas) → IsPair areas → stands_in areas ≡ Ok records.now → IfErr result (λ flaw. Tells flaw.error (told_in (node_of S.scheme config.now) areas)) }
 {
     let validator = after_records(alloc, config, records)?;
     let order = validator.order();

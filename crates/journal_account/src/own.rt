@@ -1,18 +1,18 @@
-//! Whose journal it is: its first record has to be a configuration alone in its group, and the one that is looked for.
+//! Whose journal it is: its first record has to be the configuration that is looked for.
 
 ghost use Rattle.std.specs.Prelude.{◌≡◌, ◌≢◌, None, Some, IfErr, OnOk};
 ghost use Rattle.journal.specs.declared.error.JournalError.TheVariants as errors;
 ghost use Rattle.validator.specs.Setting.{node_of};
-ghost use Rattle.opening.specs.Told.{first_fault};
+ghost use Rattle.opening.specs.Told.{own_fault};
 
 use crate::flaw::{Flaw, Why};
-use journal::Record;
-use opening::{first_version, is_own};
+use journal::{Record, shaped_version};
+use opening::is_own;
 use sigface::Sign;
 use std::alloc::Global;
 use validator::Config;
 
-/// Tests the first record of a journal, with those after it: it has to be this configuration, alone in the first group.
+/// Tests the first record of a journal: it has to be this configuration.
 ///
 /// # Errors
 /// `Damaged` at the place of its group, where it is no configuration; `ConfigMismatch`, where it is another one; `Memory`.
@@ -20,12 +20,11 @@ pub(crate) fn test_first<S: Sign>(
     alloc: Global,
     config: &Config<S>,
     first: &Record,
-    events: &[Record],
 ) -> Result<(), Flaw>
-    ensures ok { OnOk result (first_fault (node_of S.scheme config.now) first.now events.now ≡ None) }
-    ensures err { IfErr result (λ flaw. flaw.error ≢ errors.Memory → first_fault (node_of S.scheme config.now) first.now events.now ≡ Some flaw.error) }
+    ensures ok { OnOk result (own_fault (node_of S.scheme config.now) first.now ≡ None) }
+    ensures err { IfErr result (λ flaw. flaw.error ≢ errors.Memory → own_fault (node_of S.scheme config.now) first.now ≡ Some flaw.error) }
 {
-    let Some(version) = first_version(first, events) else {
+    let Some(version) = shaped_version(first.bytes.as_slice()) else {
         return Err(Flaw::at(first.gate, Why::FirstGroup));
     };
     if is_own(alloc, config, version, first.bytes.as_slice())? {

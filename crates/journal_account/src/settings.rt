@@ -2,8 +2,7 @@
 
 use crate::flaw::{Flaw, Why};
 use committee::{Committee, CommitteeError};
-use journal::{KEY_BYTES, Record, SETTINGS_BYTES, STAKE_BYTES, Version};
-use opening::first_version;
+use journal::{KEY_BYTES, Record, SETTINGS_BYTES, STAKE_BYTES, Version, shaped_version};
 use sigface::HashSign;
 use std::alloc::{AllocError, Global};
 use validator::Config;
@@ -13,7 +12,7 @@ use wire::Author;
 /// with the own number that it has. None without a record.
 ///
 /// # Errors
-/// `Damaged` at the place of the first group, where its record isn't a configuration alone, or where no committee is given and it is
+/// `Damaged` at the place of the first group, where its first record is no configuration, or where no committee is given and it is
 /// none of a member of one; `ConfigMismatch`, where the own number is no member's of the committee that is given; `Memory` where an
 /// allocation failed.
 pub fn config_in(
@@ -21,10 +20,10 @@ pub fn config_in(
     committee: Option<Committee>,
     records: &[Record],
 ) -> Result<Option<Config<HashSign>>, Flaw> {
-    let Some((first, events)) = records.split_first() else {
+    let Some(first) = records.first() else {
         return Ok(None);
     };
-    let Some(version) = first_version(first, events) else {
+    let Some(version) = shaped_version(first.bytes.as_slice()) else {
         return Err(Flaw::at(first.gate, Why::FirstGroup));
     };
     match committee {

@@ -1,14 +1,16 @@
 //! What a journal comes to, in numbers.
 
-ghost use Rattle.std.specs.Prelude.{◌≡◌, ℕ, List, Ok, IfOk, IfErr};
-ghost use Rattle.journal.specs.Format.{stands};
+ghost use Rattle.std.specs.Prelude.{◌≡◌, Ok, IfOk, IfErr};
+ghost use Rattle.journal.specs.Areas.{Areas, stands_in};
+ghost use Rattle.spec_world.specs.World.{IsPair};
 ghost use Rattle.validator.specs.Setting.{node_of};
-ghost use Rattle.opening.specs.Told.{told, Tells};
+ghost use Rattle.opening.specs.Told.{told_in, Tells};
 ghost use Rattle.journal_account.specs.Accounts.{Sums};
 
 use crate::flaw::Flaw;
+use crate::parts::{checkpoint_in, events_of};
 use crate::reading::after_records;
-use journal::Record;
+use journal::{Record, Side};
 use sigface::Sign;
 use std::alloc::Global;
 use validator::Config;
@@ -16,7 +18,7 @@ use validator::Config;
 /// What a journal comes to.
 #[derive(Clone, Copy, Debug, PartialEq, Eq)]
 pub struct Summary {
-    /// How many events it has.
+    /// How many events it has, after its checkpoint where it has one.
     pub events: u64,
     /// How many certificates are ordered.
     pub order: u64,
@@ -24,6 +26,8 @@ pub struct Summary {
     pub round: u64,
     /// The floor, a round.
     pub floor: u64,
+    /// The generation of the checkpoint with which it begins, and which of both files has it. None where it has no checkpoint.
+    pub checkpoint: Option<(u64, Side)>,
 }
 
 impl Summary {
@@ -34,6 +38,7 @@ impl Summary {
             order: 0,
             round: 1,
             floor: 0,
+            checkpoint: None,
         }
     }
 }
@@ -47,12 +52,11 @@ pub fn summary_of<S: Sign>(
     config: &Config<S>,
     records: &[Record],
 ) -> Result<Summary, Flaw>
-    ensures ok { (bytes : List ℕ) → stands bytes ≡ Ok records.now → IfOk result (λ summary. Sums (node_of S.scheme config.now) bytes summary) }
-    ensures err { (bytes : List ℕ) → stands bytes ≡ Ok records.now → IfErr result (λ flaw. Tells flaw.error (told (node_of S.scheme config.now) bytes)) }
+    ensures ok { (areas : Areas) → IsPair areas → stands_in areas ≡ Ok records.now → IfOk result (λ summary. Sums (node_of S.scheme config.now) areas summary) }
+    ensures err { (areas : Areas) → IsPair areas → stands_in areas ≡ Ok records.now → IfErr result (λ flaw. Tells flaw.error (told_in (node_of S.scheme config.now) areas)) }
 {
     let validator = after_records(alloc, config, records)?;
-    // The first record is the configuration.
-    let events = records.len().saturating_sub(1) as u64;
+    let events = events_of(records).len() as u64;
     let order = validator.order().len() as u64;
     let round = validator.round();
     let floor = validator.floor().number();
@@ -61,5 +65,6 @@ pub fn summary_of<S: Sign>(
         order,
         round,
         floor,
+        checkpoint: checkpoint_in(records),
     })
 }

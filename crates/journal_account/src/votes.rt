@@ -1,14 +1,18 @@
 //! The votes that a journal's member has given.
 
-ghost use Rattle.std.specs.Prelude.{◌≡◌, ◌++◌, ℕ, List, Ok, IfOk, IfErr, OnOk, filter_map};
+ghost use Rattle.std.specs.Prelude.{◌≡◌, ◌++◌, Ok, IfOk, IfErr, OnOk, filter_map};
 ghost use Rattle.std.specs.Option.{option_to_list};
-ghost use Rattle.journal.specs.Format.{stands};
+ghost use Rattle.journal.specs.Areas.{Areas, stands_in};
+ghost use Rattle.spec_world.specs.World.{IsPair};
 ghost use Rattle.validator.specs.Setting.{node_of};
-ghost use Rattle.opening.specs.Told.{told, Tells};
+ghost use Rattle.opening.specs.Told.{told_in, Tells};
 ghost use Rattle.journal_account.specs.Accounts.{AreVotes, given_by, given_in};
 
+use crate::events::replay;
 use crate::flaw::Flaw;
-use crate::reading::{after_records, events_of};
+use crate::kept::given_by_kept;
+use crate::parts::events_of;
+use crate::reading::{are_texts, begun};
 use committee::Committee;
 use header::Checked;
 use journal::Record;
@@ -16,7 +20,7 @@ use opening::event_of;
 use sigface::Sign;
 use std::alloc::{AllocError, Global};
 use validator::Config;
-use wire::{Author, Digest, Message, Round, header_digest};
+use wire::{Author, Digest, Message, header_digest};
 
 /// A vote for the header of an author and round; an own header stands for the own vote.
 #[derive(Clone, Copy, Debug, PartialEq, Eq)]
@@ -24,12 +28,14 @@ pub struct Given {
     /// The header's author.
     pub author: Author,
     /// The header's round.
-    pub round: Round,
+    pub round: u64,
     /// The header's digest.
     pub digest: Digest,
 }
 
-/// The votes that the member has given by a journal of these records, in that order, own headers included.
+/// The votes that the member has given by a journal of these records, own headers included: those that its checkpoint says, for the
+/// headers of others by round and then by author and for own ones by round, and then those of its events, in their order. A checkpoint
+/// says none of rounds below its floor.
 ///
 /// # Errors
 /// What an opening of a node answers: `Damaged` with a place in bytes, `ConfigMismatch`, or `Memory` where an allocation failed.
@@ -38,11 +44,18 @@ pub fn votes_of<S: Sign>(
     config: &Config<S>,
     records: &[Record],
 ) -> Result<Vec<Given>, Flaw>
-    ensures ok { (bytes : List ℕ) → stands bytes ≡ Ok records.now → IfOk result (λ votes. AreVotes (node_of S.scheme config.now) bytes votes.items) }
-    ensures err { (bytes : List ℕ) → stands bytes ≡ Ok records.now → IfErr result (λ flaw. Tells flaw.error (told (node_of S.scheme config.now) bytes)) }
+    ensures ok { (areas : Areas) → IsPair areas → stands_in areas ≡ Ok records.now → IfOk result (λ votes. AreVotes (node_of S.scheme config.now) areas votes.items) }
+    ensures err { (areas : Areas) → IsPair areas → stands_in areas ≡ Ok records.now → IfErr result (λ flaw. Tells flaw.error (told_in (node_of S.scheme config.now) areas)) }
 {
-    let validator = after_records(alloc, config, records)?;
-    let votes = given_in_each(alloc, validator.committee(), events_of(records))?;
+    spec_machine::starts_fresh();
+    config.limits_hold();
+    are_texts(records);
+    let mut validator = begun(alloc, config, records)?;
+    let mut votes = given_by_kept(alloc, &validator)?;
+    let events = events_of(records);
+    replay(alloc, &mut validator, events)?;
+    let mut later = given_in_each(alloc, config.committee(), events)?;
+    votes.append(&mut later)?;
     Ok(votes)
 }
 
@@ -89,7 +102,7 @@ fn given_by(event: &Checked) -> Option<Given>
     match event.message() {
         Message::Header(header) => Some(Given {
             author: header.body.author,
-            round: header.body.round,
+            round: header.body.round.number(),
             digest: header_digest(&header.body),
         }),
         _ => None,

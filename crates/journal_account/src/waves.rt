@@ -1,10 +1,15 @@
 //! What the certificates of a journal are, by their digests, and which of them are leaders.
 
-use committee::Committee;
+use crate::flaw::Flaw;
+use crate::kept::kept_in;
+use crate::parts::events_of;
+use admission::Kept;
 use header::Checked;
 use journal::Record;
 use opening::event_of;
+use sigface::Sign;
 use std::alloc::{AllocError, Global};
+use validator::Config;
 use wire::{Author, Digest, HeaderBody, Message, Round, certificate_digest, header_digest};
 
 /// A certificate that may be held: one that came in, or that of an own header.
@@ -18,7 +23,7 @@ pub struct Named {
     pub author: Author,
 }
 
-/// The certificates and the coins of a journal.
+/// The certificates and the coins that a journal has.
 pub struct Waves {
     // By digest.
     named: Vec<Named>,
@@ -38,24 +43,45 @@ impl Drop for Waves {
 }
 
 impl Waves {
-    /// Those of the events of these records. `AllocError` where an allocation failed.
-    pub fn new(
+    /// Those of a journal of these records: of the checkpoint with which it begins, and of its events.
+    ///
+    /// # Errors
+    /// As `after_records`, but that events aren't tested.
+    pub fn new<S: Sign>(
         alloc: Global,
-        committee: &Committee,
+        config: &Config<S>,
         records: &[Record],
-    ) -> Result<Waves, AllocError> {
+    ) -> Result<Waves, Flaw> {
+        let committee = config.committee();
         let mut waves = Waves {
             named: Vec::new(alloc),
             coins: Vec::new(alloc),
             members: committee.size() as u64,
         };
-        for one in records {
+        waves.add_kept(&kept_in(alloc, config, records)?)?;
+        for one in events_of(records) {
             if let Some(event) = event_of(alloc, committee, one.bytes.as_slice())? {
                 waves.add(&event)?;
             }
         }
         waves.named.sort()?;
         Ok(waves)
+    }
+
+    // Adds what a checkpoint has of certificates and coins.
+    fn add_kept(&mut self, kept: &Kept) -> Result<(), AllocError> {
+        for (certificate, _) in &kept.certificates {
+            self.named.push(certificate_of(&certificate.header))?;
+        }
+        for voted in &kept.headers {
+            self.named.push(certificate_of(&voted.header.body))?;
+        }
+        for place in 0..kept.coins.count() {
+            if let Some(value) = kept.coins.nth(place) {
+                self.coins.push(value)?;
+            }
+        }
+        Ok(())
     }
 
     // Adds what an event has of certificates and coins.
@@ -118,7 +144,8 @@ pub(crate) fn certificate_of(body: &HeaderBody) -> Named {
 }
 
 /// For each certificate of an order the wave with whose leader it is ordered. In an order each leader comes last of those that are
-/// ordered with it, and nothing else of it is a leader. `AllocError` where an allocation failed.
+/// ordered with it, and nothing else of it is a leader. None of a certificate that isn't known: a checkpoint has those from its floor on
+/// alone, so each leader after a known one is known. `AllocError` where an allocation failed.
 pub fn waves_of(
     alloc: Global,
     waves: &Waves,
@@ -127,10 +154,11 @@ pub fn waves_of(
     let mut found = Vec::with_capacity(alloc, order.len())?;
     let mut wave = None;
     for digest in order.iter().rev() {
-        if let Some(led) = waves.find(digest).and_then(|one| waves.led_by(one)) {
+        let one = waves.find(digest);
+        if let Some(led) = one.and_then(|one| waves.led_by(one)) {
             wave = Some(led);
         }
-        found.push(wave)?;
+        found.push(if one.is_some() { wave } else { None })?;
     }
     found.reverse();
     Ok(found)

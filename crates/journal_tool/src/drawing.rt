@@ -9,7 +9,8 @@ use wire::Author;
 /// How many colours there are for what is ordered with one leader and another.
 const COLOURS: u64 = 12;
 
-/// Writes the rounds from one to another one, both included, as far as there are certificates. Round 0 is that of the genesis.
+/// Writes the rounds from one to another one, both included, as far as there are certificates. Round 0 is that of the genesis. With a
+/// checkpoint the first round is its floor.
 pub(crate) fn draw<W: Write>(
     graph: &Graph,
     from: u64,
@@ -17,6 +18,7 @@ pub(crate) fn draw<W: Write>(
     writer: &mut W,
 ) -> Result<(), Ending> {
     let last = graph.last_round().min(to);
+    let from = graph.first_round().max(from);
     begin(writer)?;
     if from <= last {
         for round in from..last.saturating_add(1) {

@@ -1,12 +1,16 @@
-//! The events of a journal, line by line, as its bytes spell them: nothing but the groups is tested.
+//! The records of a file of a journal, line by line, as its bytes spell them: nothing but the groups is tested.
 
 use crate::ending::Ending;
+use crate::kept_rows::kept_row;
 use crate::telling::{Column, put_line, short};
 use journal::{CLOSED, MAX_GROUP_BYTES, MAX_GROUP_RECORDS};
 use journal_account::{EVENT, FRONT_BYTES, Flaw, Why, own_number};
 use std::alloc::Global;
 use std::io::Write;
-use wire::{Message, WireError, batch_digest, certificate_digest, header_digest};
+use wire::{
+    Batch, Certificate, Header, Message, WireError, batch_digest, certificate_digest,
+    header_digest,
+};
 use wire_read::decode;
 
 /// The columns of a list.
@@ -19,23 +23,38 @@ const FRONT_OF_BODY: u64 = 5;
 
 /// What a list tells of a record. What it hasn't is None.
 #[derive(Clone, Copy)]
-struct Row {
-    kind: &'static str,
-    sender: Option<u64>,
-    author: Option<u64>,
-    round: Option<u64>,
-    wave: Option<u64>,
-    digest: Option<u32>,
+pub(crate) struct Row {
+    pub kind: &'static str,
+    pub sender: Option<u64>,
+    pub author: Option<u64>,
+    pub round: Option<u64>,
+    pub wave: Option<u64>,
+    pub digest: Option<u32>,
+}
+
+impl Row {
+    /// One of this kind, of which nothing else is told.
+    pub fn of(kind: &'static str) -> Row {
+        Row {
+            kind,
+            sender: None,
+            author: None,
+            round: None,
+            wave: None,
+            digest: None,
+        }
+    }
 }
 
 /// Writes a line for each record of the groups from a place on, in bytes: those behind open gates, and the one that may stand behind
-/// the closed gate.
+/// the closed gate. Places are counted from the file's base.
 ///
 /// # Errors
 /// `Flawed` at the place of an open gate without a whole group behind it, after the lines of those before; `Memory`; `Output`.
 pub(crate) fn list<W: Write>(
     alloc: Global,
     bytes: &[u8],
+    base: u64,
     from: u64,
     json: bool,
     writer: &mut W,
@@ -43,7 +62,7 @@ pub(crate) fn list<W: Write>(
     if bytes.len() < 2 {
         return Ok(());
     }
-    let (mut rest, mut place): (&[u8], u64) = (bytes, 0);
+    let (mut rest, mut place): (&[u8], u64) = (bytes, base);
     for _ in 0..bytes.len() {
         let Some((gate, behind)) = rest.split_first() else {
             return Ok(());
@@ -172,78 +191,84 @@ fn put_row<W: Write>(
 
 // What is told of a record.
 fn row_of(alloc: Global, record: &[u8]) -> Result<Row, Ending> {
-    let nothing = Row {
-        kind: "unreadable",
-        sender: None,
-        author: None,
-        round: None,
-        wave: None,
-        digest: None,
-    };
     if record.first() == Some(&0) {
         let own = own_number(record).map(|own| own.0 as u64);
         return Ok(Row {
-            kind: "configuration",
             sender: own,
-            ..nothing
+            ..Row::of("configuration")
         });
     }
-    if record.len() < FRONT_BYTES || record[0] != EVENT {
-        return Ok(nothing);
+    if record.first() != Some(&EVENT) {
+        return kept_row(alloc, record);
+    }
+    if record.len() < FRONT_BYTES {
+        return Ok(Row::of("unreadable"));
     }
     let sender = Some(u16::from_be_bytes([record[1], record[2]]) as u64);
-    let row = Row { sender, ..nothing };
     match decode(alloc, &record[FRONT_BYTES..]) {
-        Ok(message) => Ok(row_with(row, &message)),
+        Ok(message) => Ok(Row {
+            sender,
+            ..message_row(&message)
+        }),
         Err(WireError::Memory) => Err(Ending::Memory),
-        Err(_) => Ok(row),
+        Err(_) => Ok(Row {
+            sender,
+            ..Row::of("unreadable")
+        }),
     }
 }
 
-// The same with what a message tells.
-fn row_with(row: Row, message: &Message) -> Row {
+// What is told of a message.
+fn message_row(message: &Message) -> Row {
     match message {
-        Message::Batch(batch) => Row {
-            kind: "batch",
-            author: Some(batch.author().0 as u64),
-            digest: Some(short(&batch_digest(batch))),
-            ..row
-        },
+        Message::Batch(batch) => batch_row("batch", batch),
         Message::BatchAck(ack) => Row {
-            kind: "ack",
             author: Some(ack.author.0 as u64),
             digest: Some(short(&ack.batch)),
-            ..row
+            ..Row::of("ack")
         },
-        Message::Header(header) => Row {
-            kind: "header",
-            author: Some(header.body.author.0 as u64),
-            round: Some(header.body.round.number()),
-            digest: Some(short(&header_digest(&header.body))),
-            ..row
-        },
+        Message::Header(header) => header_row("header", header),
         Message::Vote(vote) => Row {
-            kind: "vote",
             author: Some(vote.author.0 as u64),
             round: Some(vote.round.number()),
             digest: Some(short(&vote.header)),
-            ..row
+            ..Row::of("vote")
         },
-        Message::Certificate(certificate) => {
-            let body = &certificate.header;
-            let digest = certificate_digest(&header_digest(body), body.round, body.author);
-            Row {
-                kind: "certificate",
-                author: Some(body.author.0 as u64),
-                round: Some(body.round.number()),
-                digest: Some(short(&digest)),
-                ..row
-            }
-        }
+        Message::Certificate(certificate) => certificate_row("certificate", certificate),
         Message::Coin(coin) => Row {
-            kind: "coin",
             wave: Some(coin.wave.number()),
-            ..row
+            ..Row::of("coin")
         },
+    }
+}
+
+/// What is told of a batch.
+pub(crate) fn batch_row(kind: &'static str, batch: &Batch) -> Row {
+    Row {
+        author: Some(batch.author().0 as u64),
+        digest: Some(short(&batch_digest(batch))),
+        ..Row::of(kind)
+    }
+}
+
+/// What is told of a header.
+pub(crate) fn header_row(kind: &'static str, header: &Header) -> Row {
+    Row {
+        author: Some(header.body.author.0 as u64),
+        round: Some(header.body.round.number()),
+        digest: Some(short(&header_digest(&header.body))),
+        ..Row::of(kind)
+    }
+}
+
+/// What is told of a certificate.
+pub(crate) fn certificate_row(kind: &'static str, certificate: &Certificate) -> Row {
+    let body = &certificate.header;
+    let digest = certificate_digest(&header_digest(body), body.round, body.author);
+    Row {
+        author: Some(body.author.0 as u64),
+        round: Some(body.round.number()),
+        digest: Some(short(&digest)),
+        ..Row::of(kind)
     }
 }

@@ -1,17 +1,18 @@
-//! A run: a command on a journal, whose file is opened for reading alone.
+//! A run: a command on a journal, whose two files are opened for reading alone.
 
 use crate::drawing::{draw, draw_nothing};
 use crate::ending::Ending;
+use crate::files::{Both, both_at, listed};
 use crate::listing::{COLUMNS, list};
 use crate::request::{Command, Request, request_of};
 use crate::telling::{Column, put_hex, put_line, put_names};
 use committee::{Committee, CommitteeError};
-use journal::Record;
+use journal::{Record, Side};
 use journal_account::{
     Graph, Summary, Waves, config_in, last_frame, order_of, records_in, summary_of, votes_of,
     waves_of,
 };
-use node_io::{read_committee_file, read_regular_file};
+use node_io::read_committee_file;
 use sigface::HashSign;
 use std::alloc::Global;
 use std::fs::File;
@@ -48,17 +49,18 @@ where
     W: Write,
 {
     let request = request_of(args)?;
-    let bytes = bytes_at(rt, request.journal)?;
+    let both = both_at(rt, alloc, request.journal)?;
     match request.command {
         Command::List => {
             put_names(request.json, &COLUMNS, writer)?;
-            list(alloc, &bytes, request.from, request.json, writer)?;
+            let (bytes, base) = listed(alloc, both)?;
+            list(alloc, &bytes, base, request.from, request.json, writer)?;
             Ok(Ending::Done)
         }
-        Command::Verify => verify(rt, alloc, request, bytes, writer),
-        Command::Compare => compare(rt, alloc, request, bytes, writer),
+        Command::Verify => verify(rt, alloc, request, both, writer),
+        Command::Compare => compare(rt, alloc, request, both, writer),
         Command::Votes | Command::LastHeader | Command::Order | Command::Graph => {
-            let (config, records) = read(rt, alloc, request.other, bytes)?;
+            let (config, records) = read(rt, alloc, request.other, both)?;
             match config {
                 Some(config) => tell(alloc, request, &config, &records, writer)?,
                 None if request.command == Command::Graph => draw_nothing(writer)?,
@@ -69,27 +71,20 @@ where
     }
 }
 
-// All the bytes of a journal's file.
-fn bytes_at<R: Files<File = File> + AllocGlobal>(rt: &R, path: &str) -> Result<Vec<u8>, Ending> {
-    match read_regular_file(rt, path, u64::MAX) {
-        Ok(bytes) => Ok(bytes),
-        Err(error) => Err(Ending::of_file(&error)),
-    }
-}
-
 // The records of a journal, and whose it is: that of the member of the file's committee that it names, or else of its own. None
 // where there is no record.
 fn read<R: Files<File = File> + AllocGlobal>(
     rt: &R,
     alloc: Global,
     file: Option<&str>,
-    bytes: Vec<u8>,
+    both: Both,
 ) -> Result<(Option<Config<HashSign>>, Vec<Record>), Ending> {
     let committee = match file {
         Some(path) => Some(committee_at(rt, alloc, path)?),
         None => None,
     };
-    let records = records_in(alloc, bytes)?;
+    let Both { first, second } = both;
+    let records = records_in(alloc, first, second)?;
     let config = config_in(alloc, committee, &records)?;
     Ok((config, records))
 }
@@ -120,14 +115,14 @@ fn verify<R, W>(
     rt: &R,
     alloc: Global,
     request: Request<'_>,
-    bytes: Vec<u8>,
+    both: Both,
     writer: &mut W,
 ) -> Result<Ending, Ending>
 where
     R: Files<File = File> + AllocGlobal,
     W: Write,
 {
-    match verified(rt, alloc, request.other, bytes) {
+    match verified(rt, alloc, request.other, both) {
         Ok(summary) => {
             put_summary(request.json, summary, writer)?;
             Ok(Ending::Done)
@@ -148,40 +143,56 @@ fn verified<R: Files<File = File> + AllocGlobal>(
     rt: &R,
     alloc: Global,
     file: Option<&str>,
-    bytes: Vec<u8>,
+    both: Both,
 ) -> Result<Summary, Ending> {
-    let (config, records) = read(rt, alloc, file, bytes)?;
+    let (config, records) = read(rt, alloc, file, both)?;
     match config {
         Some(config) => Ok(summary_of(alloc, &config, &records)?),
         None => Ok(Summary::empty()),
     }
 }
 
+// Writes what a journal comes to. Where it has no checkpoint nothing is said of one.
 fn put_summary<W: Write>(json: bool, summary: Summary, writer: &mut W) -> Result<(), Ending> {
     let Summary {
         events,
         order,
         round,
         floor,
+        checkpoint,
     } = summary;
     if json {
-        put_line(
-            json,
-            &["events", "order", "round", "floor"],
-            &[
+        let (names, columns) = (
+            ["events", "order", "round", "floor", "checkpoint", "area"],
+            [
                 Column::Number(Some(events)),
                 Column::Number(Some(order)),
                 Column::Number(Some(round)),
                 Column::Number(Some(floor)),
+                Column::Number(checkpoint.map(|(generation, _)| generation)),
+                Column::Number(checkpoint.map(|(_, side)| area_of(side))),
             ],
-            writer,
-        )
-    } else {
-        writeln!(
-            writer,
-            "{events} events, order of {order}, round {round}, floor {floor}"
-        )?;
-        Ok(())
+        );
+        let count = if checkpoint.is_some() { 6 } else { 4 };
+        return put_line(json, &names[..count], &columns[..count], writer);
+    }
+    write!(
+        writer,
+        "{events} events, order of {order}, round {round}, floor {floor}"
+    )?;
+    if let Some((generation, side)) = checkpoint {
+        let area = area_of(side);
+        write!(writer, ", after checkpoint {generation} in area {area}")?;
+    }
+    writeln!(writer, "")?;
+    Ok(())
+}
+
+// The number of the area that a file is.
+fn area_of(side: Side) -> u64 {
+    match side {
+        Side::First => 0,
+        Side::Second => 1,
     }
 }
 
@@ -229,7 +240,7 @@ fn tell_votes<W: Write>(
             names,
             &[
                 Column::Number(Some(vote.author.0 as u64)),
-                Column::Number(Some(vote.round.number())),
+                Column::Number(Some(vote.round)),
                 Column::Digest(&vote.digest),
             ],
             writer,
@@ -248,7 +259,7 @@ fn tell_order<W: Write>(
 ) -> Result<(), Ending> {
     let names = names_of(Command::Order);
     let order = order_of(alloc, config, records)?;
-    let waves = Waves::new(alloc, config.committee(), records)?;
+    let waves = Waves::new(alloc, config, records)?;
     let found = waves_of(alloc, &waves, &order)?;
     put_names(json, names, writer)?;
     for (i, (digest, wave)) in order.iter().zip(&found).enumerate() {
@@ -295,7 +306,7 @@ fn tell_last<W: Write>(
 ) -> Result<(), Ending> {
     // What can't be opened isn't told of.
     let _ = summary_of(alloc, config, records)?;
-    let Some(frame) = last_frame(alloc, config.committee(), config.own(), records)? else {
+    let Some(frame) = last_frame(alloc, config, records)? else {
         return Ok(());
     };
     if bytes {
@@ -312,16 +323,16 @@ fn compare<R, W>(
     rt: &R,
     alloc: Global,
     request: Request<'_>,
-    bytes: Vec<u8>,
+    both: Both,
     writer: &mut W,
 ) -> Result<Ending, Ending>
 where
     R: Files<File = File> + AllocGlobal,
     W: Write,
 {
-    let left = order_in(rt, alloc, bytes)?;
+    let left = order_in(rt, alloc, both)?;
     let right = match request.other {
-        Some(path) => order_in(rt, alloc, bytes_at(rt, path)?)?,
+        Some(path) => order_in(rt, alloc, both_at(rt, alloc, path)?)?,
         None => Vec::new(alloc),
     };
     let (first, second) = (left.len(), right.len());
@@ -348,9 +359,9 @@ where
 fn order_in<R: Files<File = File> + AllocGlobal>(
     rt: &R,
     alloc: Global,
-    bytes: Vec<u8>,
+    both: Both,
 ) -> Result<Vec<Digest>, Ending> {
-    let (config, records) = read(rt, alloc, None, bytes)?;
+    let (config, records) = read(rt, alloc, None, both)?;
     match config {
         Some(config) => Ok(order_of(alloc, &config, &records)?),
         None => Ok(Vec::new(alloc)),

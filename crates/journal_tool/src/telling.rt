@@ -20,7 +20,12 @@ pub(crate) enum Column<'a> {
 /// The first four bytes of a digest.
 pub(crate) fn short(digest: &Digest) -> u32 {
     let [first, second, third, fourth, ..] = digest.0;
-    u32::from_be_bytes([first, second, third, fourth])
+    short_of([first, second, third, fourth])
+}
+
+/// The number of these bytes, which are the first four of a digest.
+pub(crate) fn short_of(bytes: [u8; 4]) -> u32 {
+    u32::from_be_bytes(bytes)
 }
 
 /// Writes the line of the names, where there are some and lines aren't objects.

@@ -1,0 +1,118 @@
+//! Which of a journal's two files is read, and its records. An opening of a node reads them by the same definitions.
+
+ghost use Rattle.std.specs.Prelude.{◌≡◌, ◌<◌, ◌^◌, Ok, All, map, IfOk, IfErr};
+ghost use Rattle.journal.specs.Areas.{tells, chosen, pair, stands_in, moved, moved_by};
+ghost use Rattle.journal.specs.Format.{FailsAs, stands};
+ghost use Rattle.journal.specs.declared.layout.TheConstants.{SECOND_AREA};
+
+use crate::flaw::{Flaw, Why};
+use journal::{JournalError, Record, SECOND_AREA, Side, stands, tells};
+use opening::is_text;
+use std::alloc::Global;
+
+/// The file that is read, of two with these bytes: that of the greater generation. None where neither has an open gate in front.
+///
+/// # Errors
+/// `Damaged` at the first gate of the file whose first group is none of a journal, or of the second file where both have the same
+/// generation; `Memory`.
+pub fn side_read(alloc: Global, first: &[u8], second: &[u8]) -> Result<Option<Side>, Flaw>
+    ensures ok { IfOk result (λ side. chosen (tells first.now) (tells second.now) ≡ Ok side) }
+    ensures err { IfErr result (λ flaw. FailsAs flaw.error (chosen (tells first.now) (tells second.now))) }
+{
+    let one = tells(alloc, first)?;
+    let other = tells(alloc, second)?;
+    choose(one, other)
+}
+
+/// The records of a journal with these bytes in its two files, which are let go.
+///
+/// # Errors
+/// Those of `side_read`; `Damaged` at an open gate without a whole group behind it, or `Memory`.
+#[tactic(auto, unfolding(journal::specs::Areas::stands_in))]
+pub fn records_in(alloc: Global, first: Vec<u8>, second: Vec<u8>) -> Result<Vec<Record>, Flaw>
+    ensures ok { IfOk result (λ records. stands_in (pair first.items second.items) ≡ Ok records.items) }
+    ensures err { IfErr result (λ flaw. FailsAs flaw.error (stands_in (pair first.items second.items))) }
+{
+    match side_read(alloc, &first, &second)? {
+        None => Ok(Vec::new(alloc)),
+        Some(Side::First) => first_records(alloc, first),
+        Some(Side::Second) => second_records(alloc, second),
+    }
+}
+
+// The file that is read, by what both tell.
+#[tactic(auto, unfolding(journal::specs::Areas::chosen))]
+fn choose(first: Option<Option<u64>>, second: Option<Option<u64>>) -> Result<Option<Side>, Flaw>
+    ensures ok { IfOk result (λ side. chosen first second ≡ Ok side) }
+    ensures err { IfErr result (λ flaw. FailsAs flaw.error (chosen first second)) }
+{
+    match (first, second) {
+        (None, None) => Ok(None),
+        (Some(None), _) => Err(Flaw::at(0, Why::FirstGroup)),
+        (_, Some(None)) => Err(Flaw::at(SECOND_AREA, Why::FirstGroup)),
+        (Some(Some(_)), None) => Ok(Some(Side::First)),
+        (None, Some(Some(_))) => Ok(Some(Side::Second)),
+        (Some(Some(one)), Some(Some(other))) => {
+            if one == other {
+                Err(Flaw::at(SECOND_AREA, Why::Same))
+            } else if other < one {
+                Ok(Some(Side::First))
+            } else {
+                Ok(Some(Side::Second))
+            }
+        }
+    }
+}
+
+// The records of the first file.
+fn first_records(alloc: Global, bytes: Vec<u8>) -> Result<Vec<Record>, Flaw>
+    ensures ok { IfOk result (λ records. stands bytes.items ≡ Ok records.items) }
+    ensures err { IfErr result (λ flaw. FailsAs flaw.error (stands bytes.items)) }
+{
+    match stands(alloc, &bytes) {
+        Ok(records) => Ok(records),
+        Err(error) => Err(Flaw {
+            error,
+            why: Why::of_reading(error),
+        }),
+    }
+}
+
+// Those of the second one, whose places are counted from `SECOND_AREA`.
+fn second_records(alloc: Global, bytes: Vec<u8>) -> Result<Vec<Record>, Flaw>
+    ensures ok { IfOk result (λ records. moved SECOND_AREA (stands bytes.items) ≡ Ok records.items) }
+    ensures err { IfErr result (λ flaw. FailsAs flaw.error (moved SECOND_AREA (stands bytes.items))) }
+{
+    journal::damage_is_found();
+    is_text(&bytes, 0);
+    let len = bytes.len() as u64;
+    match stands(alloc, &bytes) {
+        Ok(mut records) => {
+            move_all(&mut records, len);
+            Ok(records)
+        }
+        Err(JournalError::Damaged(gate)) => Err(Flaw::at(SECOND_AREA + gate, Why::Group)),
+        Err(_) => Err(Flaw::memory()),
+    }
+}
+
+// Counts the places of records from `SECOND_AREA`, all of them below this length.
+fn move_all(records: &mut Vec<Record>, len: u64)
+    requires below { All (λ one. one.gate < len) records.old.items }
+    requires room { len < 2 ^ 63 }
+    ensures { records.new.items ≡ map (moved_by SECOND_AREA) records.old.items }
+{
+    for one in records.iter_mut() {
+        one.gate += SECOND_AREA;
+    }
+}
+
+impl Why {
+    // Why no records were read.
+    fn of_reading(error: JournalError) -> Why {
+        match error {
+            JournalError::Memory => Why::Memory,
+            _ => Why::Group,
+        }
+    }
+}

@@ -1,0 +1,112 @@
+//! The parts of a journal's records: the first group, those of a checkpoint's state, and those of events.
+
+ghost use Rattle.std.specs.Prelude.{◌≡◌, ◌≤◌, length, take, drop};
+ghost use Rattle.std.specs.Option.{option_copied, option_map};
+ghost use Rattle.journal.specs.Areas.{head_in};
+ghost use Rattle.opening.specs.Told.{is_event as is_event_of, state_part, events_part};
+ghost use Rattle.journal_account.specs.Accounts.{behind_head, events_in, generation_in, side_in};
+
+use journal::{HEAD, HEAD_BYTES, Record, SECOND_AREA, Side};
+use opening::EVENT;
+
+/// The records of events: those after the first group, and after those of a checkpoint's state.
+#[tactic(auto, unfolding(crate::specs::Accounts::events_in))]
+pub(crate) fn events_of(records: &[Record]) -> &[Record]
+    ensures { result.now ≡ events_in records.now }
+{
+    match records.split_first() {
+        Some((first, rest)) => match behind_head(first, rest) {
+            Some(others) => {
+                let (_, events) = others.split_at(state_count(others));
+                events
+            }
+            None => rest,
+        },
+        None => &[],
+    }
+}
+
+/// The generation of a checkpoint with which these records begin, and the file in which it is. None where they begin with a
+/// configuration alone.
+pub(crate) fn checkpoint_in(records: &[Record]) -> Option<(u64, Side)>
+    ensures { result ≡ option_map (λ generation. (generation, side_in records.now)) (generation_in records.now) }
+{
+    match generation_in(records) {
+        Some(generation) => Some((generation, side_in(records))),
+        None => None,
+    }
+}
+
+/// The file in which records are: the second one, where their places are counted from its base.
+#[tactic(auto, unfolding(crate::specs::Accounts::side_in))]
+fn side_in(records: &[Record]) -> Side
+    ensures { result ≡ side_in records.now }
+{
+    match records {
+        [first, ..] if first.gate >= SECOND_AREA => Side::Second,
+        _ => Side::First,
+    }
+}
+
+/// The generation that a head in the first group has.
+#[tactic(auto, unfolding(crate::specs::Accounts::generation_in))]
+fn generation_in(records: &[Record]) -> Option<u64>
+    ensures { result ≡ generation_in records.now }
+{
+    match records {
+        [first, head, ..] if head.gate == first.gate => head_in(head.bytes.as_slice()),
+        _ => None,
+    }
+}
+
+// The generation that the record of a head has.
+#[tactic(auto, unfolding(journal::specs::Areas::head_in))]
+fn head_in(bytes: &[u8]) -> Option<u64>
+    ensures { result ≡ head_in bytes.now }
+{
+    if bytes.len() != HEAD_BYTES || bytes[0] != HEAD {
+        return None;
+    }
+    let generation = u64::from_be_bytes([
+        bytes[1], bytes[2], bytes[3], bytes[4], bytes[5], bytes[6], bytes[7], bytes[8],
+    ]);
+    if generation == 0 {
+        None
+    } else {
+        Some(generation)
+    }
+}
+
+/// The records after a head, where one stands in the group of the first record.
+#[tactic(auto, unfolding(crate::specs::Accounts::behind_head))]
+pub(crate) fn behind_head<'r>(first: &Record, rest: &'r [Record]) -> Option<&'r [Record]>
+    ensures { option_copied result ≡ behind_head first.now rest.now }
+{
+    match rest.split_first() {
+        Some((head, others)) if head.gate == first.gate => Some(others),
+        _ => None,
+    }
+}
+
+/// How many records come before the first one of an event.
+pub(crate) fn state_count(records: &[Record]) -> usize
+    ensures state { take result records.now ≡ state_part records.now }
+    ensures events { drop result records.now ≡ events_part records.now }
+    ensures within { result ≤ length records.now }
+{
+    let mut count = 0;
+    while count < records.len() && !is_event(&records[count]) {
+        count += 1;
+    }
+    count
+}
+
+// Whether a record's kind is an event's.
+fn is_event(one: &Record) -> bool
+    ensures { result ≡ is_event_of one.now }
+{
+    match one.bytes.as_slice().first() {
+        Some(kind) => *kind == EVENT,
+        None => false,
+    }
+}
