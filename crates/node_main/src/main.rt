@@ -2,15 +2,20 @@
 #![tactic(auto)]
 
 use node_io::Blocking;
-use node_run::Ending;
 pub use node_run::run;
+use node_run::{CHECKPOINT_BYTES, Ending};
+use std::env::VarError;
 use std::process::ExitCode;
 use std::{env, io};
 
+/// The environment's name for how much longer the journal gets before a checkpoint, in bytes, where that isn't the usual number. Trials
+/// set it, to have checkpoints soon.
+const EVERY: &str = "NARWHAL_CHECKPOINT_BYTES";
+
 fn main(rt: HostRuntime) -> ExitCode {
     let mut errors = Blocking::new(&rt, rt.stderr());
-    let args = match arguments(&rt) {
-        Ok(args) => args,
+    let (args, every) = match asked(&rt) {
+        Ok(asked) => asked,
         Err(ending) => {
             ending.write_to(&mut errors);
             return ExitCode::from(ending.status());
@@ -18,8 +23,23 @@ fn main(rt: HostRuntime) -> ExitCode {
     };
     let reader = Blocking::new(&rt, rt.stdin());
     let writer = Blocking::new(&rt, rt.stdout());
-    let (status, _) = run(&rt, rt.alloc(), &args, reader, writer, &mut errors);
-    ExitCode::from(status)
+    let ran = run(&rt, rt.alloc(), &args, every, reader, writer, &mut errors);
+    ExitCode::from(ran.ending.status())
+}
+
+// What the program was started with: its arguments, and how much longer the journal gets before a checkpoint.
+fn asked(rt: &HostRuntime) -> Result<(Vec<String>, u64), Ending> {
+    Ok((arguments(rt)?, every(rt)?))
+}
+
+// How much longer the journal gets before a checkpoint.
+fn every(rt: &HostRuntime) -> Result<u64, Ending> {
+    match env::var(rt, EVERY) {
+        Ok(digits) => digits.parse().map_err(|_| Ending::Usage),
+        Err(VarError::NotPresent) => Ok(CHECKPOINT_BYTES),
+        Err(VarError::OutOfMemory) => Err(Ending::Memory),
+        Err(VarError::NotUnicode) => Err(Ending::Usage),
+    }
 }
 
 // The arguments after the program's name.

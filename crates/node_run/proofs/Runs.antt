@@ -48,7 +48,7 @@ use Rattle.node_run.specs.Ends.{TellsRounds}
 use Rattle.wire.specs.declared.keys.Key.{Key}
 use Rattle.node_run.specs.Members.{IsConfigOf, RefusesOpening}
 use Rattle.node_run.proofs.Written.{written_weaker, wrote_nothing}
-use Rattle.node_run.specs.Runs.{HoldsMore, GoesOn, GoesOutAfterPrefix, AreSettled, IsReadAsOneOf, NoneOrOnDisk, GivesOnly, IsOfLoss, ComesByRule, RunsOver, RunsAs, every_on, is_all_brought, is_all_written, rule_on}
+use Rattle.node_run.specs.Runs.{HoldsMore, GoesOn, GoesOutAfterPrefix, AreSettled, IsReadAsOneOf, NoneOrOnDisk, GivesOnly, IsOfLoss, AreTwo, ComesByRule, RunsOver, RunsAs, every_on, is_all_brought, is_all_written, rule_on}
 use Rattle.node_run.specs.Writing.{no_memory, HasWritten, MayGo}
 use Rattle.node_run.specs.declared.ran.Ran.{Ran}
 use Rattle.sigface.specs.Scheme.{Scheme}
@@ -388,8 +388,8 @@ gives_nothing {D} {W} node device contents store writer ran back = record {
 -- a member whom a number names ran
 pub run_as : {O D W : Type 0} (scheme : Scheme Key) (device : Device D) (contents : W → Option (List ℕ))
     (named : Option O) (bytes_of : O → List ℕ) (config : ConfigView Key) (store : Store D) (every : ℕ) (writer : W) (ran : Ran D W) (text : List ℕ) → IfSome named (λ own. IsConfigOf text (bytes_of own) config)
-    → RunsOver (node_of scheme config) device store every ran.ending ran.store → GivesOnly (node_of scheme config) device contents store writer ran
+    → AreTwo store → RunsOver (node_of scheme config) device store every ran.ending ran.store → GivesOnly (node_of scheme config) device contents store writer ran
     → IfSome named (λ own. (RefusesOpening (bytes_of own) ran.ending × (ran.writer ≡ Some writer)) ⊎ RunsAs scheme device contents (bytes_of own) every writer ran)
-run_as scheme device contents None bytes_of config store every writer ran text is_of runs gives = tt
-run_as scheme device contents (Some own) bytes_of config store every writer ran text is_of runs gives =
-    inr (record { text = text; config = config; is_of = is_of; store = store; runs = runs; gives = gives })
+run_as scheme device contents None bytes_of config store every writer ran text is_of two runs gives = tt
+run_as scheme device contents (Some own) bytes_of config store every writer ran text is_of two runs gives =
+    inr (record { text = text; config = config; is_of = is_of; store = store; two = two; runs = runs; gives = gives })

@@ -175,11 +175,17 @@ pub record GivesOnly {D W : Type 0} (node : Node) (disks : Device D) (contents :
   pub written : IfSome ran.store (λ left. IfSome ran.writer (λ later. HasWritten (NoneOrOnDisk node disks store left) (is_all_written ran.ending ≡ true) (contents writer) (contents later)))
   pub lost : ran.writer ≡ None → IsOfLoss ran.ending
 
--- the member whom a number names in the committee of some text ran over some disk or two, and gave this back
+-- there are two disks
+abbrev pub AreTwo : {D : Type 0} → Store D → Type 0
+AreTwo (One disk) = ⊥
+AreTwo (Two first second) = ⊤
+
+-- the member whom a number names in the committee of some text ran over two disks, and gave this back
 pub record RunsAs {D W : Type 0} (scheme : Scheme Key) (device : Device D) (contents : W → Option (List ℕ)) (own : List ℕ) (every : ℕ) (writer : W) (ran : Ran D W) : Type 0 where
   pub text : List ℕ
   pub config : ConfigView Key
   pub is_of : IsConfigOf text own config
   pub store : Store D
+  pub two : AreTwo store
   pub runs : RunsOver (node_of scheme config) device store every ran.ending ran.store
   pub gives : GivesOnly (node_of scheme config) device contents store writer ran

@@ -6,6 +6,7 @@ mod bell;
 mod beside;
 mod caller;
 mod due;
+mod files;
 mod flushing;
 mod intake;
 mod member;
@@ -19,4 +20,4 @@ mod writing;
 
 pub use node_io::Ending;
 pub use ran::Ran;
-pub use running::{CHECKPOINT_BYTES, checkpoint_bytes_in_numbers, run, run_every, run_over};
+pub use running::{CHECKPOINT_BYTES, checkpoint_bytes_in_numbers, run, run_over};

@@ -3,11 +3,8 @@
 ghost use Rattle.std.specs.Prelude.{◌≡◌, ◌≢◌, ◌⊎◌, ◌^◌, Some, IfSome, length, slice_get, string_bytes};
 ghost use Rattle.wire.specs.declared.keys.Key.{Key};
 ghost use Rattle.validator.specs.Setting.{ConfigView, node_of};
-ghost use Rattle.node_io.specs.Endings.{status_of};
 ghost use Rattle.node_run.specs.Members.{IsConfigOf, RefusesConfig, RefusesOpening};
 ghost use Rattle.node_run.specs.Runs.{RunsOver, GivesOnly, RunsAs};
-ghost use Rattle.disk_file.specs.declared.disk.FileDisk.{FileDisk};
-ghost use Rattle.node_run.specs.declared.ran.Ran.{Ran};
 ghost use Rattle.node_run.specs.declared.running.TheConstants.{CHECKPOINT_BYTES};
 
 use crate::member::run_member;
@@ -33,33 +30,12 @@ pub fn checkpoint_bytes_in_numbers()
     ensures { CHECKPOINT_BYTES ≡ 2 ^ 30 }
 {}
 
-/// Runs a node. The arguments are a committee file, the own number and a journal file. Frames are read until they end, refusals go to
-/// the errors, a line each, and outputs to the writer. Answers the exit status, and the writer, if it wasn't lost; where the status
-/// isn't 0 the last line of the errors says why. A journal on one file is never rewritten.
+/// Runs a node. The arguments are a committee file, the own number and the first of the journal's two files. Frames are read until they
+/// end, refusals go to the errors, a line each, and outputs to the writer. The journal is rewritten to a checkpoint after each round that
+/// leaves the area which is read so many bytes longer than it was at the opening, or after the last checkpoint. Answers how the run ended,
+/// the disks, if they were opened and weren't lost with a thread that couldn't be made, and the writer, if it wasn't lost so or where an
+/// allocation failed. Where the ending's status isn't 0 the last line of the errors says why.
 pub fn run<R, I, W, E>(
-    rt: &R,
-    alloc: Global,
-    args: &[String],
-    reader: I,
-    writer: W,
-    errors: &mut E,
-) -> (u8, Option<W>)
-where
-    R: Files<File = File> + AllocGlobal + Threads + Wait + Sync,
-    I: Read + Drop,
-    W: Write + Drop + Send,
-    E: Write,
-    ensures arguments { length args.now ≢ 3 → (result.0 ≡ 2) × (result.1 ≡ Some writer) }
-    // Either the ending says why nothing was opened, and nothing was written, or the member of that number ran over its disks.
-    ensures ending { (ran : Ran FileDisk W) × (result.0 ≡ status_of ran.ending) × (result.1 ≡ ran.writer) × IfSome (slice_get args.now 1) (λ own. (RefusesOpening (string_bytes own) ran.ending × (ran.writer ≡ Some writer))
-        ⊎ RunsAs ⟦<HashSign as Sign>⟧.scheme ⟦<FileDisk as Disk>⟧.device W.contents (string_bytes own) CHECKPOINT_BYTES writer ran) }
-{
-    run_every(rt, alloc, args, CHECKPOINT_BYTES, reader, writer, errors)
-}
-
-/// The same, with a checkpoint after a round that leaves the area which is read so many bytes longer than at the opening or after the last
-/// one.
-pub fn run_every<R, I, W, E>(
     rt: &R,
     alloc: Global,
     args: &[String],
@@ -67,24 +43,20 @@ pub fn run_every<R, I, W, E>(
     reader: I,
     writer: W,
     errors: &mut E,
-) -> (u8, Option<W>)
+) -> Ran<FileDisk, W>
 where
     R: Files<File = File> + AllocGlobal + Threads + Wait + Sync,
     I: Read + Drop,
     W: Write + Drop + Send,
     E: Write,
-    ensures arguments { length args.now ≢ 3 → (result.0 ≡ 2) × (result.1 ≡ Some writer) }
+    ensures arguments { length args.now ≢ 3 → (result.ending ≡ Ending.Usage) × (result.writer ≡ Some writer) }
     // Either the ending says why nothing was opened, and nothing was written, or the member of that number ran over its disks.
-    ensures ending { (ran : Ran FileDisk W) × (result.0 ≡ status_of ran.ending) × (result.1 ≡ ran.writer) × IfSome (slice_get args.now 1) (λ own. (RefusesOpening (string_bytes own) ran.ending × (ran.writer ≡ Some writer))
-        ⊎ RunsAs ⟦<HashSign as Sign>⟧.scheme ⟦<FileDisk as Disk>⟧.device W.contents (string_bytes own) every writer ran) }
+    ensures ending { IfSome (slice_get args.now 1) (λ own. (RefusesOpening (string_bytes own) result.ending × (result.writer ≡ Some writer))
+        ⊎ RunsAs ⟦<HashSign as Sign>⟧.scheme ⟦<FileDisk as Disk>⟧.device W.contents (string_bytes own) every writer result) }
 {
-    let Ran {
-        ending,
-        store: _,
-        writer,
-    } = run_named(rt, alloc, args, every, reader, writer, errors);
-    ending.write_to(errors);
-    (ending.status(), writer)
+    let ran = run_named(rt, alloc, args, every, reader, writer, errors);
+    ran.ending.write_to(errors);
+    ran
 }
 
 // Runs a node that the arguments name.

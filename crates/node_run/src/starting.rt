@@ -2,7 +2,9 @@
 
 ghost use Rattle.std.specs.Prelude.{◌≡◌, ◌≢◌, ℕ, List, Err, IfOk, IfErr, IfSome, length, slice_get, string_bytes};
 ghost use Rattle.node_run.specs.Members.{IsConfigOf, RefusesConfig, RefusesOpening};
+ghost use Rattle.node_run.specs.Runs.{AreTwo};
 
+use crate::files::open_files;
 use committee::{Committee, CommitteeError};
 use disk_file::{FileDisk, OpenError};
 use journal::{JournalError, Store};
@@ -14,10 +16,10 @@ use std::rt::Files;
 use std::str;
 use validator::Config;
 
-/// The configuration and the journal that the arguments name: the committee file, the own number, the journal.
+/// The configuration and the journal that the arguments name: the committee file, the own number, the first of the journal's two files.
 ///
 /// # Errors
-/// That of the first test that fails: of the number of arguments, the file, its text, the own number, the journal.
+/// That of the first test that fails: of the number of arguments, the file, its text, the own number, the journal's files.
 pub(crate) fn open_all<R: Files<File = File> + AllocGlobal>(
     rt: &R,
     alloc: Global,
@@ -25,6 +27,7 @@ pub(crate) fn open_all<R: Files<File = File> + AllocGlobal>(
 ) -> Result<(Config<HashSign>, Store<FileDisk>), Ending>
     ensures arguments { length args.now ≢ 3 → result ≡ Err Ending.Usage }
     ensures member { IfOk result (λ opened. (text : List ℕ) × IfSome (slice_get args.now 1) (λ own. IsConfigOf text (string_bytes own) opened.0)) }
+    ensures two { IfOk result (λ opened. AreTwo opened.1) }
     ensures refused { IfErr result (λ ending. IfSome (slice_get args.now 1) (λ own. RefusesOpening (string_bytes own) ending)) }
 {
     let [file, own, journal] = args else {
@@ -32,8 +35,8 @@ pub(crate) fn open_all<R: Files<File = File> + AllocGlobal>(
     };
     let text = read_committee_file(rt, file.as_str())?;
     let config = config_of(alloc, &text, own.as_str())?;
-    match FileDisk::open(rt, alloc, journal.as_str()) {
-        Ok(disk) => Ok((config, Store::One(disk))),
+    match open_files(rt, alloc, journal.as_str()) {
+        Ok(store) => Ok((config, store)),
         Err(OpenError::Memory) => Err(Ending::Memory),
         Err(_) => Err(Ending::Journal(JournalError::Device)),
     }

@@ -2,7 +2,7 @@
 
 use crate::live::answers::tell_errors;
 use crate::live::words::{Told, put_number};
-use node_run::run;
+use node_run::{CHECKPOINT_BYTES, run};
 use std::alloc::Global;
 use std::fs::File;
 use std::io;
@@ -22,8 +22,9 @@ pub fn run_files<R: Files<File = File> + AllocGlobal + Threads + Wait + Sync>(
         args.push(String::from_str(alloc, word)?)?;
     }
     let mut errors = Vec::new(alloc);
-    let (status, _) = run(rt, alloc, &args, io::empty(), io::sink(), &mut errors);
+    let (reader, writer) = (io::empty(), io::sink());
+    let ran = run(rt, alloc, &args, CHECKPOINT_BYTES, reader, writer, &mut errors);
     tell_errors(&errors, answer);
-    put_number(answer, "status", status as u64);
+    put_number(answer, "status", ran.ending.status() as u64);
     Ok(())
 }
