@@ -1,15 +1,19 @@
 -- What the threads of a node wrote, and the disks that they leave.
-use Rattle.std.proofs.Common.{◌≡◌, Bool, false, List, Option, Some, None, ℕ, sym, subst, ◌∙◌}
+use Rattle.std.proofs.Common.{◌≡◌, Bool, false, List, Option, Some, None, ℕ, refl, ap, sym, subst, ◌∙◌}
 use Rattle.std.proofs.lemmas.Bool.{or_parts}
 use Rattle.std.specs.Prelude.{◌||◌, All, IfSome}
 use Rattle.diskmodel.specs.Disk.{Device}
 use Rattle.flusher.specs.Rounds.{journal_of, is_down, settled_in}
 use Rattle.journal.specs.Pairs.{store_of}
+use Rattle.journal.specs.declared.error.JournalError.{JournalError}
+use Rattle.journal.specs.declared.error.JournalError.TheVariants as journal
 use Rattle.journal.specs.declared.store.Store.{Store}
 use Rattle.node.specs.Callers.{RoundsView}
 use Rattle.node.specs.Disks.{MayBeLeft}
-use Rattle.node_io.specs.Endings.{first_of}
+use Rattle.node_io.specs.Endings.{behind_input, first_of}
 use Rattle.node_io.specs.declared.faults.Faults.{Faults}
+use Rattle.node_io.specs.declared.input.End.{End}
+use Rattle.node_io.specs.declared.input.End.TheVariants as ends
 use Rattle.node_seats.proofs.Beginnings.{begins_trans}
 use Rattle.node_seats.specs.declared.view.View.{View}
 use Rattle.node_shared.specs.Home.{NodeView}
@@ -17,7 +21,8 @@ use Rattle.sigface.specs.Scheme.{Scheme}
 use Rattle.wire.specs.Lists.{Begins}
 use Rattle.node_run.proofs.Pending.{none_of_both}
 use Rattle.node_run.proofs.Written.{written_weaker}
-use Rattle.node_run.specs.Runs.{AreSettled, ComesByRule, HasFlushed}
+use Rattle.node_run.specs.Rewriting.{point_of}
+use Rattle.node_run.specs.Runs.{AreSettled, ComesByRule, HasFlushed, IsFullUp}
 use Rattle.node_run.specs.Writing.{HasWritten, MayGo}
 use Rattle.node_run.specs.declared.rule.Rule.{Rule}
 
@@ -45,12 +50,28 @@ is_settled {S} {D} scheme device rule first later tells node view left one other
 pub comes_by_rule : {S D : Type 0} (scheme : Scheme S) (device : Device D) (rule : Rule) (first later : RoundsView S D) (others tells all : Faults) (left : Store D)
     → HasFlushed scheme device rule first later tells → is_down first.flusher ≡ false → left ≡ store_of (journal_of later.flusher)
     → all.journal ≡ first_of others.journal tells.journal → all.memory ≡ (others.memory || tells.memory) → all.journal ≡ None → all.memory ≡ false
-    → ComesByRule device rule (journal_of first.flusher) left
+    → ComesByRule device rule (point_of first.flusher) left
 comes_by_rule scheme device rule first later others tells all left flushed up is_left journal_is memory_is none fine =
     let both = none_of_both others.journal tells.journal (sym journal_is ∙ none) in
     let memory = or_parts others.memory tells.memory (sym memory_is ∙ fine) in
     let by = flushed.by_rule up both.1 memory.1 in
-    record { last = journal_of later.flusher; last_rule = by.0; by_rule = by.1; is_left = is_left }
+    record { last = point_of later.flusher; last_rule = by.0; by_rule = by.1; is_left = is_left }
+
+-- two threads that tell no fault of the journal, and a third one: what it tells is told
+pub third_alone : (one other third both all : Option JournalError) → one ≡ None → other ≡ None → both ≡ first_of one other → all ≡ first_of both third → all ≡ third
+third_alone one other third both all no_one no_other both_is all_is =
+    let none : both ≡ None = both_is ∙ ap (λ (it : Option JournalError). first_of it other) no_one ∙ no_other in
+    all_is ∙ ap (λ (it : Option JournalError). first_of it third) none
+
+pub none_of_input : (end : End) (lacked_memory : Bool) → (behind_input end lacked_memory).journal ≡ None
+none_of_input ends.Whole lacked_memory = refl
+none_of_input ends.Broken lacked_memory = refl
+none_of_input ends.Memory lacked_memory = refl
+
+-- A full journal that the rounds told has no place on the disks for what was taken.
+pub is_full_up : {S D : Type 0} (scheme : Scheme S) (device : Device D) (rule : Rule) (first later : RoundsView S D) (tells : Faults) (fault : Option JournalError) (left : Store D)
+    → HasFlushed scheme device rule first later tells → left ≡ store_of (journal_of later.flusher) → fault ≡ tells.journal → fault ≡ Some journal.Full → IsFullUp scheme device first.node left
+is_full_up scheme device rule first later tells fault left flushed is_left same is = record { last = later.flusher; lacks = flushed.full (sym same ∙ is); is_left = is_left }
 
 -- what holds of what there is
 pub of_some : {X : Type 0} (P : X → Type 0) (found : Option X) (one : X) → found ≡ Some one → IfSome found P → P one

@@ -1,15 +1,20 @@
 -- A round, and the checkpoint that is due after it.
-use Rattle.std.proofs.Common.{◌≡◌, ◌+◌, ◌<◌, ℕ, Bool, true, false, List, [], ◌∷◌, length, Some, None, Result, Ok, Err, refl, sym, ap, subst, ◌∙◌, inl, inr}
-use Rattle.std.specs.Prelude.{IfOk, IsErrOf, IsSome, IsTrue, OnErr, OnOk}
+use Rattle.std.proofs.Common.{◌≡◌, ◌+◌, ◌<◌, ℕ, zero, suc, Bool, true, false, List, [], ◌∷◌, length, Option, Some, None, Result, Ok, Err, refl, sym, ap, subst, ◌∙◌, inl, inr, arith}
+use Rattle.std.specs.Option.{option_map_or}
+use Rattle.std.specs.Prelude.{◌⊎◌, IfOk, IsErrOf, IsSome, IsTrue, OnErr, OnOk}
 use Rattle.book.specs.declared.own.error.FlushError.{FlushError}
 use Rattle.book.specs.declared.own.error.FlushError.TheVariants as flush
 use Rattle.diskmodel.specs.Disk.{Device, TellsFault}
-use Rattle.flusher.specs.Rounds.{journal_of, is_down, settled_in, taken_in, GoesDown, HasNoRoom, IsToldOf, KeepsEarlier, TakesAndSettles, TellsRoom}
+use Rattle.flusher.specs.Rounds.{journal_of, is_down, settled_in, taken_in, GoesDown, HasNoRoom, IsGroupOf, IsToldOf, KeepsEarlier, TakesAndSettles, TakesLongest, TellsRoom}
 use Rattle.flusher.specs.declared.flusher.Flusher.{Flusher}
+use Rattle.journal.specs.Areas.{other_side}
 use Rattle.journal.specs.Journal.{disk_of, spare_of}
-use Rattle.journal.specs.Pairs.{areas_of, store_of, HaveChangedPlaces}
+use Rattle.journal.specs.Pairs.{areas_of, side_in, store_of, HaveChangedPlaces}
 use Rattle.journal.specs.Stores.{faults_in}
 use Rattle.journal.specs.declared.journal.Journal.{Journal}
+use Rattle.journal.specs.declared.side.Side.{Side}
+use Rattle.journal.specs.declared.side.Side.TheVariants.{First, Second}
+use Rattle.journal.specs.declared.spare.Spare.{Spare}
 use Rattle.node.specs.Callers.{RoundsView}
 use Rattle.node.specs.Rounds.{Flushes}
 use Rattle.node.proofs.Stages.{Counts}
@@ -19,7 +24,7 @@ use Rattle.node_shared.specs.Home.{NodeView}
 use Rattle.sigface.specs.Scheme.{Scheme}
 use Rattle.wire.specs.Lists.{Begins}
 use Rattle.node_run.specs.Flushing.{IsOver, FlushesOnce}
-use Rattle.node_run.specs.Rewriting.{length_in, IsDue, HasNoRoomToRewrite, RewritesWhereDue, counted_from, ByTheRule, without_number}
+use Rattle.node_run.specs.Rewriting.{length_in, point_of, IsDue, BringsGroup, HasNoRoomToAdd, HasNoRoomToRewrite, IsCountOf, RewritesWhereDue, Step, counted_from, ByTheRule, without_number}
 use Rattle.node_run.specs.declared.rule.Rule.{Rule}
 use Rattle.node_run.proofs.Flushed.{nothing_left, settles_none, never_ok, stays_up}
 use Rattle.node_run.proofs.Moments.{begins_taken, ok_is_up, keeps_on, round_on, ends_on, fails_on, SoFar, Leaves}
@@ -83,11 +88,72 @@ same_answer count (Err error) = refl
 full_is_up : {D : Type 0} (before later : Flusher D) (round : Result ℕ FlushError) → GoesDown before later round → IsErrOf round flush.Full → is_down before ≡ false
 full_is_up before later round goes full = false_or_true (is_down before) (λ down. let bad : flush.Full ≡ flush.Down = ap error_in (sym full ∙ goes.down.1 down) in cc)
 
+-- one for which memory was refused leaves the node up
+memory_is_up : {D : Type 0} (before later : Flusher D) → GoesDown before later (Err flush.Memory) → is_down later ≡ false
+memory_is_up before later goes = false_or_true (is_down later) (λ down. by (goes.nothing_else down))
+  where
+    by : IsErrOf {T = ℕ} (Err flush.Memory) flush.Device ⊎ IsErrOf {T = ℕ} (Err flush.Memory) flush.Full ⊎ IsErrOf {T = ℕ} (Err flush.Memory) flush.Down → ⊥
+    by (inl is) = let bad : flush.Memory ≡ flush.Device = ap error_in is in cc
+    by (inr (inl is)) = let bad : flush.Memory ≡ flush.Full = ap error_in is in cc
+    by (inr (inr is)) = let bad : flush.Memory ≡ flush.Down = ap error_in is in cc
+
+abbrev unit_error_in : Result (Unit {0}) FlushError → FlushError
+unit_error_in (Ok none) = flush.Memory
+unit_error_in (Err error) = error
+
+-- which a checkpoint answers as it is told
+was_memory : (answer : Result ℕ FlushError) → ◌≡◌ {A = Result (Unit {0}) FlushError} (Err flush.Memory) (without_number answer) → answer ≡ Err flush.Memory
+was_memory (Ok generation) is = absurd (let bad : ◌≡◌ {A = Result (Unit {0}) FlushError} (Err flush.Memory) (Ok tt) = is in cc)
+was_memory (Err error) is = ap (λ (r : Result (Unit {0}) FlushError). let it : Result ℕ FlushError = Err (unit_error_in r) in it) (sym is)
+
+-- ---- what is brought
+
+more_than : (count old new : ℕ) → (count ≡ 0 → ⊥) → new ≡ old + count → old < new
+more_than zero old new some is = absurd (some refl)
+more_than (suc n) old new some is = omega (arith, is)
+
+never_more : (old new : List Marked) → length old < length new → new ≡ old → ⊥
+never_more old new more is = let bad : length old < length old = subst (λ (l : List Marked). length old < length l) is more in omega (arith, bad)
+
+some_group : (settled all taken : List Marked) → length settled < length taken → ((all ≡ settled) × (taken ≡ settled)) ⊎ IsGroupOf settled all taken → IsGroupOf settled all taken
+some_group settled all taken more (inl none) = absurd (never_more settled taken more none.1)
+some_group settled all taken more (inr group) = group
+
+-- a round that ends well and brings something brings a group
+brings_group : (seen settled taken later : List Marked) (count : ℕ) → (count ≡ 0 → ⊥)
+    → IsErrOf {T = ℕ} (Ok count) flush.Down ⊎ IsErrOf {T = ℕ} (Ok count) flush.Memory ⊎ TakesLongest seen settled taken
+    → length taken ≡ length settled + count → later ≡ taken → BringsGroup settled later
+brings_group seen settled taken later count some (inl down) size is = absurd (let bad : IsErrOf {T = ℕ} (Ok count) flush.Down = down in cc)
+brings_group seen settled taken later count some (inr (inl memory)) size is = absurd (let bad : IsErrOf {T = ℕ} (Ok count) flush.Memory = memory in cc)
+brings_group seen settled taken later count some (inr (inr longest)) size is =
+    let more = more_than count (length settled) (length taken) some size in
+    subst (BringsGroup settled) (sym is)
+    (record { some = more; all = longest.all; begins = longest.begins; within = longest.within; group = some_group settled longest.all taken more longest.takes })
+
+-- one that has no room took a group
+took_group : (seen settled taken : List Marked) (round : Result ℕ FlushError) → round ≡ Err flush.Full
+    → IsErrOf round flush.Down ⊎ IsErrOf round flush.Memory ⊎ TakesLongest seen settled taken → length settled < length taken → (all : List Marked) × IsGroupOf settled all taken
+took_group seen settled taken round full (inl down) more = absurd (let bad : flush.Full ≡ flush.Down = ap error_in (sym full ∙ down) in cc)
+took_group seen settled taken round full (inr (inl memory)) more = absurd (let bad : flush.Full ≡ flush.Memory = ap error_in (sym full ∙ memory) in cc)
+took_group seen settled taken round full (inr (inr longest)) more = (longest.all, some_group settled longest.all taken more longest.takes)
+
+-- a journal whose disks have changed places has another one that isn't read
+not_other : (side : Side) → side ≡ other_side side → ⊥
+not_other First is = let bad : First ≡ Second = is in cc
+not_other Second is = let bad : Second ≡ First = is in cc
+
+pub other_spare : {D : Type 0} (old new : Journal D) → HaveChangedPlaces old new → spare_of new ≡ spare_of old → ⊥
+other_spare {D} old new changed same =
+    not_other (side_in old) (sym (ap (λ (s : Option (Spare D)). option_map_or (λ (one : Spare D). one.side) s First) same) ∙ changed.side)
+
+same_points : {D : Type 0} (one other : Flusher D) → journal_of one ≡ journal_of other → settled_in one ≡ settled_in other → point_of one ≡ point_of other
+same_points one other journal settled = λ i. record { journal = journal i; settled = settled i }
+
 tells_after : (first mid now : ℕ) (error : FlushError) → mid ≡ first → TellsFault {T = ℕ} flush.Device mid now (Err error) → TellsFault {T = ℕ} flush.Device first now (Err error)
 tells_after first mid now error same tells =
     (tt, ((λ is. subst (λ (n : ℕ). n < now) same (tells.1.0 is)), (λ not_that. tells.1.1 not_that ∙ same)))
 
-module _ {S D : Type 0} (scheme : Scheme S) (device : Device D) (counts : Counts device) (rule : Rule) (before : RoundsView S D) where
+module _ {S D : Type 0} (scheme : Scheme S) (device : Device D) (counts : Counts device) (rule : Rule) (missed : Bool) (before : RoundsView S D) where
   abbrev There : RoundsView S D → RoundsView S D → Type 0
   There first later = KeepsEarlier scheme first.node (settled_in first.flusher) (settled_in later.flusher) (areas_of device (journal_of first.flusher)) (areas_of device (journal_of later.flusher))
 
@@ -107,7 +173,7 @@ module _ {S D : Type 0} (scheme : Scheme S) (device : Device D) (counts : Counts
   pub once_over : (later : RoundsView S D) (round : Result ℕ FlushError) → IsOver round → later.node ≡ before.node → GoesDown before.flusher later.flusher round
       → IsToldOf before.seat later.seat round → TakesAndSettles before.seat later.seat before.flusher later.flusher round → TellsRoom device before.flusher later.flusher round
       → Flushes scheme device before.node before.flusher later.flusher round → IfOk round (λ count. count ≡ 0 → journal_of later.flusher ≡ journal_of before.flusher)
-      → FlushesOnce scheme device rule rule before later round
+      → FlushesOnce scheme device rule rule missed before later round
   once_over later round over node down told settles room flushes nothing = record {
     node = node;
     seen = told.more;
@@ -117,24 +183,32 @@ module _ {S D : Type 0} (scheme : Scheme S) (device : Device D) (counts : Counts
     full = λ full. inl (no_room full);
     nothing = λ is. nothing_left before.seat.view.seen before.seat.view.seen (settled_in before.flusher) (taken_in later.flusher) (settled_in later.flusher) round is
         (begins_same before.seat.view.seen) settles.takes settles.size settles.settled;
-    memory = λ is. (flushes.memory is).1 ∙ sym (subst (λ (it : Result ℕ FlushError). OnErr it (settled_in later.flusher ≡ settled_in before.flusher)) is flushes.not_settled);
+    memory = λ is.
+        let same = subst (λ (it : Result ℕ FlushError). OnErr it (settled_in later.flusher ≡ settled_in before.flusher)) is flushes.not_settled in
+        ((flushes.memory is).0, same, (flushes.memory is).1 ∙ sym same);
+    count = counted round settles.size settles.settled;
     earlier = there round down flushes;
     any_moment = λ up. round_on scheme device before.node before.node before.flusher before.flusher later.flusher round refl (still up) (begins_same (settled_in before.flusher)) flushes (inl refl);
     at_end = λ done up. ends_on scheme device counts before.node before.node before.flusher before.flusher later.flusher round refl (still up) (begins_same (settled_in before.flusher)) flushes (inl refl)
         (settles_no_more round over (still up) flushes settles.size settles.settled);
-    by_rule = by round over nothing;
+    by_rule = by round over nothing flushes settles.size settles.settled;
     pair = λ some is. flushes.disks.1 (some is);
   }
     where
       still : is_down before.flusher ≡ false → IsErrOf round flush.Down → ⊥
       still up is = let bad : true ≡ false = sym (down.down.0 is) ∙ up in cc
 
-      no_room : IsErrOf round flush.Full → HasNoRoom (device.content (disk_of (journal_of later.flusher))) (settled_in later.flusher) (taken_in later.flusher)
+      no_room : IsErrOf round flush.Full → HasNoRoomToAdd device later.flusher
       no_room full =
           let lacks = (room.full (full_is_up before.flusher later.flusher round down full)).0 full in
           let settled = subst (λ (it : Result ℕ FlushError). OnErr it (settled_in later.flusher ≡ settled_in before.flusher)) full flushes.not_settled in
-          subst (λ (l : List Marked). HasNoRoom (device.content (disk_of (journal_of later.flusher))) l (taken_in later.flusher)) (sym settled)
-          (subst (λ (j : Journal D). HasNoRoom (device.content (disk_of j)) (settled_in before.flusher) (taken_in later.flusher)) (sym (room.same full)) lacks)
+          let took = took_group before.seat.view.seen (settled_in before.flusher) (taken_in later.flusher) round full settles.takes lacks.some in
+          record {
+            all = took.0;
+            group = subst (λ (l : List Marked). IsGroupOf l took.0 (taken_in later.flusher)) (sym settled) took.1;
+            room = subst (λ (l : List Marked). HasNoRoom (device.content (disk_of (journal_of later.flusher))) l (taken_in later.flusher)) (sym settled)
+                (subst (λ (j : Journal D). HasNoRoom (device.content (disk_of j)) (settled_in before.flusher) (taken_in later.flusher)) (sym (room.same full)) lacks);
+          }
 
       there : (it : Result ℕ FlushError) → GoesDown before.flusher later.flusher it → Flushes scheme device before.node before.flusher later.flusher it → is_down later.flusher ≡ false
           → There before later
@@ -149,14 +223,30 @@ module _ {S D : Type 0} (scheme : Scheme S) (device : Device D) (counts : Counts
           (begins_taken (settled_in before.flusher) (taken_in later.flusher) (Ok count) up flushed.takes) size all
       settles_no_more (Err error) none up flushed size all = flushed.not_settled
 
+      counted : (it : Result ℕ FlushError) → IfOk it (λ count. length (taken_in later.flusher) ≡ length (settled_in before.flusher) + count)
+          → OnOk it (settled_in later.flusher ≡ taken_in later.flusher) → IfOk it (λ count. IsCountOf (point_of before.flusher) (point_of later.flusher) count)
+      counted (Ok count) size all = record {
+        settled = settled_in later.flusher;
+        size = subst (λ (l : List Marked). length l ≡ length (settled_in before.flusher) + count) (sym all) size;
+        begins = settles_any later round flushes;
+        within = begins_same (settled_in later.flusher);
+        whole = λ _. refl;
+      }
+      counted (Err error) size all = tt
+
       by : (it : Result ℕ FlushError) → IsOver it → IfOk it (λ count. count ≡ 0 → journal_of later.flusher ≡ journal_of before.flusher)
-          → OnOk it (ByTheRule device rule (journal_of before.flusher) rule (journal_of later.flusher))
-      by (Ok count) none same = ([], (refl, same none))
-      by (Err error) none same = tt
+          → Flushes scheme device before.node before.flusher later.flusher it → IfOk it (λ count. length (taken_in later.flusher) ≡ length (settled_in before.flusher) + count)
+          → OnOk it (settled_in later.flusher ≡ taken_in later.flusher)
+          → OnOk it (missed ≡ false → ByTheRule device rule (point_of before.flusher) rule (point_of later.flusher))
+      by (Ok count) none same flushed size all = λ fine.
+          let settled = settles_no_more (Ok count) none (ok_is_up (Ok count) count refl) flushed size all in
+          ([], (refl, same_points later.flusher before.flusher (same none) settled))
+      by (Err error) none same flushed size all = tt
 
   -- a round that brought something, and then a checkpoint if one is due
   module _ (mid later : RoundsView S D) (later_rule : Rule) (count : ℕ) (node : mid.node ≡ before.node) (goes : GoesDown before.flusher mid.flusher (Ok count))
-      (seen : Begins before.seat.view.seen mid.seat.view.seen) (flushes : Flushes scheme device before.node before.flusher mid.flusher (Ok count))
+      (seen : Begins before.seat.view.seen mid.seat.view.seen) (settles : TakesAndSettles before.seat mid.seat before.flusher mid.flusher (Ok count))
+      (flushes : Flushes scheme device before.node before.flusher mid.flusher (Ok count))
       (same_area : spare_of (journal_of mid.flusher) ≡ spare_of (journal_of before.flusher)) where
     up : is_down before.flusher ≡ false
     up = was_up before.flusher mid.flusher count goes
@@ -173,11 +263,17 @@ module _ {S D : Type 0} (scheme : Scheme S) (device : Device D) (counts : Counts
       flushes.earlier,
     )
 
+    brings : (count ≡ 0 → ⊥) → BringsGroup (settled_in before.flusher) (settled_in mid.flusher)
+    brings some = brings_group before.seat.view.seen (settled_in before.flusher) (taken_in mid.flusher) (settled_in mid.flusher) count some settles.takes settles.size settles.settled
+
+    size : length (settled_in mid.flusher) ≡ length (settled_in before.flusher) + count
+    size = subst (λ (l : List Marked). length l ≡ length (settled_in before.flusher) + count) (sym settles.settled) settles.size
+
     some_spare : (IsSome rule.every → IsSome (spare_of (journal_of before.flusher))) → IsSome rule.every → IsSome (spare_of (journal_of mid.flusher))
     some_spare pair is = flushes.disks.1 (pair is)
 
     -- none is due
-    once_alone : (IsDue rule (length_in device (journal_of mid.flusher)) → ⊥) → (count ≡ 0 → ⊥) → FlushesOnce scheme device rule rule before mid (Ok count)
+    once_alone : (IsDue rule (length_in device (journal_of mid.flusher)) → ⊥) → (count ≡ 0 → ⊥) → FlushesOnce scheme device rule rule missed before mid (Ok count)
     once_alone not_due some = record {
       node = node;
       seen = seen;
@@ -187,10 +283,11 @@ module _ {S D : Type 0} (scheme : Scheme S) (device : Device D) (counts : Counts
       full = λ bad. absurd (let clash : IsErrOf {T = ℕ} (Ok count) flush.Full = bad in cc);
       nothing = λ is. absurd (some (ap count_in is));
       memory = λ bad. absurd (let clash : IsErrOf {T = ℕ} (Ok count) flush.Memory = bad in cc);
+      count = record { settled = settled_in mid.flusher; size = size; begins = more; within = begins_same (settled_in mid.flusher); whole = λ _. refl };
       earlier = λ _. flushes.earlier;
       any_moment = λ _. leaves_of so_far;
       at_end = λ none _. absurd (some none);
-      by_rule = (record { grown = journal_of mid.flusher; rewritten = None } ∷ [], (record { same_area = same_area; follows = not_due }, (refl, refl)));
+      by_rule = λ fine. (record { grown = point_of mid.flusher; rewritten = None } ∷ [], (record { same_area = same_area; brings = brings some; follows = not_due }, (refl, refl)));
       pair = some_spare;
     }
       where
@@ -198,12 +295,14 @@ module _ {S D : Type 0} (scheme : Scheme S) (device : Device D) (counts : Counts
         leaves_of (inl same) = round_on scheme device before.node before.node before.flusher before.flusher mid.flusher (Ok count) refl (ok_is_up (Ok count) count refl) (begins_same (settled_in before.flusher)) flushes (inl refl)
         leaves_of (inr leaves) = leaves.0
 
-    -- one was due, and was taken
-    once_checkpoint : (answer : Result ℕ FlushError) → (count ≡ 0 → ⊥) → IsDue rule (length_in device (journal_of mid.flusher)) → later.node ≡ mid.node → GoesDown mid.flusher later.flusher answer
+    -- one was due, and was taken, or failed for another reason than that memory was refused
+    once_checkpoint : (answer : Result ℕ FlushError) → (answer ≡ Err flush.Memory → ⊥) → (count ≡ 0 → ⊥) → IsDue rule (length_in device (journal_of mid.flusher))
+        → later.node ≡ mid.node → GoesDown mid.flusher later.flusher answer
         → IsToldOf mid.seat later.seat answer → Flushes scheme device mid.node mid.flusher later.flusher answer → OnOk answer (HaveChangedPlaces (journal_of mid.flusher) (journal_of later.flusher))
         → OnOk answer (later_rule ≡ counted_from device rule (journal_of later.flusher)) → OnErr answer (later_rule ≡ rule)
-        → (IsErrOf answer flush.Full → HasNoRoomToRewrite scheme mid.node later.flusher) → FlushesOnce scheme device rule later_rule before later (answer_of count answer)
-    once_checkpoint (Ok generation) some due later_node later_goes told taken swapped counted kept full =
+        → (IsErrOf answer flush.Full → HasNoRoomToRewrite scheme mid.node later.flusher)
+        → FlushesOnce scheme device rule later_rule missed before later (answer_of count answer)
+    once_checkpoint (Ok generation) not_memory some due later_node later_goes told taken swapped counted kept full =
         let later_up = is_up mid.flusher later.flusher generation later_goes in
         let no_down = ok_is_up (Ok generation) generation refl in
         let more_later = subst (Begins (settled_in mid.flusher)) (sym taken.settled) (begins_taken (settled_in mid.flusher) (taken_in later.flusher) (Ok generation) no_down taken.takes) in
@@ -216,13 +315,22 @@ module _ {S D : Type 0} (scheme : Scheme S) (device : Device D) (counts : Counts
           full = λ bad. absurd (let clash : IsErrOf {T = ℕ} (Ok count) flush.Full = bad in cc);
           nothing = λ is. absurd (some (ap count_in is));
           memory = λ bad. absurd (let clash : IsErrOf {T = ℕ} (Ok count) flush.Memory = bad in cc);
+          count = record {
+            settled = settled_in mid.flusher;
+            size = size;
+            begins = more;
+            within = more_later;
+            whole = λ same. absurd (other_spare (journal_of mid.flusher) (journal_of later.flusher) swapped (same ∙ sym same_area));
+          };
           earlier = λ _. keeps_on scheme device before.node mid.node before.flusher mid.flusher later.flusher node flushes.earlier taken.earlier;
           any_moment = λ _. round_on scheme device before.node mid.node before.flusher mid.flusher later.flusher (Ok generation) node no_down more taken so_far;
           at_end = λ none _. absurd (some none);
-          by_rule = (record { grown = journal_of mid.flusher; rewritten = Some (journal_of later.flusher) } ∷ [], (record { same_area = same_area; follows = (due, swapped) }, (counted, refl)));
+          by_rule = λ fine.
+              let step : Step D = record { grown = point_of mid.flusher; rewritten = Some (point_of later.flusher) } in
+              (step ∷ [], (record { same_area = same_area; brings = brings some; follows = (due, swapped, more_later) }, (counted, refl)));
           pair = λ pair is. taken.disks.1 (some_spare pair (subst (λ (r : Rule). IsSome r.every) counted is));
         }
-    once_checkpoint (Err error) some due later_node later_goes told taken swapped counted kept full =
+    once_checkpoint (Err error) not_memory some due later_node later_goes told taken swapped counted kept full =
         let no_down : IsErrOf {T = ℕ} (Err error) flush.Down → ⊥ = λ is. (let bad : true ≡ false = sym (later_goes.down.0 is) ∙ still_up in cc) in
         record {
           node = later_node ∙ node;
@@ -233,7 +341,8 @@ module _ {S D : Type 0} (scheme : Scheme S) (device : Device D) (counts : Counts
               (faults_in device (store_of (journal_of later.flusher))) error flushes.cause.0 taken.cause;
           full = λ is. inr (subst (λ (n : NodeView S). HasNoRoomToRewrite scheme n later.flusher) node (full is));
           nothing = λ is. absurd (let bad : ◌≡◌ {A = Result ℕ FlushError} (Err error) (Ok 0) = is in cc);
-          memory = λ is. (taken.memory is).1 ∙ sym taken.not_settled;
+          memory = λ is. absurd (not_memory is);
+          count = tt;
           earlier = λ later_up. keeps_on scheme device before.node mid.node before.flusher mid.flusher later.flusher node flushes.earlier
               (fails_on scheme device mid.node mid.flusher later.flusher (Err error) error refl later_up later_goes taken);
           any_moment = λ _. round_on scheme device before.node mid.node before.flusher mid.flusher later.flusher (Err error) node no_down more taken so_far;
@@ -242,13 +351,51 @@ module _ {S D : Type 0} (scheme : Scheme S) (device : Device D) (counts : Counts
           pair = λ pair is. taken.disks.1 (some_spare pair (subst (λ (r : Rule). IsSome r.every) kept is));
         }
 
-    pub once_both : (result : Result (Unit {0}) FlushError) → (count ≡ 0 → ⊥) → RewritesWhereDue scheme device rule later_rule mid later result
-        → FlushesOnce scheme device rule later_rule before later (with_count count result)
-    once_both result some (inl (due, it)) =
-        subst (λ (r : Result (Unit {0}) FlushError). FlushesOnce scheme device rule later_rule before later (with_count count r)) (sym it.answered)
-        (subst (FlushesOnce scheme device rule later_rule before later) (same_answer count it.answer)
-        (once_checkpoint it.answer some due it.node it.down it.told it.flushes it.swapped it.counts it.keeps it.full))
-    once_both result some (inr (not_due, ok, same, same_rule)) =
-        subst (λ (r : Result (Unit {0}) FlushError). FlushesOnce scheme device rule later_rule before later (with_count count r)) (sym ok)
-        (subst (λ (l : RoundsView S D). FlushesOnce scheme device rule later_rule before l (Ok count)) (sym same)
-        (subst (λ (r : Rule). FlushesOnce scheme device rule r before mid (Ok count)) (sym same_rule) (once_alone not_due some)))
+    -- one was due, and memory was refused for it
+    once_missed : (count ≡ 0 → ⊥) → later.node ≡ mid.node → GoesDown mid.flusher later.flusher (Err flush.Memory) → IsToldOf mid.seat later.seat (Err flush.Memory)
+        → Flushes scheme device mid.node mid.flusher later.flusher (Err flush.Memory) → later_rule ≡ rule → missed ≡ true → FlushesOnce scheme device rule later_rule missed before later (Ok count)
+    once_missed some later_node later_goes told taken kept marked =
+        let later_up = memory_is_up mid.flusher later.flusher later_goes in
+        let no_down : IsErrOf {T = ℕ} (Err flush.Memory) flush.Down → ⊥ = λ is. (let bad : flush.Memory ≡ flush.Down = ap error_in is in cc) in
+        record {
+          node = later_node ∙ node;
+          seen = begins_trans before.seat.view.seen mid.seat.view.seen later.seat.view.seen seen told.more;
+          more = subst (Begins (settled_in before.flusher)) (sym taken.not_settled) more;
+          down = goes_ok before.flusher later.flusher count up later_up;
+          cause = (taken.cause.1.1 (λ is. let bad : flush.Memory ≡ flush.Device = is in cc) ∙ flushes.cause.0, tt);
+          full = λ bad. absurd (let clash : IsErrOf {T = ℕ} (Ok count) flush.Full = bad in cc);
+          nothing = λ is. absurd (some (ap count_in is));
+          memory = λ bad. absurd (let clash : IsErrOf {T = ℕ} (Ok count) flush.Memory = bad in cc);
+          count = record {
+            settled = settled_in mid.flusher;
+            size = size;
+            begins = more;
+            within = subst (Begins (settled_in mid.flusher)) (sym taken.not_settled) (begins_same (settled_in mid.flusher));
+            whole = λ _. sym taken.not_settled;
+          };
+          earlier = λ _. keeps_on scheme device before.node mid.node before.flusher mid.flusher later.flusher node flushes.earlier
+              (fails_on scheme device mid.node mid.flusher later.flusher (Err flush.Memory) flush.Memory refl later_up later_goes taken);
+          any_moment = λ _. round_on scheme device before.node mid.node before.flusher mid.flusher later.flusher (Err flush.Memory) node no_down more taken so_far;
+          at_end = λ none _. absurd (some none);
+          by_rule = λ fine. absurd (let bad : true ≡ false = sym marked ∙ fine in cc);
+          pair = λ pair is. taken.disks.1 (some_spare pair (subst (λ (r : Rule). IsSome r.every) kept is));
+        }
+
+    pub once_both : (result : Result (Unit {0}) FlushError) → (result ≡ Err flush.Memory → ⊥) → (count ≡ 0 → ⊥) → RewritesWhereDue scheme device rule later_rule mid later result
+        → FlushesOnce scheme device rule later_rule missed before later (with_count count result)
+    once_both result not_memory some (inl (due, it)) =
+        subst (λ (r : Result (Unit {0}) FlushError). FlushesOnce scheme device rule later_rule missed before later (with_count count r)) (sym it.answered)
+        (subst (FlushesOnce scheme device rule later_rule missed before later) (same_answer count it.answer)
+        (once_checkpoint it.answer (λ is. not_memory (it.answered ∙ ap without_number is)) some due it.node it.down it.told it.flushes it.swapped it.counts it.keeps it.full))
+    once_both result not_memory some (inr (not_due, ok, same, same_rule)) =
+        subst (λ (r : Result (Unit {0}) FlushError). FlushesOnce scheme device rule later_rule missed before later (with_count count r)) (sym ok)
+        (subst (λ (l : RoundsView S D). FlushesOnce scheme device rule later_rule missed before l (Ok count)) (sym same)
+        (subst (λ (r : Rule). FlushesOnce scheme device rule r missed before mid (Ok count)) (sym same_rule) (once_alone not_due some)))
+
+    pub once_without : (result : Result (Unit {0}) FlushError) → result ≡ Err flush.Memory → missed ≡ true → (count ≡ 0 → ⊥) → RewritesWhereDue scheme device rule later_rule mid later result
+        → FlushesOnce scheme device rule later_rule missed before later (Ok count)
+    once_without result memory marked some (inl (due, it)) =
+        let same = was_memory it.answer (sym memory ∙ it.answered) in
+        once_missed some it.node (subst (GoesDown mid.flusher later.flusher) same it.down) (subst (IsToldOf mid.seat later.seat) same it.told)
+        (subst (Flushes scheme device mid.node mid.flusher later.flusher) same it.flushes) (subst (λ (a : Result ℕ FlushError). OnErr a (later_rule ≡ rule)) same it.keeps) marked
+    once_without result memory marked some (inr it) = absurd (let bad : ◌≡◌ {A = Result (Unit {0}) FlushError} (Err flush.Memory) (Ok tt) = sym memory ∙ it.1 in cc)

@@ -12,7 +12,6 @@ use Rattle.journal.specs.Pairs.{areas_of, store_of}
 use Rattle.journal.specs.Stores.{faults_in}
 use Rattle.journal.specs.declared.error.JournalError.{JournalError}
 use Rattle.journal.specs.declared.error.JournalError.TheVariants as journal
-use Rattle.journal.specs.declared.journal.Journal.{Journal}
 use Rattle.node.specs.Callers.{RoundsView}
 use Rattle.node.specs.Disks.{AtEachMomentOn}
 use Rattle.node_io.specs.Endings.{first_of}
@@ -24,7 +23,7 @@ use Rattle.sigface.specs.Scheme.{Scheme}
 use Rattle.wire.specs.Lists.{Begins}
 use Rattle.node_run.specs.Ends.{faults_behind, TellsRounds, TellsJournal}
 use Rattle.node_run.specs.Flushing.{FlushesOnce}
-use Rattle.node_run.specs.Rewriting.{AreSteps, ByTheRule, HasNoPlace, Step, journal_after, rule_after}
+use Rattle.node_run.specs.Rewriting.{AreSteps, ByTheRule, HasNoPlace, Point, Step, point_after, point_of, rule_after}
 use Rattle.node_run.specs.Runs.{HoldsMore, LeavesSettled}
 use Rattle.node_run.specs.Writing.{no_faults}
 use Rattle.node_run.specs.declared.rule.Rule.{Rule}
@@ -33,14 +32,14 @@ use Rattle.node_run.proofs.Once.{error_in, was_up, is_up}
 
 -- ---- the steps of several rounds
 
-steps_join : {D : Type 0} (device : Device D) (rule : Rule) (first : Journal D) (steps : List (Step D)) (mid_rule : Rule) (mid : Journal D) (more : List (Step D)) (later : Rule) (last : Journal D)
+steps_join : {D : Type 0} (device : Device D) (rule : Rule) (first : Point D) (steps : List (Step D)) (mid_rule : Rule) (mid : Point D) (more : List (Step D)) (later : Rule) (last : Point D)
     → AreSteps device rule first steps mid_rule mid → AreSteps device mid_rule mid more later last → AreSteps device rule first (steps ++ more) later last
 steps_join {D} device rule first [] mid_rule mid more later last here there =
-    subst (λ (r : Rule). AreSteps device r first more later last) here.0 (subst (λ (j : Journal D). AreSteps device mid_rule j more later last) here.1 there)
+    subst (λ (r : Rule). AreSteps device r first more later last) here.0 (subst (λ (p : Point D). AreSteps device mid_rule p more later last) here.1 there)
 steps_join device rule first (step ∷ steps) mid_rule mid more later last here there =
-    (here.0, steps_join device (rule_after device rule step) (journal_after step) steps mid_rule mid more later last here.1 there)
+    (here.0, steps_join device (rule_after device rule step) (point_after step) steps mid_rule mid more later last here.1 there)
 
-pub by_rule_joins : {D : Type 0} (device : Device D) (rule mid_rule later : Rule) (first mid last : Journal D) → ByTheRule device rule first mid_rule mid → ByTheRule device mid_rule mid later last
+pub by_rule_joins : {D : Type 0} (device : Device D) (rule mid_rule later : Rule) (first mid last : Point D) → ByTheRule device rule first mid_rule mid → ByTheRule device mid_rule mid later last
     → ByTheRule device rule first later last
 by_rule_joins device rule mid_rule later first mid last here there = (here.0 ++ there.0, steps_join device rule first here.0 mid_rule mid there.0 later last here.1 there.1)
 
@@ -85,8 +84,13 @@ fell before later flush.Device up goes = ((λ some. goes.device refl), (λ down.
 fell before later flush.Full up goes = ((λ some. goes.full refl), (λ down. refl))
 fell before later flush.Down up goes = absurd (let bad : true ≡ false = sym (goes.down.0 refl) ∙ up in cc)
 
+-- what is missed stays so
+fine_earlier : (one other : Bool) → (one ≡ true → other ≡ true) → other ≡ false → one ≡ false
+fine_earlier false other kept fine = refl
+fine_earlier true other kept fine = absurd (let bad : true ≡ false = sym (kept refl) ∙ fine in cc)
+
 -- what there is in the loop
-pub record Looped {S D : Type 0} (scheme : Scheme S) (device : Device D) (rule now_rule : Rule) (first now : RoundsView S D) : Type 0 where
+pub record Looped {S D : Type 0} (scheme : Scheme S) (device : Device D) (rule now_rule : Rule) (missed : Bool) (first now : RoundsView S D) : Type 0 where
   pub faults : faults_in device (store_of (journal_of now.flusher)) ≡ faults_in device (store_of (journal_of first.flusher))
   pub down : is_down now.flusher ≡ is_down first.flusher
   pub seen : Begins first.seat.view.seen now.seat.view.seen
@@ -94,17 +98,18 @@ pub record Looped {S D : Type 0} (scheme : Scheme S) (device : Device D) (rule n
   pub node : now.node ≡ first.node
   pub more : Begins (settled_in first.flusher) (settled_in now.flusher)
   pub so_far : SoFar scheme device first.node first.flusher now.flusher
-  pub by_rule : ByTheRule device rule (journal_of first.flusher) now_rule (journal_of now.flusher)
+  pub by_rule : missed ≡ false → ByTheRule device rule (point_of first.flusher) now_rule (point_of now.flusher)
   pub pair : IsSome now_rule.every → IsSome (spare_of (journal_of now.flusher))
 
 -- what is left, and reported
-pub record Ended {S D : Type 0} (scheme : Scheme S) (device : Device D) (rule later_rule : Rule) (first later : RoundsView S D) (faults : Faults) : Type 0 where
+pub record Ended {S D : Type 0} (scheme : Scheme S) (device : Device D) (rule later_rule : Rule) (missed : Bool) (first later : RoundsView S D) (faults : Faults) : Type 0 where
   pub pair : IsSome later_rule.every → IsSome (spare_of (journal_of later.flusher))
   pub rounds : TellsRounds (faults_in device (store_of (journal_of first.flusher))) (faults_in device (store_of (journal_of later.flusher))) faults.journal
   pub down : is_down first.flusher ≡ false → IsSome faults.journal ↔ IsTrue (is_down later.flusher)
   pub stays : IsTrue (is_down first.flusher) → (faults.journal ≡ None) × (later.flusher ≡ first.flusher)
   pub full : is_down first.flusher ≡ false → faults.journal ≡ Some journal.Full → HasNoPlace scheme device first.node later.flusher
-  pub by_rule : is_down first.flusher ≡ false → faults.journal ≡ None → faults.memory ≡ false → ByTheRule device rule (journal_of first.flusher) later_rule (journal_of later.flusher)
+  pub by_rule : is_down first.flusher ≡ false → faults.journal ≡ None → faults.memory ≡ false → missed ≡ false
+      → ByTheRule device rule (point_of first.flusher) later_rule (point_of later.flusher)
   pub all : is_down later.flusher ≡ false → faults.memory ≡ false → TakesLongest first.seat.view.seen (settled_in later.flusher) (settled_in later.flusher)
   pub memory : faults.memory ≡ true → taken_in later.flusher ≡ settled_in later.flusher
   pub others : (faults.output ≡ false) × (faults.input ≡ false)
@@ -117,9 +122,9 @@ pub record Ended {S D : Type 0} (scheme : Scheme S) (device : Device D) (rule la
       (store_of (journal_of first.flusher)) (store_of (journal_of later.flusher))
   pub at_end : is_down first.flusher ≡ false → LeavesSettled scheme device first.node first.flusher (settled_in later.flusher) (store_of (journal_of later.flusher))
 
-pub loop_begins : {S D : Type 0} (scheme : Scheme S) (device : Device D) (rule : Rule) (first : RoundsView S D) → (IsSome rule.every → IsSome (spare_of (journal_of first.flusher)))
-    → Looped scheme device rule rule first first
-loop_begins scheme device rule first pair = record {
+pub loop_begins : {S D : Type 0} (scheme : Scheme S) (device : Device D) (rule : Rule) (missed : Bool) (first : RoundsView S D)
+    → (IsSome rule.every → IsSome (spare_of (journal_of first.flusher))) → Looped scheme device rule rule missed first first
+loop_begins scheme device rule missed first pair = record {
   faults = refl;
   down = refl;
   seen = begins_same first.seat.view.seen;
@@ -127,7 +132,7 @@ loop_begins scheme device rule first pair = record {
   node = refl;
   more = begins_same (settled_in first.flusher);
   so_far = inl refl;
-  by_rule = ([], (refl, refl));
+  by_rule = λ fine. ([], (refl, refl));
   pair = pair;
 }
 
@@ -141,9 +146,10 @@ longest_first first seen settled begins takes = record {
   takes = takes.takes;
 }
 
-module _ {S D : Type 0} (scheme : Scheme S) (device : Device D) (rule now_rule later_rule : Rule) (first now later : RoundsView S D) (loop : Looped scheme device rule now_rule first now) where
+module _ {S D : Type 0} (scheme : Scheme S) (device : Device D) (rule now_rule later_rule : Rule) (missed later_missed : Bool) (kept : missed ≡ true → later_missed ≡ true)
+    (first now later : RoundsView S D) (loop : Looped scheme device rule now_rule missed first now) where
   -- a round more, and the checkpoint after it
-  pub looped : (count : ℕ) → FlushesOnce scheme device now_rule later_rule now later (Ok count) → Looped scheme device rule later_rule first later
+  pub looped : (count : ℕ) → FlushesOnce scheme device now_rule later_rule later_missed now later (Ok count) → Looped scheme device rule later_rule later_missed first later
   looped count once =
       let up = was_up now.flusher later.flusher count once.down in
       let still = is_up now.flusher later.flusher count once.down in
@@ -158,12 +164,13 @@ module _ {S D : Type 0} (scheme : Scheme S) (device : Device D) (rule now_rule l
           leaves_on scheme device first.node now.node first.flusher now.flusher later.flusher loop.node loop.more loop.so_far (once.any_moment up),
           keeps_on scheme device first.node now.node first.flusher now.flusher later.flusher loop.node (keeps_so_far scheme device first.node first.flusher now.flusher loop.so_far) (once.earlier still),
         );
-        by_rule = by_rule_joins device rule now_rule later_rule (journal_of first.flusher) (journal_of now.flusher) (journal_of later.flusher) loop.by_rule once.by_rule;
+        by_rule = λ fine. by_rule_joins device rule now_rule later_rule (point_of first.flusher) (point_of now.flusher) (point_of later.flusher)
+            (loop.by_rule (fine_earlier missed later_missed kept fine)) (once.by_rule fine);
         pair = once.pair loop.pair;
       }
 
   -- nothing was pending
-  pub ended_well : FlushesOnce scheme device now_rule later_rule now later (Ok 0) → Ended scheme device rule later_rule first later no_faults
+  pub ended_well : FlushesOnce scheme device now_rule later_rule later_missed now later (Ok 0) → Ended scheme device rule later_rule later_missed first later no_faults
   ended_well once =
       let next = looped 0 once in
       let still = is_up now.flusher later.flusher 0 once.down in
@@ -173,7 +180,7 @@ module _ {S D : Type 0} (scheme : Scheme S) (device : Device D) (rule now_rule l
         down = λ up. ((λ some. absurd (cc)), (λ down. absurd (let bad : false ≡ true = sym still ∙ down in cc)));
         stays = λ down. (refl, next.stays down);
         full = λ up is. absurd (cc);
-        by_rule = λ up none fine. next.by_rule;
+        by_rule = λ up none lacks fine. next.by_rule fine;
         all = λ up fine. longest_first first.seat.view.seen now.seat.view.seen (settled_in later.flusher) loop.seen (once.nothing refl);
         memory = λ bad. absurd (let clash : false ≡ true = bad in cc);
         others = (refl, refl);
@@ -185,7 +192,8 @@ module _ {S D : Type 0} (scheme : Scheme S) (device : Device D) (rule now_rule l
       }
 
   -- a fault came
-  pub ended_by : (error : FlushError) → FlushesOnce scheme device now_rule later_rule now later (Err error) → Ended scheme device rule later_rule first later (faults_behind error)
+  pub ended_by : (error : FlushError) → FlushesOnce scheme device now_rule later_rule later_missed now later (Err error)
+      → Ended scheme device rule later_rule later_missed first later (faults_behind error)
   ended_by error once = record {
     pair = once.pair loop.pair;
     rounds = tells_failed (faults_in device (store_of (journal_of first.flusher))) (faults_in device (store_of (journal_of now.flusher))) (faults_in device (store_of (journal_of later.flusher)))
@@ -193,9 +201,9 @@ module _ {S D : Type 0} (scheme : Scheme S) (device : Device D) (rule now_rule l
     down = λ up. fell now.flusher later.flusher error (loop.down ∙ up) once.down;
     stays = λ down. stayed error once.down (loop.down ∙ down) (loop.stays down);
     full = λ up is. no_place error once.full is;
-    by_rule = λ up none fine. no_end error once.down (loop.down ∙ up) none fine;
+    by_rule = λ up none lacks fine. no_end error once.down (loop.down ∙ up) none lacks;
     all = λ up fine. never_up error once.down up fine;
-    memory = λ lacks. none_taken error once.memory lacks;
+    memory = λ lacks. none_taken error (λ is. (once.memory is).2) lacks;
     others = no_others error;
     node = once.node ∙ loop.node;
     more = begins_trans (settled_in first.flusher) (settled_in now.flusher) (settled_in later.flusher) loop.more once.more;
@@ -220,7 +228,7 @@ module _ {S D : Type 0} (scheme : Scheme S) (device : Device D) (rule now_rule l
       no_place flush.Down full is = absurd (cc)
 
       no_end : (it : FlushError) → GoesDown now.flusher later.flusher (Err it) → is_down now.flusher ≡ false → (faults_behind it).journal ≡ None → (faults_behind it).memory ≡ false
-          → ByTheRule device rule (journal_of first.flusher) later_rule (journal_of later.flusher)
+          → ByTheRule device rule (point_of first.flusher) later_rule (point_of later.flusher)
       no_end flush.Memory goes up none fine = absurd (let bad : true ≡ false = fine in cc)
       no_end flush.Device goes up none fine = absurd (let bad : ◌≡◌ {A = Option JournalError} (Some journal.Device) None = none in cc)
       no_end flush.Full goes up none fine = absurd (let bad : ◌≡◌ {A = Option JournalError} (Some journal.Full) None = none in cc)
@@ -257,14 +265,15 @@ up_so_far first mid was false fault Lacks told up none = refl
 up_so_far first mid was true fault Lacks told up none = absurd (let bad : false ≡ true = subst (λ (f : Option JournalError). IsSome f) none (told.told up refl) in cc)
 
 -- all was brought by the rule before, and is then
-pub by_rule_on : {D : Type 0} (device : Device D) (rule mid_rule later : Rule) (first mid now : Flusher D) (Lacks : Type 0) (faults more all : Faults) (at_first at_mid : ℕ)
+pub by_rule_on : {D : Type 0} (device : Device D) (rule mid_rule later : Rule) (first mid now : Flusher D) (Lacks : Type 0) (faults more all : Faults) (missed later_missed : Bool)
+    (at_first at_mid : ℕ)
     → TellsJournal at_first at_mid (is_down first) (is_down mid) faults.journal Lacks
-    → (is_down first ≡ false → faults.journal ≡ None → faults.memory ≡ false → ByTheRule device rule (journal_of first) mid_rule (journal_of mid))
-    → (is_down mid ≡ false → more.journal ≡ None → more.memory ≡ false → ByTheRule device mid_rule (journal_of mid) later (journal_of now))
-    → all.journal ≡ first_of faults.journal more.journal → all.memory ≡ (faults.memory || more.memory)
-    → is_down first ≡ false → all.journal ≡ None → all.memory ≡ false → ByTheRule device rule (journal_of first) later (journal_of now)
-by_rule_on device rule mid_rule later first mid now Lacks faults more all at_first at_mid told before after journal_is memory_is up none fine =
+    → (is_down first ≡ false → faults.journal ≡ None → faults.memory ≡ false → missed ≡ false → ByTheRule device rule (point_of first) mid_rule (point_of mid))
+    → (is_down mid ≡ false → more.journal ≡ None → more.memory ≡ false → later_missed ≡ false → ByTheRule device mid_rule (point_of mid) later (point_of now))
+    → (missed ≡ true → later_missed ≡ true) → all.journal ≡ first_of faults.journal more.journal → all.memory ≡ (faults.memory || more.memory)
+    → is_down first ≡ false → all.journal ≡ None → all.memory ≡ false → later_missed ≡ false → ByTheRule device rule (point_of first) later (point_of now)
+by_rule_on device rule mid_rule later first mid now Lacks faults more all missed later_missed at_first at_mid told before after kept journal_is memory_is up none lacks fine =
     let both = none_of_both faults.journal more.journal (sym journal_is ∙ none) in
-    let memory = or_parts faults.memory more.memory (sym memory_is ∙ fine) in
-    by_rule_joins device rule mid_rule later (journal_of first) (journal_of mid) (journal_of now) (before up both.0 memory.0)
-    (after (up_so_far at_first at_mid (is_down first) (is_down mid) faults.journal Lacks told up both.0) both.1 memory.1)
+    let memory = or_parts faults.memory more.memory (sym memory_is ∙ lacks) in
+    by_rule_joins device rule mid_rule later (point_of first) (point_of mid) (point_of now) (before up both.0 memory.0 (fine_earlier missed later_missed kept fine))
+    (after (up_so_far at_first at_mid (is_down first) (is_down mid) faults.journal Lacks told up both.0) both.1 memory.1 fine)

@@ -8,11 +8,12 @@ use Rattle.std.specs.Option.{option_map_or}
 use Rattle.std.specs.Prelude.{◌≢◌, ◌⊎◌, ◌||◌, Ok, IfSome, IsSome, if◌then◌else◌}
 use Rattle.diskmodel.specs.Disk.{Device}
 use Rattle.admission.proofs.OneState.{one_state}
-use Rattle.book.specs.Book.{GoesOutAfter}
-use Rattle.flusher.specs.Rounds.{journal_of, settled_in, HoldsAfter}
+use Rattle.book.specs.Book.{GoesOutAfter, IsCheckpoint}
+use Rattle.flusher.specs.Rounds.{journal_of, settled_in, taken_in, HoldsAfter, records_behind}
 use Rattle.flusher.specs.declared.flusher.Flusher.{Flusher}
 use Rattle.journal.specs.Areas.{Areas, alone, pair}
-use Rattle.journal.specs.Journal.{spare_of}
+use Rattle.journal.specs.Format.{FitsGroup}
+use Rattle.journal.specs.Journal.{spare_of, IsAlive}
 use Rattle.journal.specs.Pairs.{areas_in, areas_of}
 use Rattle.journal.specs.Stores.{faults_in}
 use Rattle.journal.specs.declared.error.JournalError.{JournalError}
@@ -32,7 +33,7 @@ use Rattle.node_seats.specs.declared.view.View.{View}
 use Rattle.wire.specs.Lists.{Begins}
 use Rattle.node_seats.specs.declared.view.Marked.{Marked}
 use Rattle.node_shared.specs.Home.{NodeView}
-use Rattle.opening.specs.Laws.{IsLeftIn, IsNoRefusalOfBoth, IsReadIn}
+use Rattle.opening.specs.Laws.{IsFullIn, IsLeftIn, IsNoRefusalOfBoth, IsReadIn}
 use Rattle.opening.specs.Renewing.{KeepsStatesIn}
 use Rattle.opening.specs.Stages.{IsToldAsBoth, IsToldThroughout}
 use Rattle.opening.specs.Told.{told_in, StandsAt, Tells, IsToldAsOneOf}
@@ -48,7 +49,9 @@ use Rattle.node_run.specs.Ends.{TellsRounds}
 use Rattle.wire.specs.declared.keys.Key.{Key}
 use Rattle.node_run.specs.Members.{IsConfigOf, RefusesOpening}
 use Rattle.node_run.proofs.Written.{written_weaker, wrote_nothing}
-use Rattle.node_run.specs.Runs.{HoldsMore, GoesOn, GoesOutAfterPrefix, AreSettled, IsReadAsOneOf, NoneOrOnDisk, GivesOnly, IsOfLoss, AreTwo, ComesByRule, RunsOver, RunsAs, every_on, is_all_brought, is_all_written, rule_on}
+use Rattle.node_run.specs.Rewriting.{HasNoPlace}
+use Rattle.node_run.specs.Runs.{HoldsMore, GoesOn, GoesOutAfterPrefix, AreSettled, IsReadAsOneOf, NoneOrOnDisk, GivesOnly, IsOfLoss, AreTwo}
+use Rattle.node_run.specs.Runs.{ComesByRule, HasNoRoomAfter, IsFullAfter, IsFullUp, RunsOver, RunsAs, every_on, is_all_brought, is_all_written, point_at, rule_on}
 use Rattle.node_run.specs.Writing.{no_memory, HasWritten, MayGo}
 use Rattle.node_run.specs.declared.ran.Ran.{Ran}
 use Rattle.sigface.specs.Scheme.{Scheme}
@@ -213,12 +216,14 @@ module _ {S D : Type 0} (scheme : Scheme S) (device : Device D) where
   -- the node wasn't opened
   pub not_opened : (node : Node) (store later : Store D) (every : ℕ) (error : JournalError) → (error ≢ journal.Device → error ≢ journal.Full → Tells error (told_in node (areas_in device store)))
       → (error ≡ journal.Device → faults_in device store < faults_in device later) × (error ≢ journal.Device → faults_in device later ≡ faults_in device store)
-      → IsToldThroughout node device store later → (IsLeftIn node (areas_in device store) → IsNoRefusalOfBoth error) → RunsOver node device store every (of_journal error) (Some later)
-  not_opened node store later every error tells cause leaves never_refused = record {
+      → IsToldThroughout node device store later → (IsLeftIn node (areas_in device store) → IsNoRefusalOfBoth error) → (error ≡ journal.Full → IsFullIn node device store)
+      → RunsOver node device store every (of_journal error) (Some later)
+  not_opened node store later every error tells cause leaves never_refused full = record {
     device = λ is. cause.0 (opening_told error journal.Device is);
     no_fault = λ other. cause.1 (λ is. other (ap of_journal is));
     told_as = λ named is. subst (IsOfRun node (areas_in device store)) (opening_told error named is) (kind_of node (areas_in device store) error tells);
     never_refused = λ left named is. not_refused error named is (never_refused left);
+    full = λ is. inl (full (opening_told error journal.Full is));
     lost = some_left later (of_journal error);
     any_moment = from_opening node store later leaves;
     rewritten = λ brought. absurd (nothing_brought error brought);
@@ -231,6 +236,7 @@ module _ {S D : Type 0} (scheme : Scheme S) (device : Device D) where
     no_fault = λ other. same;
     told_as = λ named is. absurd (none-some named (ap fault_in is));
     never_refused = λ left named is. absurd (none-some named (ap fault_in is));
+    full = λ is. absurd (none-some journal.Full (ap fault_in is));
     lost = λ none. refl;
     any_moment = from_opening node store now leaves;
     rewritten = λ brought. absurd (let bad : false ≡ true = brought in cc);
@@ -243,6 +249,7 @@ module _ {S D : Type 0} (scheme : Scheme S) (device : Device D) where
     no_fault = λ other. tt;
     told_as = λ named so. absurd (none-some named (ap fault_in (sym ends_so ∙ so)));
     never_refused = λ left named so. absurd (none-some named (ap fault_in (sym ends_so ∙ so)));
+    full = λ is. inr tt;
     lost = λ none. ends_so;
     any_moment = tt;
     rewritten = λ brought. tt;
@@ -281,42 +288,63 @@ module _ {S D : Type 0} (scheme : Scheme S) (device : Device D) where
           let after = subst (Holds (node_of scheme shared.setting) now) (sym (after_none (node_of scheme shared.setting) began)) here in
           subst (λ (l : List Marked). Holds (node_of scheme shared.setting) now (after_all (node_of scheme shared.setting) began (events l))) (sym none) after
 
+  -- a journal that has no place for what was taken is full, after the state as which the disks were read
+  full_after : (shared : NodeView S) (node : Node) (store left : Store D) → node_of scheme shared.setting ≡ node → StandsAt node (told_in node (areas_in device store)) shared.begun
+      → IsFullUp scheme device shared left → IsFullAfter node device store left
+  full_after shared node store left of_node begins up = record {
+    base = begins.state;
+    is_read = begins.is_read;
+    last = journal_of up.last;
+    is_left = up.is_left;
+    no_room = by up.lacks;
+  }
+    where
+      by : HasNoPlace scheme device shared up.last → HasNoRoomAfter node device begins.state (journal_of up.last)
+      by (inl add) = inl (records_behind (settled_in up.last) (taken_in up.last), subst FitsGroup add.group.is add.group.longest.fits, add.room.too_long)
+      by (inr rewrite) =
+          let is_base = subst (λ (n : Node). AreAtSound n shared.begun begins.state) (sym of_node) begins.at in
+          let all = events (taken_in up.last) in
+          let checkpoint = subst (λ (n : Node). IsCheckpoint n (after_all n begins.state all) rewrite.records) of_node (rewrite.checkpoint begins.state is_base) in
+          inr (rewrite.pair, (all, rewrite.records, checkpoint, rewrite.full))
+
   -- it ran
-  has_run : (shared : NodeView S) (node : Node) (store now : Store D) (every : ℕ) (opened : Journal D) (areas : Areas) (later : Store D) (told_of : Faults) → node_of scheme shared.setting ≡ node
+  has_run : (shared : NodeView S) (node : Node) (store now : Store D) (every : ℕ) (opened : Journal D) (later : Store D) (told_of : Faults) → node_of scheme shared.setting ≡ node
       → StandsAt node (told_in node (areas_in device store)) shared.begun → faults_in device now ≡ faults_in device store
       → TellsRounds (faults_in device now) (faults_in device later) told_of.journal → IsToldThroughout node device store now
-      → AtEachMomentOn device (HoldsMore scheme shared [] areas) now later → KeepsStatesIn node (areas_in device store) areas
-      → IsReadIn node device store opened → (told_of.journal ≡ None → told_of.memory ≡ false → ComesByRule device (rule_on device store every opened) opened later)
-      → RunsOver node device store every (ending_of told_of) (Some later)
-  has_run shared node store now every opened areas later told_of of_node begins same tells opening leaves kept_all read by_rule = record {
+      → AtEachMomentOn device (HoldsMore scheme shared [] (areas_of device opened)) now later → KeepsStatesIn node (areas_in device store) (areas_of device opened)
+      → IsReadIn node device store opened → IsAlive device opened → (told_of.journal ≡ None → told_of.memory ≡ false → ComesByRule device (rule_on device store every opened) (point_at opened) later)
+      → (told_of.journal ≡ Some journal.Full → IsFullUp scheme device shared later) → RunsOver node device store every (ending_of told_of) (Some later)
+  has_run shared node store now every opened later told_of of_node begins same tells opening leaves kept_all read alive by_rule full = record {
     device = λ is. subst (λ n. n < faults_in device later) same (tells.disk.device (told_of_journal told_of journal.Device is));
     no_fault = λ other. tells.disk.no_fault (λ is. other (ends_with_device told_of.journal _ is)) ∙ same;
     told_as = λ named is. elim (which named is) [ inl device ↦ inl device | inr full ↦ inr (inl full) ];
     never_refused = λ left. which;
+    full = λ is. inr (full_after shared node store later of_node begins (full (told_of_journal told_of journal.Full is)));
     lost = some_left later (ending_of told_of);
-    any_moment = on_joins device (May node store) (HoldsMore scheme shared [] areas) store now later (from_opening node store now opening) leaves more;
+    any_moment = on_joins device (May node store) (HoldsMore scheme shared [] (areas_of device opened)) store now later (from_opening node store now opening) leaves more;
     rewritten = λ brought.
         let fine = told_nothing told_of tells.which brought in
-        record { opened = opened; read = read; comes = by_rule fine.0 fine.1 };
+        record { opened = opened; read = read; keeps = kept_all; alive = alive; comes = by_rule fine.0 fine.1 };
   }
     where
       which : (named : JournalError) → ending_of told_of ≡ ends.Journal named → (named ≡ journal.Device) ⊎ (named ≡ journal.Full)
       which named is = subst (λ (f : Option JournalError). IfSome f (λ error. (error ≡ journal.Device) ⊎ (error ≡ journal.Full))) (told_of_journal told_of named is) tells.which
 
-      more : (left : Areas) → HoldsMore scheme shared [] areas left → May node store left
-      more left it = inr (goes_on shared node store areas [] of_node begins kept_all refl left it).0
+      more : (left : Areas) → HoldsMore scheme shared [] (areas_of device opened) left → May node store left
+      more left it = inr (goes_on shared node store (areas_of device opened) [] of_node begins kept_all refl left it).0
 
   -- its threads have ended
-  pub ended : (shared : NodeView S) (node : Node) (store now : Store D) (every : ℕ) (opened : Journal D) (areas : Areas) (told_of : Faults) (left : Option (Store D)) → node_of scheme shared.setting ≡ node
+  pub ended : (shared : NodeView S) (node : Node) (store now : Store D) (every : ℕ) (opened : Journal D) (told_of : Faults) (left : Option (Store D)) → node_of scheme shared.setting ≡ node
       → StandsAt node (told_in node (areas_in device store)) shared.begun → faults_in device now ≡ faults_in device store
       → IfSome left (λ later. TellsRounds (faults_in device now) (faults_in device later) told_of.journal) → (left ≡ None → told_of ≡ no_memory)
       → IsToldThroughout node device store now
-      → IfSome left (λ later. AtEachMomentOn device (HoldsMore scheme shared [] areas) now later) → KeepsStatesIn node (areas_in device store) areas
-      → IsReadIn node device store opened → (told_of.journal ≡ None → told_of.memory ≡ false → IfSome left (ComesByRule device (rule_on device store every opened) opened))
-      → RunsOver node device store every (ending_of told_of) left
-  ended shared node store now every opened areas told_of None of_node begins same tells lost opening leaves kept_all read by_rule = run_lost node store every told_of (lost refl)
-  ended shared node store now every opened areas told_of (Some later) of_node begins same tells lost opening leaves kept_all read by_rule =
-      has_run shared node store now every opened areas later told_of of_node begins same tells opening leaves kept_all read by_rule
+      → IfSome left (λ later. AtEachMomentOn device (HoldsMore scheme shared [] (areas_of device opened)) now later) → KeepsStatesIn node (areas_in device store) (areas_of device opened)
+      → IsReadIn node device store opened → IsAlive device opened
+      → (told_of.journal ≡ None → told_of.memory ≡ false → IfSome left (ComesByRule device (rule_on device store every opened) (point_at opened)))
+      → (told_of.journal ≡ Some journal.Full → IfSome left (IsFullUp scheme device shared)) → RunsOver node device store every (ending_of told_of) left
+  ended shared node store now every opened told_of None of_node begins same tells lost opening leaves kept_all read alive by_rule full = run_lost node store every told_of (lost refl)
+  ended shared node store now every opened told_of (Some later) of_node begins same tells lost opening leaves kept_all read alive by_rule full =
+      has_run shared node store now every opened later told_of of_node begins same tells opening leaves kept_all read alive by_rule full
 
   -- ---- what it gave out
 

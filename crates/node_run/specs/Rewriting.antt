@@ -1,20 +1,22 @@
 -- When a journal on two disks is rewritten to a checkpoint, and what that does.
-use Rattle.std.specs.Prelude.{◌≡◌, ◌⊎◌, ◌+◌, ◌≤◌, ℕ, List, [], ◌∷◌, length, Option, Some, None, Result, Ok, Err, IsErrOf, OnOk, OnErr}
+use Rattle.std.specs.Prelude.{◌≡◌, ◌⊎◌, ◌+◌, ◌≤◌, ◌<◌, ℕ, List, [], ◌∷◌, length, Option, Some, None, Result, Ok, Err, IsErrOf, IsSome, OnOk, OnErr}
 use Rattle.std.specs.Option.{option_map_or}
 use Rattle.book.specs.Checkpoints.{HasNoRoomFor}
 use Rattle.book.specs.declared.own.error.FlushError.{FlushError}
 use Rattle.book.specs.declared.own.error.FlushError.TheVariants as errors
 use Rattle.diskmodel.specs.Disk.{Device}
-use Rattle.flusher.specs.Rounds.{journal_of, settled_in, taken_in, GoesDown, HasNoRoom, IsToldOf}
+use Rattle.flusher.specs.Rounds.{journal_of, settled_in, taken_in, GoesDown, HasNoRoom, IsGroupOf, IsToldOf}
 use Rattle.flusher.specs.declared.flusher.Flusher.{Flusher}
 use Rattle.journal.specs.Journal.{disk_of, spare_of}
 use Rattle.journal.specs.Pairs.{HaveChangedPlaces}
 use Rattle.journal.specs.declared.journal.Journal.{Journal}
 use Rattle.node.specs.Callers.{RoundsView}
 use Rattle.node.specs.Rounds.{Flushes}
+use Rattle.node_seats.specs.declared.view.Marked.{Marked}
 use Rattle.node_shared.specs.Home.{NodeView, IsCheckpointAfter}
 use Rattle.node_run.specs.declared.rule.Rule.{Rule}
 use Rattle.sigface.specs.Scheme.{Scheme}
+use Rattle.wire.specs.Lists.{Begins}
 
 -- ---- the rule
 
@@ -35,39 +37,66 @@ IsDue rule len = IsLonger rule.every rule.since len
 abbrev pub counted_from : {D : Type 0} → Device D → Rule → Journal D → Rule
 counted_from device rule journal = record rule { since = length_in device journal }
 
--- ---- what follows a round
+-- ---- a round, and what follows it
 
--- the journal after one round or more, and after a checkpoint, if one followed
+-- a node's journal, and what is settled on it
+pub record Point (D : Type 0) : Type 0 where
+  pub journal : Journal D
+  pub settled : List Marked
+
+-- those of a flusher
+abbrev pub point_of : {D : Type 0} → Flusher D → Point D
+point_of flusher = record { journal = journal_of flusher; settled = settled_in flusher }
+
+-- where a node was after one round, and after a checkpoint, if one followed
 pub record Step (D : Type 0) : Type 0 where
-  pub grown : Journal D
-  pub rewritten : Option (Journal D)
+  pub grown : Point D
+  pub rewritten : Option (Point D)
 
--- the journal after both
-abbrev pub journal_after : {D : Type 0} → Step D → Journal D
-journal_after step = option_map_or (λ journal. journal) step.rewritten step.grown
+-- where it was after both
+abbrev pub point_after : {D : Type 0} → Step D → Point D
+point_after step = option_map_or (λ point. point) step.rewritten step.grown
 
 -- and the rule
 abbrev pub rule_after : {D : Type 0} → Device D → Rule → Step D → Rule
-rule_after device rule step = option_map_or (counted_from device rule) step.rewritten rule
+rule_after device rule step = option_map_or (λ point. counted_from device rule point.journal) step.rewritten rule
 
--- no checkpoint follows where none is due; where one is due it does, and the other area is read from then on
-abbrev pub FollowsWhereDue : {D : Type 0} → Device D → Rule → Journal D → Option (Journal D) → Type 0
-FollowsWhereDue device rule grown None = IsDue rule (length_in device grown) → ⊥
-FollowsWhereDue device rule grown (Some journal) = IsDue rule (length_in device grown) × HaveChangedPlaces grown journal
+-- What one round settles: some of what was accepted, which is the longest beginning of the rest that fits a group.
+pub record BringsGroup (settled later : List Marked) : Type 0 where
+  pub some : length settled < length later
+  pub all : List Marked
+  pub begins : Begins settled later
+  pub within : Begins later all
+  pub group : IsGroupOf settled all later
 
--- One round or more leave the area that isn't read, and a checkpoint follows them exactly where one is due.
-pub record IsStep {D : Type 0} (device : Device D) (rule : Rule) (first : Journal D) (step : Step D) : Type 0 where
-  pub same_area : spare_of step.grown ≡ spare_of first
+-- No checkpoint follows where none is due. Where one is due it does: the other area is read from then on, and all that was settled stays so.
+abbrev pub FollowsWhereDue : {D : Type 0} → Device D → Rule → Point D → Option (Point D) → Type 0
+FollowsWhereDue device rule grown None = IsDue rule (length_in device grown.journal) → ⊥
+FollowsWhereDue device rule grown (Some point) = IsDue rule (length_in device grown.journal) × HaveChangedPlaces grown.journal point.journal × Begins grown.settled point.settled
+
+-- One round brings a group to the area that is read, and leaves the other. A checkpoint follows it exactly where one is due.
+pub record IsStep {D : Type 0} (device : Device D) (rule : Rule) (first : Point D) (step : Step D) : Type 0 where
+  pub same_area : spare_of step.grown.journal ≡ spare_of first.journal
+  pub brings : BringsGroup first.settled step.grown.settled
   pub follows : FollowsWhereDue device rule step.grown step.rewritten
 
--- these steps lead from a journal to a later one, by the rule, which they change
-abbrev pub AreSteps : {D : Type 0} → Device D → Rule → Journal D → List (Step D) → Rule → Journal D → Type 0
+-- these steps lead from one point to a later one, by the rule, which they change
+abbrev pub AreSteps : {D : Type 0} → Device D → Rule → Point D → List (Step D) → Rule → Point D → Type 0
 AreSteps device rule first [] later last = (later ≡ rule) × (last ≡ first)
-AreSteps device rule first (step ∷ more) later last = IsStep device rule first step × AreSteps device (rule_after device rule step) (journal_after step) more later last
+AreSteps device rule first (step ∷ more) later last = IsStep device rule first step × AreSteps device (rule_after device rule step) (point_after step) more later last
 
--- all that was brought to the disks from one state of a journal to a later one was brought by such steps
-abbrev pub ByTheRule : {D : Type 0} → Device D → Rule → Journal D → Rule → Journal D → Type 0
+-- all that was brought to the disks from one point to a later one was brought by such steps, each of one round
+abbrev pub ByTheRule : {D : Type 0} → Device D → Rule → Point D → Rule → Point D → Type 0
 ByTheRule {D} device rule first later last = (steps : List (Step D)) × AreSteps device rule first steps later last
+
+-- So many records were brought by a round: they are what it settled. A checkpoint after it, which changes the area that is read, may have
+-- settled more.
+pub record IsCountOf {D : Type 0} (first later : Point D) (count : ℕ) : Type 0 where
+  pub settled : List Marked
+  pub size : length settled ≡ length first.settled + count
+  pub begins : Begins first.settled settled
+  pub within : Begins settled later.settled
+  pub whole : spare_of later.journal ≡ spare_of first.journal → settled ≡ later.settled
 
 -- ---- a checkpoint
 
@@ -76,16 +105,22 @@ abbrev pub without_number : Result ℕ FlushError → Result (Unit {0}) FlushErr
 without_number (Ok generation) = Ok tt
 without_number (Err error) = Err error
 
--- a checkpoint of all that was taken has no room after a journal
+-- a group of what was accepted has no room after a journal
+pub record HasNoRoomToAdd {D : Type 0} (device : Device D) (flusher : Flusher D) : Type 0 where
+  pub all : List Marked
+  pub group : IsGroupOf (settled_in flusher) all (taken_in flusher)
+  pub room : HasNoRoom (device.content (disk_of (journal_of flusher))) (settled_in flusher) (taken_in flusher)
+
+-- a checkpoint of all that was taken has no room on the two disks of a journal
 pub record HasNoRoomToRewrite {S D : Type 0} (scheme : Scheme S) (node : NodeView S) (flusher : Flusher D) : Type 0 where
+  pub pair : IsSome (spare_of (journal_of flusher))
   pub records : List (List ℕ)
   pub checkpoint : IsCheckpointAfter scheme node (taken_in flusher) records
   pub full : HasNoRoomFor (journal_of flusher) records
 
 -- what was taken has no place after a journal: as a group, or as a checkpoint of all of it
 abbrev pub HasNoPlace : {S D : Type 0} → Scheme S → Device D → NodeView S → Flusher D → Type 0
-HasNoPlace scheme device node flusher =
-    HasNoRoom (device.content (disk_of (journal_of flusher))) (settled_in flusher) (taken_in flusher) ⊎ HasNoRoomToRewrite scheme node flusher
+HasNoPlace scheme device node flusher = HasNoRoomToAdd device flusher ⊎ HasNoRoomToRewrite scheme node flusher
 
 -- A checkpoint was taken, which answered so. Where it succeeded the area that it wrote is read from then on, and the rule counts from its length.
 pub record IsRewritten {S D : Type 0} (scheme : Scheme S) (device : Device D) (rule later_rule : Rule) (before later : RoundsView S D) (result : Result (Unit {0}) FlushError) : Type 0 where

@@ -1,16 +1,20 @@
 -- How a node's run over its disks ends, and what a stop at any moment of it leaves.
-use Rattle.std.specs.Prelude.{◌≡◌, ◌≢◌, ◌⊎◌, ◌<◌, ⊤, ℕ, Bool, true, false, List, [], Option, Some, None, Ok, All, IfSome}
-use Rattle.book.specs.Book.{GoesOutAfter}
+use Rattle.std.specs.Prelude.{◌≡◌, ◌≢◌, ◌⊎◌, ◌+◌, ◌<◌, ⊤, ℕ, Bool, true, false, List, [], length, Option, Some, None, Ok, All, IfSome, IsSome}
+use Rattle.book.specs.Book.{GoesOutAfter, IsCheckpoint}
+use Rattle.book.specs.Checkpoints.{HasNoRoomFor}
 use Rattle.diskmodel.specs.Disk.{Device}
 use Rattle.flusher.specs.Rounds.{journal_of, is_down, settled_in, LeavesAfter}
 use Rattle.flusher.specs.declared.flusher.Flusher.{Flusher}
 use Rattle.journal.specs.Areas.{Areas}
+use Rattle.journal.specs.Format.{FitsGroup, group_bytes}
+use Rattle.journal.specs.Journal.{spare_of, IsAlive}
 use Rattle.journal.specs.Pairs.{areas_in, areas_of, store_of}
 use Rattle.journal.specs.Stores.{faults_in}
 use Rattle.journal.specs.declared.error.JournalError.{JournalError}
 use Rattle.journal.specs.declared.error.JournalError.TheVariants as errors
 use Rattle.journal.specs.declared.error.JournalError.TheVariants.{Full}
 use Rattle.journal.specs.declared.journal.Journal.{Journal}
+use Rattle.journal.specs.declared.layout.TheConstants.{MAX_JOURNAL_BYTES}
 use Rattle.journal.specs.declared.store.Store.{Store}
 use Rattle.journal.specs.declared.store.Store.TheVariants.{One, Two}
 use Rattle.node_io.specs.declared.ending.Ending.{Ending}
@@ -21,7 +25,8 @@ use Rattle.node.specs.Disks.{MayBeLeft, AtEachMomentOn}
 use Rattle.node_seats.specs.declared.view.Marked.{Marked}
 use Rattle.node_seats.specs.declared.view.View.{View}
 use Rattle.node_shared.specs.Home.{NodeView}
-use Rattle.opening.specs.Laws.{IsLeftIn, IsReadIn}
+use Rattle.opening.specs.Laws.{IsFullIn, IsLeftIn, IsReadIn}
+use Rattle.opening.specs.Renewing.{KeepsStatesIn}
 use Rattle.opening.specs.Told.{told_in, Tells}
 use Rattle.spec_machine.specs.After.{after_all, IsLegalAfter}
 use Rattle.spec_model.specs.Histories.{History}
@@ -34,7 +39,7 @@ use Rattle.validator.specs.Setting.{ConfigView, node_of}
 use Rattle.wire.specs.declared.keys.Key.{Key}
 use Rattle.node_run.specs.Ends.{TellsRounds}
 use Rattle.node_run.specs.Members.{IsConfigOf}
-use Rattle.node_run.specs.Rewriting.{length_in, ByTheRule}
+use Rattle.node_run.specs.Rewriting.{length_in, point_of, ByTheRule, HasNoPlace, Point}
 use Rattle.node_run.specs.Writing.{HasWritten, MayGo}
 use Rattle.node_run.specs.declared.ran.Ran.{Ran}
 use Rattle.node_run.specs.declared.rule.Rule.{Rule}
@@ -53,19 +58,20 @@ LeavesSettled scheme device node first settled left =
     (found : Areas) → MayBeLeft device left found
     → (it : HoldsMore scheme node (settled_in first) (areas_of device (journal_of first)) found) × Begins settled it.more
 
--- A node's rounds went on at the same node, and report these faults: of its journal as rounds do, and none of outputs or of the input. A stop at
--- any moment leaves what was settled, and perhaps more after it; at the end it leaves all that is settled then. Unless a fault is reported, all
--- was brought to the disks by the rule.
+-- A node's rounds went on at the same node, and report these faults: of its journal as rounds do, and none of outputs or of the input. A full
+-- journal has no place for what was taken. A stop at any moment leaves what was settled, and perhaps more after it; at the end it leaves all that
+-- is settled then. Unless a fault is reported, all was brought to the disks by the rule.
 pub record HasFlushed {S D : Type 0} (scheme : Scheme S) (device : Device D) (rule : Rule) (before later : RoundsView S D) (tells : Faults) : Type 0 where
   pub node : later.node ≡ before.node
   pub told : TellsRounds (faults_in device (store_of (journal_of before.flusher))) (faults_in device (store_of (journal_of later.flusher))) tells.journal
+  pub full : tells.journal ≡ Some Full → HasNoPlace scheme device before.node later.flusher
   pub others : (tells.output ≡ false) × (tells.input ≡ false)
   pub any_moment : is_down before.flusher ≡ false
       → AtEachMomentOn device (HoldsMore scheme before.node (settled_in before.flusher) (areas_of device (journal_of before.flusher)))
       (store_of (journal_of before.flusher)) (store_of (journal_of later.flusher))
   pub at_end : is_down before.flusher ≡ false → LeavesSettled scheme device before.node before.flusher (settled_in later.flusher) (store_of (journal_of later.flusher))
   pub by_rule : is_down before.flusher ≡ false → tells.journal ≡ None → tells.memory ≡ false
-      → (last : Rule) × ByTheRule device rule (journal_of before.flusher) last (journal_of later.flusher)
+      → (last : Rule) × ByTheRule device rule (point_of before.flusher) last (point_of later.flusher)
 
 -- what contracts see of the thread that flushes: its rounds, and its rule
 pub record FlushingView (S D : Type 0) : Type 0 where
@@ -73,11 +79,17 @@ pub record FlushingView (S D : Type 0) : Type 0 where
   pub rule : Rule
 
 -- A journal on these disks was brought there from an earlier one by a rule.
-pub record ComesByRule {D : Type 0} (device : Device D) (rule : Rule) (first : Journal D) (left : Store D) : Type 0 where
-  pub last : Journal D
+pub record ComesByRule {D : Type 0} (device : Device D) (rule : Rule) (first : Point D) (left : Store D) : Type 0 where
+  pub last : Point D
   pub last_rule : Rule
   pub by_rule : ByTheRule device rule first last_rule last
-  pub is_left : left ≡ store_of last
+  pub is_left : left ≡ store_of last.journal
+
+-- A node's journal on these disks has no place for what was taken.
+pub record IsFullUp {S D : Type 0} (scheme : Scheme S) (device : Device D) (node : NodeView S) (left : Store D) : Type 0 where
+  pub last : Flusher D
+  pub lacks : HasNoPlace scheme device node last
+  pub is_left : left ≡ store_of (journal_of last)
 
 -- Outputs might go out after events that a node has settled on its disks: each of them went after some of what a seat knows as settled,
 -- and whatever a stop leaves of the disks now has all of that, after the same state as when a flusher was as given.
@@ -117,23 +129,46 @@ every_on (Two first second) every = Some every
 abbrev pub rule_on : {D : Type 0} → Device D → Store D → ℕ → Journal D → Rule
 rule_on device store every opened = record { every = every_on store every; since = length_in device opened }
 
--- A journal was opened on disks. All that was brought there until these are left was brought by rounds, and by a checkpoint after them wherever
--- they left the area which is read so many bytes longer than it was at the opening, or after the last checkpoint, and nowhere else.
+-- where a node begins whose journal was opened: nothing is settled
+abbrev pub point_at : {D : Type 0} → Journal D → Point D
+point_at opened = record { journal = opened; settled = [] }
+
+-- A journal was opened on disks: it is live, and stands for each state for which the disks stood. All that was brought there until these are left
+-- was brought by rounds, and by a checkpoint after each round that left the area which is read so many bytes longer than it was at the opening,
+-- or after the last checkpoint, and after no other.
 pub record IsRewrittenEach {D : Type 0} (node : Node) (disks : Device D) (store : Store D) (every : ℕ) (left : Store D) : Type 0 where
   pub opened : Journal D
   pub read : IsReadIn node disks store opened
-  pub comes : ComesByRule disks (rule_on disks store every opened) opened left
+  pub keeps : KeepsStatesIn node (areas_in disks store) (areas_of disks opened)
+  pub alive : IsAlive disks opened
+  pub comes : ComesByRule disks (rule_on disks store every opened) (point_at opened) left
+
+-- After a journal there is no room: for some group, or on two disks for some checkpoint of the node's state after more events.
+abbrev pub HasNoRoomAfter : {D : Type 0} → Node → Device D → State → Journal D → Type 0
+HasNoRoomAfter node disks base last =
+    ((group : List (List ℕ)) × FitsGroup group × (MAX_JOURNAL_BYTES < length_in disks last + length (group_bytes group)))
+    ⊎ (IsSome (spare_of last) × ((more : History) × (records : List (List ℕ)) × IsCheckpoint node (after_all node base more) records × HasNoRoomFor last records))
+
+-- A journal on the disks that a run leaves has no room for what comes next, after the state as which the disks were read at the start.
+pub record IsFullAfter {D : Type 0} (node : Node) (disks : Device D) (store left : Store D) : Type 0 where
+  pub base : State
+  pub is_read : told_in node (areas_in disks store) ≡ Ok base
+  pub last : Journal D
+  pub is_left : left ≡ store_of last
+  pub no_room : HasNoRoomAfter node disks base last
 
 -- A node was opened on one disk or on two, if it could be, and ran until this ending; this is left of the disks. A fault of a disk is told
--- exactly where one of them counted one. Of the journal's other faults a full one is told after the opening, and what the opening refused. That
--- is what the disks were told as, and nothing that a stop leaves in a world of the node. The disks are lost only with a thread that couldn't be
--- made. A stop at any moment leaves what is told as an outcome from before it is, or what the disks were told as with more after it. Where
--- the run ends without a fault of what was brought to the disks, a journal on two disks was rewritten where it was so many bytes longer.
+-- exactly where one of them counted one. Of the journal's other faults a full one is told, where the opening has no room for a journal of the
+-- second version, or the run for what it took; and what the opening refused. That is what the disks were told as, and nothing that a stop leaves
+-- in a world of the node. The disks are lost only with a thread that couldn't be made. A stop at any moment leaves what is told as an outcome from
+-- before it is, or what the disks were told as with more after it. Where the run ends without a fault of what was brought to the disks, a journal
+-- on two disks was rewritten where it was so many bytes longer.
 pub record RunsOver {D : Type 0} (node : Node) (disks : Device D) (store : Store D) (every : ℕ) (ending : Ending) (left : Option (Store D)) : Type 0 where
   pub device : ending ≡ endings.Journal errors.Device → IfSome left (λ later. faults_in disks store < faults_in disks later)
   pub no_fault : ending ≢ endings.Journal errors.Device → IfSome left (λ later. faults_in disks later ≡ faults_in disks store)
   pub told_as : (error : JournalError) → ending ≡ endings.Journal error → (error ≡ errors.Device) ⊎ (error ≡ Full) ⊎ Tells error (told_in node (areas_in disks store))
   pub never_refused : IsLeftIn node (areas_in disks store) → (error : JournalError) → ending ≡ endings.Journal error → (error ≡ errors.Device) ⊎ (error ≡ Full)
+  pub full : ending ≡ endings.Journal Full → IsFullIn node disks store ⊎ IfSome left (IsFullAfter node disks store)
   pub lost : left ≡ None → ending ≡ endings.Memory
   pub any_moment : IfSome left (λ later. AtEachMomentOn disks (λ areas. IsReadAsOneOf node disks store areas ⊎ GoesOn node (areas_in disks store) areas) store later)
   pub rewritten : is_all_brought ending ≡ true → IfSome left (λ later. IsRewrittenEach node disks store every later)

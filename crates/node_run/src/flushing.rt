@@ -9,7 +9,7 @@ ghost use Rattle.wire.specs.Lists.{Begins};
 ghost use Rattle.flusher.specs.Rounds.{journal_of, is_down, settled_in, taken_in, KeepsEarlier, TakesLongest};
 ghost use Rattle.node_run.specs.Ends.{faults_behind, TellsRounds, TellsJournal};
 ghost use Rattle.node_run.specs.Flushing.{FlushesOnce};
-ghost use Rattle.node_run.specs.Rewriting.{length_in, ByTheRule, RewritesWhereDue, HasNoPlace};
+ghost use Rattle.node_run.specs.Rewriting.{length_in, point_of, ByTheRule, RewritesWhereDue, HasNoPlace};
 ghost use Rattle.node_run.specs.Runs.{HoldsMore, LeavesSettled};
 
 use crate::bell::Bell;
@@ -22,7 +22,8 @@ use sigface::Sign;
 use std::sync::Wait;
 
 /// Brings all records to the disks each time that the first bell is rung, and then rings the second, until the first is closed and all
-/// records are there. Rewrites the journal to a checkpoint where the rule says so.
+/// records are there. Rewrites the journal to a checkpoint where the rule says so; where memory is refused for one, it goes on without it
+/// and tells so at the end.
 pub(crate) fn flush_all<S: Sign, D: Disk, R: Wait>(
     rt: &R,
     rounds: &mut Rounds<'_, '_, S, D>,
@@ -36,29 +37,35 @@ pub(crate) fn flush_all<S: Sign, D: Disk, R: Wait>(
     ensures others { (result.output ≡ false) × (result.input ≡ false) }
     ensures node { rounds.new.node ≡ rounds.old.node }
     // Unless a fault is told, a checkpoint was taken after each round after which one was due, and after no other.
-    ensures by_rule { is_down rounds.old.flusher ≡ false → result.journal ≡ None → result.memory ≡ false → (later : Rule) × ByTheRule D.device rule (journal_of rounds.old.flusher) later (journal_of rounds.new.flusher) }
+    ensures by_rule { is_down rounds.old.flusher ≡ false → result.journal ≡ None → result.memory ≡ false → (later : Rule) × ByTheRule D.device rule (point_of rounds.old.flusher) later (point_of rounds.new.flusher) }
     // A stop at any moment leaves what was settled, and perhaps more after it.
     ensures any_moment { is_down rounds.old.flusher ≡ false → AtEachMomentOn D.device (HoldsMore S.scheme rounds.old.node (settled_in rounds.old.flusher) (areas_of D.device (journal_of rounds.old.flusher))) (store_of (journal_of rounds.old.flusher)) (store_of (journal_of rounds.new.flusher)) }
     // At the end it leaves all that is settled.
     ensures at_end { is_down rounds.old.flusher ≡ false → LeavesSettled S.scheme D.device rounds.old.node rounds.old.flusher (settled_in rounds.new.flusher) (store_of (journal_of rounds.new.flusher)) }
 {
     let mut faults = Faults::none();
+    let mut missed = false;
     for _ in rt.forever() {
         let may_go_on = pending.wait(rt);
-        faults = faults.and(flush_pending(rt, rounds, &mut rule, settled));
+        faults = faults.and(flush_pending(rt, rounds, &mut rule, &mut missed, settled));
         if !may_go_on {
             settled.close(rt);
-            return faults;
+            return Faults {
+                memory: faults.memory || missed,
+                ..faults
+            };
         }
     }
     unreachable!()
 }
 
-// Rounds until all records are on the disks, and the checkpoints that are due after them, or until one fails.
+// Rounds until all records are on the disks, or until one fails, and the checkpoints that are due after them. Where memory is refused for a
+// checkpoint that is marked, and the rounds go on.
 fn flush_pending<S: Sign, D: Disk, R: Wait>(
     rt: &R,
     rounds: &mut Rounds<'_, '_, S, D>,
     rule: &mut Rule,
+    missed: &mut bool,
     settled: &Bell,
 ) -> Faults
     requires pair { IsSome rule.old.every → IsSome (spare_of (journal_of rounds.old.flusher)) }
@@ -70,11 +77,12 @@ fn flush_pending<S: Sign, D: Disk, R: Wait>(
     ensures stays { IsTrue (is_down rounds.old.flusher) → (result.journal ≡ None) × (rounds.new.flusher ≡ rounds.old.flusher) }
     ensures full { is_down rounds.old.flusher ≡ false → result.journal ≡ Some JournalError.Full → HasNoPlace S.scheme D.device rounds.old.node rounds.new.flusher }
 
-    // Unless a fault is told, a checkpoint was taken after each round after which one was due, and after no other.
-    ensures by_rule { is_down rounds.old.flusher ≡ false → result.journal ≡ None → result.memory ≡ false → ByTheRule D.device rule.old (journal_of rounds.old.flusher) rule.new (journal_of rounds.new.flusher) }
+    // Unless a fault is told or a checkpoint was missed, one was taken after each round after which it was due, and after no other.
+    ensures by_rule { is_down rounds.old.flusher ≡ false → result.journal ≡ None → result.memory ≡ false → missed.new ≡ false → ByTheRule D.device rule.old (point_of rounds.old.flusher) rule.new (point_of rounds.new.flusher) }
+    ensures missed { missed.old ≡ true → missed.new ≡ true }
 
-    // Unless the node is down or memory was refused, of some list of what was accepted, with all of it that the seat had seen before,
-    // nothing more fits a group after what is settled.
+    // Unless the node is down or memory was refused to a round, of some list of what was accepted, with all of it that the seat had seen
+    // before, nothing more fits a group after what is settled. So it is where memory was refused for a checkpoint.
     ensures all { is_down rounds.new.flusher ≡ false → result.memory ≡ false → TakesLongest rounds.old.seat.view.seen (settled_in rounds.new.flusher) (settled_in rounds.new.flusher) }
     // After want of memory nothing is taken that isn't settled.
     ensures memory { result.memory ≡ true → taken_in rounds.new.flusher ≡ settled_in rounds.new.flusher }
@@ -87,7 +95,7 @@ fn flush_pending<S: Sign, D: Disk, R: Wait>(
     ensures at_end { is_down rounds.old.flusher ≡ false → LeavesSettled S.scheme D.device rounds.old.node rounds.old.flusher (settled_in rounds.new.flusher) (store_of (journal_of rounds.new.flusher)) }
 {
     for _ in rt.forever() {
-        match flush_once(rt, rounds, rule, settled) {
+        match flush_once(rt, rounds, rule, missed, settled) {
             Ok(0) => return Faults::none(),
             Ok(_) => (),
             Err(error) => return faults_of(error),
@@ -96,15 +104,18 @@ fn flush_pending<S: Sign, D: Disk, R: Wait>(
     unreachable!()
 }
 
-// A round, and the checkpoint that is due after it. Answers how many records the round brought to the disks, 0 where all had been.
+// A round, and the checkpoint that is due after it. Answers how many records the round brought to the disks, 0 where all had been. Where
+// memory is refused for the checkpoint, that is marked, and it is due again after the next round.
 fn flush_once<S: Sign, D: Disk, R: Wait>(
     rt: &R,
     rounds: &mut Rounds<'_, '_, S, D>,
     rule: &mut Rule,
+    missed: &mut bool,
     settled: &Bell,
 ) -> Result<u64, FlushError>
     requires pair { IsSome rule.old.every → IsSome (spare_of (journal_of rounds.old.flusher)) }
-    ensures once { FlushesOnce S.scheme D.device rule.old rule.new rounds.old rounds.new result }
+    ensures once { FlushesOnce S.scheme D.device rule.old rule.new missed.new rounds.old rounds.new result }
+    ensures missed { missed.old ≡ true → missed.new ≡ true }
 {
     let round = rounds.round(rt);
     settled.ring(rt);
@@ -112,6 +123,10 @@ fn flush_once<S: Sign, D: Disk, R: Wait>(
         Ok(0) => Ok(0),
         Ok(count) => match rewrite_if_due(rt, rounds, rule, settled) {
             Ok(()) => Ok(count),
+            Err(FlushError::Memory) => {
+                *missed = true;
+                Ok(count)
+            }
             Err(error) => Err(error),
         },
         Err(error) => Err(error),

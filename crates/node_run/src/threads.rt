@@ -1,6 +1,6 @@
 //! The threads of a node.
 
-ghost use Rattle.std.specs.Prelude.{◌≡◌, Bool, true, false, [], None, IfOk, IfSome, IsSome};
+ghost use Rattle.std.specs.Prelude.{◌≡◌, Bool, true, false, [], Some, None, IfOk, IfSome, IsSome};
 ghost use Rattle.std.specs.Io.Buffered.{writer_buffer, writer_contents, writer_inner};
 ghost use Rattle.journal.specs.Journal.{spare_of};
 ghost use Rattle.journal.specs.Pairs.{areas_of, store_of};
@@ -11,7 +11,8 @@ ghost use Rattle.wire.specs.Lists.{Begins};
 ghost use Rattle.node_io.specs.Endings.{behind_input};
 ghost use Rattle.node_io.specs.declared.input.End.{End};
 ghost use Rattle.node_run.specs.Ends.{TellsRounds};
-ghost use Rattle.node_run.specs.Runs.{HoldsMore, AreSettled, ComesByRule};
+ghost use Rattle.node_run.specs.Rewriting.{point_of};
+ghost use Rattle.node_run.specs.Runs.{HoldsMore, AreSettled, ComesByRule, IsFullUp};
 ghost use Rattle.node_run.specs.Writing.{no_faults, no_memory, HasWritten};
 
 use crate::bell::{Bell, Bells};
@@ -23,7 +24,7 @@ use crate::reading::read_all;
 use crate::rule::Rule;
 use crate::writing::{Sink, write_outputs};
 use diskmodel::Disk;
-use journal::Store;
+use journal::{JournalError, Store};
 use node::Rounds;
 use node_io::{Faults, Input};
 use sigface::Sign;
@@ -223,13 +224,15 @@ where
     requires pair { IsSome rule.every → IsSome (spare_of (journal_of rounds.flusher)) }
     requires node { desks.writing.caller.node ≡ rounds.node }
     ensures told { IfSome result.1 (λ left. TellsRounds (faults_in D.device (store_of (journal_of rounds.entry.flusher))) (faults_in D.device left) result.0.journal) }
+    // A full journal is told where what was taken has no place on the disks.
+    ensures full { result.0.journal ≡ Some JournalError.Full → IfSome result.1 (IsFullUp S.scheme D.device rounds.entry.node) }
     ensures lost { result.1 ≡ None → result.0 ≡ no_memory }
     // A writer that is lost is reported as want of memory.
     ensures unwritten { result.2 ≡ None → (result.0.output ≡ false) × (result.0.memory ≡ true) }
     // A stop at any moment leaves what was settled, and perhaps more after it.
     ensures any_moment { is_down rounds.entry.flusher ≡ false → IfSome result.1 (λ left. AtEachMomentOn D.device (HoldsMore S.scheme rounds.entry.node (settled_in rounds.entry.flusher) (areas_of D.device (journal_of rounds.entry.flusher))) (store_of (journal_of rounds.entry.flusher)) left) }
     // Unless a fault is told, all was brought to the disks by the rule.
-    ensures by_rule { is_down rounds.entry.flusher ≡ false → result.0.journal ≡ None → result.0.memory ≡ false → IfSome result.1 (ComesByRule D.device rule (journal_of rounds.entry.flusher)) }
+    ensures by_rule { is_down rounds.entry.flusher ≡ false → result.0.journal ≡ None → result.0.memory ≡ false → IfSome result.1 (ComesByRule D.device rule (point_of rounds.entry.flusher)) }
     // What was written is on the disks.
     ensures given { is_down rounds.entry.flusher ≡ false → IfSome result.1 (λ left. IfSome result.2 (λ later. HasWritten (AreSettled S.scheme D.device rounds.entry.node rounds.entry.flusher left) (result.0.output ≡ false) (writer_contents W.contents desks.entry.writing.sink.writer) (W.contents later))) }
 {

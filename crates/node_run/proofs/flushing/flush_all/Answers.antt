@@ -1,4 +1,4 @@
-use Rattle.std.proofs.Common.{rules, Option, false, sym, subst, ◌∙◌, inr}
+use Rattle.std.proofs.Common.{rules, Option, true, false, sym, subst, ◌∙◌, inr}
 use Rattle.std.specs.Prelude.{◌≡◌, IsTrue}
 use Rattle.journal.specs.Pairs.{store_of}
 use Rattle.journal.specs.Stores.{faults_in}
@@ -13,6 +13,7 @@ use Rattle.node_run.proofs.Pending.{by_rule_on}
 use Rattle.node_seats.proofs.Beginnings.{begins_trans}
 use Rattle.node_shared.specs.Home.{NodeView}
 use Rattle.node_run.proofs.flushing.flush_all.Goals as goal
+use Rattle.node_run.proofs.flushing.flush_all.Goals.{then-faults, else-faults}
 
 pub loop-preserved : goal.loop-preserved
 loop-preserved g c =
@@ -39,8 +40,8 @@ loop-preserved g c =
       done.node ∙ c.loop.invariant.5,
       begins_trans (settled_in first) (settled_in mid) (settled_in now) c.loop.invariant.6 done.more,
       inr leaves,
-      by_rule_on g.D.Disk.device c.args.rule c.loop.rule c.flush_pending.new.rule first mid now (lacks mid) c.loop.faults c.flush_pending.result c.and-faults.result (faults first) (faults mid)
-          c.loop.invariant.4 c.loop.invariant.8 done.by_rule c.and-faults.ensures.journal c.and-faults.ensures.memory,
+      by_rule_on g.D.Disk.device c.args.rule c.loop.rule c.flush_pending.new.rule first mid now (lacks mid) c.loop.faults c.flush_pending.result c.and-faults.result
+          c.loop.missed c.flush_pending.new.missed (faults first) (faults mid) c.loop.invariant.4 c.loop.invariant.8 done.by_rule done.missed c.and-faults.ensures.journal c.and-faults.ensures.memory,
       done.pair,
     )
 
@@ -73,11 +74,16 @@ returns-then-not-may_go_on-clause-at_end g c = λ up.
 
 pub returns-then-not-may_go_on-clause-by_rule : goal.returns-then-not-may_go_on-clause-by_rule
 returns-then-not-may_go_on-clause-by_rule g c = λ up none fine.
+    let neither : (c.and-faults.result.memory ≡ false) × (c.flush_pending.new.missed ≡ false) = elim c.if-faults.branch [
+      | then-faults w ↦ absurd (let bad : true ≡ false = sym w.if-faults.true ∙ sym w.result-is ∙ fine in cc)
+      | else-faults w ↦ (w.if-faults.false, sym w.result-is ∙ fine)
+    ] in
     let first = c.args.rounds.now.flusher in
     let mid = c.loop.rounds.flusher in
     let now = c.flush_pending.new.rounds.flusher in
     let faults = λ (f : Flusher g.row.D.Denot). faults_in g.D.Disk.device (store_of (journal_of f)) in (
       c.flush_pending.new.rule,
       by_rule_on g.D.Disk.device c.args.rule c.loop.rule c.flush_pending.new.rule first mid now (HasNoPlace g.S.Sign.scheme g.D.Disk.device c.args.rounds.now.node mid) c.loop.faults c.flush_pending.result
-          c.and-faults.result (faults first) (faults mid) c.loop.invariant.4 c.loop.invariant.8 c.flush_pending.ensures.by_rule c.and-faults.ensures.journal c.and-faults.ensures.memory up none fine,
+          c.and-faults.result c.loop.missed c.flush_pending.new.missed (faults first) (faults mid) c.loop.invariant.4 c.loop.invariant.8 c.flush_pending.ensures.by_rule c.flush_pending.ensures.missed
+          c.and-faults.ensures.journal c.and-faults.ensures.memory up none neither.0 neither.1,
     )

@@ -2,6 +2,7 @@ use Rattle.std.proofs.Common.{◌≡◌, ℕ, false, [], List, Option, Some, ref
 use Rattle.std.specs.Prelude.{IfSome, IsSome}
 use Rattle.flusher.specs.Rounds.{journal_of, is_down, settled_in}
 use Rattle.flusher.specs.declared.flusher.Flusher.{Flusher}
+use Rattle.journal.specs.Journal.{IsAlive}
 use Rattle.journal.specs.Pairs.{areas_in, areas_of, store_of}
 use Rattle.journal.specs.Stores.{faults_in}
 use Rattle.journal.specs.declared.store.Store.{Store}
@@ -18,8 +19,8 @@ use Rattle.validator.specs.Setting.{node_of}
 use Rattle.node_run.proofs.Runs.{ended, gives_nothing, gives_only, not_opened, not_run, two_where_due}
 use Rattle.node_run.proofs.Written.{new_contents}
 use Rattle.node_run.proofs.member.run_member.Goals as goal
-use Rattle.node_run.specs.Rewriting.{length_in}
-use Rattle.node_run.specs.Runs.{ComesByRule, HoldsMore, RunsOver, rule_on}
+use Rattle.node_run.specs.Rewriting.{length_in, point_of, Point}
+use Rattle.node_run.specs.Runs.{ComesByRule, HoldsMore, RunsOver, point_at, rule_on}
 use Rattle.node_run.specs.declared.rule.Rule.{Rule}
 
 pub run_threads-store-requires-clause-pair : goal.run_threads-store-requires-clause-pair
@@ -36,7 +37,7 @@ returns-in-Err-clause-runs g c =
     let opening = c.in-Err.ensures.opening in
     let failed = c.in-Err.field-0 in
     subst (λ (ending : Ending). RunsOver node g.D.Disk.device c.args.store c.args.every ending (Some failed.disk)) (sym c.from.ensures)
-    (not_opened g.S.Sign.scheme g.D.Disk.device node c.args.store failed.disk c.args.every failed.error opening.tells opening.cause.1 opening.any_moment opening.never_refused)
+    (not_opened g.S.Sign.scheme g.D.Disk.device node c.args.store failed.disk c.args.every failed.error opening.tells opening.cause.1 opening.any_moment opening.never_refused opening.full)
 
 pub returns-in-Ok-new-clause-runs : goal.returns-in-Ok-new-clause-runs
 returns-in-Ok-new-clause-runs g c =
@@ -53,6 +54,8 @@ returns-in-Ok-new-clause-runs g c =
     let nothing : settled_in rounds.flusher ≡ [] = ap (λ (f : Flusher g.row.D.Denot). settled_in f) flusher ∙ started.nothing_settled.0 in
     let began = store_of (journal_of rounds.flusher) in
     let areas = areas_of device (journal_of rounds.flusher) in
+    let alive = subst (λ (f : Flusher g.row.D.Denot). IsAlive device (journal_of f)) (sym flusher) (started.flusher.alive started.up) in
+    let point : point_of rounds.flusher ≡ point_at (journal_of rounds.flusher) = λ i. record { journal = journal_of rounds.flusher; settled = nothing i } in
     let leaves = subst
     (λ (settled : List Marked). IfSome left (λ later. AtEachMomentOn device (HoldsMore g.S.Sign.scheme rounds.node settled areas) began later))
     nothing (c.run_threads-store.ensures.any_moment up) in
@@ -61,14 +64,16 @@ returns-in-Ok-new-clause-runs g c =
     let rule : record { every = c.every_on-every.result; since = c.length_of.result } ≡ rule_on device c.args.store c.args.every (journal_of rounds.flusher) =
     λ i. record { every = c.every_on-every.ensures i; since = since i } in
     subst (λ (ending : Ending). RunsOver node device c.args.store c.args.every ending left) (sym c.ending.ensures)
-    (ended g.S.Sign.scheme device rounds.node node c.args.store began c.args.every (journal_of rounds.flusher) areas c.run_threads-store.result.0 left
+    (ended g.S.Sign.scheme device rounds.node node c.args.store began c.args.every (journal_of rounds.flusher) c.run_threads-store.result.0 left
     (ap (λ (s : NodeView g.row.S.Denot). nodes s.setting) shared ∙ ap nodes started.setting)
     (subst (λ (s : NodeView g.row.S.Denot). StandsAt node (told_in node (areas_in device c.args.store)) s.begun) (sym shared) started.begins)
     (ap (faults_in device) store ∙ started.opening.cause.0)
     c.run_threads-store.ensures.told c.run_threads-store.ensures.lost opening leaves
     (subst (λ (f : Flusher g.row.D.Denot). KeepsStatesIn node (areas_in device c.args.store) (areas_of device (journal_of f))) (sym flusher) started.kept)
-    (subst (λ (f : Flusher g.row.D.Denot). IsReadIn node device c.args.store (journal_of f)) (sym flusher) started.disks)
-    (λ none fine. subst (λ (r : Rule). IfSome left (ComesByRule device r (journal_of rounds.flusher))) rule (c.run_threads-store.ensures.by_rule up none fine)))
+    (subst (λ (f : Flusher g.row.D.Denot). IsReadIn node device c.args.store (journal_of f)) (sym flusher) started.disks) alive
+    (λ none fine. subst (λ (p : Point g.row.D.Denot). IfSome left (ComesByRule device (rule_on device c.args.store c.args.every (journal_of rounds.flusher)) p)) point
+    (subst (λ (r : Rule). IfSome left (ComesByRule device r (point_of rounds.flusher))) rule (c.run_threads-store.ensures.by_rule up none fine)))
+    c.run_threads-store.ensures.full)
 
 pub returns-clause-runs : goal.returns-clause-runs
 returns-clause-runs g c =
