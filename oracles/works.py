@@ -287,9 +287,13 @@ def book(count):
                 return fold
 
 
-def reopen(count):
+def configuration():
     keys = b''.join(bytes([member + 1]) * 32 for member in range(MEMBERS))
-    text = group([b'\0\2' + u16(0) + u16(50) + u16(1) + u32(1048576) + u16(MEMBERS) + keys + u32(1) * MEMBERS])
+    return b'\0\2' + u16(0) + u16(50) + u16(1) + u32(1048576) + u16(MEMBERS) + keys + u32(1) * MEMBERS
+
+
+def reopen(count):
+    text = group([configuration()])
     records, coins, full, last = [], Coins(), 0, None
     for _, made in rounds():
         round_ = made[0].round
@@ -308,6 +312,35 @@ def reopen(count):
     fold.add_bytes(text)
     fold.add(full + 1, len(coins.ordered))
     fold.add_bytes(*[last] if last else [])
+    return fold
+
+
+def held(count):
+    """The records of a checkpoint of batches that nobody has acknowledged or named."""
+    return [b'\4\0' + u16(0) + body for body in batches(count)]
+
+
+def checkpoint(count):
+    """The first checkpoint of a journal: the configuration and the head, and then the batches, as many in a group as have room there. The
+    head isn't counted."""
+    groups = [[configuration(), b'\2' + u64(1)]]
+    for record in held(count):
+        body = sum(4 + len(other) for other in groups[-1] + [record])
+        if len(groups) > 1 and len(groups[-1]) < RECORDS and body <= 4194304:
+            groups[-1].append(record)
+        else:
+            groups.append([record])
+    fold = Fold()
+    fold.add(1 + count)
+    fold.add_bytes(b''.join(map(group, groups)) + b'\0')
+    return fold
+
+
+def load(count):
+    """The records of a checkpoint, and that the first batch isn't new after them."""
+    fold = Fold()
+    fold.add_bytes(configuration(), *held(count))
+    fold.add(0)
     return fold
 
 
@@ -413,6 +446,8 @@ LITTLE = [
     ('append', 2, lambda n: over(range(n), append)),
     ('book', 1500, book),
     ('reopen', 1500, reopen),
+    ('checkpoint', 50, checkpoint),
+    ('load', 50, load),
     ('node', 500, node),
     ('submit', 1500, submit),
     ('put', 30, put),

@@ -6,7 +6,7 @@ use header::CheckError;
 use journal::{Failed, JournalError};
 use std::alloc::{AllocError, AllocFailed};
 use std::io;
-use validator::Refusal;
+use validator::{LoadError, Refusal};
 use wire::WireError;
 
 /// Why a run ends before its work is done.
@@ -104,6 +104,15 @@ impl From<JournalError> for Ending {
 impl<D: Drop> From<Failed<JournalError, D>> for Ending {
     fn from(failed: Failed<JournalError, D>) -> Ending {
         Ending::from(failed.error)
+    }
+}
+
+impl From<LoadError> for Ending {
+    fn from(error: LoadError) -> Ending {
+        match error {
+            LoadError::Memory => Ending::Memory,
+            _ => Ending::Refused,
+        }
     }
 }
 

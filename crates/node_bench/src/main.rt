@@ -10,6 +10,7 @@ mod messages;
 mod playing;
 mod putting;
 mod rounds;
+mod saving;
 mod settings;
 mod sharer;
 mod sharing;
@@ -32,7 +33,7 @@ use task::{Kind, Step, Task, WORKS, sized, task_of};
 const USAGE: &str =
     "usage: narwhal-bench [prepare-]WORK COUNT [SIZE], where WORK is hash, decode-FORM, encode-FORM, \
     check-FORM, recheck-FORM, frames, step-header, step-vote, step-certificate, step-batch, order, append, book, reopen, \
-    node, submit, put, run, deep, behind or late, and FORM is header, certificate or batch, and but for recheck also vote, ack or coin";
+    checkpoint, load, node, submit, put, run, deep, behind or late, and FORM is header, certificate or batch, and but for recheck also vote, ack or coin";
 
 fn main(rt: HostRuntime) -> ExitCode {
     match run(&rt) {
@@ -88,6 +89,8 @@ fn digest_of<R: Threads + Wait + Sync>(rt: &R, task: Task) -> Result<u64, Ending
         Kind::Append => storing::append_groups(task, &mut fold),
         Kind::Book => storing::keep_book(task, &config, &mut fold),
         Kind::Reopen => storing::reopen_journal(task, &config, &mut fold),
+        Kind::Checkpoint => saving::write_checkpoint(task, &config, &mut fold),
+        Kind::Load => saving::load_checkpoint(task, &config, &mut fold),
         Kind::Node => sharing::share_node(rt, task, &config, &mut fold),
         Kind::Submit => sharing::submit_alone(rt, task, &config, &mut fold),
         Kind::Put => putting::put_batches(task, &config, &mut fold),

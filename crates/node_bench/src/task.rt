@@ -58,6 +58,10 @@ pub enum Kind {
     Book,
     /// Opening a journal of certificates.
     Reopen,
+    /// A checkpoint of a validator that holds batches, written to a journal.
+    Checkpoint,
+    /// Loading the records of such a checkpoint.
+    Load,
     /// Batches that threads submit to a node, and a flusher beside them.
     Node,
     /// Batches that one thread submits to a node and flushes.
@@ -188,7 +192,7 @@ const ROUNDS: Sizes = Sizes {
 };
 
 /// The kinds of work: the word of each, how many pieces are done where no words are given, and its sizes.
-pub const WORKS: [(&str, Kind, u64, Sizes); 38] = [
+pub const WORKS: [(&str, Kind, u64, Sizes); 40] = [
     ("hash", Kind::Hash, 1_000, NO_SIZE),
     (
         "decode-header",
@@ -330,6 +334,8 @@ pub const WORKS: [(&str, Kind, u64, Sizes); 38] = [
     ("append", Kind::Append, 2, GROUP),
     ("book", Kind::Book, 1_500, FLUSH),
     ("reopen", Kind::Reopen, 1_500, MEMBERS),
+    ("checkpoint", Kind::Checkpoint, 50, BODY),
+    ("load", Kind::Load, 50, BODY),
     ("node", Kind::Node, 500, FLUSH),
     ("submit", Kind::Submit, 1_500, FLUSH),
     ("put", Kind::Put, 30, HELD),
