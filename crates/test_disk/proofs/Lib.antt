@@ -1,3 +1,4 @@
 pub mod Adding
 pub mod Settling
 pub mod Begun
+pub mod Stores

@@ -1,1 +1,2 @@
 pub mod Way
+pub mod Stores

@@ -1,7 +1,7 @@
 //! What a run is answered with.
 
 use crate::live::streams::Seen;
-use crate::live::words::{put, put_count, put_hex};
+use crate::live::words::{put, put_count, put_hex, put_sum};
 use std::alloc::Global;
 use std::str;
 use wire_read::FrameReader;
@@ -15,6 +15,17 @@ pub fn tell_seen(alloc: Global, seen: &Seen, answer: &mut String) {
         Ok(bodies) => tell_outputs(&bodies, answer),
         Err(_) => put(answer, "no frames\n"),
     }
+    tell_errors(&seen.errors, answer);
+}
+
+/// The same with a line for all outputs together: how many there are, and a sum over their frames.
+pub fn tell_sum(alloc: Global, seen: &Seen, answer: &mut String) {
+    match FrameReader::new(alloc).feed(&seen.output) {
+        Ok(bodies) => put_count(answer, "", bodies.len() as u64, " outputs, "),
+        Err(_) => put(answer, "no frames, "),
+    }
+    put_sum(answer, &seen.output);
+    put(answer, "\n");
     tell_errors(&seen.errors, answer);
 }
 

@@ -1,7 +1,10 @@
 //! Three threads that submit to one node, while a fourth flushes.
 
-ghost use Rattle.std.specs.Prelude.{◌≡◌};
+ghost use Rattle.std.specs.Prelude.{◌≡◌, IsSome, IsTrue};
+ghost use Rattle.flusher.specs.Rounds.{journal_of};
+ghost use Rattle.journal.specs.Journal.{spare_of};
 ghost use Rattle.node_shared.specs.Home.{IsOf};
+ghost use Rattle.test_disk.specs.Stores.{has_two};
 
 use crate::committees::{FOUR, own_config};
 use crate::live::ending::Ending;
@@ -30,6 +33,9 @@ const ALL: u64 = 3_000;
 // How often the thread that flushes does so, before it ends without all.
 const TURNS: u64 = 10_000_000;
 
+// On two disks a checkpoint follows each so many rounds, of which there are at least as many.
+const EVERY: u64 = 20;
+
 // Who submits, and through which seat.
 #[derive(Drop)]
 struct Member<'n, 'a> {
@@ -37,37 +43,61 @@ struct Member<'n, 'a> {
     author: Author,
 }
 
-/// Submits all batches to a node in three threads; stops it in a way that loses what isn't synced, opens it again and submits them once
-/// more.
-pub fn crowd<R>(rt: &R, alloc: Global, answer: &mut String) -> Result<(), Ending>
+/// Submits all batches to a node in three threads, beside one that flushes, and that makes checkpoints if the words ask for them; stops the
+/// node in a way that loses what isn't synced, opens it again and submits them once more.
+pub fn crowd<R>(rt: &R, alloc: Global, words: &str, answer: &mut String) -> Result<(), Ending>
 where
     R: Threads + Wait + Sync,
 {
     let config = own_config(alloc, &FOUR)?;
-    let disk = submit_all(rt, alloc, &config, answer)?;
-    let known = submit_again(rt, alloc, &config, stopped(alloc, disk)?)?;
+    let store = empty_store(alloc, words == "checkpoints")?;
+    let left = match submit_all(rt, alloc, &config, store, answer)? {
+        Store::One(disk) => Store::One(stopped(alloc, disk)?),
+        Store::Two(first, second) => Store::Two(stopped(alloc, first)?, stopped(alloc, second)?),
+    };
+    let known = submit_again(rt, alloc, &config, left)?;
     put_count(answer, "", known, " known\n");
     Ok(())
+}
+
+// An empty disk, or two of them.
+fn empty_store(alloc: Global, are_two: bool) -> Result<Store<MemDisk>, AllocError> {
+    let first = disk_with(alloc, &[])?;
+    match are_two {
+        true => Ok(Store::Two(first, disk_with(alloc, &[])?)),
+        false => Ok(Store::One(first)),
+    }
+}
+
+// Whether there are two disks, on which a journal can be rewritten.
+fn has_two<D>(store: &Store<D>) -> bool
+    ensures { result ≡ has_two store.now }
+{
+    match store {
+        Store::One(_) => false,
+        Store::Two(..) => true,
+    }
 }
 
 fn submit_all<R>(
     rt: &R,
     alloc: Global,
     config: &Config<HashSign>,
+    store: Store<MemDisk>,
     answer: &mut String,
-) -> Result<MemDisk, Ending>
+) -> Result<Store<MemDisk>, Ending>
 where
     R: Threads + Wait + Sync,
 {
-    let store = Store::One(disk_with(alloc, &[])?);
+    let rewrites = has_two(&store);
     let (node, mut seat, flusher) = start(alloc, config, store)?;
     let mut first = node.split(&mut seat)?;
     let mut second = node.split(&mut first)?;
     let rounds = Rounds::new(&node, seat, flusher);
-    let disk = submit_beside(rt, alloc, config, rounds, answer)?;
+    let left = submit_beside(rt, alloc, config, rounds, rewrites, answer)?;
     let count = look(&node, &mut first, &mut second);
     put_number(answer, "two seats meet at", count);
-    Ok(disk)
+    Ok(left)
 }
 
 // How many events two seats that meet have seen. No handle lets this function wait, so its types say that none of the calls does.
@@ -86,17 +116,19 @@ fn submit_beside<'a, R>(
     alloc: Global,
     config: &'a Config<HashSign>,
     mut rounds: Rounds<'_, 'a, HashSign, MemDisk>,
+    rewrites: bool,
     answer: &mut String,
-) -> Result<MemDisk, Ending>
+) -> Result<Store<MemDisk>, Ending>
 where
     R: Threads + Wait + Sync,
-    requires { rounds.node.setting ≡ config.now }
+    requires setting { rounds.node.setting ≡ config.now }
+    requires pair { IsTrue rewrites → IsSome (spare_of (journal_of rounds.flusher)) }
 {
-    let caller = rounds.caller(config)?;
+    let (caller, watcher) = (rounds.caller(config)?, rounds.caller(config)?);
     let (told, flushed) = thread::join(
         rt,
         move || submit_each(rt, alloc, caller),
-        move || flush_all(rt, rounds),
+        move || flush_all(rt, rounds, watcher, rewrites),
     );
     put(answer, told?.as_str());
     flushed
@@ -171,26 +203,45 @@ fn submit<R: Wait>(
     Ok(caller.submit(rt, event)?)
 }
 
-// Flushes until all are settled, and answers the disk.
+// Flushes until all are settled, and answers what the node was opened on.
 fn flush_all<R: Wait>(
     rt: &R,
     mut rounds: Rounds<'_, '_, HashSign, MemDisk>,
-) -> Result<MemDisk, Ending> {
-    let mut settled = 0;
-    for _ in 0..TURNS {
-        let count = rounds.round(rt)?;
-        settled = count.saturating_add(settled);
-        if settled >= ALL {
+    mut watcher: Caller<'_, '_, HashSign>,
+    rewrites: bool,
+) -> Result<Store<MemDisk>, Ending>
+    requires pair { IsTrue rewrites → IsSome (spare_of (journal_of rounds.flusher)) }
+{
+    let mut is_over = false;
+    for turn in 1..TURNS {
+        flush(rt, &mut rounds, rewrites && turn % EVERY == 0)?;
+        is_over = turn >= EVERY && watcher.synced() >= ALL;
+        if is_over {
             break;
         }
-        if count == 0 {
-            thread::yield_now();
-        }
     }
-    match rounds.into_store() {
-        Store::One(disk) if settled == ALL => Ok(disk),
-        _ => Err(Ending::Unexpected),
+    match is_over {
+        true => Ok(rounds.into_store()),
+        false => Err(Ending::Unexpected),
     }
+}
+
+// A round, and a checkpoint after it, if one is to follow.
+fn flush<R: Wait>(
+    rt: &R,
+    rounds: &mut Rounds<'_, '_, HashSign, MemDisk>,
+    rewrites: bool,
+) -> Result<(), Ending>
+    requires pair { IsTrue rewrites → IsSome (spare_of (journal_of rounds.old.flusher)) }
+    ensures pair { IsSome (spare_of (journal_of rounds.old.flusher)) → IsSome (spare_of (journal_of rounds.new.flusher)) }
+{
+    if rounds.round(rt)? == 0 {
+        thread::yield_now();
+    }
+    if rewrites {
+        rounds.checkpoint(rt)?;
+    }
+    Ok(())
 }
 
 fn tell_tickets(
@@ -244,9 +295,9 @@ fn submit_again<R: Wait>(
     rt: &R,
     alloc: Global,
     config: &Config<HashSign>,
-    disk: MemDisk,
+    store: Store<MemDisk>,
 ) -> Result<u64, Ending> {
-    let (node, seat, _) = start(alloc, config, Store::One(disk))?;
+    let (node, seat, _) = start(alloc, config, store)?;
     let mut caller = Caller::new(&node, config, seat);
     let mut known = 0_u64;
     for number in 1..MEMBERS {

@@ -1,9 +1,11 @@
 //! What ends a test before its end.
 
+use crate::live::words::Told;
 use diskmodel::TooManyTold;
 use header::CheckError;
 use journal::{Failed, JournalError};
 use node::{FlushError, Refusal};
+use sim_script::FormError;
 use std::alloc::{AllocError, AllocFailed};
 use wire::WireError;
 
@@ -14,6 +16,17 @@ pub enum Ending {
     Memory,
     /// A call answered what it never should there.
     Unexpected,
+}
+
+impl Ending {
+    /// Adds a line to the answer of a command, if it ended in a way that it never should. `AllocError` where an allocation failed.
+    pub fn tell(ended: Result<(), Ending>, answer: &mut String) -> Told {
+        match ended {
+            Ok(()) => Ok(()),
+            Err(Ending::Memory) => Err(AllocError),
+            Err(Ending::Unexpected) => answer.push_str("this should not come\n"),
+        }
+    }
 }
 
 impl From<AllocError> for Ending {
@@ -42,6 +55,12 @@ impl From<WireError> for Ending {
 
 impl From<CheckError> for Ending {
     fn from(_: CheckError) -> Ending {
+        Ending::Unexpected
+    }
+}
+
+impl From<FormError> for Ending {
+    fn from(_: FormError) -> Ending {
         Ending::Unexpected
     }
 }

@@ -4,7 +4,7 @@ ghost use Rattle.std.specs.Prelude.{◌≡◌};
 
 use crate::committees::{FOUR, own_config};
 use crate::live::ending::Ending;
-use crate::live::journals::record_count;
+use crate::live::journals::found_on;
 use crate::live::makers::{header_of, submit_header};
 use crate::live::words::{call_of, put, put_count, put_number, put_shown};
 use crate::memory::{disk_with, stopped};
@@ -67,10 +67,11 @@ fn tell_left(alloc: Global, disk: MemDisk, answer: &mut String) -> Result<(), En
 
 // How many events the journal on a disk has.
 fn events_on(alloc: Global, disk: MemDisk) -> Result<u64, Ending> {
-    match record_count(alloc, disk) {
-        Some(count) => Ok(count.saturating_sub(1) as u64),
-        None => Err(Ending::Unexpected),
-    }
+    let Some(found) = found_on(alloc, Store::One(disk)) else {
+        return Err(Ending::Unexpected);
+    };
+    let (count, _) = found.events();
+    Ok(count)
 }
 
 // Says whether one record was settled, and gives the disk back.

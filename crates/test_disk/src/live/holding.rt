@@ -1,19 +1,22 @@
 //! A flusher that is held before a sync, while others submit.
 
-ghost use Rattle.std.specs.Prelude.{◌≡◌};
+ghost use Rattle.std.specs.Prelude.{◌≡◌, IsSome};
+ghost use Rattle.std.specs.Thread.{IsSend, IsSync};
+ghost use Rattle.flusher.specs.Rounds.{journal_of};
+ghost use Rattle.journal.specs.Journal.{spare_of};
 
 use crate::committees::{FOUR, own_config};
 use crate::live::ending::Ending;
 use crate::live::makers::{header_of, submit_header};
 use crate::live::words::{put, put_number};
 use crate::memory::disk_with;
-use diskmodel::{Disk, Gate, GatedDisk};
+use diskmodel::{Disk, Gate, GatedDisk, MemDisk};
 use journal::Store;
 use node::{Caller, FlushError, Rounds, start};
 use sigface::HashSign;
-use std::alloc::Global;
+use std::alloc::{AllocError, Global};
 use std::sync::Wait;
-use std::sync::atomic::{AtomicBool, Ordering};
+use std::sync::atomic::{AtomicU64, Ordering};
 use std::thread::{self, Threads};
 use validator::Config;
 use wire::{Author, Output, Round};
@@ -24,31 +27,38 @@ const TURNS: u64 = 10_000_000;
 // What the thread that flushes and the one that submits tell one another.
 #[derive(Drop)]
 struct Doors {
-    // Whether a sync is to be held.
-    armed: AtomicBool,
-    // Whether one is.
-    reached: AtomicBool,
-    // Whether it may go on.
-    open: AtomicBool,
+    // How many syncs were reached.
+    reached: AtomicU64,
+    // How many of them may go on.
+    open: AtomicU64,
 }
 
 impl Doors {
+    // They let all go on.
     fn new() -> Doors {
         Doors {
-            armed: AtomicBool::new(false),
-            reached: AtomicBool::new(false),
-            open: AtomicBool::new(false),
+            reached: AtomicU64::new(0),
+            open: AtomicU64::new(u64::MAX),
         }
+    }
+
+    // Lets no sync go on after those that were reached. Answers how many these are.
+    fn close(&self) -> u64 {
+        let reached = self.reached.load(Ordering::SeqCst);
+        self.let_go(reached);
+        reached
+    }
+
+    // Lets so many of all syncs go on.
+    fn let_go(&self, count: u64) {
+        self.open.store(count, Ordering::SeqCst);
     }
 }
 
-fn tell(flag: &AtomicBool) {
-    flag.store(true, Ordering::SeqCst);
-}
-
-fn wait(flag: &AtomicBool) -> bool {
+// Waits until the number is at least that.
+fn wait(number: &AtomicU64, least: u64) -> bool {
     for _ in 0..TURNS {
-        if flag.load(Ordering::SeqCst) {
+        if number.load(Ordering::SeqCst) >= least {
             return true;
         }
         thread::yield_now();
@@ -56,7 +66,7 @@ fn wait(flag: &AtomicBool) -> bool {
     false
 }
 
-// A gate that holds each sync until the doors are open.
+// A gate that holds a sync until the doors let it go on.
 #[derive(Drop)]
 struct Held<'d> {
     doors: &'d Doors,
@@ -64,22 +74,41 @@ struct Held<'d> {
 
 impl Gate for Held<'_> {
     fn pass(&mut self) {
-        if self.doors.armed.load(Ordering::SeqCst) {
-            tell(&self.doors.reached);
-            wait(&self.doors.open);
-        }
+        let reached = self
+            .doors
+            .reached
+            .fetch_add(1, Ordering::SeqCst)
+            .saturating_add(1);
+        wait(&self.doors.open, reached);
     }
 }
 
-/// Submits a header, and two more while a round with the first one is held before its sync; then lets it go on.
-pub fn hold<R>(rt: &R, alloc: Global, answer: &mut String) -> Result<(), Ending>
+// What is held.
+#[derive(Clone, Copy)]
+enum Kind {
+    Round,
+    Checkpoint,
+}
+
+/// Submits a header, and two more while a round with the first one, or a checkpoint of it, is held before its sync; then lets it go on,
+/// to its next sync and to its end. A round brings the other two.
+pub fn hold<R>(rt: &R, alloc: Global, name: &str, answer: &mut String) -> Result<(), Ending>
 where
     R: Threads + Wait + Sync,
 {
+    let kind = match name {
+        "round" => Kind::Round,
+        "checkpoint" => Kind::Checkpoint,
+        _ => return Err(Ending::Unexpected),
+    };
     let config = own_config(alloc, &FOUR)?;
     let doors = Doors::new();
-    let disk = GatedDisk::new(disk_with(alloc, &[])?, Held { doors: &doors });
-    hold_over(rt, alloc, &config, &doors, disk, answer)
+    let (first, second) = (held_disk(alloc, &doors)?, held_disk(alloc, &doors)?);
+    hold_over(rt, alloc, &config, &doors, (first, second), kind, answer)
+}
+
+fn held_disk(alloc: Global, doors: &Doors) -> Result<GatedDisk<MemDisk, Held<'_>>, AllocError> {
+    Ok(GatedDisk::new(disk_with(alloc, &[])?, Held { doors }))
 }
 
 fn hold_over<R, D>(
@@ -87,85 +116,100 @@ fn hold_over<R, D>(
     alloc: Global,
     config: &Config<HashSign>,
     doors: &Doors,
-    disk: D,
+    disks: (D, D),
+    kind: Kind,
     answer: &mut String,
 ) -> Result<(), Ending>
 where
     R: Threads + Wait + Sync,
     D: Disk + Drop + Send,
 {
-    let (node, seat, flusher) = start(alloc, config, Store::One(disk))?;
-    tell(&doors.armed);
+    let (first, second) = disks;
+    let (node, seat, flusher) = start(alloc, config, Store::Two(first, second))?;
     let mut rounds = Rounds::new(&node, seat, flusher);
     let mut caller = rounds.caller(config)?;
-    hold_round(rt, alloc, doors, rounds, &mut caller, answer)
+    let ticket = submit_header(rt, alloc, &mut caller, Author(1))?;
+    put_number(answer, "ticket", ticket);
+    let (flushed, rounds) = flush_beside(rt, alloc, doors, rounds, caller.split()?, kind, answer)?;
+    match kind {
+        Kind::Round => put_number(answer, "settled", flushed?),
+        Kind::Checkpoint => put_number(answer, "generation", flushed?),
+    }
+    tell_outputs(rt, &mut caller, answer);
+    flush_rest(rt, rounds, &mut caller, answer)
 }
 
-fn hold_round<R, D>(
+// A round in which nothing is held.
+fn flush_rest<R: Wait, D: Disk + Drop>(
     rt: &R,
-    alloc: Global,
-    doors: &Doors,
-    rounds: Rounds<'_, '_, HashSign, D>,
+    mut rounds: Rounds<'_, '_, HashSign, D>,
     caller: &mut Caller<'_, '_, HashSign>,
     answer: &mut String,
-) -> Result<(), Ending>
-where
-    R: Threads + Wait + Sync,
-    D: Disk + Drop + Send,
-{
-    put_number(
-        answer,
-        "ticket",
-        submit_header(rt, alloc, caller, Author(1))?,
-    );
-    let settled = flush_beside(rt, alloc, doors, rounds, caller.split()?, answer)?;
-    put_number(answer, "settled", settled);
-    put_number(answer, "synced", caller.synced());
-    tell_output(rt, caller, answer);
-    tell_output(rt, caller, answer);
+) -> Result<(), Ending> {
+    put_number(answer, "settled", rounds.round(rt)?);
+    tell_outputs(rt, caller, answer);
     Ok(())
 }
 
-// Flushes in one thread and submits in another. Answers how many records were settled.
-fn flush_beside<R, D>(
+// What a call of the flusher answers, and the rounds.
+type Flushed<'n, 'a, D> = (Result<u64, FlushError>, Rounds<'n, 'a, HashSign, D>);
+
+// Flushes in one thread and submits in another.
+fn flush_beside<'n, 'a, R, D>(
     rt: &R,
     alloc: Global,
     doors: &Doors,
-    rounds: Rounds<'_, '_, HashSign, D>,
+    rounds: Rounds<'n, 'a, HashSign, D>,
     caller: Caller<'_, '_, HashSign>,
+    kind: Kind,
     answer: &mut String,
-) -> Result<u64, Ending>
+) -> Result<Flushed<'n, 'a, D>, Ending>
 where
     R: Threads + Wait + Sync,
     D: Disk + Drop + Send,
+    requires pair { IsSome (spare_of (journal_of rounds.flusher)) }
 {
-    let (settled, told) = thread::join(
+    let before = doors.close();
+    let (flushed, told) = thread::join(
         rt,
-        move || flush(rt, rounds),
-        move || submit_more(rt, alloc, doors, caller),
+        move || flush(rt, rounds, kind),
+        move || submit_more(rt, alloc, doors, before, caller),
     );
     put(answer, told?.as_str());
-    Ok(settled?)
+    Ok(flushed)
 }
 
-fn flush<D: Disk + Drop, R: Wait>(
+fn flush<'n, 'a, D: Disk + Drop, R: Wait>(
     rt: &R,
-    mut rounds: Rounds<'_, '_, HashSign, D>,
-) -> Result<u64, FlushError> {
-    rounds.round(rt)
+    mut rounds: Rounds<'n, 'a, HashSign, D>,
+    kind: Kind,
+) -> Flushed<'n, 'a, D>
+    requires pair { IsSome (spare_of (journal_of rounds.flusher)) }
+{
+    let flushed = match kind {
+        Kind::Round => rounds.round(rt),
+        Kind::Checkpoint => rounds.checkpoint(rt),
+    };
+    (flushed, rounds)
 }
 
-// Once the round is held: two more headers, and what the node says meanwhile. Then the round may go on.
+// Once the first sync after so many is held: two more headers, and what the node says meanwhile. Then what it says while the second one
+// is. Then all may go on.
 fn submit_more<R: Wait>(
     rt: &R,
     alloc: Global,
     doors: &Doors,
+    before: u64,
     mut caller: Caller<'_, '_, HashSign>,
 ) -> Result<String, Ending> {
     let mut told = String::new(alloc);
-    let is_held = wait(&doors.reached);
+    let (first, second) = (before.saturating_add(1), before.saturating_add(2));
+    let mut is_held = wait(&doors.reached, first);
     let ended = tell_more(rt, alloc, &mut caller, &mut told);
-    tell(&doors.open);
+    doors.let_go(first);
+    is_held = wait(&doors.reached, second) && is_held;
+    put_number(&mut told, "synced", caller.synced());
+    doors.let_go(u64::MAX);
     if !is_held {
         return Err(Ending::Unexpected);
     }
@@ -201,9 +245,12 @@ fn tell_voted<R: Wait>(
     Ok(())
 }
 
-fn tell_output<R: Wait>(rt: &R, caller: &mut Caller<'_, '_, HashSign>, told: &mut String) {
-    let output = caller.collect(rt);
-    tell_collected(&output, told);
+// What is synced, and two outputs.
+fn tell_outputs<R: Wait>(rt: &R, caller: &mut Caller<'_, '_, HashSign>, told: &mut String) {
+    put_number(told, "synced", caller.synced());
+    for _ in 0..2 {
+        tell_collected(&caller.collect(rt), told);
+    }
 }
 
 fn tell_collected(output: &Option<Output>, told: &mut String) {

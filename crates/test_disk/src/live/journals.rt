@@ -4,9 +4,10 @@ ghost use Rattle.std.specs.Prelude.{◌≡◌, None};
 ghost use Rattle.journal.specs.Journal.{spare_of, IsAlive};
 
 use crate::live::words::{put, put_hex, put_number, put_shown};
+use book::EVENT_RECORD;
 use disk_file::FileDisk;
 use diskmodel::{Disk, MemDisk};
-use journal::{Group, Journal, Record};
+use journal::{Group, Journal, Record, Store};
 use std::alloc::{AllocError, Global};
 use test_cases::bytes_of;
 
@@ -70,10 +71,56 @@ fn put_records(answer: &mut String, records: &[Record]) {
     put(answer, "\n");
 }
 
-/// How many records the journal on a disk has, if it can be opened. The first one is the configuration.
-pub fn record_count(alloc: Global, disk: MemDisk) -> Option<usize> {
-    match Journal::open(alloc, disk) {
-        Ok((_, records)) => Some(records.len()),
-        Err(_) => None,
+/// What an opened journal has.
+#[derive(Drop)]
+pub struct Found {
+    /// How often it was rewritten.
+    pub generation: u64,
+    /// How long the area is that is read, in bytes.
+    pub len: u64,
+    /// Its records.
+    pub records: Vec<Record>,
+}
+
+impl Found {
+    fn new(journal: &Journal<MemDisk>, records: Vec<Record>) -> Found
+        requires { IsAlive ⟦<MemDisk as Disk>⟧.device journal.now }
+    {
+        Found {
+            generation: journal.generation(),
+            len: journal.len(),
+            records,
+        }
+    }
+
+    /// How many of its records are events, and how many bytes these have with their lengths.
+    pub fn events(&self) -> (u64, u64) {
+        let (mut count, mut bytes) = (0_u64, 0_u64);
+        for record in &self.records {
+            let record = record.bytes.as_slice();
+            if record.first() == Some(&EVENT_RECORD) {
+                count = count.saturating_add(1);
+                bytes = bytes.saturating_add(4).saturating_add(record.len() as u64);
+            }
+        }
+        (count, bytes)
+    }
+}
+
+/// What the journal on one disk or on two has, if it can be opened.
+pub fn found_on(alloc: Global, store: Store<MemDisk>) -> Option<Found> {
+    match store {
+        Store::One(disk) => {
+            let Ok((journal, records)) = Journal::open(alloc, disk) else {
+                return None;
+            };
+            Some(Found::new(&journal, records))
+        }
+        Store::Two(first, second) => {
+            let Ok((journal, records)) = Journal::open_pair(alloc, first, second) else {
+                return None;
+            };
+            Some(Found::new(&journal, records))
+        }
     }
 }

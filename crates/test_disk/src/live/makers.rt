@@ -25,13 +25,14 @@ pub fn header_of(
 ) -> Result<Checked, Ending>
     ensures { IfOk result (λ event. fault_of config.now.charter accepts_all event ≡ None) }
 {
-    let (round, parents) = (Round::new(1)?, parents_of(alloc)?);
+    let (round, parents) = (Round::new(1)?, first_parents(alloc)?);
     let header = make(alloc, &signer(author), author, round, &[], &parents)?;
     let message = Message::Header(header);
     Ok(check(config.committee(), &HashVerify, author, message)?)
 }
 
-fn parents_of(alloc: Global) -> Result<Vec<ParentReference>, AllocError> {
+/// The parents of a header for round 1.
+pub fn first_parents(alloc: Global) -> Result<Vec<ParentReference>, AllocError> {
     let mut parents = Vec::new(alloc);
     for number in 0..QUORUM {
         let author = Author(number);

@@ -1,12 +1,14 @@
 //! Runs of a node.
 
-use crate::live::answers::tell_seen;
+use crate::live::answers::{tell_seen, tell_sum};
+use crate::live::ending::Ending;
 use crate::live::file_runs::run_files;
-use crate::live::journals::record_count;
+use crate::live::journals::found_on;
+use crate::live::left::{tell_node, tell_rewritten};
+use crate::live::rounds::OtherRounds;
 use crate::live::streams::{Lines, NoClock, Output, Seen, Step, Steps};
 use crate::live::words::{Told, bad, call_of, joined, put_count, put_len};
-use crate::memory::{disk_with, failing_disk};
-use diskmodel::{CallKind, MemDisk};
+use diskmodel::{CallKind, MemDisk, Switch};
 use journal::Store;
 use node_io::Blocking;
 use node_run::{CHECKPOINT_BYTES, Ran, run_over};
@@ -26,6 +28,11 @@ pub struct Runs {
     // 0, where the case doesn't say.
     own: Option<String>,
     disk: Vec<u8>,
+    // What the second disk has, where the journal is on two.
+    second: Option<Vec<u8>>,
+    // How much longer the area that is read gets before a checkpoint.
+    every: u64,
+    rounds: Option<OtherRounds>,
     failing: Option<(CallKind, u64)>,
     steps: VecDeque<Step>,
     blocks: u64,
@@ -40,6 +47,9 @@ impl Runs {
             text: String::new(alloc),
             own: None,
             disk: Vec::new(alloc),
+            second: None,
+            every: CHECKPOINT_BYTES,
+            rounds: None,
             failing: None,
             steps: VecDeque::new(alloc),
             blocks: 0,
@@ -57,6 +67,8 @@ impl Runs {
     ) -> Told {
         match name {
             "run" => self.run(rt, answer),
+            "sum" => self.sum(rt, answer),
+            "opened" => self.tell_opened(rt, answer),
             "files" => run_files(rt, self.alloc, words, answer),
             _ => self.prepare(name, words, answer),
         }
@@ -64,7 +76,12 @@ impl Runs {
 
     fn prepare(&mut self, name: &str, words: &str, answer: &mut String) -> Told {
         match name {
-            "length" => put_len(answer, &self.disk),
+            "length" => self.tell_lengths(answer),
+            "areas" => return self.tell_areas(answer),
+            "rewritten" => tell_rewritten(self.alloc, self.store()?, words, answer),
+            "pair" => self.second = Some(Vec::new(self.alloc)),
+            "every" => self.every = words.parse().unwrap_or(CHECKPOINT_BYTES),
+            "rounds" => return Ending::tell(self.add_rounds(words), answer),
             "text" => return self.put_line(words),
             "own" => return self.set_own(words),
             "fail" => self.fail(words, answer),
@@ -122,16 +139,65 @@ impl Runs {
         }
     }
 
-    // A run over the disk, which keeps what it is left with.
+    // The frames of so many more rounds.
+    fn add_rounds(&mut self, words: &str) -> Result<(), Ending> {
+        let mut rounds = match self.rounds.take() {
+            Some(rounds) => rounds,
+            None => OtherRounds::new(self.alloc)?,
+        };
+        self.add(Step::Give(rounds.next(words.parse().unwrap_or(0))?))?;
+        self.rounds = Some(rounds);
+        Ok(())
+    }
+
+    // A run over the disks, with a line for each output, and how many events their journal has.
     fn run<R: Threads + Wait + Sync>(&mut self, rt: &R, answer: &mut String) -> Told {
-        let disk = self.disk_to_run()?;
+        let (status, seen) = self.carry_out(rt)?;
+        tell_seen(self.alloc, &seen, answer);
+        put_count(answer, "status ", status as u64, ", ");
+        self.tell_events(answer)
+    }
+
+    // A run with a sum over the outputs.
+    fn sum<R: Threads + Wait + Sync>(&mut self, rt: &R, answer: &mut String) -> Told {
+        let (status, seen) = self.carry_out(rt)?;
+        tell_sum(self.alloc, &seen, answer);
+        put_count(answer, "status ", status as u64, "\n");
+        Ok(())
+    }
+
+    // A run over the disks, which keeps what these are left with.
+    fn carry_out<R: Threads + Wait + Sync>(&mut self, rt: &R) -> Result<(u8, Seen), AllocError> {
+        let switch = Switch::new(self.alloc)?;
+        let store = self.store_with(&switch)?;
+        if let Some((kind, count)) = self.failing.take() {
+            let _ = switch.fail(kind, count);
+        }
         let steps = mem::replace(&mut self.steps, VecDeque::new(self.alloc));
         let seen = Mutex::new(Seen::new(self.alloc, self.blocks, self.is_broken));
-        let (status, disk) = run_steps(rt, self.alloc, self.member(), disk, steps, &seen);
-        tell_seen(self.alloc, &seen.into_inner(), answer);
-        put_count(answer, "status ", status as u64, ", ");
-        self.keep(disk)?;
-        tell_events(self.alloc, &self.disk, answer)
+        let (status, left) = self.run_steps(rt, store, steps, &seen);
+        self.keep(left)?;
+        Ok((status, seen.into_inner()))
+    }
+
+    // The status, and the disks, if the run gives them back.
+    fn run_steps<R: Threads + Wait + Sync>(
+        &self,
+        rt: &R,
+        store: Store<MemDisk>,
+        steps: VecDeque<Step>,
+        seen: &Mutex<Seen>,
+    ) -> (u8, Option<Store<MemDisk>>) {
+        let (alloc, member, every) = (self.alloc, self.member(), self.every);
+        let reader = Blocking::new(&NoClock, Steps::new(rt, seen, steps));
+        let writer = Blocking::new(&NoClock, Output { rt, seen });
+        let mut lines = Lines { rt, seen };
+        let Ran {
+            ending,
+            store,
+            writer: _,
+        } = run_over(rt, alloc, member, store, every, reader, writer, &mut lines);
+        (ending.status(), store)
     }
 
     // The text of the committee file, and the own number.
@@ -143,64 +209,72 @@ impl Runs {
         (self.text.as_bytes(), own)
     }
 
-    // The disk, of which a call may be told to fail.
-    fn disk_to_run(&mut self) -> Result<MemDisk, AllocError> {
-        let disk = match self.failing.take() {
-            Some((kind, count)) => failing_disk(self.alloc, &self.disk, kind, count),
-            None => disk_with(self.alloc, &self.disk),
-        };
-        self.disk.clear();
-        disk
+    // The disks.
+    fn store(&self) -> Result<Store<MemDisk>, AllocError> {
+        self.store_with(&Switch::new(self.alloc)?)
     }
 
-    fn keep(&mut self, disk: Option<MemDisk>) -> Told {
-        if let Some(disk) = disk {
-            self.disk = disk.bytes().to_vec(self.alloc)?;
+    // The same with a switch that fails their calls.
+    fn store_with(&self, switch: &Switch) -> Result<Store<MemDisk>, AllocError> {
+        let first = switched_disk(self.alloc, &self.disk, switch)?;
+        match &self.second {
+            Some(bytes) => Ok(Store::Two(first, switched_disk(self.alloc, bytes, switch)?)),
+            None => Ok(Store::One(first)),
+        }
+    }
+
+    // Keeps what the disks have, or nothing where they are lost.
+    fn keep(&mut self, left: Option<Store<MemDisk>>) -> Told {
+        self.disk.clear();
+        match left {
+            Some(Store::One(disk)) => self.disk = disk.bytes().to_vec(self.alloc)?,
+            Some(Store::Two(first, second)) => {
+                self.disk = first.bytes().to_vec(self.alloc)?;
+                self.second = Some(second.bytes().to_vec(self.alloc)?);
+            }
+            None => (),
         }
         Ok(())
     }
-}
 
-// The status, and the disk, if the run gives it back.
-fn run_steps<R: Threads + Wait + Sync>(
-    rt: &R,
-    alloc: Global,
-    member: (&[u8], &str),
-    disk: MemDisk,
-    steps: VecDeque<Step>,
-    seen: &Mutex<Seen>,
-) -> (u8, Option<MemDisk>) {
-    let reader = Blocking::new(&NoClock, Steps::new(rt, seen, steps));
-    let writer = Blocking::new(&NoClock, Output { rt, seen });
-    let mut lines = Lines { rt, seen };
-    let store = Store::One(disk);
-    let Ran {
-        ending,
-        store,
-        writer: _,
-    } = run_over(
-        rt,
-        alloc,
-        member,
-        store,
-        CHECKPOINT_BYTES,
-        reader,
-        writer,
-        &mut lines,
-    );
-    match store {
-        Some(Store::One(disk)) => (ending.status(), Some(disk)),
-        _ => (ending.status(), None),
-    }
-}
-
-// How many events the journal on a disk has, after the configuration.
-fn tell_events(alloc: Global, disk: &[u8], answer: &mut String) -> Told {
-    match record_count(alloc, disk_with(alloc, disk)?) {
-        None | Some(0) => answer.push_str("no events\n"),
-        Some(count) => {
-            put_count(answer, "", (count - 1) as u64, " events\n");
-            Ok(())
+    fn tell_lengths(&self, answer: &mut String) {
+        put_len(answer, &self.disk);
+        if let Some(second) = &self.second {
+            put_len(answer, second);
         }
     }
+
+    // How many events the journal has.
+    fn tell_events(&self, answer: &mut String) -> Told {
+        match found_on(self.alloc, self.store()?) {
+            Some(found) if !found.records.is_empty() => {
+                let (count, _) = found.events();
+                put_count(answer, "", count, " events\n");
+                Ok(())
+            }
+            _ => answer.push_str("no events\n"),
+        }
+    }
+
+    // How long the area is that is read, and then the other one.
+    fn tell_areas(&self, answer: &mut String) -> Told {
+        let Some(found) = found_on(self.alloc, self.store()?) else {
+            return answer.push_str("no journal\n");
+        };
+        let second = self.second.as_ref().map_or(0, |bytes| bytes.len());
+        let all = (self.disk.len() as u64).saturating_add(second as u64);
+        put_count(answer, "", found.len, " bytes are read, ");
+        put_count(answer, "", all.saturating_sub(found.len), " are not\n");
+        Ok(())
+    }
+
+    // The node that is opened there.
+    fn tell_opened<R: Wait>(&self, rt: &R, answer: &mut String) -> Told {
+        Ending::tell(tell_node(rt, self.alloc, self.store()?, answer), answer)
+    }
+}
+
+// A disk that has these bytes, of which the switch can fail calls.
+fn switched_disk(alloc: Global, bytes: &[u8], switch: &Switch) -> Result<MemDisk, AllocError> {
+    MemDisk::with_switch(alloc, bytes.to_vec(alloc)?, switch)
 }

@@ -5,7 +5,7 @@ use crate::live::ending::Ending;
 use crate::live::failing::{fail_each, go_down};
 use crate::live::holding::hold;
 use crate::live::words::Told;
-use std::alloc::{AllocError, Global};
+use std::alloc::Global;
 use std::sync::Wait;
 use std::thread::Threads;
 
@@ -15,15 +15,11 @@ where
     R: Threads + Wait + Sync,
 {
     let ended = match name {
-        "hold" => hold(rt, alloc, answer),
-        "crowd" => crowd(rt, alloc, answer),
+        "hold" => hold(rt, alloc, words, answer),
+        "crowd" => crowd(rt, alloc, words, answer),
         "down" => go_down(rt, alloc, answer),
         "fail" => fail_each(rt, alloc, words, answer),
         _ => Err(Ending::Unexpected),
     };
-    match ended {
-        Ok(()) => Ok(()),
-        Err(Ending::Memory) => Err(AllocError),
-        Err(Ending::Unexpected) => answer.push_str("this should not come\n"),
-    }
+    Ending::tell(ended, answer)
 }

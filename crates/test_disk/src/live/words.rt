@@ -48,6 +48,15 @@ pub fn put_number(answer: &mut String, word: &str, number: u64) {
     let _ = writeln!(answer, "{word} {number}");
 }
 
+/// Adds a sum over bytes: FNV-1a of 64 bits.
+pub fn put_sum(answer: &mut String, bytes: &[u8]) {
+    let mut sum = 14_695_981_039_346_656_037_u64;
+    for byte in bytes {
+        sum = (sum ^ u64::from(*byte)).wrapping_mul(1_099_511_628_211);
+    }
+    let _ = write!(answer, "sum {sum:016x}");
+}
+
 /// Adds a line that says how many bytes these are.
 pub fn put_len(answer: &mut String, bytes: &[u8]) {
     put_count(answer, "", bytes.len() as u64, " bytes\n");

@@ -1,0 +1,57 @@
+//! What runs leave on their disks.
+
+ghost use Rattle.std.specs.Prelude.{◌≡◌};
+
+use crate::committees::{FOUR, own_config};
+use crate::live::ending::Ending;
+use crate::live::journals::{Found, found_on};
+use crate::live::words::{put, put_count, put_sum};
+use diskmodel::MemDisk;
+use journal::Store;
+use node::{Caller, start};
+use std::alloc::Global;
+use std::sync::Wait;
+
+/// The order of a node that is opened there, and its round.
+pub fn tell_node<R: Wait>(
+    rt: &R,
+    alloc: Global,
+    store: Store<MemDisk>,
+    answer: &mut String,
+) -> Result<(), Ending> {
+    let config = own_config(alloc, &FOUR)?;
+    let (node, seat, _) = start(alloc, &config, store)?;
+    let mut caller = Caller::new(&node, &config, seat);
+    let order = caller.order(rt, 0)?;
+    let mut bytes = Vec::new(alloc);
+    for digest in &order {
+        bytes.extend_from_slice(&digest.0)?;
+    }
+    put_count(answer, "order ", order.len() as u64, ", ");
+    put_sum(answer, &bytes);
+    put_count(answer, ", round ", caller.round_now(rt), "\n");
+    Ok(())
+}
+
+/// Whether the journal was rewritten at least so many times, and how many bytes of events there are after its checkpoint, if these are not
+/// less than so many.
+pub fn tell_rewritten(alloc: Global, store: Store<MemDisk>, words: &str, answer: &mut String) {
+    let (least, most) = words.split_once(' ').unwrap_or((words, ""));
+    let (least, most) = (least.parse().unwrap_or(u64::MAX), most.parse().unwrap_or(0));
+    match found_on(alloc, store) {
+        Some(found) => tell_found(&found, least, most, answer),
+        None => put(answer, "no journal\n"),
+    }
+}
+
+fn tell_found(found: &Found, least: u64, most: u64, answer: &mut String) {
+    let (_, bytes) = found.events();
+    match found.generation >= least {
+        true => put_count(answer, "rewritten at least ", least, " times"),
+        false => put_count(answer, "rewritten ", found.generation, " times"),
+    }
+    match bytes < most {
+        true => put_count(answer, ", less than ", most, " bytes of events since\n"),
+        false => put_count(answer, ", ", bytes, " bytes of events since\n"),
+    }
+}
