@@ -15,6 +15,7 @@ the first one would have been. Where memory is refused to a disk in memory, one 
 """
 import copy
 import functools
+import hashlib
 import os
 import random
 import re
@@ -849,15 +850,15 @@ class Interrupted:
 
 
 class Turns:
-    """The scripts that come of one: its title, its rows, and for the rows of which each call fails in turn whether they are."""
+    """The scripts that come of one: its title, its rows, and whether these are so many that the others only name them."""
 
-    def __init__(self, title, rows, is_tried=lambda place: True):
-        self.title, self.rows, self.is_tried, self.counts = title, rows, is_tried, dict.fromkeys(KINDS, 0)
+    def __init__(self, title, rows, is_long=False):
+        self.title, self.rows, self.is_long, self.counts = title, rows, is_long, dict.fromkeys(KINDS, 0)
 
     def scripts(self):
         script, before = Script(b''), []
-        for place, row in enumerate(self.rows):
-            if row.split()[0] in ('flush', 'checkpoint', 'stop') and self.is_tried(place):
+        for row in self.rows:
+            if row.split()[0] in ('flush', 'checkpoint', 'stop'):
                 for kind in KINDS:
                     yield from self.failing(script, before, row, kind)
                 yield from self.stopping(script, before, row)
@@ -900,10 +901,9 @@ class Turns:
 
 
 def turned():
-    """The worked scripts of which each call fails in turn: of the long one at three of its events alone."""
+    """The worked scripts of which each call fails in turn."""
     forms, events = late_rounds()
     late = ['set depth 2'] + forms + after_each(events + ['flush', 'order'], 'checkpoint', 'stop lose')
-    chosen = [late.index(event) for event in ('cert c10 0,1,2', 'coin 2 0', 'coin 3 3')]
     return [
         Turns('a vote', VOTED + ['collect', 'flush', 'collect', 'collect']),
         Turns('a certificate', ['form h0 0 1 g0,g1,g2 -', 'header h0', 'vote h0 1', 'vote h0 1', 'vote h0 2', 'flush', 'collect', 'collect',
@@ -912,7 +912,7 @@ def turned():
         Turns('a checkpoint with an open gate', VOTED + ['stop checkpoint 37', 'header h1']),
         Turns('a checkpoint with a closed gate', VOTED + ['stop checkpoint 00', 'header h1']),
         Turns('a migrated journal', ['set version 1'] + VOTED + ['flush', 'stop keep', 'header h1', 'checkpoint']),
-        Turns('late certificates', late, lambda place: any(place - event in (1, 2) for event in chosen)),
+        Turns('late certificates', late, is_long=True),
     ]
 
 
@@ -1134,7 +1134,8 @@ class Drawn:
 HEAD = """# crates: sim_run sim_script node_sim node
 # Scripts for the simulator with checkpoints, with a migration from the first version, and with device calls that fail: some that are
 # worked, then some in which each call fails in turn, and then drawn ones. `oracles/scripts.py` writes these cases. The commands are those
-# of the cases of `sim_run`."""
+# of the cases of `sim_run`. Besides, `keep` keeps a script, `first COUNT` begins one with so many of its lines, and `sum` answers the
+# SHA-256 of what `play` answers."""
 DRAWN = 300
 
 
@@ -1149,14 +1150,34 @@ class Cases:
     def put(self, title, rows, expected=None, script=None):
         script = script or Script(text_of(rows))
         assert expected is None or (script.lines == expected and not script.status), (title, script.lines)
+        self.count_of(script)
+        self.write(title, ['| ' + row for row in rows], ('play', script.played()), ('journal', script.journal()))
+
+    def count_of(self, script):
         self.count += 1
         self.statuses[script.status] = self.statuses.get(script.status, 0) + 1
         for line in script.lines:
             word = ' '.join(line.split()[:1 if line.split()[0] in ('new', 'known', 'order', 'out', 'settled', 'generation') else 3])
             self.words[word] = self.words.get(word, 0) + 1
+
+    def put_kept(self, title, rows):
+        """A script that begins later ones."""
+        script = Script(text_of(rows))
+        self.count_of(script)
+        self.write(title, ['| ' + row for row in rows] + ['keep'], ('play', script.played()), ('journal', script.journal()))
+
+    def put_short(self, title, kept, rows, script):
+        """A script that begins as the one that is kept, by the rows that it has besides and the sum of what it prints."""
+        self.count_of(script)
+        first = next((place for place, (ours, theirs) in enumerate(zip(rows, kept)) if ours != theirs), min(len(rows), len(kept)))
+        printed = ''.join(line + '\n' for line in script.played())
+        given = ['first %d' % first] + ['| ' + row for row in rows[first:]]
+        self.write(title, given, ('sum', [hashlib.sha256(printed.encode()).hexdigest()]), ('journal', script.journal()))
+
+    def write(self, title, given, *asked):
         print('\n== ' + title)
-        print('\n'.join('| ' + row for row in rows))
-        for command, answers in (('play', script.played()), ('journal', script.journal())):
+        print('\n'.join(given))
+        for command, answers in asked:
             print(command)
             print('\n'.join('> ' + answer for answer in answers))
 
@@ -1177,8 +1198,13 @@ def write_cases():
 def write_turns(cases):
     for turns in turned():
         count = cases.count
+        if turns.is_long:
+            cases.put_kept(turns.title, turns.rows)
         for title, one in turns.scripts():
-            cases.put(title, one.rows, script=one.script)
+            if turns.is_long:
+                cases.put_short(title, turns.rows, one.rows, one.script)
+            else:
+                cases.put(title, one.rows, script=one.script)
         failed = ', '.join('%s %d' % one for one in turns.counts.items())
         print('\n# %s: %d scripts, calls that failed: %s' % (turns.title, cases.count - count, failed))
         print('%s: %d scripts, calls that failed: %s' % (turns.title, cases.count - count, failed), file=sys.stderr)

@@ -35,6 +35,17 @@ impl Script {
         Ok(())
     }
 
+    /// Adds the first lines of a script that a case has kept, as many as these words say; says whether they say it.
+    pub fn add_first(&mut self, kept: &[u8], rest: &str) -> Result<bool, AllocError> {
+        let Ok(count) = rest.parse() else {
+            return Ok(false);
+        };
+        for line in kept.split_inclusive(|byte| *byte == b'\n').take(count) {
+            self.bytes.extend_from_slice(line)?;
+        }
+        Ok(true)
+    }
+
     /// Changes the script, how it is read or how its lines are taken; says whether the words are ones for that.
     pub fn change(&mut self, name: &str, rest: &str) -> Result<bool, AllocError> {
         match name {

@@ -27,6 +27,8 @@ enum Subject {
 pub struct Case {
     alloc: Global,
     subject: Subject,
+    // The script that a case has kept, for later ones.
+    kept: Vec<u8>,
 }
 
 impl Case {
@@ -35,6 +37,7 @@ impl Case {
         Case {
             alloc,
             subject: Subject::Threads,
+            kept: Vec::new(alloc),
         }
     }
 
@@ -53,7 +56,9 @@ impl Case {
         match &mut self.subject {
             Subject::Threads => obey_threads(rt, self.alloc, name, words, answer),
             Subject::Folder(folder) => folder.obey(rt, name, words, answer),
-            Subject::Script(script) => obey_script(rt, self.alloc, script, name, words, answer),
+            Subject::Script(script) => {
+                obey_script(rt, self.alloc, script, &mut self.kept, name, words, answer)
+            }
             Subject::Runs(runs) => runs.obey(rt, name, words, answer),
         }
     }

@@ -3,8 +3,11 @@
 use crate::committees::{FOUR, OWN, own_config};
 use crate::live::script_ends::{Input, Taker};
 use crate::live::scripts::Script;
-use crate::live::words::{Told, bad, put, put_count, put_len, put_number, put_shown, put_text};
+use crate::live::words::{
+    Told, bad, put, put_count, put_hex, put_len, put_number, put_shown, put_text,
+};
 use header::check;
+use sha2::{Digest, Sha256};
 use sigface::HashVerify;
 use sim_run::{disks_after, run, vote_after};
 use std::alloc::Global;
@@ -12,18 +15,26 @@ use std::cell::Cell;
 use std::sync::Wait;
 use wire::{Message, Vote};
 
-/// A line after `|` is one of the script. The other commands change how it is run, or run it.
+/// A line after `|` is one of the script. A script that is kept begins later ones. The other commands change how it is run, or run it.
 pub fn obey_script<R: Wait>(
     rt: &R,
     alloc: Global,
     script: &mut Script,
+    kept: &mut Vec<u8>,
     name: &str,
     rest: &str,
     answer: &mut String,
 ) -> Told {
     match name {
         "|" => return script.add_lines(1, rest),
+        "keep" => return keep(script, kept),
+        "first" => {
+            if !script.add_first(kept, rest)? {
+                bad(answer);
+            }
+        }
         "play" => play(rt, alloc, script, answer),
+        "sum" => sum(rt, alloc, script, answer),
         "watch" => watch(rt, alloc, script, answer),
         "count" => count(rt, alloc, script, answer),
         "journal" => journal(rt, alloc, script, answer),
@@ -35,6 +46,11 @@ pub fn obey_script<R: Wait>(
         }
     }
     Ok(())
+}
+
+fn keep(script: &Script, kept: &mut Vec<u8>) -> Told {
+    kept.clear();
+    kept.extend_from_slice(&script.bytes)
 }
 
 // What a run leaves.
@@ -79,6 +95,14 @@ fn play<R: Wait>(rt: &R, alloc: Global, script: &Script, answer: &mut String) {
         put_text(answer, &outcome.errors);
     }
     put_number(answer, "status", outcome.status as u64);
+}
+
+// The SHA-256 of what `play` answers.
+fn sum<R: Wait>(rt: &R, alloc: Global, script: &Script, answer: &mut String) {
+    let mut lines = String::new(alloc);
+    play(rt, alloc, script, &mut lines);
+    put_hex(answer, &Sha256::digest(lines.as_bytes()));
+    put(answer, "\n");
 }
 
 // How many lines were written before each read.
