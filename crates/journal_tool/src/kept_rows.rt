@@ -10,10 +10,15 @@ use wire_read::{Reader, batch_of, certificate_of, header_of};
 
 // The kinds of a state's records, as docs/FORMATS.md has them.
 const ORDER: u8 = 3;
+
 const BATCH: u8 = 4;
+
 const VOTE: u8 = 5;
+
 const HEADER: u8 = 6;
+
 const CERTIFICATE: u8 = 7;
+
 const COINS: u8 = 8;
 
 /// The bytes of a vote: its kind, author, round and header digest.
@@ -82,9 +87,7 @@ fn kept_vote(record: &[u8]) -> Row {
     Row {
         author: Some(author as u64),
         round: Some(round),
-        digest: Some(short_of([
-            record[11], record[12], record[13], record[14],
-        ])),
+        digest: Some(short_of([record[11], record[12], record[13], record[14]])),
         ..Row::of("state-vote")
     }
 }

@@ -8,8 +8,7 @@ use journal_account::{EVENT, FRONT_BYTES, Flaw, Why, own_number};
 use std::alloc::Global;
 use std::io::Write;
 use wire::{
-    Batch, Certificate, Header, Message, WireError, batch_digest, certificate_digest,
-    header_digest,
+    Batch, Certificate, Header, Message, WireError, batch_digest, certificate_digest, header_digest,
 };
 use wire_read::decode;
 

@@ -23,7 +23,15 @@ pub fn run_files<R: Files<File = File> + AllocGlobal + Threads + Wait + Sync>(
     }
     let mut errors = Vec::new(alloc);
     let (reader, writer) = (io::empty(), io::sink());
-    let ran = run(rt, alloc, &args, CHECKPOINT_BYTES, reader, writer, &mut errors);
+    let ran = run(
+        rt,
+        alloc,
+        &args,
+        CHECKPOINT_BYTES,
+        reader,
+        writer,
+        &mut errors,
+    );
     tell_errors(&errors, answer);
     put_number(answer, "status", ran.ending.status() as u64);
     Ok(())
