@@ -111,9 +111,9 @@ one_acked false h member other = sym (or-false (is_in h.acknowledged other))
 nothing_own : (stock : BatchStoreView) (digest : Digest) → held_at stock digest ≡ None → has_own stock digest ≡ true → ⊥
 nothing_own stock digest none own = true≢false (sym own ∙ ap (λ o. option_map_or (λ (h : Held). h.batch.author.0 == stock.own) o false) none)
 
-acked_behind : (stock : BatchStoreView) (digest : Digest) (member : ℕ) → has_own stock digest ≡ true → (other : Digest) (voter : ℕ)
+acked_after : (stock : BatchStoreView) (digest : Digest) (member : ℕ) → has_own stock digest ≡ true → (other : Digest) (voter : ℕ)
     → has_acked (with_ack stock digest member) other voter ≡ (has_acked stock other voter || ((same_digest digest other && (member == voter)) || false))
-acked_behind stock digest member own other voter =
+acked_after stock digest member own other voter =
     let test : Held → Bool = λ h. is_in h.acknowledged voter in
     let change : Held → Held = acked_by digest member in
     said_changed change (ack_keeps digest member) test other stock.held
@@ -141,7 +141,7 @@ ack_comes node state stock ack own has =
       own = has.own;
       batches = same_batches change keeps stock.held ∙ has.batches ∙ sym (append-nil state.batches);
       acked = λ digest member.
-          acked_behind stock ack.batch ack.author.0 own digest member
+          acked_after stock ack.batch ack.author.0 own digest member
           ∙ ap (λ b. b || ((same_digest ack.batch digest && (ack.author.0 == member)) || false)) (has.acked digest member);
       named = λ digest.
           said_changed change keeps (λ h. h.named) digest stock.held
@@ -174,9 +174,9 @@ implied false false then = refl
 abbrev among : List BatchReference → Digest → Bool
 among references digest = list_any (λ (named : BatchReference). same_digest named.digest digest) references
 
-named_behind : (stock : BatchStoreView) (references : List BatchReference) (digest : Digest) → (among references digest ≡ true → has_own stock digest ≡ true)
+named_after : (stock : BatchStoreView) (references : List BatchReference) (digest : Digest) → (among references digest ≡ true → has_own stock digest ≡ true)
     → was_named (with_names stock references) digest ≡ (was_named stock digest || among references digest)
-named_behind stock references digest ours =
+named_after stock references digest ours =
     let change : Held → Held = named_by stock.own references in
     said_changed change (name_keeps stock.own references) (λ h. h.named) digest stock.held
     ∙ elim (given_or_none (held_at stock digest)) [
@@ -211,7 +211,7 @@ names_come node state stock header mine ours has =
           (λ h. same_acked ((h.batch.author.0 == stock.own) && is_named_in references h.batch) h member) (held_at stock digest)
           ∙ has.acked digest member ∙ sym (or-false (state.acked digest member));
       named = λ digest.
-          named_behind stock references digest (ours digest)
+          named_after stock references digest (ours digest)
           ∙ ap (λ b. b || among references digest) (has.named digest)
           ∙ ap (λ b. state.named digest || b) (sym (or-false (among references digest)))
           ∙ ap (λ b. state.named digest || ((b && among references digest) || false)) (sym mine);

@@ -39,7 +39,7 @@ set_parted (first ∷ rest) (suc place) old new at = ap (λ l. first ∷ l) (set
 abbrev pub None_of : Digest → List Held → Type 0
 None_of digest batches = AllByRecursion (λ held. is_of digest held ≡ false) batches
 
--- what stands at a place, what stands before it and what behind it
+-- what stands at a place, what stands before it and what after it
 pub parted : (batches : List Held) (place : ℕ) (held : Held) → slice_get batches place ≡ Some held → batches ≡ take place batches ++ held ∷ drop (suc place) batches
 parted [] place held at = absurd cc
 parted (first ∷ rest) zero held at = let same : first ≡ held = cc in ap (λ (h : Held). h ∷ rest) same
@@ -64,7 +64,7 @@ at_middle : (P : Digest → Type 0) (front : List Held) (held : Held) (back : Li
 at_middle P [] held back all = all.0
 at_middle P (h ∷ front) held back all = at_middle P front held back all.1
 
--- of those before and behind a batch none has its digest
+-- of those before and after a batch none has its digest
 pub others : (front : List Held) (held : Held) (back : List Held) → Distinct (front ++ held ∷ back) → None_of (digest_in held) front × None_of (digest_in held) back
 others [] held back distinct = (tt, none-of_digests (digest_in held) back (distinct-head held back distinct))
 others (h ∷ front) held back distinct =
@@ -111,9 +111,9 @@ map-others change digest keeps (h ∷ rest) none =
 
 pub map-one : (change : Held → Held) (digest : Digest) → ((held : Held) → is_of digest held ≡ false → change held ≡ held) → (front : List Held) (held : Held) (back : List Held)
     → None_of digest front → None_of digest back → map change (front ++ held ∷ back) ≡ front ++ change held ∷ back
-map-one change digest keeps [] held back before behind = ap (λ l. change held ∷ l) (map-others change digest keeps back behind)
-map-one change digest keeps (h ∷ front) held back before behind =
-    ap (λ (x : Held). x ∷ map change (front ++ held ∷ back)) (keeps h before.0) ∙ ap (λ l. h ∷ l) (map-one change digest keeps front held back before.1 behind)
+map-one change digest keeps [] held back before after = ap (λ l. change held ∷ l) (map-others change digest keeps back after)
+map-one change digest keeps (h ∷ front) held back before after =
+    ap (λ (x : Held). x ∷ map change (front ++ held ∷ back)) (keeps h before.0) ∙ ap (λ l. h ∷ l) (map-one change digest keeps front held back before.1 after)
 
 -- ---- the others stay what they are
 

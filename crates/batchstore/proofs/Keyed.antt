@@ -26,7 +26,7 @@ value_at [] place e at = absurd cc
 value_at (first ∷ rest) zero e at = let same : first ≡ e = cc in ap (λ (f : Digest × Held). Some f.1) same
 value_at (first ∷ rest) (suc place) e at = value_at rest place e at
 
--- the values with one more behind them
+-- the values with one more after them
 pub values-push : (entries : List (Digest × Held)) (digest : Digest) (held : Held) → values_of (entries ++ (digest, held) ∷ []) ≡ values_of entries ++ held ∷ []
 values-push [] digest held = refl
 values-push (e ∷ rest) digest held = ap (λ l. e.1 ∷ l) (values-push rest digest held)

@@ -38,12 +38,12 @@ pub absent-among : (charter : Charter) (own : ℕ) (digest : Digest) (batches : 
 absent-among charter own digest [] none = tt
 absent-among charter own digest (h ∷ rest) none = absent_more digest h (named_among charter own rest) (may_be_named charter own h) none.0 (absent-among charter own digest rest none.1)
 
--- none of those before and behind
+-- none of those before and after
 around : (charter : Charter) (own : ℕ) (digest : Digest) (front back : List Held) → None_of digest front → None_of digest back
     → Absent digest (fold placed [] (named_among charter own front ++ named_among charter own back))
-around charter own digest front back before behind =
+around charter own digest front back before after =
     absent-fold digest (named_among charter own front ++ named_among charter own back)
-    (absent-append digest (named_among charter own front) (named_among charter own back) (absent-among charter own digest front before) (absent-among charter own digest back behind))
+    (absent-append digest (named_among charter own front) (named_among charter own back) (absent-among charter own digest front before) (absent-among charter own digest back after))
 
 -- with one that may not be named in the middle, the list is that of the others
 middle-none : (charter : Charter) (own : ℕ) (front : List Held) (held : Held) (back : List Held) → to_name charter own held ≡ None
@@ -54,21 +54,21 @@ middle-none charter own front held back none =
 -- with one that may be named it is in its place among them
 pub middle-some : (charter : Charter) (own : ℕ) (front : List Held) (held : Held) (back : List Held) → to_name charter own held ≡ Some (as_reference held.batch)
     → None_of (digest_in held) back → listing charter own (front ++ held ∷ back) ≡ placed (fold placed [] (named_among charter own front ++ named_among charter own back)) (as_reference held.batch)
-middle-some charter own front held back some behind =
+middle-some charter own front held back some after =
     ap (fold placed []) (filter_map-append (to_name charter own) front (held ∷ back) ∙ ap (λ o. named_among charter own front ++ cons_option o (named_among charter own back)) some)
-    ∙ one_among (named_among charter own front) (named_among charter own back) (as_reference held.batch) (absent-among charter own (digest_in held) back behind)
+    ∙ one_among (named_among charter own front) (named_among charter own back) (as_reference held.batch) (absent-among charter own (digest_in held) back after)
 
 -- what may not be named isn't listed
 pub unlisted : (charter : Charter) (own : ℕ) (front : List Held) (held : Held) (back : List Held) → to_name charter own held ≡ None → None_of (digest_in held) front → None_of (digest_in held) back
     → Absent (digest_in held) (listing charter own (front ++ held ∷ back))
-unlisted charter own front held back none before behind =
-    subst (Absent (digest_in held)) (sym (middle-none charter own front held back none)) (around charter own (digest_in held) front back before behind)
+unlisted charter own front held back none before after =
+    subst (Absent (digest_in held)) (sym (middle-none charter own front held back none)) (around charter own (digest_in held) front back before after)
 
 -- what begins to be nameable is put in its place
 pub gains : (charter : Charter) (own : ℕ) (front : List Held) (old new : Held) (back : List Held) → to_name charter own old ≡ None → to_name charter own new ≡ Some (as_reference new.batch)
     → None_of (digest_in new) back → listing charter own (front ++ new ∷ back) ≡ placed (listing charter own (front ++ old ∷ back)) (as_reference new.batch)
-gains charter own front old new back none some behind =
-    middle-some charter own front new back some behind ∙ ap (λ l. placed l (as_reference new.batch)) (sym (middle-none charter own front old back none))
+gains charter own front old new back none some after =
+    middle-some charter own front new back some after ∙ ap (λ l. placed l (as_reference new.batch)) (sym (middle-none charter own front old back none))
 
 -- what stays as it is to be named leaves the list
 pub stays : (charter : Charter) (own : ℕ) (front : List Held) (old new : Held) (back : List Held) → to_name charter own new ≡ to_name charter own old
@@ -80,21 +80,21 @@ stays charter own front old new back same =
 
 loses_by : (charter : Charter) (own : ℕ) (front : List Held) (old new : Held) (back : List Held) (may : Bool) → may_be_named charter own old ≡ may → to_name charter own new ≡ None
     → None_of (digest_in old) front → None_of (digest_in old) back → without (digest_in old) (listing charter own (front ++ old ∷ back)) ≡ listing charter own (front ++ new ∷ back)
-loses_by charter own front old new back true may none before behind =
-    ap (without (digest_in old)) (middle-some charter own front old back (to_name-some charter own old may) behind)
-    ∙ without-placed (fold placed [] (named_among charter own front ++ named_among charter own back)) (as_reference old.batch) (around charter own (digest_in old) front back before behind)
+loses_by charter own front old new back true may none before after =
+    ap (without (digest_in old)) (middle-some charter own front old back (to_name-some charter own old may) after)
+    ∙ without-placed (fold placed [] (named_among charter own front ++ named_among charter own back)) (as_reference old.batch) (around charter own (digest_in old) front back before after)
     ∙ sym (middle-none charter own front new back none)
-loses_by charter own front old new back false may none before behind =
+loses_by charter own front old new back false may none before after =
     ap (without (digest_in old)) (middle-none charter own front old back (to_name-none charter own old may))
-    ∙ without-absent (digest_in old) (fold placed [] (named_among charter own front ++ named_among charter own back)) (around charter own (digest_in old) front back before behind)
+    ∙ without-absent (digest_in old) (fold placed [] (named_among charter own front ++ named_among charter own back)) (around charter own (digest_in old) front back before after)
     ∙ sym (middle-none charter own front new back none)
 
 -- what may not be named any more is taken out
 pub loses : (charter : Charter) (own : ℕ) (front : List Held) (old new : Held) (back : List Held) → to_name charter own new ≡ None
     → None_of (digest_in old) front → None_of (digest_in old) back → without (digest_in old) (listing charter own (front ++ old ∷ back)) ≡ listing charter own (front ++ new ∷ back)
-loses charter own front old new back none before behind = loses_by charter own front old new back (may_be_named charter own old) refl none before behind
+loses charter own front old new back none before after = loses_by charter own front old new back (may_be_named charter own old) refl none before after
 
--- one more behind the others that may not be named
+-- one more after the others that may not be named
 pub push-none : (charter : Charter) (own : ℕ) (batches : List Held) (held : Held) → to_name charter own held ≡ None → listing charter own (batches ++ held ∷ []) ≡ listing charter own batches
 push-none charter own batches held none =
     middle-none charter own batches held [] none ∙ ap (fold placed []) (append-nil (named_among charter own batches))

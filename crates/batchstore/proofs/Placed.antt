@@ -89,13 +89,13 @@ swapped batches a b apart = swapped_by batches a b (compared a.digest b.digest) 
 abbrev pub Absent : Digest → List BatchReference → Type 0
 Absent digest batches = AllByRecursion (λ batch. bytes_eq digest.0 batch.digest.0 ≡ false) batches
 
--- one batch may be put there before the others or behind them
+-- one batch may be put there before the others or after them
 swapped-fold : (batches others : List BatchReference) (a : BatchReference) → Absent a.digest others → fold placed (placed batches a) others ≡ placed (fold placed batches others) a
 swapped-fold batches [] a absent = refl
 swapped-fold batches (b ∷ others) a absent =
     ap (λ l. fold placed l others) (swapped batches a b absent.0) ∙ swapped-fold (placed batches b) others a absent.1
 
--- a batch among others is put in its place behind them
+-- a batch among others is put in its place after them
 pub one_among : (front back : List BatchReference) (a : BatchReference) → Absent a.digest back → fold placed [] (front ++ a ∷ back) ≡ placed (fold placed [] (front ++ back)) a
 one_among front back a absent =
     fold-append placed [] front (a ∷ back) ∙ swapped-fold (fold placed [] front) back a absent ∙ ap (λ l. placed l a) (sym (fold-append placed [] front back))

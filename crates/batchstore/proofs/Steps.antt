@@ -1,4 +1,4 @@
--- What a store keeps behind each of its steps.
+-- What a store keeps after each of its steps.
 use Rattle.std.proofs.Common.{◌≡◌, ◌≢◌, ℕ, suc, ◌<◌, Bool, true, false, cond, List, [], ◌∷◌, ◌++◌, length, Option, Some, None, refl, sym, ap, subst}
 use Rattle.std.proofs.Common.{◌∙◌, inl, inr, arith, take, drop, slice_get, slice_set, length-append}
 use Rattle.std.specs.Prelude.{◌&&◌, ◌||◌, ◌==◌, ◌⊎◌, not, map, find, AllPairs}
@@ -39,7 +39,7 @@ pub record Stands (batches : List Held) (digest : Digest) (place : ℕ) (held : 
   pub stood : batches ≡ take place batches ++ held ∷ drop (suc place) batches
   pub is : digest_in held ≡ digest
   pub before : None_of digest (take place batches)
-  pub behind : None_of digest (drop (suc place) batches)
+  pub after : None_of digest (drop (suc place) batches)
 
 pub stands : (batches : List Held) (digest : Digest) (place : ℕ) (held : Held) → Distinct batches → find (is_of digest) batches ≡ Some held
     → slice_get batches place ≡ Some held → Stands batches digest place held
@@ -52,7 +52,7 @@ stands batches digest place held distinct found at =
       stood = stood;
       is = is;
       before = subst (λ d. None_of d (take place batches)) is apart.0;
-      behind = subst (λ d. None_of d (drop (suc place) batches)) is apart.1;
+      after = subst (λ d. None_of d (drop (suc place) batches)) is apart.1;
     }
 
 -- what is kept, with another value at a place
@@ -127,7 +127,7 @@ listed_around charter own batches listed digest place old kept there = kept.name
 pub at_place : (change : Held → Held) (batches : List Held) (digest : Digest) (place : ℕ) (old new : Held) → ((held : Held) → is_of digest held ≡ false → change held ≡ held) → change old ≡ new
     → Stands batches digest place old → map change batches ≡ take place batches ++ new ∷ drop (suc place) batches
 at_place change batches digest place old new keeps is there =
-    ap (map change) there.stood ∙ map-one change digest keeps (take place batches) old (drop (suc place) batches) there.before there.behind
+    ap (map change) there.stood ∙ map-one change digest keeps (take place batches) old (drop (suc place) batches) there.before there.after
     ∙ ap (λ (h : Held). take place batches ++ h ∷ drop (suc place) batches) is
 
 -- ---- a member more
@@ -187,18 +187,18 @@ acked_new charter own batches listed digest place old member members kept there 
     let may : may_be_named charter own new ≡ true =
     ap (λ b. b && (is_quorate charter own new && not old.named)) mine ∙ ap (λ b. b && not old.named) quorums.1 ∙ parts.0 in
     let before : None_of (digest_in old) front = subst (λ d. None_of d front) (sym there.is) there.before in
-    let behind : None_of (digest_in old) back = subst (λ d. None_of d back) (sym there.is) there.behind in
+    let following : None_of (digest_in old) back = subst (λ d. None_of d back) (sym there.is) there.after in
     let around = listed_around charter own batches listed digest place old kept there in
     let absent : Absent digest (map reference_of listed) =
     subst (Absent digest) (sym around)
     (subst (λ d. Absent d (listing charter own (front ++ old ∷ back))) there.is
-    (unlisted charter own front old back (to_name-none charter own old may_not) before behind)) in
+    (unlisted charter own front old back (to_name-none charter own old may_not) before following)) in
     let reference : ◌≡◌ {A = BatchReference} (reference_of (digest, old.batch.worker)) (as_reference old.batch) =
     ap (λ (d : Digest). record { digest = d; worker = old.batch.worker }) (sym there.is) in
     changed charter own batches listed (insert_entry compared listed digest old.batch.worker) digest place old new kept there refl
     (still_held charter own old member members ours inside other more)
     (inserted listed digest old.batch.worker absent ∙ ap (λ l. placed l (reference_of (digest, old.batch.worker))) around ∙ ap (placed (listing charter own (front ++ old ∷ back))) reference
-    ∙ sym (gains charter own front old new back (to_name-none charter own old may_not) (to_name-some charter own new may) behind))
+    ∙ sym (gains charter own front old new back (to_name-none charter own old may_not) (to_name-some charter own new may) following))
 
 pub acked_same : (charter : Charter) (own : ℕ) (batches : List Held) (listed : List (Digest × ℕ)) (digest : Digest) (place : ℕ) (old : Held) (member : ℕ) (members : MemberSet)
     → IsKept (stock_in charter own batches) listed → Stands batches digest place old → old.batch.author.0 ≡ own → member < length charter.keys → member ≢ own
@@ -242,12 +242,12 @@ marked charter own batches listed digest place old kept there ours =
     let may_not : may_be_named charter own (with_mark old) ≡ false =
     ap (λ b. (old.batch.author.0 == own) && b) (and-false (is_quorate charter own old)) ∙ and-false (old.batch.author.0 == own) in
     let before : None_of (digest_in old) front = subst (λ d. None_of d front) (sym there.is) there.before in
-    let behind : None_of (digest_in old) back = subst (λ d. None_of d back) (sym there.is) there.behind in
+    let following : None_of (digest_in old) back = subst (λ d. None_of d back) (sym there.is) there.after in
     changed charter own batches listed (remove_entry (is_at (compared digest)) listed) digest place old (with_mark old) kept there refl
     (λ is. record { acknowledged = λ m there_is. (let may = is.acknowledged m there_is in record { ours = ours; inside = may.inside; other = may.other }); named = λ there_is. ours })
     (removed listed digest ∙ ap (without digest) (listed_around charter own batches listed digest place old kept there)
     ∙ ap (λ d. without d (listing charter own (front ++ old ∷ back))) (sym there.is)
-    ∙ loses charter own front old (with_mark old) back (to_name-none charter own (with_mark old) may_not) before behind)
+    ∙ loses charter own front old (with_mark old) back (to_name-none charter own (with_mark old) may_not) before following)
 
 named_others : (own : ℕ) (reference : BatchReference) (held : Held) → is_of reference.digest held ≡ false → named_by own (reference ∷ []) held ≡ held
 named_others own reference held there_isnt =
@@ -302,7 +302,7 @@ named_twice own references last held =
     both_ways own references last held ((held.batch.author.0 == own) && list_any (λ r. is_of r.digest held) references) refl
     ∙ ap (λ b. cond ((held.batch.author.0 == own) && b) (with_mark held) held) (sym (list_any-append (λ (r : BatchReference). is_of r.digest held) references (last ∷ [])))
 
--- to name one more batch behind others is to name them all
+-- to name one more batch after others is to name them all
 pub named_more : (own : ℕ) (references : List BatchReference) (last : BatchReference) (batches : List Held)
     → map (named_by own (last ∷ [])) (map (named_by own references) batches) ≡ map (named_by own (references ++ last ∷ [])) batches
 named_more own references last [] = refl

@@ -8,7 +8,7 @@ use Rattle.spec_model.specs.Histories.{History}
 use Rattle.spec_model.specs.Nodes.{Node}
 use Rattle.book.specs.Book.{BookView, Run, Stands, IsCheckpointOfAll, Settles, SettlesNext, settled_by, settled_to, with_all_taken, with_all_settled}
 use Rattle.book.specs.Checkpoints.{CanBeWritten, SettlesAll, GoesDownRewriting, StandsAsOrForAll}
-use Rattle.book.specs.OnTheWay.{StandsSomewhere}
+use Rattle.book.specs.InFlight.{StandsSomewhere}
 use Rattle.book.proofs.Due.{events_now}
 use Rattle.book.proofs.Rewriting.{settles_all}
 

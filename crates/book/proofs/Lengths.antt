@@ -73,11 +73,11 @@ head_is (r ∷ rest) first some is = ap (λ q. q ∷ rest) (sym is)
 pub first_stands : (items rest : List Reached) (front : Option (Bor Reached)) (next : Reached) (len : ℕ) → len ≡ length items
     → (IsSome front ↔ (0 < len)) → IfSome front (λ x. x.now ≡ get_or items 0 x.now)
     → option_copied front ≡ Some next → rest ≡ drop 1 items → items ≡ next ∷ rest
-first_stands items rest None next len long some is copied behind = absurd (none-some next copied)
-first_stands items rest (Some x) next len long some is copied behind =
+first_stands items rest None next len long some is copied after = absurd (none-some next copied)
+first_stands items rest (Some x) next len long some is copied after =
     let there : 0 < len = some.0 refl in
     let same : x.now ≡ next = same_Some x.now next copied in
-    let back : drop 1 items ≡ rest = sym behind in
+    let back : drop 1 items ≡ rest = sym after in
     head_is items x.now (omega (arith, there, long)) is ∙ (λ i. same i ∷ back i)
 
 -- which says what was said before

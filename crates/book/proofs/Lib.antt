@@ -1,4 +1,4 @@
-pub mod OnTheWay
+pub mod InFlight
 pub mod Options
 mod Drafts
 mod Due

@@ -64,9 +64,9 @@ packed_more (group ∷ other ∷ others) last next packed full fits = (packed.0,
 -- ---- records
 
 -- those after the last group stand after all
-pub records_behind : (front : List (List (List ℕ))) (last : List (List ℕ)) → all_records (front ++ last ∷ []) ≡ all_records front ++ last
-records_behind [] last = append-nil last
-records_behind (group ∷ front) last = ap (λ l. group ++ l) (records_behind front last) ∙ sym (append_assoc group (all_records front) last)
+pub records_after : (front : List (List (List ℕ))) (last : List (List ℕ)) → all_records (front ++ last ∷ []) ≡ all_records front ++ last
+records_after [] last = append-nil last
+records_after (group ∷ front) last = ap (λ l. group ++ l) (records_after front last) ∙ sym (append_assoc group (all_records front) last)
 
 -- packed groups without a record are none
 pub none_packed : (groups : List (List (List ℕ))) → ArePacked groups → all_records groups ≡ [] → groups ≡ []
@@ -95,7 +95,7 @@ put_last items front (first ∷ one) bytes parts fits packed =
 pub put_last_records : (items front : List (List (List ℕ))) (last : List (List ℕ)) (bytes : List ℕ) → items ≡ front ++ last ∷ []
     → all_records (front ++ (last ++ bytes ∷ []) ∷ []) ≡ all_records items ++ bytes ∷ []
 put_last_records items front last bytes parts =
-    records_behind front (last ++ bytes ∷ []) ∙ sym (append_assoc (all_records front) last (bytes ∷ [])) ∙ ap (λ l. l ++ bytes ∷ []) (sym (records_behind front last) ∙ ap all_records (sym parts))
+    records_after front (last ++ bytes ∷ []) ∙ sym (append_assoc (all_records front) last (bytes ∷ [])) ∙ ap (λ l. l ++ bytes ∷ []) (sym (records_after front last) ∙ ap all_records (sym parts))
 
 -- a group of its own for one more record
 pub put_next : (items : List (List (List ℕ))) (bytes : List ℕ) → HasNoRoom items (length bytes) → FitsGroup (bytes ∷ []) → ArePacked items → ArePacked (items ++ (bytes ∷ []) ∷ [])
@@ -129,7 +129,7 @@ pub ends_in_last : (items front : List (List (List ℕ))) (group others : List (
     → (x : List (List ℕ)) × (group ≡ x ++ last ∷ []) × (others ≡ all_records front ++ x)
 ends_in_last items front group others last parts packed same =
     let fits = last_fits front group (subst ArePacked parts packed) in
-    ends_with (all_records front) group others last (sym (records_behind front group) ∙ ap all_records (sym parts) ∙ same) (omega (arith, fits.some))
+    ends_with (all_records front) group others last (sym (records_after front group) ∙ ap all_records (sym parts) ∙ same) (omega (arith, fits.some))
 
 -- whether there are no groups tells whether there are no records
 pub empty_tells : (items : List (List (List ℕ))) (view : List (List ℕ)) (len : ℕ) (result : Bool) → len ≡ length items → result ≡ eqb len 0 → ArePacked items → all_records items ≡ view
@@ -153,13 +153,13 @@ pub records_in_last : {X E : Type 0} (r : Result X E) (items later : List (List 
 records_in_last (Ok x) items later bytes view room ok is = ap all_records (ok room.0 room.1 room.2) ∙ put_last_records items room.0 room.1 bytes room.2 ∙ ap (λ l. l ++ bytes ∷ []) is
 records_in_last (Err e) items later bytes view room ok is = tt
 
-pub packed_behind : {X E : Type 0} (r : Result X E) (items later : List (List (List ℕ))) (bytes : List ℕ) → HasNoRoom items (length bytes) → FitsGroup (bytes ∷ [])
+pub packed_after : {X E : Type 0} (r : Result X E) (items later : List (List (List ℕ))) (bytes : List ℕ) → HasNoRoom items (length bytes) → FitsGroup (bytes ∷ [])
     → OnOk r (later ≡ items ++ (bytes ∷ []) ∷ []) → OnErr r (later ≡ items) → ArePacked items → ArePacked later
-packed_behind (Ok x) items later bytes none fits ok err packed = subst ArePacked (sym ok) (put_next items bytes none fits packed)
-packed_behind (Err e) items later bytes none fits ok err packed = subst ArePacked (sym err) packed
+packed_after (Ok x) items later bytes none fits ok err packed = subst ArePacked (sym ok) (put_next items bytes none fits packed)
+packed_after (Err e) items later bytes none fits ok err packed = subst ArePacked (sym err) packed
 
 pub records_at_end : {X E : Type 0} (r : Result X E) (items later : List (List (List ℕ))) (bytes : List ℕ) (view : List (List ℕ))
     → OnOk r (later ≡ items ++ (bytes ∷ []) ∷ []) → all_records items ≡ view
     → OnOk r (all_records later ≡ view ++ bytes ∷ [])
-records_at_end (Ok x) items later bytes view ok is = ap all_records ok ∙ records_behind items (bytes ∷ []) ∙ ap (λ l. l ++ bytes ∷ []) is
+records_at_end (Ok x) items later bytes view ok is = ap all_records ok ∙ records_after items (bytes ∷ []) ∙ ap (λ l. l ++ bytes ∷ []) is
 records_at_end (Err e) items later bytes view ok is = tt

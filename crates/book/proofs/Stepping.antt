@@ -29,9 +29,9 @@ use Rattle.spec_world.proofs.Law.{run_stands}
 use Rattle.spec_world.proofs.Groups.{events_split, taken_more}
 use Rattle.book.specs.Book.{BookView, Run, Stands, IsCheckpoint, state_in, with_taken, with_settled, with_all_settled, settled_by, TakesNew, TakesKnown, releasable}
 use Rattle.book.specs.Queue.{settled_head}
-use Rattle.book.specs.OnTheWay.{Flushes, GoesDown}
+use Rattle.book.specs.InFlight.{Flushes, GoesDown}
 use Rattle.book.specs.Pending.{IsLongestBeginning}
-use Rattle.book.specs.Steps.{run_of, IsRewriting, IsOf, Moves, TakeAllIsAStep, CheckpointIsSteps, AcceptIsAStep, TakesBehind}
+use Rattle.book.specs.Steps.{run_of, IsRewriting, IsOf, Moves, TakeAllIsAStep, CheckpointIsSteps, AcceptIsAStep, TakesAfter}
 use Rattle.book.specs.Steps.{TakeIsAStep, SettleIsAStep, ReleaseIsAStep, FlushesThere, FlushIsSteps, FailIsAStep}
 use Rattle.book.proofs.Flushing.{stands_taken, stands_all, records_taken}
 
@@ -111,7 +111,7 @@ module _ {S : Type 0} (node : Node) (world : World) (before later : BookView S) 
       }
 
   takes : (group : List (List ℕ)) → IsLongestBeginning before.pending group later.pending
-      → later ≡ record before { pending = later.pending; taken = before.taken + length group } → TakesBehind node world group later
+      → later ≡ record before { pending = later.pending; taken = before.taken + length group } → TakesAfter node world group later
   takes group longest is =
       let count = length (taken_in world) + length group in
       let events = group_to world count in
@@ -263,7 +263,7 @@ module _ {S : Type 0} (node : Node) (moves : List Move) (world : World) (before 
       }
 
 -- where it goes down, the group stays taken
-fails : {S : Type 0} (node : Node) (world : World) (before later : BookView S) → IsOf node world before → (down : GoesDown node before later) → TakesBehind node world down.group later
+fails : {S : Type 0} (node : Node) (world : World) (before later : BookView S) → IsOf node world before → (down : GoesDown node before later) → TakesAfter node world down.group later
 fails {S} node world before later is_of down =
     let up : BookView S = record before { pending = later.pending; taken = before.taken + length down.group } in
     let takes = takes node world before up is_of down.group down.takes refl in

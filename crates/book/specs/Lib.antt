@@ -3,6 +3,6 @@ pub mod OneDraft
 pub mod Queue
 pub mod Book
 pub mod Steps
-pub mod OnTheWay
+pub mod InFlight
 pub mod Checkpoints
 pub mod Showing

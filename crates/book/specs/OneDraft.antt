@@ -26,9 +26,9 @@ module _ (bytes : List ℕ) (count : ℕ) where
   pub records_of_draft : (draft : IsDraft bytes count) (records : List (List ℕ)) (front : List ℕ) → body_len records ≤ MAX_GROUP_BYTES → length front
       ≡ LENGTH_BYTES → bytes ≡ front ++ body_bytes records → draft.records ≡ records
   records_of_draft draft records front short room written =
-      let behind = sym (drop_at draft.front (body_bytes draft.records) LENGTH_BYTES draft.room) ∙ ap (drop LENGTH_BYTES) (sym draft.written ∙ written)
+      let after = sym (drop_at draft.front (body_bytes draft.records) LENGTH_BYTES draft.room) ∙ ap (drop LENGTH_BYTES) (sym draft.written ∙ written)
       ∙ drop_at front (body_bytes records) LENGTH_BYTES room in
-      same_body draft.records records draft.not_long short behind
+      same_body draft.records records draft.not_long short after
 
   same_front : (one other : List ℕ) (a b : List ℕ) → length one ≡ LENGTH_BYTES → length other ≡ LENGTH_BYTES → one ++ a ≡ other ++ b → one ≡ other
   same_front one other a b long also same = sym (take_at one a LENGTH_BYTES long) ∙ ap (take LENGTH_BYTES) same ∙ take_at other b LENGTH_BYTES also

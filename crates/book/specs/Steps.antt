@@ -13,7 +13,7 @@ use Rattle.spec_world.specs.Runs.{AreKeys, spare_calls, HasSettledGroup, HasSett
 use Rattle.spec_world.specs.Steps.{Move, accept, take_to, device_call, settle, release, take_all, IsStep, Leads, IsRun}
 use Rattle.book.specs.Book.{BookView, Run, Stands, settled_by, TakesNew, TakesKnown, releasable}
 use Rattle.book.specs.Checkpoints.{SettlesAll}
-use Rattle.book.specs.OnTheWay.{Flushes, GoesDown}
+use Rattle.book.specs.InFlight.{Flushes, GoesDown}
 use Rattle.book.specs.Pending.{IsLongestBeginning}
 
 -- the run of a world: its base is what is kept of the history that the world's run began with
@@ -52,7 +52,7 @@ AcceptIsAStep S = (node : Node) (world : World) (before later : BookView S) (eve
     → TakesNew node before later event ⊎ TakesKnown node before later event → Moves node world (accept event) later
 
 -- a group that is taken, also before another one is settled, is the last one in flight there
-pub record TakesBehind {S : Type 0} (node : Node) (world : World) (group : List (List ℕ)) (later : BookView S) : Type 0 where
+pub record TakesAfter {S : Type 0} (node : Node) (world : World) (group : List (List ℕ)) (later : BookView S) : Type 0 where
   pub moves : Moves node world (take_to (length (taken_in world) + length group)) later
   pub events : History
   pub groups : moves.next.groups ≡ world.groups ++ events ∷ []
@@ -61,7 +61,7 @@ pub record TakesBehind {S : Type 0} (node : Node) (world : World) (group : List 
 abbrev pub TakeIsAStep : Type 0 → Type 0
 TakeIsAStep S = (node : Node) (world : World) (before later : BookView S) (group : List (List ℕ)) → IsOf node world before
     → IsLongestBeginning before.pending group later.pending → later ≡ record before { pending = later.pending; taken = before.taken + length group }
-    → TakesBehind node world group later
+    → TakesAfter node world group later
 
 -- the first group in flight in the world, once it is written to its end, is settled there: one that has these records, or, where the book has
 -- a rewriting in flight, the one of that, whatever records it wrote
@@ -92,7 +92,7 @@ FlushIsSteps S = (node : Node) (moves : List Move) (world : World) (before later
 -- a round that took the book down: the group is taken, and stays in flight; the device calls that were made before the failure come
 -- after that
 abbrev pub FailIsAStep : Type 0 → Type 0
-FailIsAStep S = (node : Node) (world : World) (before later : BookView S) → IsOf node world before → (down : GoesDown node before later) → TakesBehind node world down.group later
+FailIsAStep S = (node : Node) (world : World) (before later : BookView S) → IsOf node world before → (down : GoesDown node before later) → TakesAfter node world down.group later
 
 -- all that was accepted is taken for a checkpoint of these bytes, whose rewriting is then in flight; the book may be down after it, as where
 -- the rewriting failed

@@ -31,7 +31,7 @@ impl<'a, S: Sign> Model for OwnBook<'a, S> {
     ghost use Rattle.votebook.specs.contracts.book.VoteBook as votes;
     ghost use Rattle.book.specs.Book.{BookView};
     ghost use Rattle.validator.specs.Setting.{node_of};
-    ghost use Rattle.book.specs.OnTheWay.{StandsSomewhere, RewritesOnlyDown};
+    ghost use Rattle.book.specs.InFlight.{StandsSomewhere, RewritesOnlyDown};
 
     ghost Value = { BookView S };
 
@@ -57,7 +57,7 @@ impl<'a, S: Sign> OwnBook<'a, S> {
     ghost use Rattle.spec_machine.specs.Machine.{round_in};
     ghost use Rattle.spec_model.specs.States.{State};
     ghost use Rattle.book.specs.Checkpoints.{Checkpoints, FindsNoRoomToRewrite, FailsToRewrite, StandsAsOrForAll};
-    ghost use Rattle.book.specs.OnTheWay.{AreOnTheWay, Flushes, FindsNoRoom, FailsWithRoom, IsWithOrWithout};
+    ghost use Rattle.book.specs.InFlight.{AreInFlight, Flushes, FindsNoRoom, FailsWithRoom, IsWithOrWithout};
     ghost use Rattle.book.specs.Pending.{IsLongestBeginning};
 
     /// A book over this validator that has accepted nothing.
@@ -86,8 +86,8 @@ impl<'a, S: Sign> OwnBook<'a, S> {
         ensures refused { let node = node_of S.scheme self.old.validator.setting in IfErr result (λ refusal. (run : Run) → Stands node run self.old
             → MayRefuse node run self.old event refusal) }
         ensures err { OnErr result (self.new ≡ self.old) }
-        ensures way { let node = node_of S.scheme self.old.validator.setting in (groups : List (List (List ℕ))) → AreOnTheWay node self.old groups
-            → AreOnTheWay node self.new groups }
+        ensures way { let node = node_of S.scheme self.old.validator.setting in (groups : List (List (List ℕ))) → AreInFlight node self.old groups
+            → AreInFlight node self.new groups }
         ensures setting { self.new.validator.setting ≡ self.old.validator.setting }
     {
         self.book.accept(event)
@@ -102,8 +102,8 @@ impl<'a, S: Sign> OwnBook<'a, S> {
         ensures taken { IfOk result (λ taken. IfSome taken (λ group. self.new ≡ record self.old { pending = self.new.pending; taken = self.old.taken + length group })) }
         ensures nothing { IfOk result (λ taken. IsNone taken → self.new ≡ self.old) }
         ensures err { OnErr result (self.new ≡ self.old) }
-        ensures way { let node = node_of S.scheme self.old.validator.setting in IfOk result (λ taken. IfSome taken (λ group. (groups : List (List (List ℕ))) → AreOnTheWay node self.old groups
-            → AreOnTheWay node self.new (groups ++ group ∷ []))) }
+        ensures way { let node = node_of S.scheme self.old.validator.setting in IfOk result (λ taken. IfSome taken (λ group. (groups : List (List (List ℕ))) → AreInFlight node self.old groups
+            → AreInFlight node self.new (groups ++ group ∷ []))) }
         ensures setting { self.new.validator.setting ≡ self.old.validator.setting }
     {
         self.book.take()
@@ -117,8 +117,8 @@ impl<'a, S: Sign> OwnBook<'a, S> {
             → Stands node (settled_by run self.old.rewriting (length synced)) self.new }
         ensures settled { self.new.settled ≡ settled_to self.old.rewriting (self.old.settled + length synced) }
         ensures rest { self.new ≡ record self.old { settled = self.new.settled; ordered = self.new.ordered; reached = self.new.reached; rewriting = None } }
-        ensures way { let node = node_of S.scheme self.old.validator.setting in (groups : List (List (List ℕ))) → AreOnTheWay node self.old (synced ∷ groups)
-            → AreOnTheWay node self.new groups }
+        ensures way { let node = node_of S.scheme self.old.validator.setting in (groups : List (List (List ℕ))) → AreInFlight node self.old (synced ∷ groups)
+            → AreInFlight node self.new groups }
         ensures setting { self.new.validator.setting ≡ self.old.validator.setting }
     {
         self.book.settle(synced);
@@ -127,7 +127,7 @@ impl<'a, S: Sign> OwnBook<'a, S> {
     /// Whether no group is in flight, and no rewriting is in flight.
     pub fn is_settled(&self) -> bool
         ensures value { result ≡ ((self.now.taken == self.now.settled) && not (is_some self.now.rewriting)) }
-        ensures way { IsTrue result → AreOnTheWay (node_of S.scheme self.now.validator.setting) self.now [] }
+        ensures way { IsTrue result → AreInFlight (node_of S.scheme self.now.validator.setting) self.now [] }
     {
         self.book.taken() == self.book.settled() && !self.book.is_rewriting()
     }
@@ -139,8 +139,8 @@ impl<'a, S: Sign> OwnBook<'a, S> {
         ensures stands { let node = node_of S.scheme self.old.validator.setting in StandsAsBefore node self.old self.new }
         ensures goes_out { let node = node_of S.scheme self.old.validator.setting in IfSome result (λ output. (run : Run) → Stands node run self.old
             → GoesOutSettled node run output) }
-        ensures way { let node = node_of S.scheme self.old.validator.setting in (groups : List (List (List ℕ))) → AreOnTheWay node self.old groups
-            → AreOnTheWay node self.new groups }
+        ensures way { let node = node_of S.scheme self.old.validator.setting in (groups : List (List (List ℕ))) → AreInFlight node self.old groups
+            → AreInFlight node self.new groups }
         ensures setting { self.new.validator.setting ≡ self.old.validator.setting }
     {
         self.book.release()
@@ -149,8 +149,8 @@ impl<'a, S: Sign> OwnBook<'a, S> {
     /// Takes the book down. From now on nothing is accepted or released.
     pub fn fail(&mut self)
         ensures down { self.new ≡ record self.old { down = true } }
-        ensures way { let node = node_of S.scheme self.old.validator.setting in (groups : List (List (List ℕ))) → AreOnTheWay node self.old groups
-            → AreOnTheWay node self.new groups }
+        ensures way { let node = node_of S.scheme self.old.validator.setting in (groups : List (List (List ℕ))) → AreInFlight node self.old groups
+            → AreInFlight node self.new groups }
         ensures setting { self.new.validator.setting ≡ self.old.validator.setting }
     {
         self.book.fail();
@@ -168,7 +168,7 @@ impl<'a, S: Sign> OwnBook<'a, S> {
         // It takes the longest beginning of the pending records, which is then on the disk and settled.
         ensures idle { OnOk result (self.old.pending ≡ [] → (result ≡ Ok 0) × (self.new ≡ self.old) × (journal.new ≡ journal.old)) }
         ensures flushed { IfOk result (λ count. self.old.pending ≢ [] → Flushes (node_of S.scheme self.old.validator.setting) self.old self.new (D.device.content (disk_of journal.old)) (D.device.content (disk_of journal.new)) count) }
-        ensures way { OnOk result (AreOnTheWay (node_of S.scheme self.old.validator.setting) self.new []) }
+        ensures way { OnOk result (AreInFlight (node_of S.scheme self.old.validator.setting) self.new []) }
         // A book that is down, and one with a group in flight, is left as it was, and so is one where memory is refused.
         ensures down { IsErrOf result FlushError.Down ↔ (IsTrue self.old.down ⊎ (self.old.taken ≢ self.old.settled)) }
         ensures unchanged { IfErr result (λ error. (error ≡ FlushError.Down) ⊎ (error ≡ FlushError.Memory) → (self.new ≡ self.old) × (journal.new ≡ journal.old)) }
@@ -226,7 +226,7 @@ impl<'a, S: Sign> OwnBook<'a, S> {
         // All that was accepted is settled, and the journal is a checkpoint of it.
         ensures settled { IfOk result (λ generation. Checkpoints (node_of S.scheme self.old.validator.setting) D.device self.old self.new journal.old journal.new) }
         ensures answer { IfOk result (λ generation. generation ≡ generation_in journal.new) }
-        ensures way { OnOk result (AreOnTheWay (node_of S.scheme self.old.validator.setting) self.new []) }
+        ensures way { OnOk result (AreInFlight (node_of S.scheme self.old.validator.setting) self.new []) }
         // A book that is down, and one with a group in flight, is left as it was, and so is one where memory is refused.
         ensures down { IsErrOf result FlushError.Down ↔ (IsTrue self.old.down ⊎ (self.old.taken ≢ self.old.settled)) }
         ensures unchanged { IfErr result (λ error. (error ≡ FlushError.Down) ⊎ (error ≡ FlushError.Memory) → (self.new ≡ self.old) × (journal.new ≡ journal.old)) }

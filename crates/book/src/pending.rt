@@ -59,7 +59,7 @@ impl Pending {
         if last_has_room(&self.drafts, len) {
             put_into_last(&mut self.drafts, event, len)
         } else {
-            put_behind(self.alloc, &mut self.drafts, event, len)
+            put_after(self.alloc, &mut self.drafts, event, len)
         }
     }
 
@@ -133,7 +133,7 @@ fn put_into_last(
 
 // Puts the record of an event, which has this length, into a group of its own after the others. Where an allocation fails nothing
 // has changed.
-fn put_behind(
+fn put_after(
     alloc: Global,
     drafts: &mut VecDeque<Draft>,
     event: &Checked,

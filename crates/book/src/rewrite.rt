@@ -6,7 +6,7 @@ ghost use Rattle.journal.specs.Areas.{tells};
 ghost use Rattle.journal.specs.Journal.{disk_of, spare_of, IsAlive};
 ghost use Rattle.journal.specs.Pairs.{HaveKeptPlaces, generation_in, spare_disk, rewritten_disk, untouched_disk};
 ghost use Rattle.validator.specs.Setting.{node_of};
-ghost use Rattle.book.specs.OnTheWay.{StandsSomewhere, RewritesOnlyDown};
+ghost use Rattle.book.specs.InFlight.{StandsSomewhere, RewritesOnlyDown};
 ghost use Rattle.book.specs.Checkpoints.{Checkpoints, FindsNoRoomToRewrite, FailsToRewrite, StandsAsOrForAll};
 
 use crate::book::Book;

@@ -2,7 +2,7 @@
 use Rattle.std.proofs.Common.{◌≡◌, ◌≢◌, ◌⊎◌, ℕ, ◌+◌, Bool, true, false, inl, inr, List, [], ◌∷◌, ◌++◌, length, Result, Ok, Err, refl, sym, ap, ◌∙◌, subst}
 use Rattle.std.specs.Prelude.{◌↔◌, ◌==◌, Some, None, ⊤, if◌then◌else◌}
 use Rattle.book.specs.Book.{Run, Stands, TakesNew, TakesKnown, MayRefuse}
-use Rattle.book.specs.OnTheWay.{Flushes, FindsNoRoom, FailsWithRoom}
+use Rattle.book.specs.InFlight.{Flushes, FindsNoRoom, FailsWithRoom}
 use Rattle.book.specs.declared.own.error.FlushError.{FlushError}
 use Rattle.book.specs.declared.own.error.FlushError.TheVariants as errors
 use Rattle.desk.specs.AtWorld.{IsAt, LeadsTo, IsStop}
@@ -12,7 +12,7 @@ use Rattle.header.specs.Checks.{Accepts, fault_of}
 use Rattle.header.specs.declared.error.CheckError.{CheckError}
 use Rattle.journal.specs.Areas.{alone, rewrite_calls}
 use Rattle.journal.specs.Journal.{disk_of, spare_of}
-use Rattle.opening.specs.Told.{told}
+use Rattle.opening.specs.Decoded.{decoded}
 use Rattle.spec_model.specs.Nodes.{Node}
 use Rattle.spec_model.specs.States.{State}
 use Rattle.spec_model.specs.Words.{Event}
@@ -176,12 +176,12 @@ module _ {S D : Type 0} (node : Node) (device : Device D) where
         })
 
   -- what a stop leaves of a desk in its world is told as a state
-  pub left_told : (world : World) (desk : DeskView S D) → IsAt node device world desk → spare_of desk.journal ≡ None → (found : List ℕ) → device.outcome (disk_of desk.journal) found
-      → (state : State) × (told node found ≡ Ok state)
-  left_told world desk at one found may = elim (at.is_of.left (alone found) (of_one found one may refl)) [ inl settled ↦ (_, settled) | inr all ↦ (_, all) ]
+  pub left_decoded : (world : World) (desk : DeskView S D) → IsAt node device world desk → spare_of desk.journal ≡ None → (found : List ℕ) → device.outcome (disk_of desk.journal) found
+      → (state : State) × (decoded node found ≡ Ok state)
+  left_decoded world desk at one found may = elim (at.is_of.left (alone found) (of_one found one may refl)) [ inl settled ↦ (_, settled) | inr all ↦ (_, all) ]
 
   -- a desk that was opened on bytes that are told as these are
-  pub opened_same : (one other : List ℕ) (desk : DeskView S D) → told node other ≡ told node one → IsOpened node device (alone other) desk → IsOpened node device (alone one) desk
+  pub opened_same : (one other : List ℕ) (desk : DeskView S D) → decoded node other ≡ decoded node one → IsOpened node device (alone other) desk → IsOpened node device (alone one) desk
   opened_same one other desk same opened = record {
     state = opened.state;
     told_first = sym same ∙ opened.told_first;

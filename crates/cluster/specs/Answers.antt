@@ -1,7 +1,7 @@
 -- What a move makes of a member, and what it is answered.
 use Rattle.std.specs.Prelude.{◌≡◌, ◌≢◌, ◌⊎◌, ◌↔◌, ◌<◌, ⊤, ℕ, ◌+◌, ◌-◌, Bool, true, false, List, [], ◌∷◌, length, Some, None, Result, Ok, Err, IfOk, IfErr, IsErrOf}
 use Rattle.book.specs.Book.{Run, Stands, TakesNew, TakesKnown, MayRefuse}
-use Rattle.book.specs.OnTheWay.{Flushes, GoesDown, HasRoomFor}
+use Rattle.book.specs.InFlight.{Flushes, GoesDown, HasRoomFor}
 use Rattle.book.specs.declared.own.error.FlushError.{FlushError}
 use Rattle.book.specs.declared.own.error.FlushError.TheVariants as flush
 use Rattle.desk.specs.AtWorld.{IsAt, IsStop}

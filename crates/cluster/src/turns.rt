@@ -6,7 +6,7 @@ ghost use Rattle.journal.specs.Areas.{alone};
 ghost use Rattle.journal.specs.Format.{stands};
 ghost use Rattle.journal.specs.Journal.{disk_of, spare_of};
 ghost use Rattle.opening.specs.Laws.{IsNoRefusal};
-ghost use Rattle.opening.specs.Told.{told};
+ghost use Rattle.opening.specs.Decoded.{decoded};
 ghost use Rattle.spec_model.specs.Nodes.{Node};
 ghost use Rattle.spec_model.specs.States.{State};
 ghost use Rattle.spec_world.specs.World.{World};
@@ -116,7 +116,7 @@ pub(crate) fn restart<'a, S: Sign, D: StopDisk + Drop>(
 fn count_events<D: StopDisk + Drop>(alloc: Global, disk: D) -> Result<(u64, D), JournalError>
     ensures same { IfOk result (λ counted. stands (D.device.content counted.1) ≡ stands (D.device.content disk)) }
     ensures count { IfOk result (λ counted. counted.0 ≡ events_in (D.device.content disk)) }
-    ensures refused { IfErr result (λ error. (node : Node) (state : State) → told node (D.device.content disk) ≡ Ok state → IsNoRefusal error) }
+    ensures refused { IfErr result (λ error. (node : Node) (state : State) → decoded node (D.device.content disk) ≡ Ok state → IsNoRefusal error) }
     ensures device { IsErrOf result JournalError.Device → CountsMore D.device disk }
     ensures no_fault { IfOk result (λ counted. D.device.faults counted.1 ≡ D.device.faults disk) }
 {

@@ -51,7 +51,7 @@ row_has floor rows round author x is =
       | inl here ↦ let is' = rw here at is in in_row rows (round - floor) author x is'
     ]
 
--- nothing is behind the last row
+-- nothing is after the last row
 pub round_below : {X : Type 0} (floor : ℕ) (rows : List (List (Option X))) (round author : ℕ) (x : X) → row_at floor rows round author ≡ Some x → round < floor + length rows
 round_below floor rows round author x is =
     elim (cases_Bool (nat_le floor round)) [

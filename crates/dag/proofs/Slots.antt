@@ -1,4 +1,4 @@
--- What rows have at a place and author, and what they have behind a change.
+-- What rows have at a place and author, and what they have after a change.
 use Rattle.std.proofs.Common.{◌≡◌, ◌≢◌, ℕ, zero, suc, ◌+◌, ◌-◌, ◌<◌, false, List, [], ◌∷◌, ◌++◌, map, length, Option, Some, None, inl, inr, refl, ap}
 use Rattle.std.proofs.Common.{sym, ◌∙◌, arith, slice_get, slice_set, get_or, replicate, drop}
 use Rattle.std.specs.Prelude.{nat_le, option_map, option_and_then}

@@ -4,7 +4,7 @@ use Rattle.std.specs.Prelude.{IfOk, IfErr, OnOk, OnErr, IsErrOf, IsSome, IsTrue,
 use Rattle.std.proofs.lemmas.Bool.{cases_Bool}
 use Rattle.book.specs.Book as book
 use Rattle.book.specs.Checkpoints.{Checkpoints, FailsToRewrite, FindsNoRoomToRewrite, GoesDownRewriting, StandsAsOrForAll}
-use Rattle.book.specs.OnTheWay.{Flushes, FindsNoRoom, FailsWithRoom, IsWithOrWithout}
+use Rattle.book.specs.InFlight.{Flushes, FindsNoRoom, FailsWithRoom, IsWithOrWithout}
 use Rattle.book.specs.Queue.{settled_head}
 use Rattle.book.specs.Steps as steps
 use Rattle.book.specs.declared.book.Receipt.{Receipt}
@@ -29,8 +29,8 @@ use Rattle.desk.specs.Disks.{AreReadAs}
 use Rattle.desk.specs.AtWorld.{IsAt, LeadsTo, CheckpointsAt}
 use Rattle.desk.proofs.Checkpoints.{checkpoints, goes_down as takes_all}
 use Rattle.desk.proofs.Found.{none_taken}
-use Rattle.desk.proofs.Reading.{firm_beside, left_beside}
-use Rattle.desk.proofs.Standing.{read_either, left_firm}
+use Rattle.desk.proofs.Reading.{durable_beside, left_beside}
+use Rattle.desk.proofs.Standing.{read_either, left_durable}
 use Rattle.desk.proofs.Worlds.{accepts, releases, reads, flushes, goes_down}
 use Rattle.diskmodel.specs.Disk.{Device}
 
@@ -89,7 +89,7 @@ module _ {S D : Type 0} (node : Node) (device : Device D) (before later : DeskVi
           let found = full (ap (λ (e : FlushError). Err e) is_full) in
           let kept = same (ap (λ (e : FlushError). Err e) is_full) in
           let run = steps.run_of node world in
-          let left = subst (IsLeft node device run) (sym kept) (left_firm node device run before.journal (is.is_of.up up).read_as (sound.alive up)) in
+          let left = subst (IsLeft node device run) (sym kept) (left_durable node device run before.journal (is.is_of.up up).read_as (sound.alive up)) in
           goes_down node device world before is up (sound.alive up) (sound.begun up) later spare law found.0 (λ areas may.
           elim (left areas may) [
             | inl so ↦ inl so
@@ -98,7 +98,7 @@ module _ {S D : Type 0} (node : Node) (device : Device D) (before later : DeskVi
       fails_as (inr is_device) world is =
           let found = fails (ap (λ (e : FlushError). Err e) is_device) in
           goes_down node device world before is up (sound.alive up) (sound.begun up) later spare law found.0 (λ areas may.
-          let one = left_beside device later.journal (spare_of before.journal) areas spare (firm_beside device before.journal (sound.alive up)) may in
+          let one = left_beside device later.journal (spare_of before.journal) areas spare (durable_beside device before.journal (sound.alive up)) may in
           let either = read_either node device world before.book before.journal is.is_of_world (is.is_of.up up) (sound.alive up) (sound.begun up) found.0.group
           later.book.pending found.0.takes one.live (left one.live one.may) in
           subst (λ (a : Areas). AreReadAs node a (book.settled_in node (steps.run_of node world))

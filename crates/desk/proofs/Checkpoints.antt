@@ -48,7 +48,7 @@ use Rattle.desk.proofs.Found.{none_taken}
 use Rattle.desk.proofs.Reading.{no_spare, newest_same, as_held, as_read, open_gate, has_begun}
 use Rattle.desk.proofs.Rewritten.{holds_rewritten}
 use Rattle.desk.proofs.Runs.{leads_one}
-use Rattle.desk.proofs.Standing.{left_firm}
+use Rattle.desk.proofs.Standing.{left_durable}
 
 -- ---- a journal on two disks
 
@@ -169,7 +169,7 @@ pub left_either : {S D : Type 0} (node : Node) (device : Device D) (run : book.R
     → (areas : Areas) → MayLeave device new areas → AreReadAs node areas (book.settled_in node run) ⊎ AreReadAs node areas (book.state_in node run)
 left_either {D = D} node device run before old new stands_at sound keys two alive read_as untouched places left areas may =
     let one = left_of_two device new areas places.pair may in
-    let live : one.live ≡ device.content (disk_of old) = alive.firm one.live (subst (λ (d : D). device.outcome d one.live) untouched one.may) in
+    let live : one.live ≡ device.content (disk_of old) = alive.durable one.live (subst (λ (d : D). device.outcome d one.live) untouched one.may) in
     let are : areas_with device old one.other ≡ areas =
     areas_are device old one.other two ∙ (λ i. pair_of (sym places.side i) (sym live i) one.other) ∙ sym one.are in
     elim (left one.other one.also) [
@@ -256,7 +256,7 @@ module _ {S D : Type 0} (node : Node) (device : Device D) (world : World) (befor
                 read_as = read_as;
                 settled = none_taken next settled.groups;
               };
-              left = left_firm node device (steps.run_of node next) later.journal read_as alive;
+              left = left_durable node device (steps.run_of node next) later.journal read_as alive;
             };
             idle = λ _. settled.groups;
             in_flight = λ down. absurd (true≢false (sym down ∙ ap (λ (b : book.BookView S). b.down) made.settles.is ∙ up));

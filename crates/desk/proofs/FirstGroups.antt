@@ -58,9 +58,9 @@ walked_of file records long is =
     of_walk (Ok found) same = (found, refl, cc)
     of_walk (Err place) same = absurd cc
 
-told_group : (bytes body : List ℕ) (group : List (List ℕ)) → body_at bytes ≡ Some body → group_of body ≡ Some group
+decoded_group : (bytes body : List ℕ) (group : List (List ℕ)) → body_at bytes ≡ Some body → group_of body ≡ Some group
     → option_and_then (λ (b : List ℕ). option_and_then generation_of (group_of b)) (body_at bytes) ≡ generation_of group
-told_group bytes body group at_body is_group =
+decoded_group bytes body group at_body is_group =
     ap (λ (o : Option (List ℕ)). option_and_then (λ (b : List ℕ). option_and_then generation_of (group_of b)) o) at_body
     ∙ ap (λ (o : Option (List (List ℕ))). option_and_then generation_of o) is_group
 
@@ -83,7 +83,7 @@ first_group (gate ∷ byte ∷ rest) records is some =
           record {
             group = on.records;
             later = on.more.0;
-            told = tells_first gate (byte ∷ rest) is_open (omega arith) ∙ ap Some (told_group (byte ∷ rest) on.body on.records on.at_body on.is_group);
+            told = tells_first gate (byte ∷ rest) is_open (omega arith) ∙ ap Some (decoded_group (byte ∷ rest) on.body on.records on.at_body on.is_group);
             are = sym walked.2 ∙ ap (λ (f : Found). f.0) on.is;
             after = All-weaker (IsFrom 1) IsLater (λ one less. omega (arith, less)) on.more.0 (walk_from (byte ∷ rest) 1 (4 + length on.body) on.more on.on);
           }

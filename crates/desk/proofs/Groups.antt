@@ -65,7 +65,7 @@ filled_is group (event ∷ events) (bytes ∷ more) rest parts fits longest =
     let some : 1 ≤ length (map record_of longer) = omega (arith, ap length (record_push group event), length-append (map record_of group) (record_of event ∷ [])) in
     fill_more group event events (fits_true (map record_of longer) (fits_less (map record_of longer) more fitting some))
     ∙ filled_is longer events more rest others (λ has. fitting)
-    (λ next behind is fit. longest next behind is (subst (λ (l : List (List ℕ)). FitsGroup (l ++ next ∷ [])) (sym same) fit))
+    (λ next after is fit. longest next after is (subst (λ (l : List (List ℕ)). FitsGroup (l ++ next ∷ [])) (sym same) fit))
     ∙ append_assoc group (event ∷ []) (take (length more) events)
 
 -- the longest beginning of records is the group of their events
@@ -77,10 +77,10 @@ group_none [] none = fill_nil []
 group_none (event ∷ events) none = absurd (omega (arith, ap length none))
 
 -- two longest beginnings have one length
-pub longest_once : (events : History) (group rest other behind : List (List ℕ)) → IsLongestBeginning (map record_of events) group rest → IsLongestBeginning (map record_of events) other behind
+pub longest_once : (events : History) (group rest other after : List (List ℕ)) → IsLongestBeginning (map record_of events) group rest → IsLongestBeginning (map record_of events) other after
     → length group ≡ length other
-longest_once events group rest other behind one two =
-    let same : take (length group) events ≡ take (length other) events = sym (group_is events group rest one) ∙ group_is events other behind two in
+longest_once events group rest other after one two =
+    let same : take (length group) events ≡ take (length other) events = sym (group_is events group rest one) ∙ group_is events other after two in
     omega (
       arith,
       ap length same,
@@ -89,6 +89,6 @@ longest_once events group rest other behind one two =
       ap length one.parts,
       ap length two.parts,
       length-append group rest,
-      length-append other behind,
+      length-append other after,
       length-map events record_of,
     )

@@ -19,11 +19,11 @@ use Rattle.journal.specs.declared.version.Version.TheVariants.{First, Second}
 use Rattle.journal.specs.declared.journal.Journal.{Journal}
 use Rattle.journal.specs.declared.error.Failed.{Failed}
 use Rattle.opening.specs.Laws.{HoldsIn, IsReadIn, IsFullIn, IsNoRefusal, KeepsAlone, IsOpening, IsOpeningOn}
-use Rattle.opening.specs.Stages.{IsToldThroughout}
+use Rattle.opening.specs.Stages.{IsDecodedThroughout}
 use Rattle.opening.proofs.Opened.{no_refusal}
 use Rattle.opening.specs.PairReplayed.{version_in}
 use Rattle.opening.specs.Renewing.{HasBegun, IsNewest}
-use Rattle.opening.specs.Told.{told, told_in, Tells, IsToldAsOneOf, KeepsRecords, StandsAt}
+use Rattle.opening.specs.Decoded.{decoded, decoded_in, Tells, IsDecodedAsOneOf, KeepsRecords, StandsAt}
 use Rattle.spec_machine.proofs.AfterAll.{after_none}
 use Rattle.spec_model.specs.Nodes.{Node, IsNode}
 use Rattle.spec_world.specs.Runs.{AreKeys}
@@ -34,8 +34,8 @@ use Rattle.validator.specs.Setting.{ConfigView, node_of}
 use Rattle.validator.specs.Standing.{AreAtSound}
 use Rattle.desk.specs.Desk.{DeskView, IsOpened, IsNotOpened}
 use Rattle.desk.specs.Disks.{AreReadAs, IsOnAsMany}
-use Rattle.desk.proofs.Reading.{over, areas_over, areas_alone, as_told, told_of, configured_in}
-use Rattle.desk.proofs.Standing.{left_firm}
+use Rattle.desk.proofs.Reading.{over, areas_over, areas_alone, as_decoded, told_of, configured_in}
+use Rattle.desk.proofs.Standing.{left_durable}
 
 -- the validator of an opening stands at some state of its own setting
 pub set_at : {S : Type 0} (scheme : Scheme S) {read : Result State JournalError} {own setting : ConfigView S} {tables : Tables} → own ≡ setting
@@ -43,14 +43,14 @@ pub set_at : {S : Type 0} (scheme : Scheme S) {read : Result State JournalError}
 set_at scheme {tables = tables} same at = (at.state, subst (λ (s : ConfigView _). AreAtSound (node_of scheme s) tables at.state) (sym same) at.at)
 
 -- a new book over what an opening gives
-pub opened_of : {S D : Type 0} (node : Node) (device : Device D) (before : Areas) (tables : Tables) (one : book.BookView S) (journal : Journal D) → StandsAt node (told_in node before) tables
+pub opened_of : {S D : Type 0} (node : Node) (device : Device D) (before : Areas) (tables : Tables) (one : book.BookView S) (journal : Journal D) → StandsAt node (decoded_in node before) tables
     → ((base : State) → AreAtSound node tables base → book.Stands node (book.run_on base) one)
     → one.queue ≡ [] → one.down ≡ false → one.rewriting ≡ None → generation_in journal < 2 ^ 64 → IsAlive device journal → HasBegun device journal → IsOnAsMany before journal
-    → stands_in (areas_of device journal) ≢ Ok [] → told_in node (areas_of device journal) ≡ told_in node before
-    → ((state : State) → told_in node (areas_of device journal) ≡ Ok state → AreReadAs node (areas_of device journal) state)
+    → stands_in (areas_of device journal) ≢ Ok [] → decoded_in node (areas_of device journal) ≡ decoded_in node before
+    → ((state : State) → decoded_in node (areas_of device journal) ≡ Ok state → AreReadAs node (areas_of device journal) state)
     → IsOpened node device before (record { book = one; journal = journal })
 opened_of node device before tables one journal at stands_at queue up free small alive begun disks configured same reads =
-    let state : told_in node (areas_of device journal) ≡ Ok (book.settled_in node (book.run_on at.state)) = same ∙ at.is_read ∙ ap Ok (sym (after_none node at.state)) in
+    let state : decoded_in node (areas_of device journal) ≡ Ok (book.settled_in node (book.run_on at.state)) = same ∙ at.is_read ∙ ap Ok (sym (after_none node at.state)) in
     let read_as : AreReadAs node (areas_of device journal) (book.settled_in node (book.run_on at.state)) = reads (book.settled_in node (book.run_on at.state)) state in
     record {
       state = at.state;
@@ -65,7 +65,7 @@ opened_of node device before tables one journal at stands_at queue up free small
       is_of = record {
         stands_at = stands_at at.state at.at;
         up = λ _. record { configured = configured_in device journal alive begun configured; read_as = read_as; settled = refl };
-        left = left_firm node device (book.run_on at.state) journal read_as alive;
+        left = left_durable node device (book.run_on at.state) journal read_as alive;
       };
     }
 
@@ -79,23 +79,23 @@ two_of device (Some spare) live two = refl
 
 -- what a journal is told as it is read as, where it is a journal at some state as which it is told
 pub held_as : {D : Type 0} (node : Node) (device : Device D) (journal : Journal D) (tables : Tables) → HoldsIn node (areas_of device journal) tables
-    → (IsSome (spare_of journal) → IsNewest (areas_of device journal)) → (state : State) → told_in node (areas_of device journal) ≡ Ok state → AreReadAs node (areas_of device journal) state
+    → (IsSome (spare_of journal) → IsNewest (areas_of device journal)) → (state : State) → decoded_in node (areas_of device journal) ≡ Ok state → AreReadAs node (areas_of device journal) state
 held_as node device journal tables held newest state is =
-    as_told node state (areas_of device journal) is
+    as_decoded node state (areas_of device journal) is
     (subst (Holds node (areas_of device journal)) (ok_is held.state state (sym held.told_as ∙ is)) held.holds)
     (λ two. newest (two_of device (spare_of journal) (device.content (disk_of journal)) (subst IsPair (areas_over device journal) two)))
 
 -- and of one disk by its bytes alone
-pub told_as_one : {D : Type 0} (node : Node) (device : Device D) (journal : Journal D) → spare_of journal ≡ None
-    → (state : State) → told_in node (areas_of device journal) ≡ Ok state → AreReadAs node (areas_of device journal) state
-told_as_one {D} node device journal one state is =
+pub decoded_as_one : {D : Type 0} (node : Node) (device : Device D) (journal : Journal D) → spare_of journal ≡ None
+    → (state : State) → decoded_in node (areas_of device journal) ≡ Ok state → AreReadAs node (areas_of device journal) state
+decoded_as_one {D} node device journal one state is =
     let are : areas_of device journal ≡ alone (device.content (disk_of journal)) = areas_alone device journal one in
-    subst (λ (a : Areas). AreReadAs node a state) (sym are) (subst (λ (a : Areas). told_in node a ≡ Ok state) are is)
+    subst (λ (a : Areas). AreReadAs node a state) (sym are) (subst (λ (a : Areas). decoded_in node a ≡ Ok state) are is)
 
 -- the bytes of one disk are told as they were
 pub same_told : {D : Type 0} (node : Node) (device : Device D) (journal : Journal D) → spare_of journal ≡ None → {read : Result State JournalError}
-    → told node (device.content (disk_of journal)) ≡ read → told_in node (areas_of device journal) ≡ read
-same_told node device journal one same = ap (told_in node) (areas_alone device journal one) ∙ same
+    → decoded node (device.content (disk_of journal)) ≡ read → decoded_in node (areas_of device journal) ≡ read
+same_told node device journal one same = ap (decoded_in node) (areas_alone device journal one) ∙ same
 
 -- an opening says on how many disks it is
 pub as_many : {D : Type 0} (node : Node) (device : Device D) (store : Store D) (journal : Journal D) → IsReadIn node device store journal → IsOnAsMany (areas_in device store) journal
@@ -114,7 +114,7 @@ module _ {S D : Type 0} (node : Node) (device : Device D) (desk : DeskView S D) 
     tells = tt;
     never_full = tt;
     cause = (ap (λ (j : Journal D). device.faults (disk_of j)) same ∙ at.cause.0, tt);
-    any_moment = subst (λ (j : Journal D). AtEachMoment device disk (disk_of j) (IsToldAsOneOf node (device.outcome disk))) (sym same) at.any_moment;
+    any_moment = subst (λ (j : Journal D). AtEachMoment device disk (disk_of j) (IsDecodedAsOneOf node (device.outcome disk))) (sym same) at.any_moment;
     keeps = subst (λ (j : Journal D). AtEachMoment device disk (disk_of j) (KeepsRecords node (device.outcome disk))) (sym same) at.keeps;
     never_refused = tt;
   }
@@ -125,7 +125,7 @@ module _ {S D : Type 0} (node : Node) (device : Device D) (desk : DeskView S D) 
     tells = tt;
     full = tt;
     cause = (ap (λ (j : Journal D). faults_in device (store_of j)) same ∙ at.cause.0, tt);
-    any_moment = subst (λ (j : Journal D). IsToldThroughout node device store (store_of j)) (sym same) at.any_moment;
+    any_moment = subst (λ (j : Journal D). IsDecodedThroughout node device store (store_of j)) (sym same) at.any_moment;
     keeps = subst (λ (j : Journal D). KeepsAlone node device store (store_of j)) (sym same) at.keeps;
     never_refused = tt;
     unchanged = tt;
@@ -149,10 +149,10 @@ not_full node device (Two first second) state is full =
 
 -- what is read as a state is refused only where memory or a disk fails
 pub never_refused : {D : Type 0} (node : Node) (device : Device D) (store : Store D) (state : State) (error : JournalError) → IsNode node → AreKeys node
-    → AreReadAs node (areas_in device store) state → (error ≢ errors.Device → error ≢ errors.Full → Tells error (told_in node (areas_in device store)))
+    → AreReadAs node (areas_in device store) state → (error ≢ errors.Device → error ≢ errors.Full → Tells error (decoded_in node (areas_in device store)))
     → (error ≡ errors.Full → IsFullIn node device store) → IsNoRefusal error
 never_refused node device store state error sound keys is tells full =
-    no_refusal error state (told_in node (areas_in device store)) (told_of node state (areas_in device store) sound (λ two. keys) is)
+    no_refusal error state (decoded_in node (areas_in device store)) (told_of node state (areas_in device store) sound (λ two. keys) is)
     (λ other. tells other (λ lacks. not_full node device store state is (full lacks)))
 
 -- an opening that failed

@@ -16,10 +16,10 @@ use Rattle.journal.specs.declared.record.Record.{Record}
 use Rattle.journal.specs.declared.spare.Spare.{Spare}
 use Rattle.journal.specs.declared.version.Version.TheVariants.{Second}
 use Rattle.journal.proofs.Telling.{at_rest_older, both_older, tells_short}
-use Rattle.opening.specs.Told.{told, told_in}
-use Rattle.opening.proofs.PairLaws.{what_stands_is_told_in}
-use Rattle.opening.proofs.Longer.{told_more}
-use Rattle.opening.proofs.Telling.{told_same}
+use Rattle.opening.specs.Decoded.{decoded, decoded_in}
+use Rattle.opening.proofs.PairLaws.{what_stands_is_decoded_in}
+use Rattle.opening.proofs.Longer.{decoded_more}
+use Rattle.opening.proofs.Telling.{decoded_same}
 use Rattle.spec_machine.specs.After.{after_all, IsLegalAfter}
 use Rattle.spec_machine.proofs.AfterAll.{after_is_kept, legal_after}
 use Rattle.spec_model.specs.Admitting.{IsLegal}
@@ -42,8 +42,8 @@ abbrev pub over : {D : Type 0} → Device D → Option (Spare D) → List ℕ �
 over device spare live = option_map_or (λ s. pair_of s.side live (device.content s.disk)) spare (alone live)
 
 -- of two, the other one leaves what a read gives
-abbrev pub IsFirmBeside : {D : Type 0} → Device D → Option (Spare D) → Type 0
-IsFirmBeside device spare = IfSome spare (λ s. LeavesOnly (device.content s.disk) (device.outcome s.disk))
+abbrev pub IsDurableBeside : {D : Type 0} → Device D → Option (Spare D) → Type 0
+IsDurableBeside device spare = IfSome spare (λ s. LeavesOnly (device.content s.disk) (device.outcome s.disk))
 
 -- and the one that is written to, which has these bytes, is read
 pub record IsRead {D : Type 0} (device : Device D) (file : List ℕ) (spare : Spare D) : Type 0 where
@@ -70,20 +70,20 @@ pub areas_alone : {D : Type 0} (device : Device D) (journal : Journal D) → spa
 areas_alone {D} device journal one = areas_over device journal ∙ ap (λ (s : Option (Spare D)). over device s (device.content (disk_of journal))) one
 
 -- it is read as what its bytes are told as
-pub told_alone : {D : Type 0} (node : Node) (device : Device D) (journal : Journal D) → spare_of journal ≡ None → (state : State) → AreReadAs node (areas_of device journal) state
-    → told node (device.content (disk_of journal)) ≡ Ok state
-told_alone node device journal one state read_as = subst (λ (a : Areas). AreReadAs node a state) (areas_alone device journal one) read_as
+pub decoded_alone : {D : Type 0} (node : Node) (device : Device D) (journal : Journal D) → spare_of journal ≡ None → (state : State) → AreReadAs node (areas_of device journal) state
+    → decoded node (device.content (disk_of journal)) ≡ Ok state
+decoded_alone node device journal one state read_as = subst (λ (a : Areas). AreReadAs node a state) (areas_alone device journal one) read_as
 
 -- what is said of a journal whose spare is that of another one
 pub same_spare : {D : Type 0} (device : Device D) (old new : Journal D) → spare_of new ≡ spare_of old → areas_of device new ≡ over device (spare_of old) (device.content (disk_of new))
 same_spare device old new same = areas_over device new ∙ ap (λ (s : Option (Spare _)). over device s (device.content (disk_of new))) same
 
-firm_by : {D : Type 0} (device : Device D) (disk : D) (spare : Option (Spare D)) → IfSome spare (IsAlivePair device disk) → IsFirmBeside device spare
-firm_by device disk None both = tt
-firm_by device disk (Some spare) both = both.firm
+durable_by : {D : Type 0} (device : Device D) (disk : D) (spare : Option (Spare D)) → IfSome spare (IsAlivePair device disk) → IsDurableBeside device spare
+durable_by device disk None both = tt
+durable_by device disk (Some spare) both = both.durable
 
-pub firm_beside : {D : Type 0} (device : Device D) (journal : Journal D) → IsAlive device journal → IsFirmBeside device (spare_of journal)
-firm_beside device journal alive = firm_by device (disk_of journal) (spare_of journal) alive.pair
+pub durable_beside : {D : Type 0} (device : Device D) (journal : Journal D) → IsAlive device journal → IsDurableBeside device (spare_of journal)
+durable_beside device journal alive = durable_by device (disk_of journal) (spare_of journal) alive.pair
 
 read_by : {D : Type 0} (device : Device D) (disk : D) (spare : Option (Spare D)) → IfSome spare (IsAlivePair device disk)
     → (IsSome spare → tells (device.content disk) ≡ Some (Some (option_map_or (λ s. s.generation) spare 0))) → IsReadBeside device (device.content disk) spare
@@ -130,14 +130,14 @@ as_read node state (alone bytes) two is = absurd two
 as_read node state (pair first second) two is = is
 
 -- areas that are told as a state, and are a journal at it, are read as it
-pub as_told : (node : Node) (state : State) (areas : Areas) → told_in node areas ≡ Ok state → Holds node areas state → (IsPair areas → IsNewest areas) → AreReadAs node areas state
-as_told node state (alone bytes) told_as held newest = told_as
-as_told node state (pair first second) told_as held newest = record { holds = held; newest = newest tt }
+pub as_decoded : (node : Node) (state : State) (areas : Areas) → decoded_in node areas ≡ Ok state → Holds node areas state → (IsPair areas → IsNewest areas) → AreReadAs node areas state
+as_decoded node state (alone bytes) told_as held newest = told_as
+as_decoded node state (pair first second) told_as held newest = record { holds = held; newest = newest tt }
 
 -- and what they are read as they are told as
-pub told_of : (node : Node) (state : State) (areas : Areas) → IsNode node → (IsPair areas → AreKeys node) → AreReadAs node areas state → told_in node areas ≡ Ok state
+pub told_of : (node : Node) (state : State) (areas : Areas) → IsNode node → (IsPair areas → AreKeys node) → AreReadAs node areas state → decoded_in node areas ≡ Ok state
 told_of node state (alone bytes) sound keys is = is
-told_of node state (pair first second) sound keys is = what_stands_is_told_in node (pair first second) state sound (keys tt) (as_journal is.holds)
+told_of node state (pair first second) sound keys is = what_stands_is_decoded_in node (pair first second) state sound (keys tt) (as_journal is.holds)
 
 -- where a journal has records, so has the disk that is read
 configured_by : {D : Type 0} (device : Device D) (disk : D) (spare : Option (Spare D)) → IsReadBeside device (device.content disk) spare
@@ -177,14 +177,14 @@ pub record IsLeftBeside {D : Type 0} (device : Device D) (journal : Journal D) (
   pub are : areas ≡ over device spare live
 
 pub left_beside : {D : Type 0} (device : Device D) (journal : Journal D) (spare : Option (Spare D)) (areas : Areas) → spare_of journal ≡ spare
-    → IsFirmBeside device spare → MayLeave device journal areas
+    → IsDurableBeside device spare → MayLeave device journal areas
     → IsLeftBeside device journal spare areas
-left_beside device journal None areas is firm (of_one left none may are) = record { live = left; may = may; are = are }
-left_beside device journal None areas is firm (of_two spare live other some may also are) = absurd (none_some spare (sym is ∙ some))
-left_beside device journal (Some spare) areas is firm (of_one left none may are) = absurd (none_some spare (sym none ∙ is))
-left_beside device journal (Some spare) areas is firm (of_two one live other some may also are) =
+left_beside device journal None areas is durable (of_one left none may are) = record { live = left; may = may; are = are }
+left_beside device journal None areas is durable (of_two spare live other some may also are) = absurd (none_some spare (sym is ∙ some))
+left_beside device journal (Some spare) areas is durable (of_one left none may are) = absurd (none_some spare (sym none ∙ is))
+left_beside device journal (Some spare) areas is durable (of_two one live other some may also are) =
     let same : one ≡ spare = some_is one spare (sym some ∙ is) in
-    let kept : other ≡ device.content spare.disk = firm other (subst (λ (s : Spare _). device.outcome s.disk other) same also) in
+    let kept : other ≡ device.content spare.disk = durable other (subst (λ (s : Spare _). device.outcome s.disk other) same also) in
     record { live = live; may = may; are = are ∙ (λ i. pair_of ((same i).side) live (kept i)) }
 
 -- ---- versions
@@ -245,7 +245,7 @@ module _ {D : Type 0} (device : Device D) (file left : List ℕ) (ends : EndsClo
   -- bytes that stand for the same are read as the same
   pub read_same : (node : Node) (state : State) (spare : Option (Spare D)) → IsReadBeside device file spare → stands left ≡ stands file → AreReadAs node (over device spare file) state
       → AreReadAs node (over device spare left) state
-  read_same node state None read same is = told_same node left file same ∙ is
+  read_same node state None read same is = decoded_same node left file same ∙ is
   read_same node state (Some spare) read same is =
       let other = device.content spare.disk in
       let before = both_older spare.side spare.generation file other read.told (at_rest_older spare.generation other read.at_rest) in
@@ -260,7 +260,7 @@ module _ {D : Type 0} (device : Device D) (file left : List ℕ) (ends : EndsClo
   -- and with a group of events more as the state after these
   pub read_after : (node : Node) (state : State) (more : History) (spare : Option (Spare D)) → 2 ≤ length file → IsReadBeside device file spare → stands left ≡ stands_with file (map record_of more)
       → IsLegalAfter node state more → AreReadAs node (over device spare file) state → AreReadAs node (over device spare left) (after_all node state more)
-  read_after node state more None long read with_it legal is = told_more node file left state configured is more with_it legal
+  read_after node state more None long read with_it legal is = decoded_more node file left state configured is more with_it legal
   read_after node state more (Some spare) long read with_it legal is =
       let other = device.content spare.disk in
       let before = both_older spare.side spare.generation file other read.told (at_rest_older spare.generation other read.at_rest) in

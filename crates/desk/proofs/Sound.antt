@@ -5,7 +5,7 @@ use Rattle.std.specs.Prelude.{IfOk, IfErr, OnOk, IsErrOf}
 use Rattle.std.proofs.lemmas.Bool.{true≢false}
 use Rattle.book.specs.Book.{BookView}
 use Rattle.book.specs.Checkpoints.{Checkpoints, FailsToRewrite, FindsNoRoomToRewrite}
-use Rattle.book.specs.OnTheWay.{Flushes, FindsNoRoom, FailsWithRoom}
+use Rattle.book.specs.InFlight.{Flushes, FindsNoRoom, FailsWithRoom}
 use Rattle.book.specs.declared.own.error.FlushError.{FlushError}
 use Rattle.book.specs.declared.own.error.FlushError.TheVariants as errors
 use Rattle.diskmodel.specs.Disk.{Device}

@@ -3,7 +3,7 @@ use Rattle.std.proofs.Common.{◌≡◌, ◌≢◌, ◌⊎◌, ℕ, suc, ◌+◌
 use Rattle.std.proofs.lemmas.Bool.{cases_lt}
 use Rattle.std.proofs.lemmas.List.{take-append-drop, take_at, take-map}
 use Rattle.book.specs.Book as book
-use Rattle.book.specs.OnTheWay.{IsWithOrWithout}
+use Rattle.book.specs.InFlight.{IsWithOrWithout}
 use Rattle.book.specs.Pending.{IsLongestBeginning}
 use Rattle.book.specs.Steps as steps
 use Rattle.diskmodel.specs.Disk.{AtEachMoment, Device}
@@ -28,7 +28,7 @@ use Rattle.desk.specs.Desk.{IsUp, IsLeft}
 use Rattle.opening.specs.Renewing.{HasBegun}
 use Rattle.desk.specs.Disks.{AreReadAs, MayLeave}
 use Rattle.desk.proofs.Groups.{longest_once}
-use Rattle.desk.proofs.Reading.{over, areas_over, firm_beside, read_beside, left_beside, read_same, read_more, still_configured}
+use Rattle.desk.proofs.Reading.{over, areas_over, durable_beside, read_beside, left_beside, read_same, read_more, still_configured}
 
 -- what is taken and more of what was accepted
 pub taken_more : {X : Type 0} (taken accepted : List X) (count : ℕ) → Begins taken accepted → take (length taken + count) accepted ≡ taken ++ take count (drop (length taken) accepted)
@@ -122,17 +122,17 @@ module _ {S D : Type 0} (node : Node) (device : Device D) (world : World) (befor
       let same = longest_once pending with_it.0 with_it.1 group rest other one in
       inr (subst (λ (n : ℕ). AreReadAs node (over device (spare_of old) bytes) (with_count n)) same (read_with with_it.0 with_it.1 with_it.2 bytes with_it.3))
 
--- firm disks leave what a read gives
-pub firm_left : {D : Type 0} (device : Device D) (journal : Journal D) → IsAlive device journal → (areas : Areas) → MayLeave device journal areas → areas ≡ areas_of device journal
-firm_left device journal alive areas may =
-    let is = left_beside device journal (spare_of journal) areas refl (firm_beside device journal alive) may in
-    is.are ∙ ap (over device (spare_of journal)) (alive.firm is.live is.may) ∙ sym (areas_over device journal)
+-- durable disks leave what a read gives
+pub durable_left : {D : Type 0} (device : Device D) (journal : Journal D) → IsAlive device journal → (areas : Areas) → MayLeave device journal areas → areas ≡ areas_of device journal
+durable_left device journal alive areas may =
+    let is = left_beside device journal (spare_of journal) areas refl (durable_beside device journal alive) may in
+    is.are ∙ ap (over device (spare_of journal)) (alive.durable is.live is.may) ∙ sym (areas_over device journal)
 
 -- that is read as what is settled
-pub left_firm : {D : Type 0} (node : Node) (device : Device D) (run : book.Run) (journal : Journal D) → AreReadAs node (areas_of device journal) (book.settled_in node run)
+pub left_durable : {D : Type 0} (node : Node) (device : Device D) (run : book.Run) (journal : Journal D) → AreReadAs node (areas_of device journal) (book.settled_in node run)
     → IsAlive device journal → IsLeft node device run journal
-left_firm {D} node device run journal read_as alive areas may =
-    inl (subst (λ (a : Areas). AreReadAs node a (book.settled_in node run)) (sym (firm_left device journal alive areas may)) read_as)
+left_durable {D} node device run journal read_as alive areas may =
+    inl (subst (λ (a : Areas). AreReadAs node a (book.settled_in node run)) (sym (durable_left device journal alive areas may)) read_as)
 
 -- what may be left at the end of a call may be left at some moment of it
 pub left_by : {D : Type 0} (device : Device D) (old new : D) (P : List ℕ → Type 0) (bytes : List ℕ)

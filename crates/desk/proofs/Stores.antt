@@ -17,7 +17,7 @@ use Rattle.journal.specs.declared.store.Store.{Store}
 use Rattle.journal.specs.declared.store.Store.TheVariants.{One}
 use Rattle.desk.specs.Disks.{MayLeave, of_one, of_two, Leaves}
 use Rattle.desk.proofs.Reading.{over, areas_over}
-use Rattle.desk.proofs.Standing.{firm_left}
+use Rattle.desk.proofs.Standing.{durable_left}
 
 -- what two disks may leave is what each may leave
 record LeavesBoth {D : Type 0} (device : Device D) (side : Side) (live other : D) (areas : Areas) : Type 0 where
@@ -77,8 +77,8 @@ store_by device disk (Some spare) = both_areas device spare.side disk spare.disk
 pub store_areas : {D : Type 0} (device : Device D) (journal : Journal D) → areas_in device (store_of journal) ≡ areas_of device journal
 store_areas device journal = store_by device (disk_of journal) (spare_of journal) ∙ sym (areas_over device journal)
 
--- and leave no others where they are firm
-pub firm_store : {D : Type 0} (device : Device D) (journal : Journal D) → IsAlive device journal → (areas : Areas) → Leaves device (store_of journal) areas
+-- and leave no others where they are durable
+pub durable_store : {D : Type 0} (device : Device D) (journal : Journal D) → IsAlive device journal → (areas : Areas) → Leaves device (store_of journal) areas
     → areas ≡ areas_in device (store_of journal)
-firm_store device journal alive areas may =
-    firm_left device journal alive areas (may_leave device journal (store_of journal) refl areas may) ∙ sym (store_areas device journal)
+durable_store device journal alive areas may =
+    durable_left device journal alive areas (may_leave device journal (store_of journal) refl areas may) ∙ sym (store_areas device journal)

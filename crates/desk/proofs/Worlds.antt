@@ -6,7 +6,7 @@ use Rattle.std.proofs.lemmas.Bool.{true≢false}
 use Rattle.std.proofs.lemmas.List.{length-map}
 use Rattle.std.proofs.lemmas.List.Elements.{All-nil}
 use Rattle.book.specs.Book as book
-use Rattle.book.specs.OnTheWay.{Flushes, GoesDown}
+use Rattle.book.specs.InFlight.{Flushes, GoesDown}
 use Rattle.book.specs.Steps as steps
 use Rattle.journal.specs.Format.{stands}
 use Rattle.journal.specs.Areas.{Areas, alone, pair}
@@ -16,7 +16,7 @@ use Rattle.journal.specs.declared.error.JournalError.{JournalError}
 use Rattle.journal.specs.declared.journal.Journal.{Journal}
 use Rattle.journal.specs.declared.side.Side.TheVariants.{First}
 use Rattle.journal.specs.declared.spare.Spare.{Spare as JournalSpare}
-use Rattle.opening.specs.Told.{told, told_in}
+use Rattle.opening.specs.Decoded.{decoded, decoded_in}
 use Rattle.spec_machine.specs.After.{after_all}
 use Rattle.spec_machine.specs.Laws.{StartsFresh}
 use Rattle.spec_model.specs.Admitting.{admit, IsTaken, IsLegal}
@@ -44,10 +44,10 @@ use Rattle.desk.proofs.Found.{none_taken, IsFoundAgain}
 use Rattle.desk.proofs.Stops.{stop_found}
 use Rattle.desk.proofs.Runs.{leads_one}
 use Rattle.spec_world.proofs.Scripts.{leads_join, run_more}
-use Rattle.opening.proofs.Telling.{told_records, journal_nil}
+use Rattle.opening.proofs.Telling.{decoded_records, journal_nil}
 use Rattle.journal.proofs.Walks.{stands_short}
 use Rattle.desk.proofs.Reading.{over, same_spare, told_of}
-use Rattle.desk.proofs.Standing.{read_with, configured_with, left_firm}
+use Rattle.desk.proofs.Standing.{read_with, configured_with, left_durable}
 use Rattle.diskmodel.specs.Disk.{Device}
 
 -- where no group is in flight, no rewriting is, neither of the book nor of the world
@@ -193,7 +193,7 @@ module _ {S D : Type 0} (node : Node) (device : Device D) (world : World) (befor
                 read_as = read_as;
                 settled = none_taken next settled.groups;
               };
-              left = left_firm node device (steps.run_of node next) later.journal read_as alive_later;
+              left = left_durable node device (steps.run_of node next) later.journal read_as alive_later;
             };
             idle = λ _. settled.groups;
             in_flight = λ down. absurd (true≢false (sym down ∙ ap (λ (b : book.BookView S). b.down) flush.is ∙ up));
@@ -293,7 +293,7 @@ two_areas (pair first second) journal two some = tt
 module _ {S D : Type 0} (node : Node) (device : Device D) where
   -- a desk that was opened is at a world that begins with a history of which what it was opened on is told as kept, beside the same other disk
   pub opened_at : (before : Areas) (desk : DeskView S D) → IsNode node → IsOpened node device before desk → (moves : List Move) (world : World) → IsRun node moves world
-      → (on : Opened) (history : History) → IsLegal node history → told_in node before ≡ Ok (kept_in node history) → world ≡ run_on on history world.given
+      → (on : Opened) (history : History) → IsLegal node history → decoded_in node before ≡ Ok (kept_in node history) → world ≡ run_on on history world.given
       → (IsSome (spare_of desk.journal) → IsBeside world desk.journal) → IsAt node device world desk
   opened_at before desk sound opened moves world run on history legal is same beside =
       let first : opened.state ≡ kept_in node history = ok_is opened.state (kept_in node history) (sym opened.told_first ∙ is) in
@@ -317,14 +317,14 @@ module _ {S D : Type 0} (node : Node) (device : Device D) where
 
   -- which is legal, being a run's
   pub opened_at_begun : (before : Areas) (desk : DeskView S D) → IsNode node → IsOpened node device before desk → (moves : List Move) (world : World) → IsRun node moves world
-      → (on : Opened) (history : History) → told_in node before ≡ Ok (kept_in node history) → world ≡ run_on on history world.given
+      → (on : Opened) (history : History) → decoded_in node before ≡ Ok (kept_in node history) → world ≡ run_on on history world.given
       → (IsSome (spare_of desk.journal) → IsBeside world desk.journal) → IsAt node device world desk
   opened_at_begun before desk sound opened moves world run on history is same beside =
       let all : world.began ++ world.accepted ≡ history = ap (λ (w : World). w.began ++ w.accepted) same ∙ append-nil history in
       opened_at before desk sound opened moves world run on history (subst (IsLegal node) all (nothing_taken_back node moves world sound run).in_order.legal) is same beside
 
   restarts : (before : Areas) (desk : DeskView S D) → IsNode node → (IsPair before → AreKeys node × HistoriesBeginOnTwo) → IsOpened node device before desk → (moves : List Move) (world : World) → IsRun node moves world
-      → (history : History) → told_in node before ≡ Ok (kept_in node history) → IsFoundAgain node world history → LeadsTo node device world (restart (areas_in world) ∷ []) desk
+      → (history : History) → decoded_in node before ≡ Ok (kept_in node history) → IsFoundAgain node world history → LeadsTo node device world (restart (areas_in world) ∷ []) desk
   restarts before desk sound keys opened moves world run history is again =
       let there = begins_beside node world moves history desk.journal (spare_of desk.journal) refl opened.generation sound (λ some. keys (two_areas before desk.journal opened.disks some)) run again in
       let leads = leads_one node world (restart (areas_in world)) there.next there.step in
@@ -360,8 +360,8 @@ module _ {S D : Type 0} (node : Node) (device : Device D) where
       → (desk : DeskView S D) → IsOpened node device (alone bytes) desk → (moves : List Move) × IsStop world moves × LeadsTo node device world moves desk
   stops_alone world before is one bytes may desk opened = stops world before is (alone bytes) (λ two. absurd two) (of_one bytes one may refl) desk opened
 
-told_nothing : StartsFresh → (node : Node) → told node [] ≡ Ok (kept_in node [])
-told_nothing starts node = told_records node [] [] (stands_short [] (omega arith)) ∙ journal_nil node ∙ ap Ok (sym (starts node))
+told_nothing : StartsFresh → (node : Node) → decoded node [] ≡ Ok (kept_in node [])
+told_nothing starts node = decoded_records node [] [] (stands_short [] (omega arith)) ∙ journal_nil node ∙ ap Ok (sym (starts node))
 
 -- a desk that was opened on an empty disk is at the world that begins there
 pub begins : {S D : Type 0} → StartsFresh → (node : Node) (device : Device D) (desk : DeskView S D) → IsNode node → AreKeys node → IsOpened node device (alone []) desk

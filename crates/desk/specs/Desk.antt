@@ -11,7 +11,7 @@ use Rattle.journal.specs.declared.error.JournalError.TheVariants as errors
 use Rattle.journal.specs.declared.error.JournalError.TheVariants.{Full}
 use Rattle.journal.specs.declared.journal.Journal.{Journal}
 use Rattle.opening.specs.Renewing.{HasBegun}
-use Rattle.opening.specs.Told.{told, told_in, Tells, IsToldAsOneOf, KeepsRecords}
+use Rattle.opening.specs.Decoded.{decoded, decoded_in, Tells, IsDecodedAsOneOf, KeepsRecords}
 use Rattle.spec_machine.specs.After.{after_all}
 use Rattle.spec_model.specs.Nodes.{Node}
 use Rattle.spec_model.specs.States.{State}
@@ -53,7 +53,7 @@ pub record IsOf {S D : Type 0} (node : Node) (device : Device D) (run : book.Run
 -- is in flight
 pub record IsOpened {S D : Type 0} (node : Node) (device : Device D) (before : Areas) (desk : DeskView S D) : Type 0 where
   pub state : State
-  pub told_first : told_in node before ≡ Ok state
+  pub told_first : decoded_in node before ≡ Ok state
   pub up : desk.book.down ≡ false
   pub alive : IsAlive device desk.journal
   pub begun : HasBegun device desk.journal
@@ -66,7 +66,7 @@ pub record IsOpened {S D : Type 0} (node : Node) (device : Device D) (before : A
 -- It was not opened on one disk: the error is what the bytes are told as, unless memory or the disk failed; and what a stop leaves is told as one
 -- outcome from before, and is one byte for byte, or has the records of one, or where these are none the configuration alone.
 pub record IsNotOpened (node : Node) (error : JournalError) (before : List ℕ) (possible outcome : List ℕ → Type 0) : Type 0 where
-  pub tells : error ≢ errors.Device → Tells error (told node before)
+  pub tells : error ≢ errors.Device → Tells error (decoded node before)
   pub never_full : error ≢ Full
-  pub left : (bytes : List ℕ) → outcome bytes → IsToldAsOneOf node possible bytes
+  pub left : (bytes : List ℕ) → outcome bytes → IsDecodedAsOneOf node possible bytes
   pub keeps : (bytes : List ℕ) → outcome bytes → KeepsRecords node possible bytes

@@ -10,7 +10,7 @@ use Rattle.journal.specs.declared.store.Store.TheVariants.{One, Two}
 use Rattle.journal.specs.declared.journal.Journal.{Journal}
 use Rattle.journal.specs.declared.spare.Spare.{Spare}
 use Rattle.opening.specs.Renewing.{IsNewest}
-use Rattle.opening.specs.Told.{told}
+use Rattle.opening.specs.Decoded.{decoded}
 use Rattle.spec_model.specs.Nodes.{Node}
 use Rattle.spec_model.specs.States.{State}
 use Rattle.spec_world.specs.World.{Holds}
@@ -22,7 +22,7 @@ pub record AreHeld (node : Node) (areas : Areas) (state : State) : Type 0 where
 
 -- areas are read as this state: one is told as it, and two are a journal of the node at it
 abbrev pub AreReadAs : Node → Areas → State → Type 0
-AreReadAs node (alone bytes) state = told node bytes ≡ Ok state
+AreReadAs node (alone bytes) state = decoded node bytes ≡ Ok state
 AreReadAs node (pair first second) state = AreHeld node (pair first second) state
 
 -- a stop may leave these areas of the disks of a journal: of each disk one of its outcomes

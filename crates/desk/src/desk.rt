@@ -52,7 +52,7 @@ impl<'a, S: Sign, D: Disk> Desk<'a, S, D> {
     ghost use Rattle.journal.specs.Spares.{by_area};
     ghost use Rattle.book.specs.Checkpoints.{Checkpoints, FindsNoRoomToRewrite, FailsToRewrite, StandsAsOrForAll};
     ghost use Rattle.book.specs.Book.{Run, Stands, run_on, StandsAsBefore, TakesNew, TakesKnown, MayRefuse, GoesOutSettled, releasable, state_in, settled_in};
-    ghost use Rattle.book.specs.OnTheWay.{Flushes, FindsNoRoom, FailsWithRoom, IsWithOrWithout};
+    ghost use Rattle.book.specs.InFlight.{Flushes, FindsNoRoom, FailsWithRoom, IsWithOrWithout};
     ghost use Rattle.book.specs.declared.book.TheConstants.{MAX_ACCEPTED};
     ghost use Rattle.spec_machine.specs.Machine.{is_ready, proposed, round_in};
     ghost use Rattle.spec_world.specs.Steps.{accept as accept_event, take_to, take_all, device_call, settle, read_order, release as release_output};
@@ -61,7 +61,7 @@ impl<'a, S: Sign, D: Disk> Desk<'a, S, D> {
     ghost use Rattle.spec_world.specs.Runs.{AreKeys, HasJustBegun};
     ghost use Rattle.spec_world.specs.World.{World};
     ghost use Rattle.opening.specs.Renewing.{HasBegun};
-    ghost use Rattle.opening.specs.Told.{told, told_in};
+    ghost use Rattle.opening.specs.Decoded.{decoded, decoded_in};
     ghost use Rattle.validator.specs.Setting.{node_of};
     ghost use Rattle.validator.specs.Standing.{AreAtSound};
     ghost use Rattle.spec_model.specs.States.{State};
@@ -85,7 +85,7 @@ impl<'a, S: Sign, D: Disk> Desk<'a, S, D> {
         // Take a world in which a run has just begun with some history. If the disk is read as what is kept of that, the desk stands in
         // this world. Each legal history begins some run.
         ensures world { let node = node_of S.scheme config.now in IfOk result (λ desk. (world : World) (history : History) → HasJustBegun node world history
-            → told node (D.device.content disk) ≡ Ok (kept node history) → IsAt node D.device world desk) }
+            → decoded node (D.device.content disk) ≡ Ok (kept node history) → IsAt node D.device world desk) }
         // Its errors, and what a stop at any moment of it leaves.
         ensures opening { IsOpening (node_of S.scheme config.now) D.device (λ desk. disk_of desk.journal) disk result }
     {
@@ -111,7 +111,7 @@ impl<'a, S: Sign, D: Disk> Desk<'a, S, D> {
         // Take a world in which a run has just begun with some history, on disks of which the same one is read, in the same generation. If
         // what was opened is read as what is kept of that history, the desk stands in this world. Each legal history begins such a run.
         ensures world { let node = node_of S.scheme config.now in IfOk result (λ desk. (world : World) (history : History) → HasJustBegun node world history
-            → (IsSome (spare_of desk.journal) → IsBeside world desk.journal) → told_in node (areas_in D.device store) ≡ Ok (kept node history) → IsAt node D.device world desk) }
+            → (IsSome (spare_of desk.journal) → IsBeside world desk.journal) → decoded_in node (areas_in D.device store) ≡ Ok (kept node history) → IsAt node D.device world desk) }
         // Its errors, and what a stop at any moment of it leaves.
         ensures opening { IsOpeningOn (node_of S.scheme config.now) D.device (λ desk. store_of desk.journal) store result }
     {
@@ -135,7 +135,7 @@ impl<'a, S: Sign, D: Disk> Desk<'a, S, D> {
         ensures ok { IfOk result (λ desk. IsOpened (node_of S.scheme config.now) D.device (pair (D.device.content first) (D.device.content second)) desk) }
         ensures read { IfOk result (λ desk. IsReadIn (node_of S.scheme config.now) D.device (Store.Two first second) desk.journal) }
         ensures world { let node = node_of S.scheme config.now in IfOk result (λ desk. (world : World) (history : History) → HasJustBegun node world history
-            → IsBeside world desk.journal → told_in node (pair (D.device.content first) (D.device.content second)) ≡ Ok (kept node history) → IsAt node D.device world desk) }
+            → IsBeside world desk.journal → decoded_in node (pair (D.device.content first) (D.device.content second)) ≡ Ok (kept node history) → IsAt node D.device world desk) }
         ensures opening { IsOpeningOn (node_of S.scheme config.now) D.device (λ desk. store_of desk.journal) (Store.Two first second) (with_store result) }
     {
         match Desk::open_store(alloc, config, Store::Two(first, second)) {

@@ -12,33 +12,33 @@ use Rattle.diskmodel.specs.declared.call.Span.{Span}
 use Rattle.diskmodel.specs.Disk.{written, IsTorn, IsCut, ComesBy, NoneNew, LeavesOnly}
 use Rattle.diskmodel.specs.Outcomes.{State, AreBytes, IsOutcome, state}
 use Rattle.diskmodel.specs.Kept.{Keeps}
-use Rattle.diskmodel.proofs.Calls.{firm_only, possible_firm}
-use Rattle.diskmodel.proofs.Kept.{state-push, state_possible, state_in_firm, state_firm_bytes, kept_write, kept_cut, kept_sync}
+use Rattle.diskmodel.proofs.Calls.{durable_only, possible_durable}
+use Rattle.diskmodel.proofs.Kept.{state-push, state_possible, state_in_durable, state_durable_bytes, kept_write, kept_cut, kept_sync}
 use Rattle.diskmodel.proofs.Torn.{length-written}
-use Rattle.diskmodel.proofs.Moments.{outcomes_write, outcomes_cut, outcomes_sync, firm_sync}
+use Rattle.diskmodel.proofs.Moments.{outcomes_write, outcomes_cut, outcomes_sync, durable_sync}
 use Rattle.disk_file.specs.declared.story.TapeView.{TapeView}
 use Rattle.disk_file.specs.Stories.{begun, with_more, Adds, GoesOnFor, SameCalls, held, MayLeave, IsSound}
 
 -- a list of calls on a file that began with these bytes is sound
 abbrev Sound : List ℕ → List Call → Type 0
-Sound first calls = Keeps first calls (state first calls).firm (state first calls).smallest (state first calls).greatest (state first calls).spans (state first calls).content
+Sound first calls = Keeps first calls (state first calls).durable (state first calls).smallest (state first calls).greatest (state first calls).spans (state first calls).content
 
-sound_from : (first : List ℕ) (calls : List Call) (firm : List ℕ) (smallest greatest : ℕ) (spans : List Span) (content : List ℕ)
-    → Keeps first calls firm smallest greatest spans content → Sound first calls
-sound_from first calls firm smallest greatest spans content kept = record {
-  firm_is = refl;
+sound_from : (first : List ℕ) (calls : List Call) (durable : List ℕ) (smallest greatest : ℕ) (spans : List Span) (content : List ℕ)
+    → Keeps first calls durable smallest greatest spans content → Sound first calls
+sound_from first calls durable smallest greatest spans content kept = record {
+  durable_is = refl;
   smallest_is = refl;
   greatest_is = refl;
   spans_are = refl;
   content_is = refl;
-  in_firm = state_in_firm first calls firm smallest greatest spans content kept;
-  firm_fits = omega (arith, ap length kept.firm_is, kept.greatest_is, kept.firm_fits);
-  firm_bytes = state_firm_bytes first calls firm smallest greatest spans content kept;
-  possible = state_possible first calls firm smallest greatest spans content kept;
+  in_durable = state_in_durable first calls durable smallest greatest spans content kept;
+  durable_fits = omega (arith, ap length kept.durable_is, kept.greatest_is, kept.durable_fits);
+  durable_bytes = state_durable_bytes first calls durable smallest greatest spans content kept;
+  possible = state_possible first calls durable smallest greatest spans content kept;
 }
 
-pub firm_begun : (bytes : List ℕ) → LeavesOnly (held (begun bytes)) (MayLeave (begun bytes))
-firm_begun bytes found left = firm_only bytes found left
+pub durable_begun : (bytes : List ℕ) → LeavesOnly (held (begun bytes)) (MayLeave (begun bytes))
+durable_begun bytes found left = durable_only bytes found left
 
 -- there is this call more, whatever has failed
 pub record Longer (call : Call) (old new : TapeView) : Type 0 where
@@ -111,10 +111,10 @@ module _ (old new : TapeView) (sound : IsSound old) (more : Longer Synced old ne
       subst (λ (first : List ℕ). NoneNew (IsOutcome old.first old.calls) (IsOutcome first new.calls)) (sym more.first)
       (outcomes_sync _ _ _ _ _ _ _ sound new.calls (inl more.calls))
 
-  pub sync_firm : LeavesOnly (held old) (MayLeave new)
-  sync_firm =
+  pub sync_durable : LeavesOnly (held old) (MayLeave new)
+  sync_durable =
       subst (λ (first : List ℕ). LeavesOnly (held old) (IsOutcome first new.calls)) (sym more.first)
-      (firm_sync _ _ _ _ _ _ _ sound new.calls more.calls)
+      (durable_sync _ _ _ _ _ _ _ sound new.calls more.calls)
 
 -- ---- the front that is kept
 
@@ -163,15 +163,15 @@ goes_on_twice one other both old mid new first second sum = record {
 
 sound_begun : (bytes : List ℕ) → AreBytes bytes → IsSound (begun bytes)
 sound_begun bytes are_bytes = record {
-  firm_is = refl;
+  durable_is = refl;
   smallest_is = refl;
   greatest_is = refl;
   spans_are = refl;
   content_is = refl;
-  in_firm = omega arith;
-  firm_fits = omega arith;
-  firm_bytes = are_bytes;
-  possible = possible_firm bytes are_bytes;
+  in_durable = omega arith;
+  durable_fits = omega arith;
+  durable_bytes = are_bytes;
+  possible = possible_durable bytes are_bytes;
 }
 
 -- its record begins with the front and goes on to its length
@@ -195,8 +195,8 @@ module _ (front : List ℕ) (from len : ℕ) (before tape : TapeView) (begins : 
     pub front_mirrors : front ≡ take (length front) (held tape)
     front_mirrors = sym (ap (take (length front)) front_held ∙ take-append-le (length front) front more.bytes (omega arith) ∙ take_all (length front) front (omega arith))
 
-    pub front_firm : LeavesOnly (held tape) (MayLeave tape)
-    front_firm = subst (λ (story : TapeView). LeavesOnly (held story) (MayLeave story)) (sym more.is) (firm_begun (front ++ more.bytes))
+    pub front_durable : LeavesOnly (held tape) (MayLeave tape)
+    front_durable = subst (λ (story : TapeView). LeavesOnly (held story) (MayLeave story)) (sym more.is) (durable_begun (front ++ more.bytes))
 
     pub front_kept : (keep : ℕ) → length front ≤ keep → (length front ≡ keep) ⊎ (length front ≡ len) → length front ≡ min keep (length (held tape))
     front_kept keep less (inl all) = let whole = front_length in omega (arith, less, within, all, whole)

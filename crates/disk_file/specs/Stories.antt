@@ -56,4 +56,4 @@ TimePasses old new = GoesOn (length old.calls) (length new.calls) (IsOutcomeSinc
 abbrev pub IsSound : TapeView → Type 0
 IsSound story =
     let s : State = reached story in
-    Keeps story.first story.calls s.firm s.smallest s.greatest s.spans s.content
+    Keeps story.first story.calls s.durable s.smallest s.greatest s.spans s.content

@@ -33,8 +33,8 @@ const WINDOW_BYTES: usize = 1 << 16;
 /// - Each method makes the call of the system that it records, which has to be read in the code, and that call does what its name
 ///   says: a write that succeeds has put these bytes at this place, a cut has set the length, and one that fails has done any part
 ///   of that.
-/// - A sync that succeeds has made the bytes and the length firm on the device. What is read at the opening, behind a sync, is
-///   firm too. Where a sync has failed some systems answer the next one as if it had made up for that: start the machine anew
+/// - A sync that succeeds has made the bytes and the length durable on the device. What is read at the opening, after a sync, is
+///   durable too. Where a sync has failed some systems answer the next one as if it had made up for that: start the machine anew
 ///   then before the file is opened again.
 /// - Nobody else writes the file. Its lock holds off other disks, and nothing else.
 /// - What the next opening reads, whatever ended this disk, is among what a stop may leave.
@@ -65,7 +65,7 @@ impl FileDisk {
     ghost use Rattle.disk_file.specs.Files.{story_of, content_of, CanStopAt, is_down, readable_in, IsReadable, StaysDown};
 
     /// Opens the file at this path for one owner; where there is nothing an empty one is made. The file and its folder are synced
-    /// before it is read, so that it is there after a power cut and all that was read is firm.
+    /// before it is read, so that it is there after a power cut and all that was read is durable.
     ///
     /// # Errors
     /// `NotAFile` where something else than a regular file is there, as a folder or a link; `InUse` where another process has the
@@ -76,7 +76,7 @@ impl FileDisk {
         path: &str,
     ) -> Result<FileDisk, OpenError>
         ensures begun { IfOk result (λ disk. story_of disk ≡ begun (content_of disk)) }
-        ensures firm { IfOk result (λ disk. LeavesOnly (content_of disk) (CanStopAt disk)) }
+        ensures durable { IfOk result (λ disk. LeavesOnly (content_of disk) (CanStopAt disk)) }
         ensures up { IfOk result (λ disk. is_down disk ≡ false) }
         ensures readable { IfOk result IsReadable }
     {
@@ -99,7 +99,7 @@ impl FileDisk {
         keep: u64,
     ) -> Result<FileDisk, OpenError>
         ensures begun { IfOk result (λ disk. story_of disk ≡ begun (content_of disk)) }
-        ensures firm { IfOk result (λ disk. LeavesOnly (content_of disk) (CanStopAt disk)) }
+        ensures durable { IfOk result (λ disk. LeavesOnly (content_of disk) (CanStopAt disk)) }
         ensures up { IfOk result (λ disk. is_down disk ≡ false) }
         ensures front { IfOk result (λ disk. readable_in disk ≡ min keep (length (content_of disk))) }
     {
@@ -203,7 +203,7 @@ impl Disk for FileDisk {
         ensures cause { HasCause (story_of self.old).faults (story_of self.new).faults result }
         ensures calls { (story_of self.new).calls ≡ (story_of self.old).calls }
 
-        // It fails only behind another failure.
+        // It fails only after another failure.
         ensures down { StaysDown self.old self.new result }
         ensures succeeds { is_down self.old ≡ false → result ≡ Ok (length (content_of self.old)) }
         ensures unchanged { OnOk result (self.new ≡ self.old) }
@@ -221,7 +221,7 @@ impl Disk for FileDisk {
         ensures cause { HasCause (story_of self.old).faults (story_of self.new).faults result }
         ensures calls { (story_of self.new).calls ≡ (story_of self.old).calls }
 
-        // It fails only behind another failure, or where a byte was written, reading has ended, or not all of these bytes were kept.
+        // It fails only after another failure, or where a byte was written, reading has ended, or not all of these bytes were kept.
         ensures down { StaysDown self.old self.new result }
         ensures succeeds { is_down self.old ≡ false → IsReadable self.old → IsOk result }
         ensures front { is_down self.old ≡ false → at + length buffer.old ≤ readable_in self.old → IsOk result }
@@ -287,7 +287,7 @@ impl Disk for FileDisk {
     }
 
     fn sync(&mut self) -> Result<(), DiskFault>
-        ensures firm { OnOk result (LeavesOnly (content_of self.old) (CanStopAt self.new)) }
+        ensures durable { OnOk result (LeavesOnly (content_of self.old) (CanStopAt self.new)) }
         ensures content { content_of self.new ≡ content_of self.old }
         ensures outcomes { NoneNew (CanStopAt self.old) (CanStopAt self.new) }
         ensures time { TimePasses (story_of self.old) (story_of self.new) }
@@ -295,7 +295,7 @@ impl Disk for FileDisk {
         ensures calls { Makes Synced result (story_of self.old).calls (story_of self.new).calls }
         ensures recorded { OnOk result (Adds Synced (story_of self.old) (story_of self.new)) }
 
-        // One that fails makes nothing firm.
+        // One that fails makes nothing durable.
         ensures err { OnErr result (SameCalls (story_of self.old) (story_of self.new)) }
         ensures down { StaysDown self.old self.new result }
         ensures readable { IsReadable self.old → IsReadable self.new }

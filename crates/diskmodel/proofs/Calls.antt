@@ -7,10 +7,10 @@ use Rattle.std.proofs.lemmas.List.Elements.{All-append, All-take, All-drop}
 use Rattle.diskmodel.specs.declared.call.Call.{Call}
 use Rattle.diskmodel.specs.declared.call.Call.TheVariants.{Wrote, Cut, Stopped}
 use Rattle.diskmodel.specs.Disk.{written, IsTorn, IsCut, ComesBy}
-use Rattle.diskmodel.specs.Outcomes.{State, AreBytes, CanLeave, holds, is_written, after, after_all, firmed}
-use Rattle.diskmodel.proofs.Places.{is_written-push, outside, outside_before, outside_behind, cases_le}
-use Rattle.diskmodel.proofs.Torn.{written_bytes, refirmed_bytes, untorn_bytes, length-written, written_before, written_behind, refirmed}
-use Rattle.diskmodel.proofs.Torn.{length-refirmed, untorn, length-untorn, untorn_before, untorn_inside, untorn_behind, untorn_IsTorn, IsTorn_refl}
+use Rattle.diskmodel.specs.Outcomes.{State, AreBytes, CanLeave, holds, is_written, after, after_all, all_durable}
+use Rattle.diskmodel.proofs.Places.{is_written-push, outside, outside_before, outside_after, cases_le}
+use Rattle.diskmodel.proofs.Torn.{written_bytes, restored_bytes, untorn_bytes, length-written, written_before, written_after, restored}
+use Rattle.diskmodel.proofs.Torn.{length-restored, untorn, length-untorn, untorn_before, untorn_inside, untorn_after, untorn_IsTorn, IsTorn_refl}
 use Rattle.diskmodel.proofs.Torn.{IsCut_refl}
 
 -- one call more at the end
@@ -28,7 +28,7 @@ marked_outside : (s : State) (at : ℕ) (bytes : List ℕ) (place : ℕ) → is_
     → is_written (after s (Wrote at bytes)).spans place ≡ false
 marked_outside s at bytes place none off =
     is_written-push s.spans (record { place = at; count = length bytes }) place
-    ∙ or_from (is_written s.spans place) (holds (record { place = at; count = length bytes }) place) none (⊎_elim (outside_before at (length bytes) place) (outside_behind at (length bytes) place) off)
+    ∙ or_from (is_written s.spans place) (holds (record { place = at; count = length bytes }) place) none (⊎_elim (outside_before at (length bytes) place) (outside_after at (length bytes) place) off)
 
 -- what a read gives after a write is an outcome
 pub possible_write : (s : State) (at : ℕ) (bytes : List ℕ) → CanLeave s s.content → AreBytes bytes → at ≤ length s.content → CanLeave (after s (Wrote at bytes)) (written s.content at bytes)
@@ -39,7 +39,7 @@ possible_write s at bytes now are_bytes within = record {
   stays = λ place below none.
       let two = unmarked s at bytes place none in
       ⊎_elim (λ (before : place < at). written_before s.content at bytes place within before)
-      (λ (behind : at + length bytes ≤ place). written_behind s.content at bytes place within behind) (outside at (length bytes) place two.1)
+      (λ (following : at + length bytes ≤ place). written_after s.content at bytes place within following) (outside at (length bytes) place two.1)
       ∙ now.stays place (omega arith) two.0;
 }
 
@@ -55,19 +55,19 @@ possible_cut s len now within =
     }
 
 -- after a sync only what a read gives is an outcome
-pub firm_only : (bytes found : List ℕ) → CanLeave (firmed bytes) found → found ≡ bytes
-firm_only bytes found left = ext_get_or 0 found bytes (omega arith) (λ place below. left.stays place (omega arith) refl)
+pub durable_only : (bytes found : List ℕ) → CanLeave (all_durable bytes) found → found ≡ bytes
+durable_only bytes found left = ext_get_or 0 found bytes (omega arith) (λ place below. left.stays place (omega arith) refl)
 
-pub possible_firm : (bytes : List ℕ) → AreBytes bytes → CanLeave (firmed bytes) bytes
-possible_firm bytes are_bytes = record { are_bytes = are_bytes; no_shorter = omega arith; no_longer = omega arith; stays = λ place below none. refl }
+pub possible_durable : (bytes : List ℕ) → AreBytes bytes → CanLeave (all_durable bytes) bytes
+possible_durable bytes are_bytes = record { are_bytes = are_bytes; no_shorter = omega arith; no_longer = omega arith; stays = λ place below none. refl }
 
 -- an outcome after a write comes by it from an outcome before
-pub torn_write : (s : State) (at : ℕ) (bytes : List ℕ) → s.smallest ≤ length s.firm → AreBytes s.firm → CanLeave s s.content → at ≤ length s.content
+pub torn_write : (s : State) (at : ℕ) (bytes : List ℕ) → s.smallest ≤ length s.durable → AreBytes s.durable → CanLeave s s.content → at ≤ length s.content
     → ComesBy (IsTorn at (length bytes)) (CanLeave s) (CanLeave (after s (Wrote at bytes)))
-torn_write s at bytes in_firm firm_bytes now within found left =
+torn_write s at bytes in_durable durable_bytes now within found left =
     let size : length (written s.content at bytes) ≡ max (length s.content) (at + length bytes) = length-written s.content at bytes within in
     let enough : s.smallest ≤ length found = omega arith in
-    let kept : (place : ℕ) → place < s.smallest → is_written s.spans place ≡ false → (place < at) ⊎ (at + length bytes ≤ place) → get_or found place 0 ≡ get_or s.firm place 0 =
+    let kept : (place : ℕ) → place < s.smallest → is_written s.spans place ≡ false → (place < at) ⊎ (at + length bytes ≤ place) → get_or found place 0 ≡ get_or s.durable place 0 =
     λ place below none off. left.stays place (omega arith) (marked_outside s at bytes place none off) in
     ⊎_elim
     (λ (short : length found ≤ at). (
@@ -76,14 +76,14 @@ torn_write s at bytes in_firm firm_bytes now within found left =
       IsTorn_refl at (length bytes) found,
     ))
     (λ (long : at < length found).
-    let under : List ℕ = refirmed s.smallest s.firm found in
-    let same : length under ≡ length found = length-refirmed s.smallest s.firm found in_firm enough in
+    let under : List ℕ = restored s.smallest s.durable found in
+    let same : length under ≡ length found = length-restored s.smallest s.durable found in_durable enough in
     let all : length (untorn at (length bytes) under found) ≡ length found = length-untorn at (length bytes) under found same (omega arith) in
-    let front : length (take s.smallest s.firm) ≡ s.smallest = length-take s.smallest s.firm ∙ omega arith in (
+    let front : length (take s.smallest s.durable) ≡ s.smallest = length-take s.smallest s.durable ∙ omega arith in (
       take s.greatest (untorn at (length bytes) under found),
       record {
         are_bytes = All-take (λ number. number < 256) s.greatest (untorn at (length bytes) under found)
-            (untorn_bytes at (length bytes) under found (refirmed_bytes s.smallest s.firm found firm_bytes left.are_bytes) left.are_bytes);
+            (untorn_bytes at (length bytes) under found (restored_bytes s.smallest s.durable found durable_bytes left.are_bytes) left.are_bytes);
         no_shorter = rw length-take (omega arith);
         no_longer = rw length-take (omega arith);
         stays = λ place below none.
@@ -93,9 +93,9 @@ torn_write s at bytes in_firm firm_bytes now within found left =
             (λ (from : at ≤ place). ⊎_elim
             (λ (to : place < at + length bytes).
             untorn_inside at (length bytes) under found place same from to (omega arith)
-            ∙ get_or_append_left (take s.smallest s.firm) (drop s.smallest found) 0 place (omega arith)
-            ∙ get_or-take s.smallest s.firm place 0 below)
-            (λ (behind : at + length bytes ≤ place). untorn_behind at (length bytes) under found place same behind (omega arith) ∙ kept place below none (inr behind))
+            ∙ get_or_append_left (take s.smallest s.durable) (drop s.smallest found) 0 place (omega arith)
+            ∙ get_or-take s.smallest s.durable place 0 below)
+            (λ (following : at + length bytes ≤ place). untorn_after at (length bytes) under found place same following (omega arith) ∙ kept place below none (inr following))
             (cases_lt place (at + length bytes)))
             (cases_lt place at);
       },
@@ -104,9 +104,9 @@ torn_write s at bytes in_firm firm_bytes now within found left =
     (cases_le (length found) at)
 
 -- an outcome after a cut comes by it from an outcome before
-pub torn_cut : (s : State) (len : ℕ) → s.smallest ≤ length s.firm → AreBytes s.firm → CanLeave s s.content → len ≤ length s.content
+pub torn_cut : (s : State) (len : ℕ) → s.smallest ≤ length s.durable → AreBytes s.durable → CanLeave s s.content → len ≤ length s.content
     → ComesBy (IsCut len) (CanLeave s) (CanLeave (after s (Cut len)))
-torn_cut s len in_firm firm_bytes now within found left =
+torn_cut s len in_durable durable_bytes now within found left =
     let size : length (take len s.content) ≡ len = length-take len s.content ∙ omega arith in
     ⊎_elim
     (λ (deep : s.smallest ≤ len). (
@@ -116,14 +116,14 @@ torn_cut s len in_firm firm_bytes now within found left =
     ))
     (λ (shallow : len < s.smallest).
     let front : length (take len found) ≡ len = length-take len found ∙ omega arith in
-    let base : length (take s.smallest s.firm) ≡ s.smallest = length-take s.smallest s.firm ∙ omega arith in
-    let under : List ℕ = refirmed s.smallest s.firm found in
-    let size_under : length under ≡ max s.smallest (length found) = length-append (take s.smallest s.firm) (drop s.smallest found) ∙ omega (arith, length-drop s.smallest found) in
+    let base : length (take s.smallest s.durable) ≡ s.smallest = length-take s.smallest s.durable ∙ omega arith in
+    let under : List ℕ = restored s.smallest s.durable found in
+    let size_under : length under ≡ max s.smallest (length found) = length-append (take s.smallest s.durable) (drop s.smallest found) ∙ omega (arith, length-drop s.smallest found) in
     let size_all : length (take len found ++ drop len under) ≡ max s.smallest (length found) = length-append (take len found) (drop len under) ∙ omega (arith, length-drop len under) in (
       take len found ++ drop len under,
       record {
         are_bytes = All-append (λ number. number < 256) (take len found) (drop len under) (All-take (λ number. number < 256) len found left.are_bytes)
-            (All-drop (λ number. number < 256) len under (refirmed_bytes s.smallest s.firm found firm_bytes left.are_bytes));
+            (All-drop (λ number. number < 256) len under (restored_bytes s.smallest s.durable found durable_bytes left.are_bytes));
         no_shorter = omega arith;
         no_longer = omega arith;
         stays = λ place below none. ⊎_elim
@@ -131,12 +131,12 @@ torn_cut s len in_firm firm_bytes now within found left =
             get_or_append_left (take len found) (drop len under) 0 place (omega arith)
             ∙ get_or-take len found place 0 before
             ∙ left.stays place (omega arith) none)
-            (λ (behind : len ≤ place).
-            get_or-append_right (take len found) (drop len under) len place 0 front behind
+            (λ (following : len ≤ place).
+            get_or-append_right (take len found) (drop len under) len place 0 front following
             ∙ get_or-drop len under (place - len) 0
             ∙ ap (λ n. get_or under n 0) (omega arith)
-            ∙ get_or_append_left (take s.smallest s.firm) (drop s.smallest found) 0 place (omega arith)
-            ∙ get_or-take s.smallest s.firm place 0 below)
+            ∙ get_or_append_left (take s.smallest s.durable) (drop s.smallest found) 0 place (omega arith)
+            ∙ get_or-take s.smallest s.durable place 0 below)
             (cases_lt place len);
       },
       record {

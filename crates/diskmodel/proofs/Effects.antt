@@ -10,7 +10,7 @@ use Rattle.diskmodel.specs.declared.history.History.{History}
 use Rattle.diskmodel.specs.Disk.{IsTorn, IsCut, ComesBy, NoneNew, LeavesOnly, GoesOn}
 use Rattle.diskmodel.specs.Outcomes.{IsOutcome, IsOutcomeSince}
 use Rattle.diskmodel.specs.Recorded.{Adds, IsAsBefore, TakesStop}
-use Rattle.diskmodel.proofs.Moments.{MayAdd, time, time_stop, outcomes_write, outcomes_cut, outcomes_sync, outcomes_stop, others_stop, firm_sync}
+use Rattle.diskmodel.proofs.Moments.{MayAdd, time, time_stop, outcomes_write, outcomes_cut, outcomes_sync, outcomes_stop, others_stop, durable_sync}
 
 -- the record is as before, or has one call more
 pub record Effect (call : Call) (old new : History) : Type 0 where
@@ -53,10 +53,10 @@ sync_of old new done =
     subst (λ (first : List ℕ). NoneNew (IsOutcome old.first.items old.calls.items) (IsOutcome first new.calls.items)) (sym done.first)
     (outcomes_sync _ _ _ _ _ _ _ old.kept new.calls.items done.calls)
 
-pub firm_of : (old new : History) → Adds Synced old new → LeavesOnly old.content.items (IsOutcome new.first.items new.calls.items)
-firm_of old new done =
+pub durable_of : (old new : History) → Adds Synced old new → LeavesOnly old.content.items (IsOutcome new.first.items new.calls.items)
+durable_of old new done =
     subst (λ (first : List ℕ). LeavesOnly old.content.items (IsOutcome first new.calls.items)) (sym done.first)
-    (firm_sync _ _ _ _ _ _ _ old.kept new.calls.items done.calls)
+    (durable_sync _ _ _ _ _ _ _ old.kept new.calls.items done.calls)
 
 pub stop_of : (found : List ℕ) (old new : History) → TakesStop found old new → NoneNew (IsOutcome old.first.items old.calls.items) (IsOutcome new.first.items new.calls.items)
 stop_of found old new done =
@@ -77,12 +77,12 @@ stop_time_of found old new done =
     (sym done.first) (time_stop old.first.items old.calls.items new.calls.items found done.calls)
 
 -- the same where the sync has succeeded
-pub firm_when : (r : Result (Unit {0}) DiskFault) (s : Result (Unit {0}) AllocError) (old told went new : History) → is_ok r ≡ is_ok s → told ≡ old → OnOk s (Adds Synced told went) → new ≡ went
+pub durable_when : (r : Result (Unit {0}) DiskFault) (s : Result (Unit {0}) AllocError) (old told went new : History) → is_ok r ≡ is_ok s → told ≡ old → OnOk s (Adds Synced told went) → new ≡ went
     → OnOk r (LeavesOnly old.content.items (IsOutcome new.first.items new.calls.items))
-firm_when (Ok x) (Ok y) old told went new same same_told adds same_went =
+durable_when (Ok x) (Ok y) old told went new same same_told adds same_went =
     let more : Adds Synced told went = search adds in
     let done : Adds Synced old new = subst (λ (h : History). Adds Synced old h) (sym same_went) (subst (λ (h : History). Adds Synced h went) same_told more) in
-    let only : LeavesOnly old.content.items (IsOutcome new.first.items new.calls.items) = firm_of old new done in
+    let only : LeavesOnly old.content.items (IsOutcome new.first.items new.calls.items) = durable_of old new done in
     search only
-firm_when (Ok x) (Err e) old told went new same same_told adds same_went = absurd (false≢true (sym same))
-firm_when (Err e) s old told went new same same_told adds same_went = search rules
+durable_when (Ok x) (Err e) old told went new same same_told adds same_went = absurd (false≢true (sym same))
+durable_when (Err e) s old told went new same same_told adds same_went = search rules

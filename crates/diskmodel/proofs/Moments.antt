@@ -8,9 +8,9 @@ use Rattle.diskmodel.specs.declared.call.Span.{Span}
 use Rattle.diskmodel.specs.Disk.{IsTorn, IsCut, ComesBy, NoneNew, LeavesOnly, GoesOn}
 use Rattle.diskmodel.specs.Outcomes.{CanLeave, IsOutcome, IsOutcomeSince, after, state}
 use Rattle.diskmodel.specs.Kept.{Keeps, ReplacesStop}
-use Rattle.diskmodel.proofs.Calls.{firm_only, torn_write, torn_cut}
+use Rattle.diskmodel.proofs.Calls.{durable_only, torn_write, torn_cut}
 use Rattle.diskmodel.proofs.Torn.{IsTorn_refl, IsCut_refl}
-use Rattle.diskmodel.proofs.Kept.{IsOutcome-pushed, state_possible, state_in_firm, state_firm_bytes, IsOutcome-stopped, IsOutcome-unstopped}
+use Rattle.diskmodel.proofs.Kept.{IsOutcome-pushed, state_possible, state_in_durable, state_durable_bytes, IsOutcome-stopped, IsOutcome-unstopped}
 
 -- the first calls are those from before one more
 take-push : (calls : List Call) (call : Call) (moment : ℕ) → moment ≤ length calls → take moment (calls ++ call ∷ []) ≡ take moment calls
@@ -93,13 +93,13 @@ outcome_of : (first : List ℕ) (call : Call) (old new : List Call) (found : Lis
 outcome_of first call old new found (inl more) left = inl (IsOutcome-pushed first old call found (subst (λ (calls : List Call). IsOutcome first calls found) more left))
 outcome_of first call old new found (inr same) left = inr (subst (λ (calls : List Call). IsOutcome first calls found) same left)
 
-module _ (first : List ℕ) (old : List Call) (firm : List ℕ) (smallest greatest : ℕ) (spans : List Span) (content : List ℕ) (kept : Keeps first old firm smallest greatest spans content) where
+module _ (first : List ℕ) (old : List Call) (durable : List ℕ) (smallest greatest : ℕ) (spans : List Span) (content : List ℕ) (kept : Keeps first old durable smallest greatest spans content) where
   pub outcomes_write : (at : ℕ) (bytes : List ℕ) (new : List Call) → at ≤ length content → MayAdd (Wrote at bytes) old new
       → ComesBy (IsTorn at (length bytes)) (IsOutcome first old) (IsOutcome first new)
   outcomes_write at bytes new within may found left =
       ⊎_elim
-      (torn_write (state first old) at bytes (state_in_firm first old firm smallest greatest spans content kept)
-      (state_firm_bytes first old firm smallest greatest spans content kept) (state_possible first old firm smallest greatest spans content kept)
+      (torn_write (state first old) at bytes (state_in_durable first old durable smallest greatest spans content kept)
+      (state_durable_bytes first old durable smallest greatest spans content kept) (state_possible first old durable smallest greatest spans content kept)
       (omega (arith, ap length kept.content_is)) found)
       (λ (same : IsOutcome first old found). (found, same, IsTorn_refl at (length bytes) found))
       (outcome_of first (Wrote at bytes) old new found may left)
@@ -107,22 +107,22 @@ module _ (first : List ℕ) (old : List Call) (firm : List ℕ) (smallest greate
   pub outcomes_cut : (len : ℕ) (new : List Call) → len ≤ length content → MayAdd (Cut len) old new → ComesBy (IsCut len) (IsOutcome first old) (IsOutcome first new)
   outcomes_cut len new within may found left =
       ⊎_elim
-      (torn_cut (state first old) len (state_in_firm first old firm smallest greatest spans content kept)
-      (state_firm_bytes first old firm smallest greatest spans content kept) (state_possible first old firm smallest greatest spans content kept)
+      (torn_cut (state first old) len (state_in_durable first old durable smallest greatest spans content kept)
+      (state_durable_bytes first old durable smallest greatest spans content kept) (state_possible first old durable smallest greatest spans content kept)
       (omega (arith, ap length kept.content_is)) found)
       (λ (same : IsOutcome first old found). (found, same, IsCut_refl len found))
       (outcome_of first (Cut len) old new found may left)
 
   -- after a sync only what a read gave is an outcome
-  pub firm_sync : (new : List Call) → new ≡ old ++ Synced ∷ [] → LeavesOnly content (IsOutcome first new)
-  firm_sync new more found left =
-      firm_only (state first old).content found (IsOutcome-pushed first old Synced found (subst (λ (calls : List Call). IsOutcome first calls found) more left)) ∙ kept.content_is
+  pub durable_sync : (new : List Call) → new ≡ old ++ Synced ∷ [] → LeavesOnly content (IsOutcome first new)
+  durable_sync new more found left =
+      durable_only (state first old).content found (IsOutcome-pushed first old Synced found (subst (λ (calls : List Call). IsOutcome first calls found) more left)) ∙ kept.content_is
 
   pub outcomes_sync : (new : List Call) → MayAdd Synced old new → NoneNew (IsOutcome first old) (IsOutcome first new)
   outcomes_sync new may found left =
       ⊎_elim
-      (λ (firmly : CanLeave (after (state first old) Synced) found).
-      subst (λ (bytes : List ℕ). IsOutcome first old bytes) (sym (firm_only (state first old).content found firmly)) (state_possible first old firm smallest greatest spans content kept))
+      (λ (lasting : CanLeave (after (state first old) Synced) found).
+      subst (λ (bytes : List ℕ). IsOutcome first old bytes) (sym (durable_only (state first old).content found lasting)) (state_possible first old durable smallest greatest spans content kept))
       (λ (same : IsOutcome first old found). same)
       (outcome_of first Synced old new found may left)
 

@@ -12,15 +12,15 @@ pub is_written-push : (spans : List Span) (span : Span) (place : ℕ) → is_wri
 is_written-push spans span place =
     list_any-append (λ (s : Span). holds s place) spans (span ∷ []) ∙ ap (λ b. is_written spans place || b) (or-false (holds span place))
 
--- a place that isn't in the row lies before or behind it
+-- a place that isn't in the row lies before or after it
 pub outside : (at count place : ℕ) → holds (record { place = at; count = count }) place ≡ false → (place < at) ⊎ (at + count ≤ place)
 outside at count place isnt = grind (arith, leb_tells)
 
 pub outside_before : (at count place : ℕ) → place < at → holds (record { place = at; count = count }) place ≡ false
 outside_before at count place before = grind (arith, leb_tells)
 
-pub outside_behind : (at count place : ℕ) → at + count ≤ place → holds (record { place = at; count = count }) place ≡ false
-outside_behind at count place behind = grind (arith, leb_tells)
+pub outside_after : (at count place : ℕ) → at + count ≤ place → holds (record { place = at; count = count }) place ≡ false
+outside_after at count place after = grind (arith, leb_tells)
 
 pub cases_le : (m n : ℕ) → (m ≤ n) ⊎ (n < m)
 cases_le m n = ⊎_elim inr inl (cases_lt n m)

@@ -12,8 +12,8 @@ length-written old at bytes within = simp (length-append, length-take, length-dr
 pub written_before : (old : List ℕ) (at : ℕ) (bytes : List ℕ) (place : ℕ) → at ≤ length old → place < at → get_or (written old at bytes) place 0 ≡ get_or old place 0
 written_before old at bytes place within before = grind (arith, places)
 
-pub written_behind : (old : List ℕ) (at : ℕ) (bytes : List ℕ) (place : ℕ) → at ≤ length old → at + length bytes ≤ place → get_or (written old at bytes) place 0 ≡ get_or old place 0
-written_behind old at bytes place within behind = grind (arith, places)
+pub written_after : (old : List ℕ) (at : ℕ) (bytes : List ℕ) (place : ℕ) → at ≤ length old → at + length bytes ≤ place → get_or (written old at bytes) place 0 ≡ get_or old place 0
+written_after old at bytes place within after = grind (arith, places)
 
 pub written_bytes : (old : List ℕ) (at : ℕ) (bytes : List ℕ) → AreBytes old → AreBytes bytes → AreBytes (written old at bytes)
 written_bytes old at bytes in_old in_bytes =
@@ -21,17 +21,17 @@ written_bytes old at bytes in_old in_bytes =
     (All-append (λ number. number < 256) (take at old) bytes (All-take (λ number. number < 256) at old in_old) in_bytes)
     (All-drop (λ number. number < 256) (at + length bytes) old in_old)
 
--- found, with the firm bytes below the smallest length
-abbrev pub refirmed : ℕ → List ℕ → List ℕ → List ℕ
-refirmed smallest firm found = take smallest firm ++ drop smallest found
+-- found, with the durable bytes below the smallest length
+abbrev pub restored : ℕ → List ℕ → List ℕ → List ℕ
+restored smallest durable found = take smallest durable ++ drop smallest found
 
-pub length-refirmed : (smallest : ℕ) (firm found : List ℕ) → smallest ≤ length firm → smallest ≤ length found → length (refirmed smallest firm found) ≡ length found
-length-refirmed smallest firm found in_firm in_found = simp (length-append, length-take, length-drop) (omega arith)
+pub length-restored : (smallest : ℕ) (durable found : List ℕ) → smallest ≤ length durable → smallest ≤ length found → length (restored smallest durable found) ≡ length found
+length-restored smallest durable found in_durable in_found = simp (length-append, length-take, length-drop) (omega arith)
 
-pub refirmed_bytes : (smallest : ℕ) (firm found : List ℕ) → AreBytes firm → AreBytes found → AreBytes (refirmed smallest firm found)
-refirmed_bytes smallest firm found in_firm in_found =
-    All-append (λ number. number < 256) (take smallest firm) (drop smallest found)
-    (All-take (λ number. number < 256) smallest firm in_firm)
+pub restored_bytes : (smallest : ℕ) (durable found : List ℕ) → AreBytes durable → AreBytes found → AreBytes (restored smallest durable found)
+restored_bytes smallest durable found in_durable in_found =
+    All-append (λ number. number < 256) (take smallest durable) (drop smallest found)
+    (All-take (λ number. number < 256) smallest durable in_durable)
     (All-drop (λ number. number < 256) smallest found in_found)
 
 -- found, with what may have stood in a row of places before it was written
@@ -55,9 +55,9 @@ pub untorn_inside : (at count : ℕ) (under found : List ℕ) (place : ℕ) → 
     → place < length found → get_or (untorn at count under found) place 0 ≡ get_or under place 0
 untorn_inside at count under found place same from to within = grind (arith, places)
 
-pub untorn_behind : (at count : ℕ) (under found : List ℕ) (place : ℕ) → length under ≡ length found → at + count ≤ place → place < length found
+pub untorn_after : (at count : ℕ) (under found : List ℕ) (place : ℕ) → length under ≡ length found → at + count ≤ place → place < length found
     → get_or (untorn at count under found) place 0 ≡ get_or found place 0
-untorn_behind at count under found place same behind within = grind (arith, places)
+untorn_after at count under found place same after within = grind (arith, places)
 
 -- a write that went as far as it could
 pub untorn_IsTorn : (at count greatest : ℕ) (under found : List ℕ) → length under ≡ length found → at < length found → at ≤ greatest → length found ≤ max greatest (at + count)
@@ -73,7 +73,7 @@ untorn_IsTorn at count greatest under found same within in_greatest no_longer =
           ∙ ap (take at) (append_assoc (take at found) (take count (drop at under)) (drop (at + count) found))
           ∙ take_at (take at found) (take count (drop at under) ++ drop (at + count) found) at front
           );
-      behind = ⊎_elim
+      after = ⊎_elim
           (λ (short : length found ≤ at + count). drop_all (at + count) found short ∙ sym (drop_all (at + count) _ (omega arith)))
           (λ (long : at + count < length found).
           let whole : take greatest (untorn at count under found) ≡ untorn at count under found = take_all greatest (untorn at count under found) (omega arith) in
@@ -85,7 +85,7 @@ untorn_IsTorn at count greatest under found same within in_greatest no_longer =
     }
 
 pub IsTorn_refl : (at count : ℕ) (found : List ℕ) → IsTorn at count found found
-IsTorn_refl at count found = record { before = refl; behind = refl; no_shorter = omega arith; no_longer = omega arith }
+IsTorn_refl at count found = record { before = refl; after = refl; no_shorter = omega arith; no_longer = omega arith }
 
 pub IsCut_refl : (len : ℕ) (found : List ℕ) → IsCut len found found
 IsCut_refl len found = record { front = refl; no_shorter = omega arith; no_longer = omega arith }

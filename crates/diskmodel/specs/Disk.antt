@@ -11,12 +11,12 @@ written old at bytes = take at old ++ bytes ++ drop (at + length bytes) old
 -- place of those written, the same elsewhere, and a length up to that of the whole write
 pub record IsTorn (at count : ℕ) (old found : List ℕ) : Type 0 where
   pub before : take at found ≡ take at old
-  pub behind : drop (at + count) found ≡ drop (at + count) old
+  pub after : drop (at + count) found ≡ drop (at + count) old
   pub no_shorter : length old ≤ length found
   pub no_longer : length found ≤ max (length old) (at + count)
 
 -- found, after a cut to this length that a stop may have come before: the same bytes up to there,
--- any behind it, and a length between the two
+-- any after it, and a length between the two
 pub record IsCut (len : ℕ) (old found : List ℕ) : Type 0 where
   pub front : take len found ≡ take len old
   pub no_shorter : min len (length old) ≤ length found
@@ -51,7 +51,7 @@ pub record HasCause {T : Type 0} (before now : ℕ) (result : Result T DiskFault
 abbrev pub TellsFault : {T E : Type 0} → E → ℕ → ℕ → Result T E → Type 0
 TellsFault device before now result = OnOk result (now ≡ before) × IfErr result (λ error. (error ≡ device → before < now) × (error ≢ device → now ≡ before))
 
--- this call was made behind the others; one that failed was made, or it wasn't
+-- this call was made after the others; one that failed was made, or it wasn't
 pub record Makes {T : Type 0} (call : Call) (result : Result T DiskFault) (old new : List Call) : Type 0 where
   pub made : OnOk result (new ≡ old ++ call ∷ [])
   pub failed : OnErr result ((new ≡ old) ⊎ (new ≡ old ++ call ∷ []))

@@ -1,4 +1,4 @@
--- The parts of a disk behind a gate.
+-- The parts of a disk after a gate.
 use Rattle.diskmodel.specs.declared.gated.GatedDisk.{GatedDisk}
 
 -- the disk

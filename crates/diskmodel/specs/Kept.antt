@@ -6,15 +6,15 @@ use Rattle.diskmodel.specs.declared.call.Call.TheVariants.{Stopped}
 use Rattle.diskmodel.specs.Outcomes.{AreBytes, IsOutcome, state}
 
 -- the calls come to these values, and what a read gives is an outcome
-pub record Keeps (first : List ℕ) (calls : List Call) (firm : List ℕ) (smallest greatest : ℕ) (spans : List Span) (content : List ℕ) : Type 0 where
-  pub firm_is : (state first calls).firm ≡ firm
+pub record Keeps (first : List ℕ) (calls : List Call) (durable : List ℕ) (smallest greatest : ℕ) (spans : List Span) (content : List ℕ) : Type 0 where
+  pub durable_is : (state first calls).durable ≡ durable
   pub smallest_is : (state first calls).smallest ≡ smallest
   pub greatest_is : (state first calls).greatest ≡ greatest
   pub spans_are : (state first calls).spans ≡ spans
   pub content_is : (state first calls).content ≡ content
-  pub in_firm : smallest ≤ length firm
-  pub firm_fits : length firm ≤ greatest
-  pub firm_bytes : AreBytes firm
+  pub in_durable : smallest ≤ length durable
+  pub durable_fits : length durable ≤ greatest
+  pub durable_bytes : AreBytes durable
   pub possible : IsOutcome first calls content
 
 -- whether this is a stop

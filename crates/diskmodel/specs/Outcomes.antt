@@ -28,7 +28,7 @@ is_written spans place = list_any (λ span. holds span place) spans
 -- what counts of the calls so far
 pub record State : Type 0 where
   -- the bytes at the last successful sync
-  pub firm : List ℕ
+  pub durable : List ℕ
   -- the smallest and the greatest length since then
   pub smallest : ℕ
   pub greatest : ℕ
@@ -38,8 +38,8 @@ pub record State : Type 0 where
   pub content : List ℕ
 
 -- Right after a sync, which is rule 4: no place was written, and the one length is that of these bytes.
-abbrev pub firmed : List ℕ → State
-firmed bytes = record { firm = bytes; smallest = length bytes; greatest = length bytes; spans = []; content = bytes }
+abbrev pub all_durable : List ℕ → State
+all_durable bytes = record { durable = bytes; smallest = length bytes; greatest = length bytes; spans = []; content = bytes }
 
 -- with these places written since
 abbrev pub marked : State → ℕ → ℕ → State
@@ -50,12 +50,12 @@ abbrev pub giving : State → List ℕ → State
 giving s bytes = record s { smallest = min s.smallest (length bytes); greatest = max s.greatest (length bytes); content = bytes }
 
 -- After one call more. What a cut took lies past the smallest length from then on, as rule 2 has it. A
--- stop makes no byte firm and forgets no write: by rule 5 it changes what a read gives and nothing else,
+-- stop makes no byte durable and forgets no write: by rule 5 it changes what a read gives and nothing else,
 -- so that the outcomes stay the same until a sync.
 abbrev pub after : State → Call → State
 after s (Wrote place bytes) = giving (marked s place (length bytes)) (written s.content place bytes)
 after s (Cut len) = giving s (take len s.content)
-after s Synced = firmed s.content
+after s Synced = all_durable s.content
 after s (Stopped found) = record s { content = found }
 
 -- after these calls, from the first to the last
@@ -63,9 +63,9 @@ abbrev pub after_all : State → List Call → State
 after_all s [] = s
 after_all s (call ∷ calls) = after_all (after s call) calls
 
--- after these calls on a disk that began with these bytes, all of them firm
+-- after these calls on a disk that began with these bytes, all of them durable
 abbrev pub state : List ℕ → List Call → State
-state first calls = after_all (firmed first) calls
+state first calls = after_all (all_durable first) calls
 
 -- each of these numbers is a byte
 abbrev pub AreBytes : List ℕ → Type 0
@@ -74,7 +74,7 @@ AreBytes numbers = All (λ number. number < 256) numbers
 -- a stop may leave these bytes
 pub record CanLeave (s : State) (found : List ℕ) : Type 0 where
   -- rule 1, of a place that wasn't written and that no cut took
-  pub stays : (place : ℕ) → place < s.smallest → is_written s.spans place ≡ false → slice_index found place ≡ slice_index s.firm place
+  pub stays : (place : ℕ) → place < s.smallest → is_written s.spans place ≡ false → slice_index found place ≡ slice_index s.durable place
   -- rule 2, which asks no more than that of the other places
   pub are_bytes : AreBytes found
   -- rule 3

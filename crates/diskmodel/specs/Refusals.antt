@@ -9,6 +9,6 @@ pub record IsRefused (most : ℕ) (old new : Refusals) : Type 0 where
   pub at_most : new.wanted ≤ most
 
 -- how many elements more a call over so many bytes makes room for in a list, at most: those bytes, or two places in the record,
--- its own and one for a stop behind it
+-- its own and one for a stop after it
 abbrev pub room_for : ℕ → ℕ
 room_for count = max count 2

@@ -59,7 +59,7 @@ pub enum Call {
     },
     /// The disk was cut to this length.
     Cut(u64),
-    /// All that a read gave was made firm.
+    /// All that a read gave was made durable.
     Synced,
     /// The machine stopped, and left these bytes.
     Stopped(KeptBytes),

@@ -57,7 +57,7 @@ pub trait Disk {
 
     /// Once it has succeeded, a stop leaves what a read gives.
     fn sync(&mut self) -> Result<(), DiskFault>
-        ensures firm { OnOk result (LeavesOnly (device.content self.old) (device.outcome self.new)) }
+        ensures durable { OnOk result (LeavesOnly (device.content self.old) (device.outcome self.new)) }
         ensures content { device.content self.new ≡ device.content self.old }
         ensures outcomes { NoneNew (device.outcome self.old) (device.outcome self.new) }
         ensures time { TimePasses device self.old self.new }

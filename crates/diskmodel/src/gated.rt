@@ -17,7 +17,7 @@ impl Gate for () {
     fn pass(&mut self) {}
 }
 
-/// A disk behind a gate. Its calls are those of the disk, and a sync, no other call, passes the gate before.
+/// A disk after a gate. Its calls are those of the disk, and a sync, no other call, passes the gate before.
 #[derive(Drop)]
 pub struct GatedDisk<D, G> {
     disk: D,
@@ -25,7 +25,7 @@ pub struct GatedDisk<D, G> {
 }
 
 impl<D, G> GatedDisk<D, G> {
-    /// This disk behind this gate.
+    /// This disk after this gate.
     pub fn new(disk: D, gate: G) -> GatedDisk<D, G>
         ensures disk { disk_of result ≡ disk }
         ensures gate { gate_of result ≡ gate }

@@ -9,7 +9,7 @@ use crate::call::{Call, KeptBytes, Span};
 use crate::refusals::Refusals;
 use std::alloc::{AllocError, Global};
 
-/// How many places a call makes room for in the record: its own, and one for a stop behind it.
+/// How many places a call makes room for in the record: its own, and one for a stop after it.
 pub const CALL_AND_STOP: usize = 2;
 
 /// The smallest and the greatest length since the last sync, in bytes.
@@ -52,11 +52,11 @@ pub struct History {
     alloc: Global,
     pub first: Vec<u8>,
     pub calls: Vec<Call>,
-    pub firm: Vec<u8>,
+    pub durable: Vec<u8>,
     pub lengths: Lengths,
     pub spans: Vec<Span>,
     pub content: Vec<u8>,
-    ghost kept: { Keeps first.items calls.items firm.items lengths.smallest lengths.greatest spans.items content.items },
+    ghost kept: { Keeps first.items calls.items durable.items lengths.smallest lengths.greatest spans.items content.items },
     // Where the last call is no stop there is room for one.
     ghost room: { ends_in_stop calls.items ≡ false → vec_len calls < vec_capacity calls },
     // The content can be as long as it was since the last sync.
@@ -69,7 +69,7 @@ impl Drop for History {
             alloc: _,
             first: _,
             calls: _,
-            firm: _,
+            durable: _,
             lengths: _,
             spans: _,
             content: _,
@@ -103,9 +103,9 @@ fn overlay(
     ensures refused { OnErr result (IsRefused (length bytes.now) refusals.old refusals.new) }
 {
     let within = bytes.len().min(list.len() - at);
-    let behind = &bytes[within..];
-    refusals.grow(list, behind.len())?;
-    let _ = list.extend_from_slice(behind);
+    let after = &bytes[within..];
+    refusals.grow(list, after.len())?;
+    let _ = list.extend_from_slice(after);
     list[at..at + within].copy_from_slice(&bytes[..within]);
     Ok(())
 }
@@ -124,7 +124,7 @@ fn forget_last_stop(calls: &mut Vec<Call>)
 impl History {
     ghost use Rattle.diskmodel.specs.Recorded.{Adds, IsAsBefore, TakesStop};
 
-    /// A disk with these bytes, all of them firm.
+    /// A disk with these bytes, all of them durable.
     pub fn new(alloc: Global, bytes: Vec<u8>) -> Result<History, AllocError>
         ensures first { IfOk result (λ history. history.first.items ≡ bytes.items) }
         ensures calls { IfOk result (λ history. history.calls.items ≡ []) }
@@ -135,7 +135,7 @@ impl History {
             alloc,
             first: bytes.to_vec(alloc)?,
             calls: Vec::with_capacity(alloc, 1)?,
-            firm: bytes.to_vec(alloc)?,
+            durable: bytes.to_vec(alloc)?,
             lengths,
             spans: Vec::new(alloc),
             content: bytes,
@@ -153,17 +153,17 @@ impl History {
     pub fn can_leave(&self, found: &[u8]) -> bool
         ensures { IsTrue result ↔ IsOutcome self.now.first.items self.now.calls.items found.now }
     {
-        self.lengths.include(found.len()) && self.keeps_firm(found)
+        self.lengths.include(found.len()) && self.keeps_durable(found)
     }
 
     /// Whether the bytes that must stay have stayed.
-    fn keeps_firm(&self, found: &[u8]) -> bool
+    fn keeps_durable(&self, found: &[u8]) -> bool
         requires { self.now.lengths.smallest ≤ length found.now }
         ensures { IsTrue result ↔ ((place : ℕ) → place < self.now.lengths.smallest → is_written self.now.spans.items place ≡ false
-            → slice_index found.now place ≡ slice_index self.now.firm.items place) }
+            → slice_index found.now place ≡ slice_index self.now.durable.items place) }
     {
         for place in 0..self.lengths.smallest {
-            if !self.is_written(place as u64) && found[place] != self.firm[place] {
+            if !self.is_written(place as u64) && found[place] != self.durable[place] {
                 return false;
             }
         }
@@ -210,16 +210,16 @@ impl History {
         Ok(())
     }
 
-    /// Makes the content firm. Where memory is refused all is as before.
+    /// Makes the content durable. Where memory is refused all is as before.
     pub fn sync(&mut self, refusals: &mut Refusals) -> Result<(), AllocError>
         ensures added { OnOk result (Adds Call.Synced self.old self.new) }
         ensures content { self.new.content.items ≡ self.old.content.items }
         ensures err { OnErr result (IsAsBefore self.old self.new) }
         ensures refused { OnErr result (IsRefused (room_for (length self.old.content.items)) refusals.old refusals.new) }
     {
-        let firm = copy(self.alloc, &self.content, refusals)?;
+        let durable = copy(self.alloc, &self.content, refusals)?;
         refusals.grow(&mut self.calls, CALL_AND_STOP)?;
-        self.firm = firm;
+        self.durable = durable;
         self.lengths = Lengths::only(self.content.len());
         self.spans.clear();
         self.calls.push_reserved(Call::Synced);

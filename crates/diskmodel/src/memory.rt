@@ -92,11 +92,11 @@ impl MemDisk {
 
     /// The bytes of the last successful sync, or those of the beginning if there was none. A stop may
     /// leave them.
-    pub fn firm(&self) -> &[u8]
-        ensures value { result.now ≡ (state_of self.now).firm }
+    pub fn durable(&self) -> &[u8]
+        ensures value { result.now ≡ (state_of self.now).durable }
         ensures outcome { CanStopAt self.now result.now }
     {
-        &self.history.firm
+        &self.history.durable
     }
 
     /// Whether the byte at this place was written since the last successful sync.
@@ -288,7 +288,7 @@ impl Disk for MemDisk {
     }
 
     fn sync(&mut self) -> Result<(), DiskFault>
-        ensures firm { OnOk result (LeavesOnly (content_of self.old) (CanStopAt self.new)) }
+        ensures durable { OnOk result (LeavesOnly (content_of self.old) (CanStopAt self.new)) }
         ensures content { content_of self.new ≡ content_of self.old }
         ensures outcomes { NoneNew (CanStopAt self.old) (CanStopAt self.new) }
         ensures time { TimeGoesOn self.old self.new }
@@ -312,7 +312,7 @@ impl Disk for MemDisk {
 impl StopDisk for MemDisk {
     ghost use Rattle.diskmodel.specs.Memory.{content_of, made_of, CanStopAt, choice_of, told_of, switch_of, TimeGoesOn};
 
-    /// It takes no memory, and no choice is left behind it.
+    /// It takes no memory, and no choice is left after it.
     fn stop(&mut self)
         ensures content { CanStopAt self.old (content_of self.new) }
         ensures outcomes { NoneNew (CanStopAt self.old) (CanStopAt self.new) }

@@ -140,7 +140,7 @@ impl Switch {
         Err(TooManyTold)
     }
 
-    /// Tells a call that was told to fail, and hasn't come yet, not to. Behind that call, and before another is told to
+    /// Tells a call that was told to fail, and hasn't come yet, not to. After that call, and before another is told to
     /// fail, it changes nothing.
     pub fn take_back(&self, told: Told) {
         if let Some(word) = self.words.of(told.call).get(told.place) {

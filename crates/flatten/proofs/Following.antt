@@ -14,21 +14,21 @@ use Rattle.flatten.specs.Laws.{EachFollows}
 use Rattle.flatten.specs.Segments.{leader_held, AreLinked, IsMarkedPast, IsMarkedFor}
 
 -- those after a beginning are linked
-linked_behind : (graph : DagView) (previous : Option (ℕ × Author)) (front back : List (ℕ × Author)) → AreLinked graph previous (front ++ back) → AreLinked graph (last_or previous front) back
-linked_behind graph previous [] back linked = linked
-linked_behind graph previous (first ∷ front) back linked = linked_behind graph (Some first) front back linked.2
+linked_after : (graph : DagView) (previous : Option (ℕ × Author)) (front back : List (ℕ × Author)) → AreLinked graph previous (front ++ back) → AreLinked graph (last_or previous front) back
+linked_after graph previous [] back linked = linked
+linked_after graph previous (first ∷ front) back linked = linked_after graph (Some first) front back linked.2
 
 -- a later leader reaches all that an earlier one does
-all_behind : (graph : DagView) → IsGraph graph → (previous : Option (ℕ × Author)) (front back : List (ℕ × Author))
+all_after : (graph : DagView) → IsGraph graph → (previous : Option (ℕ × Author)) (front back : List (ℕ × Author))
     → AreLinked graph previous (front ++ back) → (round author : ℕ) (e : Certificate) → slots_in graph round author ≡ Some e
     → is_past (ledger_in graph []) (leader_held graph previous) e ≡ true → is_past (ledger_in graph []) (leader_held graph (last_or previous front)) e ≡ true
-all_behind graph is previous [] back linked round author e held past = past
-all_behind graph is previous (first ∷ front) back linked round author e held past =
+all_after graph is previous [] back linked round author e held past = past
+all_after graph is previous (first ∷ front) back linked round author e held past =
     elim (given_or_none (slots_in graph first.0 first.1.0)) [
       | inr none ↦ absurd (true≢false (sym linked.0 ∙ ap (λ (o : Option Certificate). is_some o) none))
       | inl c ↦
           let here = has_all graph is previous first c.0 c.1 linked.1 round author e held past in
-          all_behind graph is (Some first) front back linked.2 round author e held (subst (λ p. is_past (ledger_in graph []) p e ≡ true) (sym c.1) here)
+          all_after graph is (Some first) front back linked.2 round author e held (subst (λ p. is_past (ledger_in graph []) p e ≡ true) (sym c.1) here)
     ]
 
 -- and isn't below it
@@ -50,11 +50,11 @@ marks_of graph is previous (first ∷ front) rest leader linked marks =
 
 pub each_follows : EachFollows
 each_follows graph previous front rest leader is linked marks =
-    let here = linked_behind graph previous front (leader ∷ rest) linked in
+    let here = linked_after graph previous front (leader ∷ rest) linked in
     record {
       held = here.0;
       all = λ c held. has_all graph is (last_or previous front) leader c held here.1;
       marked = past_before graph is (leader.0 - graph.charter.depth) (leader_held graph previous) (leader_held graph (last_or previous front))
           (marks_of graph is previous front rest leader linked marks)
-          (all_behind graph is previous front (leader ∷ rest) linked);
+          (all_after graph is previous front (leader ∷ rest) linked);
     }

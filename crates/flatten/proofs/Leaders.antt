@@ -98,7 +98,7 @@ all_within graph is before (leader ∷ next ∷ more) last linked at =
 
 -- so many leaders were taken, the last of them was `before`, and the others are left; from where the last one orders on those are
 -- free that are unordered before these; it reaches what is marked; what they order is still to come, and so is what is read for them
-pub record IsBehind (graph : DagView) (total : List Digest) (most high : ℕ) (before : Option (ℕ × Author)) (left : List (ℕ × Author))
+pub record IsAfter (graph : DagView) (total : List Digest) (most high : ℕ) (before : Option (ℕ × Author)) (left : List (ℕ × Author))
     (free : ℕ → ℕ → Bool) (digests : List Digest) (reads : ℕ) : Type 0 where
   pub from : ℕ
   pub next : (leader : ℕ × Author) (more : List (ℕ × Author)) → left ≡ leader ∷ more → from ≤ lowest_in graph leader.0
@@ -116,7 +116,7 @@ pub none_taken : (graph : DagView) → IsGraph graph → (previous : Option (ℕ
     (free : ℕ → ℕ → Bool) (digests : List Digest) → 0 < length chain → AreLinked graph previous chain → IsMarkedFor graph previous chain
     → slice_get chain (length chain - 1) ≡ Some last
     → ((round author : ℕ) → free round author ≡ is_unmarked_in graph round author) → digests ≡ []
-    → IsBehind graph (digests_of (segments (ledger_in graph []) (leader_held graph previous) (leaders_in graph chain)))
+    → IsAfter graph (digests_of (segments (ledger_in graph []) (leader_held graph previous) (leaders_in graph chain)))
     (read_references_by graph (leader_held graph previous) (leaders_in graph chain)) last.0 previous chain free digests 0
 none_taken graph is previous [] last free digests some linked marks at unmarked none = absurd (omega (arith, some))
 none_taken graph is previous (leader ∷ more) last free digests some linked marks at unmarked none =
@@ -146,11 +146,11 @@ count_on reads one reads' rest later all most counted parts same was = omega (ar
 -- one more is taken
 pub one_taken : (graph : DagView) → IsGraph graph → (total : List Digest) (most high : ℕ) (before : Option (ℕ × Author)) (leader : ℕ × Author)
     (more : List (ℕ × Author)) (free free' : ℕ → ℕ → Bool) (digests digests' : List Digest) (reads one reads' : ℕ)
-    → IsBehind graph total most high before (leader ∷ more) free digests reads → reads' ≡ min (reads + one) (2 ^ 64 - 1)
+    → IsAfter graph total most high before (leader ∷ more) free digests reads → reads' ≡ min (reads + one) (2 ^ 64 - 1)
     → ((c : Certificate) → Leads graph (leader_held graph before) leader high free c → digests' ≡ digests ++ digests_of (segment (ledger_in graph []) (leader_held graph before) c))
     → ((c : Certificate) → Leads graph (leader_held graph before) leader high free c → HasAllOf graph (leader_held graph before) c → AreUnordered graph (Some c) (lowest_in graph leader.0) high free')
     → ((c : Certificate) → Leads graph (leader_held graph before) leader high free c → one ≡ read_references_in graph (leader_held graph before) c)
-    → IsBehind graph total most high (Some leader) more free' digests' reads'
+    → IsAfter graph total most high (Some leader) more free' digests' reads'
 one_taken graph is total most high before leader more free free' digests digests' reads one reads' was counted written unordered read =
     elim (given_or_none (slots_in graph leader.0 leader.1.0)) [
       | inr none ↦ let bad = rw none at was.linked.0 in absurd cc
@@ -198,7 +198,7 @@ one_taken graph is total most high before leader more free free' digests digests
 -- when all are taken, what they order is written, and the rest is that of the last
 pub all_taken : (graph : DagView) → (total : List Digest) (most : ℕ) (before : Option (ℕ × Author)) (left : List (ℕ × Author)) (last : ℕ × Author)
     (sets : List MemberSet) (digests : List Digest) (reads : ℕ)
-    → IsBehind graph total most last.0 before left (is_free graph last.0 sets) digests reads → reads < 2 ^ 64
+    → IsAfter graph total most last.0 before left (is_free graph last.0 sets) digests reads → reads < 2 ^ 64
     → left ≡ [] → before ≡ Some last → (digests ≡ total) × FitsTo graph (record { digests = digests; last = last; ordered = sets; reads = reads }) × (reads ≡ min most (2 ^ 64 - 1))
 all_taken graph total most before left last sets digests reads was small none same =
     let ends = was.ends none last same in

@@ -52,10 +52,10 @@ goes_out_at node began events output first legal goes = (put_out_at node began e
 pub collected_is_within : (S : Type 0) → CollectedIsWithin S
 collected_is_within S scheme node began left view output put keeps has =
     let member = node_of scheme node.setting in
-    let first = events (take put.count view.firm) in
+    let first = events (take put.count view.durable) in
     let goes = put.goes_out (kept member began) keeps.base in
     record {
-      begins = begins_trans (began ++ first) (began ++ events view.firm) left (first_begin began put.count view.firm) has;
+      begins = begins_trans (began ++ first) (began ++ events view.durable) left (first_begin began put.count view.durable) has;
       right = goes_out_at member began first output keeps.legal (legal_again member began first keeps.legal goes.legal) goes;
     }
 
@@ -93,16 +93,16 @@ rest_stands whole from digests is = is ∙ sym (take-length (drop from whole)) �
 pub collected_orders_agree : (S : Type 0) → CollectedOrdersAgree S
 collected_orders_agree S scheme node began left view keeps legal has =
     let member = node_of scheme node.setting in
-    let within = legal-begins member (began ++ events view.firm) has.rest (subst (IsLegal member) has.parts legal) in
+    let within = legal-begins member (began ++ events view.durable) has.rest (subst (IsLegal member) has.parts legal) in
     record {
       collected = λ start digests put.
-          let first = events (take put.count view.firm) in
+          let first = events (take put.count view.durable) in
           let goes = put.goes_out (kept member began) keeps.base in
           stand_later member (began ++ first) left start digests legal
-          (begins_trans (began ++ first) (began ++ events view.firm) left (first_begin began put.count view.firm) has)
+          (begins_trans (began ++ first) (began ++ events view.durable) left (first_begin began put.count view.durable) has)
           (goes.may began keeps.legal refl).stands;
       read = λ from digests is.
-          let same = after_is_kept member began (events view.firm) within in
-          stand_later member (began ++ events view.firm) left from digests legal has
-          (rest_stands (order member (began ++ events view.firm)) from digests (is (kept member began) keeps.base ∙ ap (λ (s : State). drop from s.order) same));
+          let same = after_is_kept member began (events view.durable) within in
+          stand_later member (began ++ events view.durable) left from digests legal has
+          (rest_stands (order member (began ++ events view.durable)) from digests (is (kept member began) keeps.base ∙ ap (λ (s : State). drop from s.order) same));
     }

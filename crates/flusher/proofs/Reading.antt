@@ -176,9 +176,9 @@ module _ {D : Type 0} (device : Device D) where
 -- of one disk it is the one that is
 spare_leaves : {D : Type 0} (device : Device D) (spare : Option (Spare D)) (live : D) → LeavesOnly (device.content live) (device.outcome live) → IfSome spare (IsAlivePair device live)
     → LeavesOnly (device.content (option_map_or (λ (s : Spare D). s.disk) spare live)) (device.outcome (option_map_or (λ (s : Spare D). s.disk) spare live))
-spare_leaves device None live firm pair = firm
-spare_leaves device (Some spare) live firm pair = pair.firm
+spare_leaves device None live durable pair = durable
+spare_leaves device (Some spare) live durable pair = pair.durable
 
 -- a stop leaves it as it is
-pub spare_firm : {D : Type 0} (device : Device D) (journal : Journal D) → IsAlive device journal → LeavesOnly (device.content (spare_disk journal)) (device.outcome (spare_disk journal))
-spare_firm device journal alive = spare_leaves device (spare_of journal) (disk_of journal) alive.firm alive.pair
+pub spare_durable : {D : Type 0} (device : Device D) (journal : Journal D) → IsAlive device journal → LeavesOnly (device.content (spare_disk journal)) (device.outcome (spare_disk journal))
+spare_durable device journal alive = spare_leaves device (spare_of journal) (disk_of journal) alive.durable alive.pair

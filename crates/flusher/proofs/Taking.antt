@@ -22,7 +22,7 @@ use Rattle.book.specs.declared.own.error.FlushError.{FlushError}
 use Rattle.book.specs.declared.own.error.FlushError.TheVariants as errors
 use Rattle.book.specs.declared.own.error.FlushError.TheVariants.{Full, Down}
 use Rattle.sigface.specs.Scheme.{Scheme}
-use Rattle.flusher.specs.Rounds.{journal_of, is_down, taken_in, records_behind, TakesLongest, TakesAll, GoesDown, HasNoRoom, TellsRoomToRewrite}
+use Rattle.flusher.specs.Rounds.{journal_of, is_down, taken_in, records_after, TakesLongest, TakesAll, GoesDown, HasNoRoom, TellsRoomToRewrite}
 use Rattle.flusher.specs.declared.flusher.Flusher.{Flusher}
 
 -- a flush seat that took its node down is still the node's
@@ -39,19 +39,19 @@ still_flush node flush later is of =
 
 module _ {S : Type 0} (node : NodeView S) (flush : FlushSeat) (of : IsFlushOf node flush) where
   -- where no more is taken than is settled
-  pub rests_at : flush.taken ≡ flush.settled → taken_by flush ≡ flush.seat.view.firm
+  pub rests_at : flush.taken ≡ flush.settled → taken_by flush ≡ flush.seat.view.durable
   rests_at rests =
-      ap (take flush.taken) of.begins.parts ∙ take_at flush.seat.view.firm of.begins.rest flush.taken (sym of.settled ∙ sym rests)
+      ap (take flush.taken) of.begins.parts ∙ take_at flush.seat.view.durable of.begins.rest flush.taken (sym of.settled ∙ sym rests)
 
   taken_size : length (taken_by flush) ≡ flush.taken
   taken_size = length-take-le flush.taken flush.seat.view.seen of.seen
 
-  pub settled_begins : Begins flush.seat.view.firm (taken_by flush)
-  settled_begins = begins_take flush.seat.view.firm flush.seat.view.seen flush.taken of.begins (omega (arith, of.settled, of.rising))
+  pub settled_begins : Begins flush.seat.view.durable (taken_by flush)
+  settled_begins = begins_take flush.seat.view.durable flush.seat.view.seen flush.taken of.begins (omega (arith, of.settled, of.rising))
 
   -- the group is of what is after
-  pub group_behind : group_of flush ≡ records_behind flush.seat.view.firm (taken_by flush)
-  group_behind = ap (λ (n : ℕ). map record_of (drop n (events (taken_by flush)))) of.settled
+  pub group_after : group_of flush ≡ records_after flush.seat.view.durable (taken_by flush)
+  group_after = ap (λ (n : ℕ). map record_of (drop n (events (taken_by flush)))) of.settled
 
   -- the events that are taken are legal where all that was seen is
   pub taken_legal : (member : Node) (base : State) → IsLegalAfter member base (events flush.seat.view.seen) → IsLegalAfter member base (events (taken_by flush))
@@ -62,8 +62,8 @@ module _ {S : Type 0} (node : NodeView S) (flush : FlushSeat) (of : IsFlushOf no
       ((after_joins member base (take flush.taken seen) (drop flush.taken seen)).parts all).0
 
   -- what a round takes
-  pub takes_none : (seen : List Marked) → Begins seen flush.seat.view.seen → flush.taken ≡ flush.settled → flush.seat.view.firm ≡ flush.seat.view.seen
-      → TakesLongest seen flush.seat.view.firm (taken_by flush)
+  pub takes_none : (seen : List Marked) → Begins seen flush.seat.view.seen → flush.taken ≡ flush.settled → flush.seat.view.durable ≡ flush.seat.view.seen
+      → TakesLongest seen flush.seat.view.durable (taken_by flush)
   takes_none seen had rests whole = record {
     all = flush.seat.view.seen;
     had_seen = had;
@@ -72,7 +72,7 @@ module _ {S : Type 0} (node : NodeView S) (flush : FlushSeat) (of : IsFlushOf no
     takes = inl (sym whole, rests_at rests);
   }
 
-  pub takes_some : (seen : List Marked) → Begins seen flush.seat.view.seen → (group : List (List ℕ)) → TakesNext flush group → TakesLongest seen flush.seat.view.firm (taken_by flush)
+  pub takes_some : (seen : List Marked) → Begins seen flush.seat.view.seen → (group : List (List ℕ)) → TakesNext flush group → TakesLongest seen flush.seat.view.durable (taken_by flush)
   takes_some seen had group next = record {
     all = flush.seat.view.seen;
     had_seen = had;
@@ -82,29 +82,29 @@ module _ {S : Type 0} (node : NodeView S) (flush : FlushSeat) (of : IsFlushOf no
       group = group;
       rest = next.rest;
       longest = subst (λ (n : ℕ). IsLongestBeginning (map record_of (drop n (events flush.seat.view.seen))) group next.rest) of.settled next.longest;
-      is = next.is ∙ group_behind;
+      is = next.is ∙ group_after;
       size = taken_size ∙ next.counts ∙ ap (λ (n : ℕ). n + length group) of.settled;
     });
   }
 
-  pub size_some : (group : List (List ℕ)) → TakesNext flush group → length (taken_by flush) ≡ length flush.seat.view.firm + length group
+  pub size_some : (group : List (List ℕ)) → TakesNext flush group → length (taken_by flush) ≡ length flush.seat.view.durable + length group
   size_some group next = taken_size ∙ next.counts ∙ ap (λ (n : ℕ). n + length group) of.settled
 
   -- a group has a record
-  pub some_taken : (group : List (List ℕ)) → TakesNext flush group → length flush.seat.view.firm < length (taken_by flush)
+  pub some_taken : (group : List (List ℕ)) → TakesNext flush group → length flush.seat.view.durable < length (taken_by flush)
   some_taken group next = omega (arith, next.longest.fits.some, taken_size, next.counts, of.settled)
 
   pub full_for : (content : List ℕ) (group : List (List ℕ)) → TakesNext flush group → MAX_JOURNAL_BYTES < length content + length (group_bytes group)
-      → HasNoRoom content flush.seat.view.firm (taken_by flush)
+      → HasNoRoom content flush.seat.view.durable (taken_by flush)
   full_for content group next long = record {
     some = some_taken group next;
-    too_long = subst (λ (g : List (List ℕ)). MAX_JOURNAL_BYTES < length content + length (group_bytes g)) (next.is ∙ group_behind) long;
+    too_long = subst (λ (g : List (List ℕ)). MAX_JOURNAL_BYTES < length content + length (group_bytes g)) (next.is ∙ group_after) long;
   }
 
-  pub long_for : (content : List ℕ) (group : List (List ℕ)) → TakesNext flush group → HasNoRoom content flush.seat.view.firm (taken_by flush)
+  pub long_for : (content : List ℕ) (group : List (List ℕ)) → TakesNext flush group → HasNoRoom content flush.seat.view.durable (taken_by flush)
       → MAX_JOURNAL_BYTES < length content + length (group_bytes group)
   long_for content group next full =
-      subst (λ (g : List (List ℕ)). MAX_JOURNAL_BYTES < length content + length (group_bytes g)) (sym (next.is ∙ group_behind)) full.too_long
+      subst (λ (g : List (List ℕ)). MAX_JOURNAL_BYTES < length content + length (group_bytes g)) (sym (next.is ∙ group_after)) full.too_long
 
 -- there is always room for nothing
 pub has_room : (content : List ℕ) (settled taken : List Marked) → taken ≡ settled → HasNoRoom content settled taken → ⊥
@@ -121,7 +121,7 @@ is_none {X = X} o is = subst (λ (p : Option X). IsNone p) (sym is) refl
 
 -- what a checkpoint takes
 pub takes_all : {S : Type 0} (node : NodeView S) (flush : FlushSeat) → IsFlushOf node flush → (seen : List Marked) → Begins seen flush.seat.view.seen → taken_by flush ≡ flush.seat.view.seen
-    → TakesAll seen flush.seat.view.firm (taken_by flush)
+    → TakesAll seen flush.seat.view.durable (taken_by flush)
 takes_all node flush of seen had all = record { had_seen = subst (Begins seen) (sym all) had; begins = settled_begins node flush of }
 
 pub takes_all_as : (seen settled other taken later : List Marked) → settled ≡ other → taken ≡ later → TakesAll seen settled taken → TakesAll seen other later

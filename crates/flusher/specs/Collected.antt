@@ -25,12 +25,12 @@ pub record KeepsBase {S : Type 0} (scheme : Scheme S) (node : NodeView S) (began
 
 -- a collected output, as one that was given out: at the history at which it was put out, with this one before what a seat has seen
 abbrev pub given_as : {S : Type 0} (scheme : Scheme S) (node : NodeView S) (began : History) (view : View) (output : Output) → IsPutOutBy scheme node view output → Given
-given_as scheme node began view output put = record { outgoing = put_out output; history = began ++ events (take put.count view.firm) }
+given_as scheme node began view output put = record { outgoing = put_out output; history = began ++ events (take put.count view.durable) }
 
 -- what a seat collected goes out within each history that has all that the seat knows as settled, after one that keeps a base
 abbrev pub CollectedIsWithin : Type 0 → Type 0
 CollectedIsWithin S = (scheme : Scheme S) (node : NodeView S) (began left : History) (view : View) (output : Output) (put : IsPutOutBy scheme node view output)
-    → KeepsBase scheme node began → Begins (began ++ events view.firm) left
+    → KeepsBase scheme node began → Begins (began ++ events view.durable) left
     → GoesOutWithin (node_of scheme node.setting) left (given_as scheme node began view output put)
 
 -- so no two votes that seats collected differ for one author and round, in one run of a node or in two, where a legal history has all
@@ -38,14 +38,14 @@ CollectedIsWithin S = (scheme : Scheme S) (node : NodeView S) (began left : Hist
 abbrev pub CollectedVotesAgree : Type 0 → Type 0
 CollectedVotesAgree S = (scheme : Scheme S) (node again : NodeView S) (began restarted left : History) (one other : View) (first second : Output) (vote also : Ballot)
     → node_of scheme again.setting ≡ node_of scheme node.setting → KeepsBase scheme node began → KeepsBase scheme again restarted → IsLegal (node_of scheme node.setting) left
-    → Begins (began ++ events one.firm) left → Begins (restarted ++ events other.firm) left → IsPutOutBy scheme node one first → IsPutOutBy scheme again other second
+    → Begins (began ++ events one.durable) left → Begins (restarted ++ events other.durable) left → IsPutOutBy scheme node one first → IsPutOutBy scheme again other second
     → vote_in first ≡ Some vote → vote_in second ≡ Some also → vote.author ≡ also.author → vote.round ≡ also.round → vote.header ≡ also.header
 
 -- ---- orders
 
 -- a seat read these digests, from a place on: from each base on, the rest of the order after what it knows as settled
 abbrev pub IsReadBy : {S : Type 0} → Scheme S → NodeView S → View → ℕ → List Digest → Type 0
-IsReadBy scheme node view from digests = (base : State) → IsBase scheme node base → digests ≡ drop from (after_all (node_of scheme node.setting) base (events view.firm)).order
+IsReadBy scheme node view from digests = (base : State) → IsBase scheme node base → digests ≡ drop from (after_all (node_of scheme node.setting) base (events view.durable)).order
 
 -- digests stand in an order, from a place on
 abbrev pub StandFrom : List Digest → ℕ → List Digest → Type 0
@@ -60,5 +60,5 @@ pub record IsOfOrder {S : Type 0} (scheme : Scheme S) (node : NodeView S) (view 
 -- run of a node or of several, that such a history is of, have collected and read pieces of one order.
 abbrev pub CollectedOrdersAgree : Type 0 → Type 0
 CollectedOrdersAgree S = (scheme : Scheme S) (node : NodeView S) (began left : History) (view : View)
-    → KeepsBase scheme node began → IsLegal (node_of scheme node.setting) left → Begins (began ++ events view.firm) left
+    → KeepsBase scheme node began → IsLegal (node_of scheme node.setting) left → Begins (began ++ events view.durable) left
     → IsOfOrder scheme node view (order (node_of scheme node.setting) left)

@@ -41,7 +41,7 @@ is_down flusher = flusher.down
 
 -- what is settled, and what is taken
 abbrev pub settled_in : {D : Type 0} → Flusher D → List Marked
-settled_in flusher = (seat_of flusher).seat.view.firm
+settled_in flusher = (seat_of flusher).seat.view.durable
 
 abbrev pub taken_in : {D : Type 0} → Flusher D → List Marked
 taken_in flusher = taken_by (seat_of flusher)
@@ -81,15 +81,15 @@ pub record IsFlusherOf {S D : Type 0} (scheme : Scheme S) (device : Device D) (n
 -- ---- what a round takes
 
 -- the records of what comes after so much of a list
-abbrev pub records_behind : List Marked → List Marked → List (List ℕ)
-records_behind settled all = map record_of (drop (length settled) (events all))
+abbrev pub records_after : List Marked → List Marked → List (List ℕ)
+records_after settled all = map record_of (drop (length settled) (events all))
 
 -- the rest of what was accepted has a longest beginning that fits a group, and that is taken
 pub record IsGroupOf (settled all taken : List Marked) : Type 0 where
   pub group : List (List ℕ)
   pub rest : List (List ℕ)
-  pub longest : IsLongestBeginning (records_behind settled all) group rest
-  pub is : group ≡ records_behind settled taken
+  pub longest : IsLongestBeginning (records_after settled all) group rest
+  pub is : group ≡ records_after settled taken
   pub size : length taken ≡ length settled + length group
 
 -- Of what was accepted, with all of this that a seat had seen, a round takes what is settled and the longest beginning of the rest that
@@ -117,7 +117,7 @@ HoldsEither scheme node settled taken before left = LeavesAfter scheme node sett
 -- the group has no room after a journal of these bytes
 pub record HasNoRoom (content : List ℕ) (settled taken : List Marked) : Type 0 where
   pub some : length settled < length taken
-  pub too_long : MAX_JOURNAL_BYTES < length content + length (group_bytes (records_behind settled taken))
+  pub too_long : MAX_JOURNAL_BYTES < length content + length (group_bytes (records_after settled taken))
 
 -- ---- what it answers
 
@@ -135,7 +135,7 @@ pub record GoesDown {D : Type 0} (before later : Flusher D) (result : Result ℕ
 pub record IsToldOf (before later : SeatView) (result : Result ℕ FlushError) : Type 0 where
   pub same : IsSame before later
   pub more : Begins before.view.seen later.view.seen
-  pub more_firm : Begins before.view.firm later.view.firm
+  pub more_durable : Begins before.view.durable later.view.durable
   pub no_change : IsErrOf result Down → later ≡ before
   pub device : IsErrOf result errors.Device → IsTrue later.view.down
   pub full : IsErrOf result Full → IsTrue later.view.down
@@ -147,7 +147,7 @@ pub record TakesAndSettles {D : Type 0} (seat later_seat : SeatView) (before lat
   pub memory : IsErrOf result Memory → (journal_of later ≡ journal_of before) × (taken_in later ≡ settled_in before)
   pub size : IfOk result (λ count. length (taken_in later) ≡ length (settled_in before) + count)
   pub settled : OnOk result (settled_in later ≡ taken_in later)
-  pub told : OnOk result (later_seat.view.firm ≡ taken_in later)
+  pub told : OnOk result (later_seat.view.durable ≡ taken_in later)
   pub not_settled : OnErr result (settled_in later ≡ settled_in before)
 
 -- Of a checkpoint: it takes all of what had been accepted, and settles that, which the seat then knows. Where memory is refused it takes
@@ -156,7 +156,7 @@ pub record TakesAllAndSettles {D : Type 0} (seat later_seat : SeatView) (before 
   pub takes : IsErrOf result Down ⊎ IsErrOf result Memory ⊎ TakesAll seat.view.seen (settled_in before) (taken_in later)
   pub memory : IsErrOf result Memory → (journal_of later ≡ journal_of before) × (taken_in later ≡ settled_in before)
   pub settled : OnOk result (settled_in later ≡ taken_in later)
-  pub told : OnOk result (later_seat.view.firm ≡ taken_in later)
+  pub told : OnOk result (later_seat.view.durable ≡ taken_in later)
   pub not_settled : OnErr result (settled_in later ≡ settled_in before)
 
 -- Of a checkpoint that was taken: these records are one of all that it took. It answers Full exactly where the journal has no room for it,

@@ -131,7 +131,7 @@ impl<D: Disk> Flusher<D> {
         ensures flusher { IsFlusherOf S.scheme D.device node.now self.new }
         ensures stays { StaysAsIs self.old self.new }
         ensures seat { seat.new ≡ seat.old }
-        ensures covers { Begins seat.old.view.firm (settled_in self.new) }
+        ensures covers { Begins seat.old.view.durable (settled_in self.new) }
     {
         node.cover(rt, &mut self.seat, seat);
     }

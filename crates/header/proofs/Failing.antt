@@ -27,7 +27,7 @@ use Rattle.header.specs.declared.error.CheckError.TheVariants.{Memory, UnknownAu
 use Rattle.header.specs.Checks.{Test, test, first_failing, Accepts, tests_of, accepts_all, is_member, is_signed, header_signed, vote_signed}
 use Rattle.header.specs.Checks.{body_tests, batch_tests, ack_tests, header_tests, vote_tests, votes_tests, message_tests, fault_of}
 
--- behind tests that hold the rest decides
+-- after tests that hold the rest decides
 pub first_failing-append : (front rest : List Test) → first_failing front ≡ None → first_failing (front ++ rest) ≡ first_failing rest
 first_failing-append [] rest h = refl
 first_failing-append (t ∷ front) rest h =

@@ -15,7 +15,7 @@ use Rattle.header.specs.Checks.{is_member, named_weight}
 
 -- ---- lists that rise
 
--- those behind the first of a list that rises are above it
+-- those after the first of a list that rises are above it
 above_first : {X : Type 0} (name : X → Author) (x : X) (rest : List X) → rises (λ a b. nat_lt (name a).0 (name b).0) (x ∷ rest) ≡ true → All (λ y. (name x).0 < (name y).0) rest
 above_first name x [] rise = All-nil (λ y. (name x).0 < (name y).0)
 above_first name x (y ∷ rest) rise =

@@ -21,12 +21,12 @@ use Rattle.header.specs.declared.error.CheckError.{CheckError}
 use Rattle.header.specs.declared.error.CheckError.TheVariants.{UnknownAuthor, BadSignature}
 use Rattle.header.proofs.Naming.{set_weighs}
 
--- where none fails the first holds, and none behind it fails
+-- where none fails the first holds, and none after it fails
 pub passes : (holds : Bool) (otherwise : CheckError) (rest : Option CheckError) → (if holds then rest else Some otherwise) ≡ None → (holds ≡ true) × (rest ≡ None)
 passes true otherwise rest none = (refl, none)
 passes false otherwise rest none = absurd cc
 
--- the parents of a body that passed are by a quorum, and what stands behind its tests passes too
+-- the parents of a body that passed are by a quorum, and what stands after its tests passes too
 body_passes : (charter : Charter) (body : HeaderBody) (rest : List Test) → IsCharter charter → parents_rise body.parents ≡ true → first_failing (body_tests charter body ++ rest) ≡ None
     → HasParents charter body.parents × (first_failing rest ≡ None)
 body_passes charter body rest is rise none =

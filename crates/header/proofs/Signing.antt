@@ -18,9 +18,9 @@ use Rattle.header.specs.Signatures.{AreSigned}
 use Rattle.header.specs.declared.error.CheckError.TheVariants.{UnknownAuthor, BadSignature}
 use Rattle.header.proofs.Passing.{passes}
 
--- what stands behind the tests of a body that passed passes too
-behind_body : (charter : Charter) (body : HeaderBody) (rest : List Test) → first_failing (body_tests charter body ++ rest) ≡ None → first_failing rest ≡ None
-behind_body charter body rest none =
+-- what stands after the tests of a body that passed passes too
+after_body : (charter : Charter) (body : HeaderBody) (rest : List Test) → first_failing (body_tests charter body ++ rest) ≡ None → first_failing rest ≡ None
+after_body charter body rest none =
     let weighed = passes (nat_le (quorum_of charter) (sum_by (λ (p : ParentReference). named_weight charter p.author) body.parents)) _ _ none in
     let few = passes (nat_le (length body.parents) (length charter.keys)) _ _ weighed.1 in
     let members = passes (list_all (λ (p : ParentReference). is_member charter p.author) body.parents) _ _ few.1 in
@@ -43,7 +43,7 @@ message_signed charter accepts sender (message.Header header) none =
     let author = passes (is_member charter header.body.author) _ _ by.1 in
     let own = passes (header.body.author.0 == sender.0) _ _ author.1 in
     let signed = is_signed charter accepts header.body.author (header_signed header.body) header.signature in
-    (passes signed _ _ (behind_body charter header.body (test signed BadSignature ∷ []) own.1)).0
+    (passes signed _ _ (after_body charter header.body (test signed BadSignature ∷ []) own.1)).0
 message_signed charter accepts sender (message.Vote vote) none =
     let by = passes (is_member charter sender) _ _ none in
     let author = passes (is_member charter vote.author) _ _ by.1 in
@@ -55,7 +55,7 @@ message_signed charter accepts sender (message.Certificate certificate) none =
     let author = passes (is_member charter certificate.header.author) _ _ by.1 in
     let signed = vote_signed (header_digest_of certificate.header) certificate.header.round certificate.header.author in
     votes_signed charter accepts signed certificate.votes
-    (behind_body charter certificate.header (votes_tests charter accepts signed certificate.votes) author.1)
+    (after_body charter certificate.header (votes_tests charter accepts signed certificate.votes) author.1)
 message_signed charter accepts sender (message.Batch batch) none = tt
 message_signed charter accepts sender (message.BatchAck ack) none = tt
 message_signed charter accepts sender (message.Coin coin) none = tt

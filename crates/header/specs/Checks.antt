@@ -123,7 +123,7 @@ certificate_tests charter accepts certificate =
     ∷ body_tests charter certificate.header
     ++ votes_tests charter accepts (vote_signed (header_digest_of certificate.header) certificate.header.round certificate.header.author) certificate.votes
 
--- behind the test of the sender, by the kind of the message
+-- after the test of the sender, by the kind of the message
 abbrev pub message_tests : Charter → Accepts → Author → Message → List Test
 message_tests charter accepts sender (message.Batch batch) = batch_tests charter sender batch
 message_tests charter accepts sender (message.BatchAck ack) = ack_tests sender ack

@@ -88,7 +88,7 @@ impl Outputs {
         Ok(())
     }
 
-    /// Adds what is added to an order behind so many digests, in pieces as large as an output may be. `AllocError` where an
+    /// Adds what is added to an order after so many digests, in pieces as large as an output may be. `AllocError` where an
     /// allocation failed.
     pub fn push_order(
         &mut self,

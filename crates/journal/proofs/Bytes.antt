@@ -7,7 +7,7 @@ use Rattle.std.proofs.lemmas.List.Sums.{sum_by-cons}
 use Rattle.std.proofs.lemmas.Nat.{from_be_bytes-to_be_bytes_4}
 use Rattle.std.proofs.lemmas.Bool.{cases_lt, ltb-false, le-ltb, cond-false}
 use Rattle.std.proofs.lemmas.Option.{same_Some, none-some}
-use Rattle.journal.specs.Format.{FitsGroup, body_len, record_bytes, body_bytes, group_bytes, length_field, split_record, records_behind, records_of, group_of}
+use Rattle.journal.specs.Format.{FitsGroup, body_len, record_bytes, body_bytes, group_bytes, length_field, split_record, records_after, records_of, group_of}
 
 -- a test that led to a value led past its `None`
 pub passed_test : {A : Type 0} (b : Bool) (y : Option A) (z : A) → cond b None y ≡ Some z → (b ≡ false) × (y ≡ Some z)
@@ -15,11 +15,11 @@ passed_test true y z is = absurd (none-some z is)
 passed_test false y z is = (refl, is)
 
 -- what a record is read from
-pub record Splits (bytes front behind : List ℕ) : Type 0 where
+pub record Splits (bytes front after : List ℕ) : Type 0 where
   pub header : 4 ≤ length bytes
   pub whole : 4 + length_field bytes ≤ length bytes
   pub is_front : front ≡ take (length_field bytes) (drop 4 bytes)
-  pub is_behind : behind ≡ drop (4 + length front) bytes
+  pub is_after : after ≡ drop (4 + length front) bytes
   pub long : length front ≡ length_field bytes
 
 pub splits : (bytes : List ℕ) (parts : List ℕ × List ℕ) → split_record bytes ≡ Some parts → Splits bytes parts.0 parts.1
@@ -33,35 +33,35 @@ splits bytes parts is =
     let whole : 4 + length_field bytes ≤ length bytes = omega (arith, length-drop 4 bytes) in
     let is_front : parts.0 ≡ take (length_field bytes) (drop 4 bytes) = sym (ap (λ (p : List ℕ × List ℕ). p.0) same) in
     let long : length parts.0 ≡ length_field bytes = ap length is_front ∙ length-take-le (length_field bytes) (drop 4 bytes) fits in
-    let is_behind : parts.1 ≡ drop (4 + length parts.0) bytes =
+    let is_after : parts.1 ≡ drop (4 + length parts.0) bytes =
     sym (ap (λ (p : List ℕ × List ℕ). p.1) same) ∙ drop-drop (length_field bytes) 4 bytes ∙ ap (λ (n : ℕ). drop (4 + n) bytes) (sym long) in
-    record { header = header; whole = whole; is_front = is_front; is_behind = is_behind; long = long }
+    record { header = header; whole = whole; is_front = is_front; is_after = is_after; long = long }
 
--- passing over bytes is reading what is behind them
-pub records_behind-skip : (passed : ℕ) (bytes : List ℕ) → records_behind passed bytes ≡ records_behind 0 (drop passed bytes)
-unfolding records_behind
-records_behind-skip zero [] = refl
-records_behind-skip (suc k) [] = refl
-records_behind-skip zero (b ∷ rest) = refl
-records_behind-skip (suc k) (b ∷ rest) = records_behind-skip k rest
+-- passing over bytes is reading what is after them
+pub records_after-skip : (passed : ℕ) (bytes : List ℕ) → records_after passed bytes ≡ records_after 0 (drop passed bytes)
+unfolding records_after
+records_after-skip zero [] = refl
+records_after-skip (suc k) [] = refl
+records_after-skip zero (b ∷ rest) = refl
+records_after-skip (suc k) (b ∷ rest) = records_after-skip k rest
 
 pub records_nil : records_of [] ≡ Some []
-unfolding records_behind
+unfolding records_after
 records_nil = refl
 
 pub records_none : (bytes : List ℕ) → bytes ≢ [] → split_record bytes ≡ None → records_of bytes ≡ None
-unfolding records_behind
+unfolding records_after
 records_none [] some none = absurd (some refl)
-records_none (b ∷ rest) some none = ap (λ (o : Option (List ℕ × List ℕ)). option_and_then (λ parts. option_map (λ others. parts.0 ∷ others) (records_behind (3 + length parts.0) rest)) o) none
+records_none (b ∷ rest) some none = ap (λ (o : Option (List ℕ × List ℕ)). option_and_then (λ parts. option_map (λ others. parts.0 ∷ others) (records_after (3 + length parts.0) rest)) o) none
 
 pub records_some : (bytes : List ℕ) (parts : List ℕ × List ℕ) → split_record bytes ≡ Some parts → records_of bytes ≡ option_map (λ others. parts.0 ∷ others) (records_of parts.1)
-unfolding records_behind
+unfolding records_after
 records_some [] parts is = absurd (omega (arith, (splits [] parts is).header))
 records_some (b ∷ rest) parts is =
     let same : 4 + length parts.0 ≡ suc (3 + length parts.0) = omega arith in
-    let behind : parts.1 ≡ drop (3 + length parts.0) rest = (splits (b ∷ rest) parts is).is_behind ∙ ap (λ (n : ℕ). drop n (b ∷ rest)) same in
-    ap (λ (o : Option (List ℕ × List ℕ)). option_and_then (λ parts. option_map (λ others. parts.0 ∷ others) (records_behind (3 + length parts.0) rest)) o) is
-    ∙ ap (λ (o : Option (List (List ℕ))). option_map (λ others. parts.0 ∷ others) o) (records_behind-skip (3 + length parts.0) rest ∙ ap records_of (sym behind))
+    let after : parts.1 ≡ drop (3 + length parts.0) rest = (splits (b ∷ rest) parts is).is_after ∙ ap (λ (n : ℕ). drop n (b ∷ rest)) same in
+    ap (λ (o : Option (List ℕ × List ℕ)). option_and_then (λ parts. option_map (λ others. parts.0 ∷ others) (records_after (3 + length parts.0) rest)) o) is
+    ∙ ap (λ (o : Option (List (List ℕ))). option_map (λ others. parts.0 ∷ others) o) (records_after-skip (3 + length parts.0) rest ∙ ap records_of (sym after))
 
 -- a record that is written is read back
 pub split_written : (bytes rest : List ℕ) → length bytes < 2 ^ 32 → split_record (record_bytes bytes ++ rest) ≡ Some (bytes, rest)
@@ -101,18 +101,18 @@ group_read records fits =
     ∙ cond-false (ltb 1024 (length records)) None (Some records) (le-ltb 1024 (length records) fits.not_many)
 
 -- a buffer of the whole length that a read filled
-pub read_whole : (len : ℕ) (buffer behind before found file : List ℕ) → length before ≡ len → len ≡ length file → buffer ≡ take (length before) found
-    → found ≡ file → take len (buffer ++ behind) ≡ file
-read_whole len buffer behind before found file before_len len_is filled same =
+pub read_whole : (len : ℕ) (buffer after before found file : List ℕ) → length before ≡ len → len ≡ length file → buffer ≡ take (length before) found
+    → found ≡ file → take len (buffer ++ after) ≡ file
+read_whole len buffer after before found file before_len len_is filled same =
     let whole : buffer ≡ found = filled ∙ take_all (length before) found (omega (arith, ap length same)) in
-    take_at buffer behind len (omega (arith, ap length whole, ap length same)) ∙ whole ∙ same
+    take_at buffer after len (omega (arith, ap length whole, ap length same)) ∙ whole ∙ same
 
 -- a buffer of the length of a front that a read filled
-pub read_part : (len most : ℕ) (buffer behind before found file : List ℕ) → length before ≡ len → len ≤ length file → len ≤ most → (len < most → length file ≤ len) → buffer ≡ take (length before) found
-    → found ≡ file → take len (buffer ++ behind) ≡ take most file
-read_part len most buffer behind before found file before_len inside within short filled same =
+pub read_part : (len most : ℕ) (buffer after before found file : List ℕ) → length before ≡ len → len ≤ length file → len ≤ most → (len < most → length file ≤ len) → buffer ≡ take (length before) found
+    → found ≡ file → take len (buffer ++ after) ≡ take most file
+read_part len most buffer after before found file before_len inside within short filled same =
     let part : buffer ≡ take len file = filled ∙ (λ i. take (before_len i) (same i)) in
-    take_at buffer behind len (ap length part ∙ length-take-le len file inside) ∙ part ∙ elim (cases_lt len most) [
+    take_at buffer after len (ap length part ∙ length-take-le len file inside) ∙ part ∙ elim (cases_lt len most) [
       | inl less ↦ take_all len file (short less) ∙ sym (take_all most file (omega (arith, short less)))
       | inr full ↦ let is : len ≡ most = omega arith in ap (λ (n : ℕ). take n file) is
     ]

@@ -46,10 +46,10 @@ module _ {D : Type 0} (device : Device D) (records : List (List ℕ)) (can : Can
 
   -- the pair after a rewriting
   pub new_pair : LeavesOnly (device.content live) (device.outcome live) → IsAlivePair device now later
-  new_pair firm = record {
+  new_pair durable = record {
     of_generation = inl (told_now ∙ ap (λ (n : ℕ). Some (Some n)) (sym swapped.generation));
     at_rest = subst (λ (n : ℕ). IsAtRest n (device.content later.disk)) (sym swapped.generation) rests;
-    firm = subst (λ (d : D). LeavesOnly (device.content d) (device.outcome d)) (sym swapped.disk) firm;
+    durable = subst (λ (d : D). LeavesOnly (device.content d) (device.outcome d)) (sym swapped.disk) durable;
   }
 
   -- stands for the checkpoint

@@ -24,13 +24,13 @@ pub cut_tells : (file left : List ℕ) (gate : ℕ) → ScansTo file gate → 2 
 cut_tells file left gate scans long cut = cuts_keep_telling file left scans.0 gate long (walked file gate scans long) cut
 
 module _ {D : Type 0} (device : Device D) where
-  -- one call that changes firm bytes
+  -- one call that changes durable bytes
   pub changes : (change : List ℕ → List ℕ → Type 0) (old one : D) (P : List ℕ → Type 0) → ((left : List ℕ) → device.outcome_since old (device.clock old) left → device.outcome old left)
       → LeavesOnly (device.content old) (device.outcome old) → P (device.content old)
       → TimePasses device old one → ComesBy change (device.outcome old) (device.outcome one) → ((left : List ℕ) → change (device.content old) left → P left) → SoFar device old one P
-  changes change old one P only_now firm before time comes after =
-      then_left device old old one P (begins device old P only_now (λ left now. subst P (sym (firm left now)) before)) time
-      (from_only change (device.content old) (device.outcome old) (device.outcome one) P firm comes after)
+  changes change old one P only_now durable before time comes after =
+      then_left device old old one P (begins device old P only_now (λ left now. subst P (sym (durable left now)) before)) time
+      (from_only change (device.content old) (device.outcome old) (device.outcome one) P durable comes after)
 
   -- both hold at each moment
   pub both_hold : (old new : D) (P Q R : List ℕ → Type 0) → AtEachMoment device old new P → AtEachMoment device old new Q → ((left : List ℕ) → P left → Q left → R left) → AtEachMoment device old new R
@@ -61,9 +61,9 @@ pub cut_whole : (len : ℕ) (file : List ℕ) → IsCut len file (take len file)
 cut_whole len file = record { front = take-take len len file (omega arith); no_shorter = omega (arith, length-take len file); no_longer = omega (arith, length-take len file) }
 
 module _ {D : Type 0} (device : Device D) (old mid new : D) where
-  -- nothing was written to a firm disk yet
+  -- nothing was written to a durable disk yet
   pub until_read : LeavesOnly (device.content old) (device.outcome old) → AtEachMoment device old mid (device.outcome old) → AtEachMoment device old mid (IsSameAs (device.content old))
-  until_read firm reading = weaker device old mid (IsSameAs (device.content old)) (device.outcome old) reading (λ left now. inl (firm left now))
+  until_read durable reading = weaker device old mid (IsSameAs (device.content old)) (device.outcome old) reading (λ left now. inl (durable left now))
 
   -- and then its end is closed
   pub until_closed : (records : List Record) → stands (device.content old) ≡ Ok records → device.content mid ≡ device.content old → AtEachMoment device old mid (IsSameAs (device.content old))

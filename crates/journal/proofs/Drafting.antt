@@ -105,7 +105,7 @@ record_more group next = flat_map-append record_bytes group (next ∷ []) ∙ ap
 len_with : (group : List (List ℕ)) (next : List ℕ) → body_len (group ++ next ∷ []) ≡ body_len group + (4 + length next)
 len_with group next = sum_by-append (λ (bytes : List ℕ). 4 + length bytes) group (next ∷ []) ∙ omega arith
 
--- bytes with a record more behind those of the group that has so many, whose length stands at this place
+-- bytes with a record more after those of the group that has so many, whose length stands at this place
 abbrev pub joined : List ℕ → ℕ → ℕ → List ℕ → List ℕ
 joined old start body next =
     take start old ++ (to_be_bytes w32 (body + (4 + length next)) ++ (drop (start + 4) (take (length old - 1) old) ++ (record_bytes next ++ 0 ∷ [])))

@@ -14,23 +14,23 @@ so_far gate records rest = option_map (λ others. records ++ kept gate others) r
 pub body_none : (gate : ℕ) (records : List Record) (rest : List ℕ) (whole : Option (List Record)) → so_far gate records (records_of rest) ≡ whole → rest ≢ [] → None ≡ split_record rest → None ≡ whole
 body_none gate records rest whole is some none = sym (ap (so_far gate records) (records_none rest some (sym none))) ∙ is
 
-pub body_shorter : (rest front behind : List ℕ) → Some (front, behind) ≡ split_record rest → length behind < length rest
-body_shorter rest front behind is =
-    let parts = splits rest (front, behind) (sym is) in
-    omega (arith, parts.header, ap length parts.is_behind, length-drop (4 + length front) rest)
+pub body_shorter : (rest front after : List ℕ) → Some (front, after) ≡ split_record rest → length after < length rest
+body_shorter rest front after is =
+    let parts = splits rest (front, after) (sym is) in
+    omega (arith, parts.header, ap length parts.is_after, length-drop (4 + length front) rest)
 
 push_first : (gate : ℕ) (records : List Record) (front : List ℕ) (o : Option (List (List ℕ))) → so_far gate (records ++ kept_at gate front ∷ []) o
     ≡ so_far gate records (option_map (λ others. front ∷ others) o)
 push_first gate records front None = refl
 push_first gate records front (Some others) = ap Some (append_assoc records (kept_at gate front ∷ []) (kept gate others))
 
-pub body_more : (gate : ℕ) (records more : List Record) (rest front behind : List ℕ) (whole : Option (List Record))
-    → so_far gate records (records_of rest) ≡ whole → Some (front, behind) ≡ split_record rest
-    → more ≡ records ++ kept_at gate front ∷ [] → so_far gate more (records_of behind) ≡ whole
-body_more gate records more rest front behind whole is split pushed =
-    ap (λ (l : List Record). so_far gate l (records_of behind)) pushed
-    ∙ push_first gate records front (records_of behind)
-    ∙ sym (ap (so_far gate records) (records_some rest (front, behind) (sym split)))
+pub body_more : (gate : ℕ) (records more : List Record) (rest front after : List ℕ) (whole : Option (List Record))
+    → so_far gate records (records_of rest) ≡ whole → Some (front, after) ≡ split_record rest
+    → more ≡ records ++ kept_at gate front ∷ [] → so_far gate more (records_of after) ≡ whole
+body_more gate records more rest front after whole is split pushed =
+    ap (λ (l : List Record). so_far gate l (records_of after)) pushed
+    ∙ push_first gate records front (records_of after)
+    ∙ sym (ap (so_far gate records) (records_some rest (front, after) (sym split)))
     ∙ is
 
 pub body_all : (gate : ℕ) (records : List Record) (rest : List ℕ) (whole : Option (List Record)) → so_far gate records (records_of rest) ≡ whole → rest ≡ [] → Some records ≡ whole
@@ -62,12 +62,12 @@ module _ (base : ℕ) (bytes : List ℕ) (gate : ℕ) (inside : gate < length by
   file_more body group is_open is is_group =
       let same : gate + 1 + (4 + length body) ≡ gate + (5 + length body) = omega arith in
       let place : base + (gate + (5 + length body)) ≡ base + gate + (5 + length body) = omega arith in
-      let behind : drop (4 + length body) (drop (gate + 1) bytes) ≡ drop (gate + (5 + length body)) bytes = drop-drop (4 + length body) (gate + 1) bytes ∙ ap (λ (n : ℕ). drop n bytes) same in
+      let after : drop (4 + length body) (drop (gate + 1) bytes) ≡ drop (gate + (5 + length body)) bytes = drop-drop (4 + length body) (gate + 1) bytes ∙ ap (λ (n : ℕ). drop n bytes) same in
       let next = walk (base + gate + (5 + length body)) 0 (drop (gate + (5 + length body)) bytes) in
       ap (λ (n : ℕ). with_front (records ++ kept (base + gate) group) (walk n 0 (drop (gate + (5 + length body)) bytes))) place
       ∙ with_front-append records (kept (base + gate) group) next
       ∙ ap (with_front records) (sym (at_gate ∙ walk_group (base + gate) (get_or bytes gate 0) (drop (gate + 1) bytes) body group is_open (sym is) is_group
-      ∙ ap (λ (l : List ℕ). with_front (kept (base + gate) group) (walk (base + gate + (5 + length body)) 0 l)) behind))
+      ∙ ap (λ (l : List ℕ). with_front (kept (base + gate) group) (walk (base + gate + (5 + length body)) 0 l)) after))
       ∙ found
 
 -- a group that was read, by its records with their gate

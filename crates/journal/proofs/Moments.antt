@@ -1,4 +1,4 @@
--- What holds of all that a stop may leave behind a call, and in the steps of an opening.
+-- What holds of all that a stop may leave after a call, and in the steps of an opening.
 use Rattle.std.proofs.Common.{◌≡◌, inl, inr, List, ℕ, Ok, ap, ◌∙◌, subst}
 use Rattle.diskmodel.specs.Disk.{ComesBy, NoneNew, LeavesOnly, GoesOn, AtEachMoment, Device}
 use Rattle.diskmodel.proofs.Clock.{started, goes_on, joins}
@@ -22,7 +22,7 @@ module _ {D : Type 0} (device : Device D) where
       let P : List ℕ → Type 0 = StandsAsOneOf (device.outcome old) in
       goes_on device old old synced P (device.outcome synced) (started device old P (λ left now. inl (only_now left now))) time (λ left now. inl (outcomes left now))
 
-  -- nor does reading the bytes behind it
+  -- nor does reading the bytes after it
   pub until_read : (old synced read : D) → ((c : List ℕ) → device.outcome_since old (device.clock old) c → device.outcome old c)
       → GoesOn (device.clock old) (device.clock synced) (device.outcome_since old) (device.outcome_since synced) (device.outcome synced)
       → NoneNew (device.outcome old) (device.outcome synced) → AtEachMoment device synced read (device.outcome synced) → AtEachMoment device old read (StandsAsOneOf (device.outcome old))

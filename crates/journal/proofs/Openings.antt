@@ -56,7 +56,7 @@ module _ {D : Type 0} (device : Device D) (side : Side) (generation : ℕ) (live
     (told : tells (device.content now) ≡ tells (device.content live)) (stand : stands (device.content now) ≡ stands (device.content live))
     (closed : IsClosedUp (device.content live) (device.content now)) (rested : IsRested (device.content other) (device.content also)) where
   alive_pair : LeavesOnly (device.content also) (device.outcome also) → IsAlivePair device now (spare_with also side generation)
-  alive_pair firm = record {
+  alive_pair durable = record {
     of_generation = elim choice [
       | inl is ↦ inl (told ∙ is.0)
       | inr new ↦ inr (record {
@@ -67,14 +67,14 @@ module _ {D : Type 0} (device : Device D) (side : Side) (generation : ℕ) (live
       })
     ];
     at_rest = rests generation (device.content other) (device.content also) (older side generation (device.content live) (device.content other) choice) rested;
-    firm = firm;
+    durable = durable;
   }
 
   pub are_opened : LeavesOnly (device.content now) (device.outcome now) → LeavesOnly (device.content also) (device.outcome also) → AreOpened device side generation live other now also
-  are_opened firm other_firm = record {
+  are_opened durable other_durable = record {
     ends_closed = ends;
-    firm = firm;
-    pair = alive_pair other_firm;
+    durable = durable;
+    pair = alive_pair other_durable;
     same = same_pair side (device.content live) (device.content other) (device.content now) (device.content also) told rested.told stand rested.stand;
     closed = closed;
     rested = rested;
@@ -95,7 +95,7 @@ choice_second side generation one other is choice = by_side (subst (λ (at : Sid
     by_side (inl told) = inl told
     by_side (inr new) = absurd (cc new.2)
 
--- what tells and stands for the same as firm bytes does so as an outcome from before
+-- what tells and stands for the same as durable bytes does so as an outcome from before
 pub as_outcome : (outcome : List ℕ → Type 0) (file mid left : List ℕ) → outcome file → mid ≡ file → IsSameAs mid left → IsAsOneOf outcome left
 as_outcome outcome file mid left possible same (inl is) = inl (subst outcome (sym (is ∙ same)) possible)
 as_outcome outcome file mid left possible same (inr also) = inr (file, possible, subst (λ (l : List ℕ). AreSame l left) same also)

@@ -35,7 +35,7 @@ module _ {D : Type 0} (device : Device D) (old new : D) (group : List (List ℕ)
       | inr begun ↦ ap tells content ∙ tells_begun (device.content old) group fits begun.empty ∙ ap Some (first begun.empty ∙ ap Some (sym begun.lowest))
     ]);
     at_rest = pair.at_rest;
-    firm = pair.firm;
+    durable = pair.durable;
   }
 
   -- the pair goes on

@@ -30,12 +30,12 @@ field_back : (bytes : List ℕ) → 4 ≤ length bytes → AreBytes bytes → to
 field_back bytes long are_bytes = be_bytes_4 (take 4 bytes) (length_field bytes) (length-take-le 4 bytes long) (each_byte (take 4 bytes) (All-take (λ number. number < 256) 4 bytes are_bytes)) refl
 
 -- a record that is read is written so
-record_back : (bytes front behind : List ℕ) → AreBytes bytes → Splits bytes front behind → bytes ≡ record_bytes front ++ behind
-record_back bytes front behind are_bytes parts =
+record_back : (bytes front after : List ℕ) → AreBytes bytes → Splits bytes front after → bytes ≡ record_bytes front ++ after
+record_back bytes front after are_bytes parts =
     let n = length_field bytes in
     let rest = drop 4 bytes in
     let field : take 4 bytes ≡ to_be_bytes w32 (length front) = sym (field_back bytes parts.header are_bytes) ∙ ap (to_be_bytes w32) (sym parts.long) in
-    let end_is : drop n rest ≡ behind = drop-drop n 4 bytes ∙ ap (λ (k : ℕ). drop (4 + k) bytes) (sym parts.long) ∙ sym parts.is_behind in
+    let end_is : drop n rest ≡ after = drop-drop n 4 bytes ∙ ap (λ (k : ℕ). drop (4 + k) bytes) (sym parts.long) ∙ sym parts.is_after in
     sym (take-append-drop 4 bytes)
     ∙ ap (λ (l : List ℕ). take 4 bytes ++ l) (sym (take-append-drop n rest))
     ∙ (λ i. field i ++ (sym parts.is_front i ++ end_is i))
@@ -55,8 +55,8 @@ body_next n shorter bytes records short are_bytes some is None split = absurd (n
 body_next n shorter bytes records short are_bytes some is (Some parts) split =
     let read = splits bytes parts split in
     let more = first_of_map parts.0 (records_of parts.1) records (sym (records_some bytes parts split) ∙ is) in
-    let fewer : length parts.1 ≤ n = omega (arith, read.header, ap length read.is_behind, length-drop (4 + length parts.0) bytes) in
-    let are : AreBytes parts.1 = subst AreBytes (sym read.is_behind) (All-drop (λ number. number < 256) (4 + length parts.0) bytes are_bytes) in
+    let fewer : length parts.1 ≤ n = omega (arith, read.header, ap length read.is_after, length-drop (4 + length parts.0) bytes) in
+    let are : AreBytes parts.1 = subst AreBytes (sym read.is_after) (All-drop (λ number. number < 256) (4 + length parts.0) bytes are_bytes) in
     record_back bytes parts.0 parts.1 are_bytes read
     ∙ ap (λ (l : List ℕ). record_bytes parts.0 ++ l) (shorter parts.1 more.0 fewer are more.1)
     ∙ ap body_bytes (sym more.2)
@@ -83,7 +83,7 @@ some_records : (records : List (List ℕ)) → 1 ≤ length (body_bytes records)
 some_records [] some = absurd (omega arith)
 some_records (record_is ∷ records) some = omega arith
 
--- a group that is read, with what is behind it
+-- a group that is read, with what is after it
 record Back (rest body : List ℕ) (records : List (List ℕ)) : Type 0 where
   fits : FitsGroup records
   split : rest ≡ sized_body records ++ drop (4 + length body) rest
@@ -123,65 +123,65 @@ no_whole rest body at_body none has =
     let same : body ≡ body_bytes has.records = same_Some _ _ (sym at_body ∙ here) in
     none-some has.records (sym none ∙ ap group_of same ∙ group_read has.records has.fits)
 
--- groups behind open gates that end at a closed one
+-- groups after open gates that end at a closed one
 record Closes (place : ℕ) (bytes : List ℕ) (found : Found) : Type 0 where
   groups : List Gated
-  behind : List ℕ
+  after : List ℕ
   all_open : All IsOpen groups
-  written : bytes ≡ in_turn groups ++ 0 ∷ behind
+  written : bytes ≡ in_turn groups ++ 0 ∷ after
   found_is : found.0 ≡ all_kept place (their_records groups)
 
--- groups behind open gates, and an open gate with no group behind it
+-- groups after open gates, and an open gate with no group after it
 record Breaks (place : ℕ) (bytes : List ℕ) (at : ℕ) : Type 0 where
   groups : List Gated
   gate : ℕ
-  behind : List ℕ
+  after : List ℕ
   all_open : All IsOpen groups
-  written : bytes ≡ in_turn groups ++ gate ∷ behind
+  written : bytes ≡ in_turn groups ++ gate ∷ after
   here : at ≡ place + length (in_turn groups)
   not_closed : gate ≢ 0
-  no_group : ¬ HasGroup behind
+  no_group : ¬ HasGroup after
 
 -- what a walk that gave this has found
 abbrev Walked : ℕ → List ℕ → Result Found ℕ → Type 0
 Walked place bytes (Ok found) = Closes place bytes found
 Walked place bytes (Err at) = Breaks place bytes at
 
-module _ (place gate : ℕ) (records : List (List ℕ)) (rest behind : List ℕ) (is_open : gate ≢ 0) (fits : FitsGroup records) (split : rest ≡ sized_body records ++ behind) where
+module _ (place gate : ℕ) (records : List (List ℕ)) (rest after : List ℕ) (is_open : gate ≢ 0) (fits : FitsGroup records) (split : rest ≡ sized_body records ++ after) where
   abbrev group : Gated
   group = record { gate = gate; records = records }
 
-  joined : (groups : List Gated) (others : List ℕ) → behind ≡ in_turn groups ++ others → gate ∷ rest ≡ in_turn (group ∷ groups) ++ others
+  joined : (groups : List Gated) (others : List ℕ) → after ≡ in_turn groups ++ others → gate ∷ rest ≡ in_turn (group ∷ groups) ++ others
   joined groups others is =
       ap (λ (l : List ℕ). gate ∷ l) (split ∙ ap (λ (l : List ℕ). sized_body records ++ l) is)
       ∙ sym (append_assoc (with_gate group) (in_turn groups) others)
 
   -- with one group more before it
-  longer : (next : ℕ) → next ≡ place + 1 + length (sized_body records) → (r : Result Found ℕ) → Walked next behind r → Walked place (gate ∷ rest) (with_front (kept place records) r)
+  longer : (next : ℕ) → next ≡ place + 1 + length (sized_body records) → (r : Result Found ℕ) → Walked next after r → Walked place (gate ∷ rest) (with_front (kept place records) r)
   longer next next_is (Ok found) walked = record {
     groups = group ∷ walked.groups;
-    behind = walked.behind;
+    after = walked.after;
     all_open = All-cons IsOpen group walked.groups (record { not_closed = is_open; fits = fits }) walked.all_open;
-    written = joined walked.groups (0 ∷ walked.behind) walked.written;
+    written = joined walked.groups (0 ∷ walked.after) walked.written;
     found_is = ap (λ (l : List Record). kept place records ++ l) (walked.found_is ∙ ap (λ (p : ℕ). all_kept p (their_records walked.groups)) next_is);
   }
   longer next next_is (Err at) walked = record {
     groups = group ∷ walked.groups;
     gate = walked.gate;
-    behind = walked.behind;
+    after = walked.after;
     all_open = All-cons IsOpen group walked.groups (record { not_closed = is_open; fits = fits }) walked.all_open;
-    written = joined walked.groups (walked.gate ∷ walked.behind) walked.written;
+    written = joined walked.groups (walked.gate ∷ walked.after) walked.written;
     here = omega (arith, walked.here, next_is, length-append (with_gate group) (in_turn walked.groups));
     not_closed = walked.not_closed;
     no_group = walked.no_group;
   }
 
--- an open gate with no group behind it
+-- an open gate with no group after it
 broken : (place gate : ℕ) (rest : List ℕ) → gate ≢ 0 → ¬ HasGroup rest → Breaks place (gate ∷ rest) place
 broken place gate rest is_open none = record {
   groups = [];
   gate = gate;
-  behind = rest;
+  after = rest;
   all_open = All-nil IsOpen;
   written = refl;
   here = omega arith;
@@ -200,12 +200,12 @@ walked_body n shorter place gate rest body is_open short are_bytes at_body None 
 walked_body n shorter place gate rest body is_open short are_bytes at_body (Some records) is =
     let back = group_back rest body records are_bytes at_body is in
     let next = place + (5 + length body) in
-    let behind = drop (4 + length body) rest in
+    let after = drop (4 + length body) rest in
     let next_is : next ≡ place + 1 + length (sized_body records) = omega (arith, back.long) in
-    let fewer : length behind ≤ n = omega (arith, length-drop (4 + length body) rest) in
-    let more = shorter next behind fewer back.some (All-drop (λ number. number < 256) (4 + length body) rest are_bytes) in
+    let fewer : length after ≤ n = omega (arith, length-drop (4 + length body) rest) in
+    let more = shorter next after fewer back.some (All-drop (λ number. number < 256) (4 + length body) rest are_bytes) in
     subst (Walked place (gate ∷ rest)) (sym (walk_group place gate rest body records is_open at_body is))
-    (longer place gate records rest behind is_open back.fits back.split next next_is (walk next 0 behind) more)
+    (longer place gate records rest after is_open back.fits back.split next next_is (walk next 0 after) more)
 
 walked_open : (n : ℕ) → Walks n → (place gate : ℕ) (rest : List ℕ) → gate ≢ 0 → length rest ≤ n → AreBytes rest
     → (o : Option (List ℕ)) → body_at rest ≡ o → Walked place (gate ∷ rest) (walk place 0 (gate ∷ rest))
@@ -218,7 +218,7 @@ walked n place [] short some are_bytes = absurd (omega arith)
 walked zero place (gate ∷ rest) short some are_bytes = absurd (omega arith)
 walked (suc n) place (gate ∷ rest) short some are_bytes = elim (cases_eq gate 0) [
   | inl shut ↦ subst (Walked place (gate ∷ rest)) (sym (walk_closed place gate rest shut))
-      (record { groups = []; behind = rest; all_open = All-nil IsOpen; written = ap (λ (g : ℕ). g ∷ rest) shut; found_is = refl })
+      (record { groups = []; after = rest; all_open = All-nil IsOpen; written = ap (λ (g : ℕ). g ∷ rest) shut; found_is = refl })
   | inr is_open ↦ walked_open n (walked n) place gate rest is_open (omega arith) (All-tail (λ number. number < 256) gate rest are_bytes) (body_at rest) refl
 ]
 
@@ -230,7 +230,7 @@ stands_long bytes long = ap only_records (cond-false (ltb (length bytes) 2) (Ok 
 is_ok : (bytes : List ℕ) (records : List Record) (r : Result Found ℕ) → only_records r ≡ Ok records → Walked 0 bytes r → AreGroups bytes records
 is_ok bytes records (Ok found) is walk_is =
     let same : found.0 ≡ records = cc in
-    record { groups = walk_is.groups; behind = walk_is.behind; all_open = walk_is.all_open; written = walk_is.written; found = sym same ∙ walk_is.found_is }
+    record { groups = walk_is.groups; after = walk_is.after; all_open = walk_is.all_open; written = walk_is.written; found = sym same ∙ walk_is.found_is }
 is_ok bytes records (Err at) is walk_is = absurd (cc)
 
 pub only_groups : (bytes : List ℕ) (records : List Record) → AreBytes bytes → 2 ≤ length bytes → stands bytes ≡ Ok records → AreGroups bytes records
@@ -244,7 +244,7 @@ is_err bytes place (Err at) long is walk_is =
       long = long;
       groups = walk_is.groups;
       gate = walk_is.gate;
-      behind = walk_is.behind;
+      after = walk_is.after;
       all_open = walk_is.all_open;
       written = walk_is.written;
       here = omega (arith, same, walk_is.here);
@@ -258,7 +258,7 @@ damaged bytes place are_bytes is = elim (cases_lt (length bytes) 2) [
   | inr long ↦ is_err bytes place (walk 0 0 bytes) long (sym (stands_long bytes long) ∙ is) (walked (length bytes) 0 bytes (omega arith) (omega arith) are_bytes)
 ]
 
--- a walk at an open gate with no whole group behind it
+-- a walk at an open gate with no whole group after it
 walk_broken : (place gate : ℕ) (rest : List ℕ) → AreBytes rest → gate ≢ 0 → ¬ HasGroup rest → (o : Option (List ℕ)) → body_at rest ≡ o → walk place 0 (gate ∷ rest) ≡ Err place
 walk_broken place gate rest are_bytes is_open no_group None none = walk_no_body place gate rest is_open none
 walk_broken place gate rest are_bytes is_open no_group (Some body) at_body = without (group_of body) refl
@@ -266,7 +266,7 @@ walk_broken place gate rest are_bytes is_open no_group (Some body) at_body = wit
     whole : (records : List (List ℕ)) → group_of body ≡ Some records → HasGroup rest
     whole records is = let back = group_back rest body records are_bytes at_body is in at_least_one (drop (4 + length body) rest) back.some back.split back.fits
       where
-        at_least_one : (behind : List ℕ) → 1 ≤ length behind → rest ≡ sized_body records ++ behind → FitsGroup records → HasGroup rest
+        at_least_one : (after : List ℕ) → 1 ≤ length after → rest ≡ sized_body records ++ after → FitsGroup records → HasGroup rest
         at_least_one [] some split fits = absurd (omega arith)
         at_least_one (next ∷ others) some split fits = record { records = records; next = next; rest = others; fits = fits; written = split }
 
@@ -278,14 +278,14 @@ shows_damage : (bytes : List ℕ) (place : ℕ) → AreBytes bytes → IsDamaged
 shows_damage bytes place are_bytes damage =
     let front = in_turn damage.groups in
     let here = 0 + length front in
-    let rest_is : drop (length front) bytes ≡ damage.gate ∷ damage.behind = ap (drop (length front)) damage.written ∙ drop_at front (damage.gate ∷ damage.behind) (length front) refl in
-    let are_rest : AreBytes (damage.gate ∷ damage.behind) = subst AreBytes rest_is (All-drop (λ number. number < 256) (length front) bytes are_bytes) in
-    let are_behind : AreBytes damage.behind = All-tail (λ number. number < 256) damage.gate damage.behind are_rest in
-    let broke : walk here 0 (damage.gate ∷ damage.behind) ≡ Err here = walk_broken here damage.gate damage.behind are_behind damage.not_closed damage.no_group (body_at damage.behind) refl in
+    let rest_is : drop (length front) bytes ≡ damage.gate ∷ damage.after = ap (drop (length front)) damage.written ∙ drop_at front (damage.gate ∷ damage.after) (length front) refl in
+    let are_rest : AreBytes (damage.gate ∷ damage.after) = subst AreBytes rest_is (All-drop (λ number. number < 256) (length front) bytes are_bytes) in
+    let are_after : AreBytes damage.after = All-tail (λ number. number < 256) damage.gate damage.after are_rest in
+    let broke : walk here 0 (damage.gate ∷ damage.after) ≡ Err here = walk_broken here damage.gate damage.after are_after damage.not_closed damage.no_group (body_at damage.after) refl in
     let there : here ≡ place = omega (arith, damage.here) in
     stands_long bytes damage.long
     ∙ ap (λ (l : List ℕ). only_records (walk 0 0 l)) damage.written
-    ∙ ap only_records (walk_in_turn 0 damage.groups (damage.gate ∷ damage.behind) damage.all_open (omega arith))
+    ∙ ap only_records (walk_in_turn 0 damage.groups (damage.gate ∷ damage.after) damage.all_open (omega arith))
     ∙ ap (λ (r : Result Found ℕ). only_records (with_front (all_kept 0 (their_records damage.groups)) r)) broke
     ∙ ap Err there
 

@@ -19,7 +19,7 @@ abbrev pub moved_found : ℕ → Result Found ℕ → Result Found ℕ
 moved_found base (Ok found) = Ok (map (moved_by base) found.0, base + found.1)
 moved_found base (Err gate) = Err (base + gate)
 
--- what stands behind an open gate, by its body
+-- what stands after an open gate, by its body
 abbrev opened_by : ℕ → List ℕ → Option (List ℕ) → Result Found ℕ
 opened_by place rest o =
     option_map_or (λ body. option_map_or (λ records. with_front (kept place records) (walk (place + 1) (4 + length body) rest)) (group_of body) (Err place)) o (Err place)

@@ -10,7 +10,7 @@ use Rattle.journal.specs.declared.error.JournalError.{JournalError}
 use Rattle.journal.specs.declared.error.JournalError.TheVariants as errors
 use Rattle.journal.specs.Journal.{EndsClosed, stands_with, IsClosedUp, with_group, IsBeforeOrAfter}
 use Rattle.journal.proofs.Parts.{length-group}
-use Rattle.journal.proofs.Walks.{Ended, walk_ended, walk_swap, walk_behind, walk_closed, walk_written, stands_walk, stands_short}
+use Rattle.journal.proofs.Walks.{Ended, walk_ended, walk_swap, walk_after, walk_closed, walk_written, stands_walk, stands_short}
 
 -- a walk that comes to the last byte
 pub ends_at : (file : List ℕ) (records : List Record) → walk 0 0 file ≡ Ok (records, length file - 1) → 0 < length file → EndsClosed file
@@ -33,8 +33,8 @@ pub record Closed (file : List ℕ) : Type 0 where
 pub closed : (file : List ℕ) → EndsClosed file → Closed file
 closed file ends =
     let at = walk_ended file 0 0 (ends.records, length file - 1) ends.ends ends.some in
-    let total : length file ≡ length at.front + (1 + length at.behind) = ap length at.split ∙ length-append at.front (0 ∷ at.behind) ∙ omega arith in
-    let none : at.behind ≡ [] = nil_from_length at.behind (omega (arith, at.at_gate, ends.some)) in
+    let total : length file ≡ length at.front + (1 + length at.after) = ap length at.split ∙ length-append at.front (0 ∷ at.after) ∙ omega arith in
+    let none : at.after ≡ [] = nil_from_length at.after (omega (arith, at.at_gate, ends.some)) in
     let is : file ≡ at.front ++ 0 ∷ [] = at.split ∙ ap (λ (l : List ℕ). at.front ++ 0 ∷ l) none in
     let gate : length file - 1 ≡ length at.front = omega (arith, at.at_gate) in
     record {
@@ -46,34 +46,34 @@ closed file ends =
       stands_for = stands_walk file (ends.records, length file - 1) ends.ends;
     }
 
--- with any bytes behind the closed gate
-pub stands_behind : (front behind : List ℕ) (old : List ℕ) (records : List Record) → walk 0 0 (front ++ 0 ∷ old) ≡ Ok (records, length front) → stands (front ++ 0 ∷ behind) ≡ Ok records
-stands_behind front behind old records found = stands_walk (front ++ 0 ∷ behind) (records, length front) (walk_behind front old behind (records, length front) found refl)
+-- with any bytes after the closed gate
+pub stands_after : (front after : List ℕ) (old : List ℕ) (records : List Record) → walk 0 0 (front ++ 0 ∷ old) ≡ Ok (records, length front) → stands (front ++ 0 ∷ after) ≡ Ok records
+stands_after front after old records found = stands_walk (front ++ 0 ∷ after) (records, length front) (walk_after front old after (records, length front) found refl)
 
 module _ (file : List ℕ) (ends : EndsClosed file) where
   parts : Closed file
   parts = closed file ends
 
   -- the closed gate stands in each outcome of the first write
-  pub torn_behind : (n : ℕ) (c : List ℕ) → IsTorn (length file) n file c → stands c ≡ stands file
-  torn_behind n c torn =
+  pub torn_after : (n : ℕ) (c : List ℕ) → IsTorn (length file) n file c → stands c ≡ stands file
+  torn_after n c torn =
       let p = parts in
       let front_is : take (length file) c ≡ p.front ++ 0 ∷ [] = torn.before ∙ take_all (length file) file (omega arith) ∙ p.file_is in
       let tail = drop (length file) c in
       let whole : c ≡ p.front ++ 0 ∷ tail =
       sym (take-append-drop (length file) c) ∙ ap (λ (l : List ℕ). l ++ tail) front_is ∙ append_assoc p.front (0 ∷ []) tail in
-      ap stands whole ∙ stands_behind p.front tail [] p.records p.found ∙ sym p.stands_for
+      ap stands whole ∙ stands_after p.front tail [] p.records p.found ∙ sym p.stands_for
 
-  pub written_behind : (bytes : List ℕ) → written file (length file) bytes ≡ file ++ bytes
-  written_behind bytes =
+  pub written_after : (bytes : List ℕ) → written file (length file) bytes ≡ file ++ bytes
+  written_after bytes =
       ap (λ (l : List ℕ). l ++ bytes ++ drop (length file + length bytes) file) (take_all (length file) file (omega arith))
       ∙ ap (λ (l : List ℕ). file ++ bytes ++ l) (drop_all (length file + length bytes) file (omega arith))
       ∙ append-nil (file ++ bytes)
 
   module _ (group : List (List ℕ)) (fits : FitsGroup group) where
-    -- the file with the group behind its closed gate
+    -- the file with the group after its closed gate
     pub staged_by : (at : ℕ) (bytes new : List ℕ) → at ≡ length file → bytes ≡ group_bytes group → new ≡ written file at bytes → new ≡ file ++ group_bytes group
-    staged_by at bytes new at_end bytes_are is = is ∙ (λ i. written file (at_end i) (bytes_are i)) ∙ written_behind (group_bytes group)
+    staged_by at bytes new at_end bytes_are is = is ∙ (λ i. written file (at_end i) (bytes_are i)) ∙ written_after (group_bytes group)
 
     staged_is : file ++ group_bytes group ≡ parts.front ++ 0 ∷ group_bytes group
     staged_is = ap (λ (l : List ℕ). l ++ group_bytes group) parts.file_is ∙ append_assoc parts.front (0 ∷ []) (group_bytes group)
@@ -90,7 +90,7 @@ module _ (file : List ℕ) (ends : EndsClosed file) where
     back_staged : drop (length file - 1 + 1) (file ++ group_bytes group) ≡ group_bytes group
     back_staged = drop_at file (group_bytes group) (length file - 1 + 1) (omega (arith, parts.size))
 
-    -- the file with the group behind an open gate
+    -- the file with the group after an open gate
     found_open : (gate : ℕ) → gate ≢ 0 → walk 0 0 (parts.front ++ gate ∷ group_bytes group) ≡ Ok (parts.records ++ kept (length file - 1) group, length file - 1 + (5 + body_len group))
     found_open gate is_open =
         let place : 0 + length parts.front ≡ length file - 1 = omega (arith, gate_is) in
@@ -110,17 +110,17 @@ module _ (file : List ℕ) (ends : EndsClosed file) where
         let gate = get_or c e 0 in
         let long = length-append file (group_bytes group) in
         let rest : drop e c ≡ gate ∷ group_bytes group =
-        drop_more c e 0 (omega (arith, torn.no_shorter, long, parts.size)) ∙ ap (λ (l : List ℕ). gate ∷ l) (torn.behind ∙ back_staged) in
+        drop_more c e 0 (omega (arith, torn.no_shorter, long, parts.size)) ∙ ap (λ (l : List ℕ). gate ∷ l) (torn.after ∙ back_staged) in
         let whole : c ≡ parts.front ++ gate ∷ group_bytes group =
         sym (take-append-drop e c) ∙ ap (λ (l : List ℕ). l ++ drop e c) (torn.before ∙ front_staged) ∙ ap (λ (l : List ℕ). parts.front ++ l) rest in
         elim (cases_eq gate 0) [
           | inl shut ↦ inl (ap stands (whole ∙ ap (λ (g : ℕ). parts.front ++ g ∷ group_bytes group) shut)
-              ∙ stands_behind parts.front (group_bytes group) [] parts.records parts.found ∙ sym parts.stands_for)
+              ∙ stands_after parts.front (group_bytes group) [] parts.records parts.found ∙ sym parts.stands_for)
           | inr is_open ↦ inr (ap stands whole ∙ stands_open gate is_open)
         ]
 
     pub staged_before : IsBeforeOrAfter file group (file ++ group_bytes group)
-    staged_before = inl (ap stands staged_is ∙ stands_behind parts.front (group_bytes group) [] parts.records parts.found ∙ sym parts.stands_for)
+    staged_before = inl (ap stands staged_is ∙ stands_after parts.front (group_bytes group) [] parts.records parts.found ∙ sym parts.stands_for)
 
     written_gate : (gate : ℕ) → written (file ++ group_bytes group) (length file - 1) (gate ∷ []) ≡ parts.front ++ gate ∷ group_bytes group
     written_gate gate =
@@ -192,27 +192,27 @@ module _ (file : List ℕ) (gate : ℕ) (scans : ScansTo file gate) where
     ended : Ended 0 file gate
     ended = walk_ended file 0 0 (scans.0, gate) walked (omega (arith, long))
 
-    found : walk 0 0 (ended.front ++ 0 ∷ ended.behind) ≡ Ok (scans.0, length ended.front)
+    found : walk 0 0 (ended.front ++ 0 ∷ ended.after) ≡ Ok (scans.0, length ended.front)
     found = ap (λ (l : List ℕ). walk 0 0 l) (sym ended.split) ∙ walked ∙ ap (λ (n : ℕ). Ok (scans.0, n)) (omega (arith, ended.at_gate))
 
     file_stands : stands file ≡ Ok scans.0
     file_stands = stands_walk file (scans.0, gate) walked
 
     pub gate_inside : gate < length file
-    gate_inside = omega (arith, ended.at_gate, ap length ended.split, length-append ended.front (0 ∷ ended.behind))
+    gate_inside = omega (arith, ended.at_gate, ap length ended.split, length-append ended.front (0 ∷ ended.after))
 
     front_is : take (gate + 1) file ≡ ended.front ++ 0 ∷ []
     front_is =
-        ap (λ (l : List ℕ). take (gate + 1) l) (ended.split ∙ sym (append_assoc ended.front (0 ∷ []) ended.behind))
-        ∙ take_at (ended.front ++ 0 ∷ []) ended.behind (gate + 1) (omega (arith, ended.at_gate, length-append ended.front (0 ∷ [])))
+        ap (λ (l : List ℕ). take (gate + 1) l) (ended.split ∙ sym (append_assoc ended.front (0 ∷ []) ended.after))
+        ∙ take_at (ended.front ++ 0 ∷ []) ended.after (gate + 1) (omega (arith, ended.at_gate, length-append ended.front (0 ∷ [])))
 
-    -- any cut behind the closed gate keeps the records
+    -- any cut after the closed gate keeps the records
     pub cut_keeps : (c : List ℕ) → IsCut (gate + 1) file c → stands c ≡ stands file
     cut_keeps c cut =
         let tail = drop (gate + 1) c in
         let whole : c ≡ ended.front ++ 0 ∷ tail =
         sym (take-append-drop (gate + 1) c) ∙ ap (λ (l : List ℕ). l ++ tail) (cut.front ∙ front_is) ∙ append_assoc ended.front (0 ∷ []) tail in
-        ap stands whole ∙ stands_behind ended.front tail ended.behind scans.0 found ∙ sym file_stands
+        ap stands whole ∙ stands_after ended.front tail ended.after scans.0 found ∙ sym file_stands
 
     pub repaired_cut : (new : List ℕ) → new ≡ take (gate + 1) file → Repaired file new gate
     repaired_cut new is =
@@ -221,14 +221,14 @@ module _ (file : List ℕ) (gate : ℕ) (scans : ScansTo file gate) where
         let end_is : length ended.front ≡ length new - 1 = omega (arith, size, ended.at_gate) in
         record {
           ends_closed = ends_at new scans.0
-              (ap (λ (l : List ℕ). walk 0 0 l) whole ∙ walk_behind ended.front ended.behind [] (scans.0, length ended.front) found refl ∙ ap (λ (n : ℕ). Ok (scans.0, n)) end_is)
+              (ap (λ (l : List ℕ). walk 0 0 l) whole ∙ walk_after ended.front ended.after [] (scans.0, length ended.front) found refl ∙ ap (λ (n : ℕ). Ok (scans.0, n)) end_is)
               (omega (arith, size));
           size = size;
-          records = ap stands whole ∙ stands_behind ended.front [] ended.behind scans.0 found ∙ sym file_stands;
+          records = ap stands whole ∙ stands_after ended.front [] ended.after scans.0 found ∙ sym file_stands;
           content = record { short = λ short. absurd (omega (arith, short, long)); long = λ _. (gate, scans, is) };
         }
 
-    -- nothing stands behind it
+    -- nothing stands after it
     pub repaired_whole : length file - 1 ≤ gate → Repaired file file gate
     repaired_whole last =
         let last_is : gate ≡ length file - 1 = omega (arith, gate_inside) in

@@ -27,7 +27,7 @@ unfolding tells
 tells_closed gate [] shut = refl
 tells_closed gate (byte ∷ rest) shut = cond-true (eqb gate 0) None (Some (first_generation (byte ∷ rest))) (eq-eqb gate 0 shut)
 
--- behind an open gate the first group decides, and not the gate's value
+-- after an open gate the first group decides, and not the gate's value
 pub tells_first : (gate : ℕ) (rest : List ℕ) → gate ≢ 0 → 1 ≤ length rest → tells (gate ∷ rest) ≡ Some (first_generation rest)
 unfolding tells
 tells_first gate [] is_open some = absurd (omega arith)
@@ -77,8 +77,8 @@ pub torn_close : (generation : ℕ) (file left : List ℕ) → IsAtRest generati
 torn_close generation file left (inl short) torn = inl (tells_short left (omega (arith, torn.no_longer)))
 torn_close generation [] left (inr lower) torn = absurd (omega (arith, tells_long [] (Some lower.0) lower.1))
 torn_close generation (gate ∷ rest) [] (inr lower) torn = absurd (omega (arith, torn.no_shorter))
-torn_close generation (gate ∷ rest) (other ∷ behind) (inr lower) torn =
-    let same : behind ≡ rest = torn.behind in
+torn_close generation (gate ∷ rest) (other ∷ after) (inr lower) torn =
+    let same : after ≡ rest = torn.after in
     subst (λ (l : List ℕ). IsOlder generation (other ∷ l)) (sym same) (closing generation gate other rest lower)
 
 -- and then while the area is cut
@@ -93,7 +93,7 @@ torn_fill generation count left torn = inl (closed_front left torn.before)
 pub torn_open : (generation : ℕ) (bytes left : List ℕ) → IsTorn 0 1 (0 ∷ bytes) left → IsOlderOrNew generation bytes left
 torn_open generation bytes [] torn = absurd (omega (arith, torn.no_shorter))
 torn_open generation bytes (gate ∷ rest) torn =
-    let same : rest ≡ bytes = torn.behind in
+    let same : rest ≡ bytes = torn.after in
     elim (cases_eq gate 0) [
       | inl shut ↦ inl (inl (tells_closed gate rest shut))
       | inr is_open ↦ inr (gate, is_open, ap (λ (l : List ℕ). gate ∷ l) same)
@@ -135,7 +135,7 @@ pub both_newer : (side : Side) (generation newer : ℕ) (live left : List ℕ) �
 both_newer First generation newer live left told also less = both_older Second newer left live also (inr (generation, told, less))
 both_newer Second generation newer live left told also less = both_older First newer left live also (inr (generation, told, less))
 
--- beside groups of a greater generation behind an open gate
+-- beside groups of a greater generation after an open gate
 pub both_new : (side : Side) (generation newer gate : ℕ) (live bytes : List ℕ) → tells live ≡ Some (Some generation) → tells (1 ∷ bytes) ≡ Some (Some newer) → generation < newer → gate ≢ 0
     → stands_in (pair_of side live (gate ∷ bytes)) ≡ stands_at (other_side side) (1 ∷ bytes)
 both_new side generation newer gate live bytes told also less is_open =
@@ -148,7 +148,7 @@ both_new side generation newer gate live bytes told also less is_open =
 
 -- ---- the first group stays
 
--- another end, behind the first group at least
+-- another end, after the first group at least
 pub tells_stays : (front old new : List ℕ) (records : List Record) → 0 < length front → 1 ≤ length new → walk 0 0 (front ++ 0 ∷ old) ≡ Ok (records, length front)
     → tells (front ++ new) ≡ tells (front ++ 0 ∷ old)
 tells_stays [] old new records some more walked = absurd (omega arith)
@@ -164,19 +164,19 @@ tells_stays (gate ∷ front) old new records some more walked =
     ∙ ap (λ (o : Option (List ℕ)). Some (option_and_then (λ body. option_and_then generation_of (group_of body)) o)) same
     ∙ sym (tells_first gate rest is_open (omega (arith, length-append front (0 ∷ old))))
 
--- a cut behind the closed gate that ends the groups
+-- a cut after the closed gate that ends the groups
 pub cuts_keep_telling : (file left : List ℕ) (records : List Record) (gate : ℕ) → 2 ≤ length file → walk 0 0 file ≡ Ok (records, gate) → IsCut (gate + 1) file left → tells left ≡ tells file
 cuts_keep_telling file left records gate long walked cut =
     let ended = walk_ended file 0 0 (records, gate) walked (omega arith) in
     let tail = drop (gate + 1) left in
     let front_is : take (gate + 1) file ≡ ended.front ++ 0 ∷ [] =
-    ap (λ (l : List ℕ). take (gate + 1) l) (ended.split ∙ sym (append_assoc ended.front (0 ∷ []) ended.behind))
-    ∙ take_at (ended.front ++ 0 ∷ []) ended.behind (gate + 1) (omega (arith, ended.at_gate, length-append ended.front (0 ∷ []))) in
+    ap (λ (l : List ℕ). take (gate + 1) l) (ended.split ∙ sym (append_assoc ended.front (0 ∷ []) ended.after))
+    ∙ take_at (ended.front ++ 0 ∷ []) ended.after (gate + 1) (omega (arith, ended.at_gate, length-append ended.front (0 ∷ []))) in
     let whole : left ≡ ended.front ++ 0 ∷ tail =
     sym (take-append-drop (gate + 1) left) ∙ ap (λ (l : List ℕ). l ++ tail) (cut.front ∙ front_is) ∙ append_assoc ended.front (0 ∷ []) tail in
-    let found : walk 0 0 (ended.front ++ 0 ∷ ended.behind) ≡ Ok (records, length ended.front) =
+    let found : walk 0 0 (ended.front ++ 0 ∷ ended.after) ≡ Ok (records, length ended.front) =
     ap (λ (l : List ℕ). walk 0 0 l) (sym ended.split) ∙ walked ∙ ap (λ (n : ℕ). Ok (records, n)) (omega (arith, ended.at_gate)) in
-    ap tells whole ∙ keeps ended.front ended.behind tail records found ∙ ap tells (sym ended.split)
+    ap tells whole ∙ keeps ended.front ended.after tail records found ∙ ap tells (sym ended.split)
   where
     keeps : (front old new : List ℕ) (records : List Record) → walk 0 0 (front ++ 0 ∷ old) ≡ Ok (records, length front) → tells (front ++ 0 ∷ new) ≡ tells (front ++ 0 ∷ old)
     keeps [] old new records walked = tells_closed 0 new refl ∙ sym (tells_closed 0 old refl)

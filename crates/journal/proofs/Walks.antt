@@ -29,7 +29,7 @@ map_or_ok : {A : Type 0} (f : A → Result Found ℕ) (o : Option A) (place : �
 map_or_ok f None place found is = absurd (cc)
 map_or_ok f (Some x) place found is = (x, refl, is)
 
--- passing over bytes is walking from behind them
+-- passing over bytes is walking from after them
 pub walk-skip : (place passed : ℕ) (bytes : List ℕ) → passed ≤ length bytes → walk place passed bytes ≡ walk (place + passed) 0 (drop passed bytes)
 unfolding walk
 walk-skip place zero bytes fits = let same : place ≡ place + 0 = omega arith in ap (λ (p : ℕ). walk p 0 bytes) same
@@ -38,7 +38,7 @@ walk-skip place (suc k) (b ∷ rest) fits =
     let same : place + 1 + k ≡ place + suc k = omega arith in
     walk-skip (place + 1) k rest (omega arith) ∙ ap (λ (p : ℕ). walk p 0 (drop k rest)) same
 
--- what stands behind an open gate
+-- what stands after an open gate
 abbrev pub opened : ℕ → List ℕ → Result Found ℕ
 opened place rest = option_map_or (λ body. option_map_or (λ records. with_front (kept place records) (walk (place + 1) (4 + length body) rest)) (group_of body) (Err place)) (body_at rest) (Err place)
 
@@ -127,7 +127,7 @@ body_same front old new body is within some =
     body_from (front ++ new) n field (omega (arith, before.some, before.long)) (omega (arith, before.not_long, before.long))
     (omega (arith, length-append front new)) ∙ ap Some (body_new ∙ sym body_old)
 
--- a walk goes on behind a whole group
+-- a walk goes on after a whole group
 pub walk_group : (place gate : ℕ) (rest body : List ℕ) (records : List (List ℕ)) → gate ≢ 0 → body_at rest ≡ Some body → group_of body ≡ Some records
     → walk place 0 (gate ∷ rest) ≡ with_front (kept place records) (walk (place + (5 + length body)) 0 (drop (4 + length body) rest))
 walk_group place gate rest body records is at_body is_group =
@@ -136,7 +136,7 @@ walk_group place gate rest body records is at_body is_group =
     walk_on place gate rest body records is at_body is_group
     ∙ ap (λ (r : Result Found ℕ). with_front (kept place records) r) (walk-skip (place + 1) (4 + length body) rest (omega arith) ∙ ap (λ (p : ℕ). walk p 0 (drop (4 + length body) rest)) same)
 
--- what an open gate that counts has behind it
+-- what an open gate that counts has after it
 pub record Goes (place : ℕ) (rest : List ℕ) (found : Found) : Type 0 where
   pub body : List ℕ
   pub records : List (List ℕ)
@@ -176,8 +176,8 @@ walk_later (b ∷ rest) place zero found walked = elim (cases_eq b 0) [
 -- and ends at a closed gate
 pub record Ended (place : ℕ) (bytes : List ℕ) (gate : ℕ) : Type 0 where
   pub front : List ℕ
-  pub behind : List ℕ
-  pub split : bytes ≡ front ++ 0 ∷ behind
+  pub after : List ℕ
+  pub split : bytes ≡ front ++ 0 ∷ after
   pub at_gate : gate ≡ place + length front
 
 pub walk_ended : (bytes : List ℕ) (place passed : ℕ) (found : Found) → walk place passed bytes ≡ Ok found → passed < length bytes → Ended place bytes found.1
@@ -185,13 +185,13 @@ unfolding walk
 walk_ended [] place passed found walked within = absurd (omega arith)
 walk_ended (b ∷ rest) place (suc k) found walked within =
     let more = walk_ended rest (place + 1) k found walked (omega arith) in
-    record { front = b ∷ more.front; behind = more.behind; split = ap (λ (l : List ℕ). b ∷ l) more.split; at_gate = omega (arith, more.at_gate) }
+    record { front = b ∷ more.front; after = more.after; split = ap (λ (l : List ℕ). b ∷ l) more.split; at_gate = omega (arith, more.at_gate) }
 walk_ended (b ∷ rest) place zero found walked within = elim (cases_eq b 0) [
-  | inl shut ↦ record { front = []; behind = rest; split = ap (λ (g : ℕ). g ∷ rest) shut; at_gate = omega (arith, ap (λ (f : Found). f.1) (closed_is place b rest found shut walked)) }
+  | inl shut ↦ record { front = []; after = rest; split = ap (λ (g : ℕ). g ∷ rest) shut; at_gate = omega (arith, ap (λ (f : Found). f.1) (closed_is place b rest found shut walked)) }
   | inr is_open ↦
       let on = goes place b rest found is_open walked in
       let more = walk_ended rest (place + 1) (4 + length on.body) on.more on.on (body_stands rest on.body on.at_body).inside in
-      record { front = b ∷ more.front; behind = more.behind; split = ap (λ (l : List ℕ). b ∷ l) more.split; at_gate = omega (arith, more.at_gate, ap (λ (f : Found). f.1) on.is) }
+      record { front = b ∷ more.front; after = more.after; split = ap (λ (l : List ℕ). b ∷ l) more.split; at_gate = omega (arith, more.at_gate, ap (λ (f : Found). f.1) on.is) }
 ]
 
 -- Another end in the place of that which begins with the closed gate: the walk comes there with the same records.
@@ -230,9 +230,9 @@ walk_swap (b ∷ front) place zero old new found walked ends some more = elim (c
       ∙ ap (λ (f : Found). with_front f.0 (walk (place + length (b ∷ front)) 0 new)) (sym on.is)
 ]
 
--- whatever stands behind the closed gate
-pub walk_behind : (front old new : List ℕ) (found : Found) → walk 0 0 (front ++ 0 ∷ old) ≡ Ok found → found.1 ≡ length front → walk 0 0 (front ++ 0 ∷ new) ≡ Ok found
-walk_behind front old new found walked ends =
+-- whatever stands after the closed gate
+pub walk_after : (front old new : List ℕ) (found : Found) → walk 0 0 (front ++ 0 ∷ old) ≡ Ok found → found.1 ≡ length front → walk 0 0 (front ++ 0 ∷ new) ≡ Ok found
+walk_after front old new found walked ends =
     walk_swap front 0 0 (0 ∷ old) (0 ∷ new) found walked (omega arith) (omega arith) (omega arith)
     ∙ ap (λ (r : Result Found ℕ). with_front found.0 r) (walk_closed (0 + length front) 0 new refl)
     ∙ (λ i. Ok (append-nil found.0 i, at_end i))
@@ -269,7 +269,7 @@ walk_written place gate records is_open fits =
     let n = body_len records in
     let long : length body ≡ n = length-body records in
     let field : length_field bytes ≡ n = field_is records fits in
-    let behind : drop 4 bytes ≡ body ++ 0 ∷ [] = refl in
+    let after : drop 4 bytes ≡ body ++ 0 ∷ [] = refl in
     let size : length bytes ≡ 4 + (n + 1) = omega (arith, length-append body (0 ∷ [])) in
     let at_body : body_at bytes ≡ Some body = body_from bytes n field (not_empty records fits) fits.not_long (omega arith) ∙ ap Some (take_at body (0 ∷ []) n long) in
     let end_is : drop (4 + length body) bytes ≡ 0 ∷ [] = sym (drop-drop (length body) 4 bytes) ∙ drop_at body (0 ∷ []) (length body) refl in

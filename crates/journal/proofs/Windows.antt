@@ -21,7 +21,7 @@ body_of_part n bytes body is = elim (cases_lt n (length bytes)) [
   | inr all ↦ ap body_at (sym (take_all n bytes all)) ∙ is
 ]
 
--- a body that stands in the bytes stands in a part that has room for any body and the gate behind it
+-- a body that stands in the bytes stands in a part that has room for any body and the gate after it
 pub body_in_part : (n : ℕ) (bytes body : List ℕ) → (n < length bytes → 4194309 ≤ n) → body_at bytes ≡ Some body → body_at (take n bytes) ≡ Some body
 body_in_part n bytes body room is = elim (cases_lt n (length bytes)) [
   | inl less ↦
@@ -53,9 +53,9 @@ module _ (file : List ℕ) (w : Window) (is : IsWindow file w) where
   pub no_more : length w.bytes.items - w.read ≤ length file - w.gate
   no_more = omega (arith, long, ap length is.same, length-take (length w.bytes.items - w.read) (drop w.gate file), length-drop w.gate file)
 
-  -- what stands behind the next gate
-  pub behind_gate : w.read < length w.bytes.items → drop (w.read + 1) w.bytes.items ≡ take (length w.bytes.items - (w.read + 1)) (drop (w.gate + 1) file)
-  behind_gate some =
+  -- what stands after the next gate
+  pub after_gate : w.read < length w.bytes.items → drop (w.read + 1) w.bytes.items ≡ take (length w.bytes.items - (w.read + 1)) (drop (w.gate + 1) file)
+  after_gate some =
       let less : length w.bytes.items - w.read ≡ 1 + (length w.bytes.items - (w.read + 1)) = omega arith in
       sym (drop-drop 1 w.read w.bytes.items) ∙ ap (drop 1) (is.same ∙ ap (λ (n : ℕ). take n (drop w.gate file)) less)
       ∙ drop-take 1 (length w.bytes.items - (w.read + 1)) (drop w.gate file)
@@ -71,7 +71,7 @@ module _ (file : List ℕ) (w : Window) (is : IsWindow file w) where
   pub has_body : (body : List ℕ) → w.read < length w.bytes.items → body_at (drop (w.read + 1) w.bytes.items) ≡ Some body → HasNext file w
   has_body body some found = record {
     some = some;
-    body = found ∙ sym (body_of_part (length w.bytes.items - (w.read + 1)) (drop (w.gate + 1) file) body (ap body_at (sym (behind_gate some)) ∙ found));
+    body = found ∙ sym (body_of_part (length w.bytes.items - (w.read + 1)) (drop (w.gate + 1) file) body (ap body_at (sym (after_gate some)) ∙ found));
   }
 
   -- it has as much of the file as a group takes, or all that is left
@@ -80,7 +80,7 @@ module _ (file : List ℕ) (w : Window) (is : IsWindow file w) where
       let n = length w.bytes.items - (w.read + 1) in
       let whole = drop (w.gate + 1) file in
       let enough : n < length whole → 4194309 ≤ n = λ less. omega (arith, room (omega (arith, length-drop (w.gate + 1) file, less))) in
-      let part = behind_gate some in
+      let part = after_gate some in
       record {
         some = some;
         body = ap body_at part ∙ same_body (take n whole) whole (body_of_part n whole) (λ body at. body_in_part n whole body enough at) (body_at (take n whole)) (body_at whole) refl refl;
@@ -150,9 +150,9 @@ filled file w v count is counted gate len long read same =
     left = omega (arith, read, long)
 
 -- a buffer whose end a read filled
-pub end_filled : (a len : ℕ) (old new behind : List ℕ) → a ≤ length old → length old ≡ len → length new ≡ length old - a → take len (put_mid a (length old - a) old new ++ behind) ≡ take a old ++ new
-end_filled a len old new behind within old_len new_len =
+pub end_filled : (a len : ℕ) (old new after : List ℕ) → a ≤ length old → length old ≡ len → length new ≡ length old - a → take len (put_mid a (length old - a) old new ++ after) ≡ take a old ++ new
+end_filled a len old new after within old_len new_len =
     let none : post_of a (length old - a) old ≡ [] = drop_all (length old - a) (drop a old) (omega (arith, length-drop a old)) in
     let all : put_mid a (length old - a) old new ≡ take a old ++ new = ap (λ (l : List ℕ). take a old ++ (new ++ l)) none ∙ ap (λ (l : List ℕ). take a old ++ l) (append-nil new) in
     let front = length-take-le a old within in
-    ap (λ (l : List ℕ). take len (l ++ behind)) all ∙ take_at (take a old ++ new) behind len (omega (arith, length-append (take a old) new, front, old_len, new_len))
+    ap (λ (l : List ℕ). take len (l ++ after)) all ∙ take_at (take a old ++ new) after len (omega (arith, length-append (take a old) new, front, old_len, new_len))

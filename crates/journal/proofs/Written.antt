@@ -1,4 +1,4 @@
--- Files as groups are written to them, one behind the other.
+-- Files as groups are written to them, one after the other.
 use Rattle.std.proofs.Common.{◌≡◌, ◌≢◌, ℕ, ◌+◌, ◌-◌, ◌≤◌, List, [], ◌∷◌, ◌++◌, length, map, take, drop, Some, Result, Ok, refl, sym, ◌∙◌, ap, arith, append_assoc, length-append}
 use Rattle.std.specs.List.{All}
 use Rattle.std.proofs.lemmas.List.{append-nil, drop-drop, take_at, drop_at, map-append}
@@ -26,11 +26,11 @@ body_here records rest fits some =
     let bytes = sized_body records ++ rest in
     let long : length body ≡ n = length-body records in
     let field : length_field bytes ≡ n = from_be_bytes-to_be_bytes_4 n (omega (arith, fits.not_long)) in
-    let behind : drop 4 bytes ≡ body ++ rest = refl in
+    let after : drop 4 bytes ≡ body ++ rest = refl in
     let size : length bytes ≡ 4 + (n + length rest) = omega (arith, length-append body rest) in
     body_from bytes n field (not_empty records fits) fits.not_long (omega arith) ∙ ap Some (take_at body rest n long)
 
--- and then what is behind it
+-- and then what is after it
 pub walk_one : (place gate : ℕ) (records : List (List ℕ)) (rest : List ℕ) → gate ≢ 0 → FitsGroup records → 1 ≤ length rest
     → walk place 0 (gate ∷ sized_body records ++ rest) ≡ with_front (kept place records) (walk (place + 1 + length (sized_body records)) 0 rest)
 walk_one place gate records rest is_open fits some =
@@ -41,7 +41,7 @@ walk_one place gate records rest is_open fits some =
     walk_group place gate bytes body records is_open (body_here records rest fits some) (group_read records fits)
     ∙ (λ i. with_front (kept place records) (walk (next i) 0 (end_is i)))
 
--- groups behind open gates, and then what is behind them
+-- groups after open gates, and then what is after them
 pub walk_in_turn : (place : ℕ) (groups : List Gated) (rest : List ℕ) → All IsOpen groups → 1 ≤ length rest
     → walk place 0 (in_turn groups ++ rest) ≡ with_front (all_kept place (their_records groups)) (walk (place + length (in_turn groups)) 0 rest)
 walk_in_turn place [] rest all_open some =
@@ -61,13 +61,13 @@ walk_in_turn place (group ∷ groups) rest all_open some =
     ∙ sym (with_front-append (kept place group.records) (all_kept next (their_records groups)) (walk (next + length (in_turn groups)) 0 rest))
     ∙ ap (λ (p : ℕ). with_front (all_kept place (their_records (group ∷ groups))) (walk p 0 rest)) size
 
-pub groups_stand : (groups : List Gated) (behind : List ℕ) → All IsOpen groups → stands (in_turn groups ++ 0 ∷ behind) ≡ Ok (all_kept 0 (their_records groups))
-groups_stand groups behind all_open =
+pub groups_stand : (groups : List Gated) (after : List ℕ) → All IsOpen groups → stands (in_turn groups ++ 0 ∷ after) ≡ Ok (all_kept 0 (their_records groups))
+groups_stand groups after all_open =
     let records = all_kept 0 (their_records groups) in
     let gate = 0 + length (in_turn groups) in
-    stands_walk (in_turn groups ++ 0 ∷ behind) (records, gate)
-    (walk_in_turn 0 groups (0 ∷ behind) all_open (omega arith)
-    ∙ ap (λ (r : Result (List Record × ℕ) ℕ). with_front records r) (walk_closed gate 0 behind refl)
+    stands_walk (in_turn groups ++ 0 ∷ after) (records, gate)
+    (walk_in_turn 0 groups (0 ∷ after) all_open (omega arith)
+    ∙ ap (λ (r : Result (List Record × ℕ) ℕ). with_front records r) (walk_closed gate 0 after refl)
     ∙ ap (λ (l : List Record). Ok (l, gate)) (append-nil records))
 
 pub records_written : (groups : List (List (List ℕ))) → their_records (map as_written groups) ≡ groups
@@ -80,10 +80,10 @@ open_written (records ∷ groups) fits =
     All-cons IsOpen (as_written records) (map as_written groups) (record { not_closed = λ one. omega arith; fits = All-head FitsGroup records groups fits })
     (open_written groups (All-tail FitsGroup records groups fits))
 
-pub written_stand : (groups : List (List (List ℕ))) (behind : List ℕ) → All FitsGroup groups → stands (file_bytes groups ++ behind) ≡ Ok (all_kept 0 groups)
-written_stand groups behind fits =
-    ap stands (append_assoc (in_turn (map as_written groups)) (0 ∷ []) behind)
-    ∙ groups_stand (map as_written groups) behind (open_written groups fits)
+pub written_stand : (groups : List (List (List ℕ))) (after : List ℕ) → All FitsGroup groups → stands (file_bytes groups ++ after) ≡ Ok (all_kept 0 groups)
+written_stand groups after fits =
+    ap stands (append_assoc (in_turn (map as_written groups)) (0 ∷ []) after)
+    ∙ groups_stand (map as_written groups) after (open_written groups fits)
     ∙ ap (λ (found : List (List (List ℕ))). Ok (all_kept 0 found)) (records_written groups)
 
 -- all but the last byte

@@ -117,7 +117,7 @@ IsAtRest generation file = (length file ≡ 1) ⊎ ((lower : ℕ) × (tells file
 abbrev pub IsOlder : ℕ → List ℕ → Type 0
 IsOlder generation file = (tells file ≡ None) ⊎ ((lower : ℕ) × (tells file ≡ Some (Some lower)) × (lower < generation))
 
--- an older area, or these bytes behind an open gate
+-- an older area, or these bytes after an open gate
 abbrev pub IsOlderOrNew : ℕ → List ℕ → List ℕ → Type 0
 IsOlderOrNew generation bytes left = IsOlder generation left ⊎ ((gate : ℕ) × (gate ≢ CLOSED) × (left ≡ gate ∷ bytes))
 
@@ -125,7 +125,7 @@ IsOlderOrNew generation bytes left = IsOlder generation left ⊎ ((gate : ℕ) �
 abbrev pub clear_calls : List Call
 clear_calls = Wrote 0 (CLOSED ∷ []) ∷ Synced ∷ Cut 1 ∷ Synced ∷ []
 
--- the calls that write bytes behind the closed gate of an area, and open it
+-- the calls that write bytes after the closed gate of an area, and open it
 abbrev pub fill_calls : List ℕ → List Call
 fill_calls bytes = Wrote 1 bytes ∷ Synced ∷ Wrote 0 (OPEN ∷ []) ∷ Synced ∷ []
 

@@ -30,7 +30,7 @@ abbrev pub IsLast : List (List ℕ) → ℕ → ℕ → Type 0
 IsLast [] start count = ⊥
 IsLast (configuration ∷ state) start count = IsBare state start count ⊎ EndsIn configuration state start count
 
--- Bytes are those of a checkpoint of generation 0 behind its first gate, whose last group is this one.
+-- Bytes are those of a checkpoint of generation 0 after its first gate, whose last group is this one.
 pub record IsDraft (bytes : List ℕ) (start count : ℕ) : Type 0 where
   pub records : List (List ℕ)
   pub written : bytes ≡ bytes_for 0 records
@@ -45,6 +45,6 @@ pub record IsDraftOf (bytes : List ℕ) (place records_count start count : ℕ) 
   pub counts : records_count ≡ length draft.records
   pub few : records_count ≤ length bytes
 
--- the bytes of the parts of a record, one behind the other
+-- the bytes of the parts of a record, one after the other
 abbrev pub whole : List (Bor (List ℕ)) → List ℕ
 whole parts = flat_map (λ part. part.now) parts

@@ -32,15 +32,15 @@ record_bytes bytes = to_be_bytes w32 (length bytes) ++ bytes
 abbrev pub body_bytes : List (List ℕ) → List ℕ
 body_bytes records = flat_map record_bytes records
 
--- the body of a group of these records, behind its length
+-- the body of a group of these records, after its length
 abbrev pub sized_body : List (List ℕ) → List ℕ
 sized_body records = to_be_bytes w32 (body_len records) ++ body_bytes records
 
--- a group of these records behind its gate, with the closed gate for the next group
+-- a group of these records after its gate, with the closed gate for the next group
 abbrev pub group_bytes : List (List ℕ) → List ℕ
 group_bytes records = sized_body records ++ CLOSED ∷ []
 
--- this file with a group of these records behind it, whose gate is the file's last byte, and is open
+-- this file with a group of these records after it, whose gate is the file's last byte, and is open
 abbrev pub file_with : List ℕ → List (List ℕ) → List ℕ
 file_with file records = take (length file - 1) file ++ OPEN ∷ group_bytes records
 
@@ -58,15 +58,15 @@ pub record IsOpen (group : Gated) : Type 0 where
 abbrev pub with_gate : Gated → List ℕ
 with_gate group = group.gate ∷ sized_body group.records
 
--- the bytes of these groups, one behind the other
+-- the bytes of these groups, one after the other
 abbrev pub in_turn : List Gated → List ℕ
 in_turn groups = flat_map with_gate groups
 
--- a group of these records behind the open gate that is written
+-- a group of these records after the open gate that is written
 abbrev pub as_written : List (List ℕ) → Gated
 as_written records = record { gate = OPEN; records = records }
 
--- the bytes of a file of these groups, and a closed gate behind the last
+-- the bytes of a file of these groups, and a closed gate after the last
 abbrev pub file_bytes : List (List (List ℕ)) → List ℕ
 file_bytes groups = in_turn (map as_written groups) ++ CLOSED ∷ []
 
@@ -74,7 +74,7 @@ file_bytes groups = in_turn (map as_written groups) ++ CLOSED ∷ []
 abbrev pub length_field : List ℕ → ℕ
 length_field bytes = from_be_bytes w32 (take LENGTH_BYTES bytes)
 
--- the record at the front, and the bytes behind it, if it is whole
+-- the record at the front, and the bytes after it, if it is whole
 unfoldable pub split_record : List ℕ → Option (List ℕ × List ℕ)
 split_record bytes =
     if nat_lt (length bytes) LENGTH_BYTES then None else
@@ -82,20 +82,20 @@ split_record bytes =
     Some (take (length_field bytes) (drop LENGTH_BYTES bytes), drop (length_field bytes) (drop LENGTH_BYTES bytes))
 
 -- the list of whole records that the bytes are, but for so many at the front that are passed over
-unfoldable pub records_behind : ℕ → List ℕ → Option (List (List ℕ))
-records_behind passed [] = Some []
-records_behind (suc passed) (byte ∷ rest) = records_behind passed rest
-records_behind zero (byte ∷ rest) = option_and_then (λ parts. option_map (λ others. parts.0 ∷ others) (records_behind (LENGTH_BYTES - 1 + length parts.0) rest)) (split_record (byte ∷ rest))
+unfoldable pub records_after : ℕ → List ℕ → Option (List (List ℕ))
+records_after passed [] = Some []
+records_after (suc passed) (byte ∷ rest) = records_after passed rest
+records_after zero (byte ∷ rest) = option_and_then (λ parts. option_map (λ others. parts.0 ∷ others) (records_after (LENGTH_BYTES - 1 + length parts.0) rest)) (split_record (byte ∷ rest))
 
 -- the list of whole records that a body is
 abbrev pub records_of : List ℕ → Option (List (List ℕ))
-records_of body = records_behind 0 body
+records_of body = records_after 0 body
 
 -- the records of a body, if they are whole and not too many
 unfoldable pub group_of : List ℕ → Option (List (List ℕ))
 group_of body = option_and_then (λ records. if nat_lt MAX_GROUP_RECORDS (length records) then None else Some records) (records_of body)
 
--- the body behind an open gate, if its length is within the limits, and it and the next gate stand within the file
+-- the body after an open gate, if its length is within the limits, and it and the next gate stand within the file
 unfoldable pub body_at : List ℕ → Option (List ℕ)
 body_at bytes =
     if nat_lt (length bytes) LENGTH_BYTES then None else
@@ -104,11 +104,11 @@ body_at bytes =
     if nat_le (length bytes - LENGTH_BYTES) (length_field bytes) then None else
     Some (take (length_field bytes) (drop LENGTH_BYTES bytes))
 
--- a record of the group behind the gate at this place
+-- a record of the group after the gate at this place
 abbrev pub kept_at : ℕ → List ℕ → Record
 kept_at gate bytes = record { bytes = bytes; gate = gate }
 
--- the records of the group behind the gate at this place
+-- the records of the group after the gate at this place
 abbrev pub kept : ℕ → List (List ℕ) → List Record
 kept gate records = map (kept_at gate) records
 
@@ -123,7 +123,7 @@ with_front front (Ok found) = Ok (front ++ found.0, found.1)
 with_front front (Err gate) = Err gate
 
 -- The records of the groups whose gates are open, and the place of the closed gate that ends them, or the
--- place of an open gate with no whole group behind it. The bytes begin at this place of the file, and so
+-- place of an open gate with no whole group after it. The bytes begin at this place of the file, and so
 -- many of them are passed over before the next gate.
 unfoldable pub walk : ℕ → ℕ → List ℕ → Result (List Record × ℕ) ℕ
 walk place passed [] = Ok ([], place)
@@ -142,19 +142,19 @@ only_records (Ok found) = Ok found.0
 only_records (Err gate) = Err gate
 
 -- What the bytes of a file stand for: the records of the groups whose gates are open, from the front, or the
--- place of an open gate with no whole group behind it.
+-- place of an open gate with no whole group after it.
 unfoldable pub stands : List ℕ → Result (List Record) ℕ
 stands file = only_records (scan file)
 
--- the bytes are groups behind open gates with a closed gate behind the last, and these are their records
+-- the bytes are groups after open gates with a closed gate after the last, and these are their records
 pub record AreGroups (bytes : List ℕ) (records : List Record) : Type 0 where
   pub groups : List Gated
-  pub behind : List ℕ
+  pub after : List ℕ
   pub all_open : All IsOpen groups
-  pub written : bytes ≡ in_turn groups ++ CLOSED ∷ behind
+  pub written : bytes ≡ in_turn groups ++ CLOSED ∷ after
   pub found : records ≡ all_kept 0 (map (λ group. group.records) groups)
 
--- a whole group, but for its gate, stands at the front with one byte or more behind it, the next gate
+-- a whole group, but for its gate, stands at the front with one byte or more after it, the next gate
 pub record HasGroup (bytes : List ℕ) : Type 0 where
   pub records : List (List ℕ)
   pub next : ℕ
@@ -162,17 +162,17 @@ pub record HasGroup (bytes : List ℕ) : Type 0 where
   pub fits : FitsGroup records
   pub written : bytes ≡ sized_body records ++ next ∷ rest
 
--- of two bytes or more: groups behind open gates end at this place, where an open gate has no whole group behind it
+-- of two bytes or more: groups after open gates end at this place, where an open gate has no whole group after it
 pub record IsDamagedAt (bytes : List ℕ) (place : ℕ) : Type 0 where
   pub long : 2 ≤ length bytes
   pub groups : List Gated
   pub gate : ℕ
-  pub behind : List ℕ
+  pub after : List ℕ
   pub all_open : All IsOpen groups
-  pub written : bytes ≡ in_turn groups ++ gate ∷ behind
+  pub written : bytes ≡ in_turn groups ++ gate ∷ after
   pub here : place ≡ length (in_turn groups)
   pub not_closed : gate ≢ CLOSED
-  pub no_group : ¬ HasGroup behind
+  pub no_group : ¬ HasGroup after
 
 -- The error says why nothing was read: the place of the gate, or that memory was refused.
 abbrev pub FailsAs : {X : Type 0} → JournalError → Result X ℕ → Type 0

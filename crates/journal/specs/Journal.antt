@@ -47,25 +47,25 @@ pub record IsNewPair (live spare : List ℕ) (side : Side) (generation : ℕ) : 
   pub first : side ≡ First
   pub other_short : length spare ≡ 1
 
--- Of two disks: the one that is written to tells its generation, or the pair is new; the other one is at rest and firm.
+-- Of two disks: the one that is written to tells its generation, or the pair is new; the other one is at rest and durable.
 pub record IsAlivePair {D : Type 0} (device : Device D) (live : D) (spare : Spare D) : Type 0 where
   pub of_generation : (tells (device.content live) ≡ Some (Some spare.generation)) ⊎ IsNewPair (device.content live) (device.content spare.disk) spare.side spare.generation
   pub at_rest : IsAtRest spare.generation (device.content spare.disk)
-  pub firm : LeavesOnly (device.content spare.disk) (device.outcome spare.disk)
+  pub durable : LeavesOnly (device.content spare.disk) (device.outcome spare.disk)
 
--- A journal that can be added to: its file ends with its closed gate and is firm, and its length is kept. Of two disks the other one is too.
+-- A journal that can be added to: its file ends with its closed gate and is durable, and its length is kept. Of two disks the other one is too.
 pub record IsAlive {D : Type 0} (device : Device D) (journal : Journal D) : Type 0 where
   pub ends_closed : EndsClosed (device.content (disk_of journal))
   pub len : journal.len ≡ length (device.content (disk_of journal))
-  pub firm : LeavesOnly (device.content (disk_of journal)) (device.outcome (disk_of journal))
+  pub durable : LeavesOnly (device.content (disk_of journal)) (device.outcome (disk_of journal))
   pub pair : IfSome (spare_of journal) (IsAlivePair device (disk_of journal))
 
--- the calls that add a group of these records to a file of this length: it is written behind the file's closed gate, and synced; then
+-- the calls that add a group of these records to a file of this length: it is written after the file's closed gate, and synced; then
 -- that gate is opened, in a write of its own, and synced
 abbrev pub append_calls : ℕ → List (List ℕ) → List Call
 append_calls len records = Wrote len (group_bytes records) ∷ Synced ∷ Wrote (len - 1) (OPEN ∷ []) ∷ Synced ∷ []
 
--- some of these calls were made behind the old ones, from the first on
+-- some of these calls were made after the old ones, from the first on
 pub record MadeSome (calls old new : List Call) : Type 0 where
   pub made : List Call
   pub left : List Call

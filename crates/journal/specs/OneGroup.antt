@@ -21,9 +21,9 @@ same_body (r ∷ a) (s ∷ b) short_a short_b same =
     let small_s : length s < 2 ^ 32 = omega (arith, sum_b) in
     let long : length s ≡ length r = sym (from_be_bytes-to_be_bytes_4 (length s) small_s)
     ∙ ap (λ (l : List ℕ). from_be_bytes w32 (take LENGTH_BYTES l)) (sym same) ∙ from_be_bytes-to_be_bytes_4 (length r) small_r in
-    let behind : r ++ body_bytes a ≡ s ++ body_bytes b = ap (drop LENGTH_BYTES) same in
-    let first : r ≡ s = sym (take_at r (body_bytes a) (length r) refl) ∙ ap (take (length r)) behind ∙ take_at s (body_bytes b) (length r) long in
-    let others : body_bytes a ≡ body_bytes b = sym (drop_at r (body_bytes a) (length r) refl) ∙ ap (drop (length r)) behind ∙ drop_at s (body_bytes b) (length r) long in
+    let after : r ++ body_bytes a ≡ s ++ body_bytes b = ap (drop LENGTH_BYTES) same in
+    let first : r ≡ s = sym (take_at r (body_bytes a) (length r) refl) ∙ ap (take (length r)) after ∙ take_at s (body_bytes b) (length r) long in
+    let others : body_bytes a ≡ body_bytes b = sym (drop_at r (body_bytes a) (length r) refl) ∙ ap (drop (length r)) after ∙ drop_at s (body_bytes b) (length r) long in
     let rest : a ≡ b = same_body a b (omega (arith, sum_a)) (omega (arith, sum_b)) others in
     (λ i. first i ∷ rest i)
 

@@ -51,7 +51,7 @@ spare_with disk side generation = record { disk = disk; side = side; generation 
 -- Both areas are opened: the one that is read ends with its closed gate, and the other one is at rest.
 pub record AreOpened {D : Type 0} (device : Device D) (side : Side) (generation : ℕ) (live other now also : D) : Type 0 where
   pub ends_closed : EndsClosed (device.content now)
-  pub firm : LeavesOnly (device.content now) (device.outcome now)
+  pub durable : LeavesOnly (device.content now) (device.outcome now)
   pub pair : IsAlivePair device now (spare_with also side generation)
   pub same : stands_in (pair_of side (device.content now) (device.content also)) ≡ stands_in (pair_of side (device.content live) (device.content other))
   pub closed : IsClosedUp (device.content live) (device.content now)

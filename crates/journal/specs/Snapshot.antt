@@ -29,7 +29,7 @@ abbrev pub checkpoint_groups : ℕ → List (List ℕ) → List (List (List ℕ)
 checkpoint_groups generation [] = []
 checkpoint_groups generation (configuration ∷ state) = (configuration ∷ head_record generation ∷ []) ∷ packed state
 
--- their bytes behind the first gate
+-- their bytes after the first gate
 abbrev pub bytes_for : ℕ → List (List ℕ) → List ℕ
 bytes_for generation [] = []
 bytes_for generation (configuration ∷ state) = sized_body (configuration ∷ head_record generation ∷ []) ++ file_bytes (packed state)
@@ -61,7 +61,7 @@ abbrev pub read_without_head : Result (List Record) ℕ → List (List ℕ)
 read_without_head (Ok records) = without_head (map (λ one. one.bytes) records)
 read_without_head (Err gate) = []
 
--- the records of a checkpoint whose bytes these are behind its first gate
+-- the records of a checkpoint whose bytes these are after its first gate
 unfoldable pub records_in : List ℕ → List (List ℕ)
 records_in bytes = read_without_head (stands (OPEN ∷ bytes))
 
@@ -70,7 +70,7 @@ abbrev pub head_place : List (List ℕ) → ℕ
 head_place [] = 0
 head_place (configuration ∷ state) = 13 + length configuration
 
--- Bytes are those of a checkpoint of some generation behind its first gate, which has so many records without the head, and the generation
+-- Bytes are those of a checkpoint of some generation after its first gate, which has so many records without the head, and the generation
 -- at this place.
 pub record IsSnapshot (bytes : List ℕ) (place count : ℕ) : Type 0 where
   pub generation : ℕ

@@ -6,7 +6,7 @@ use Rattle.journal.specs.declared.layout.TheConstants.{WINDOW_BYTES}
 use Rattle.journal.specs.declared.record.Record.{Record}
 use Rattle.journal.specs.declared.window.Window.{Window}
 
--- the bytes behind those that were read are the file's from the next gate on
+-- the bytes after those that were read are the file's from the next gate on
 pub record IsWindow (file : List ℕ) (window : Window) : Type 0 where
   pub len : window.len ≡ length file
   pub inside : window.gate < length file
@@ -15,7 +15,7 @@ pub record IsWindow (file : List ℕ) (window : Window) : Type 0 where
   pub same : drop window.read window.bytes.items ≡ take (length window.bytes.items - window.read) (drop window.gate file)
   pub room : min (length file - window.gate) WINDOW_BYTES ≤ length window.bytes.items
 
--- what a window has of the file is enough to read the next gate and the group behind it
+-- what a window has of the file is enough to read the next gate and the group after it
 pub record HasNext (file : List ℕ) (window : Window) : Type 0 where
   pub some : window.read < length window.bytes.items
   pub body : body_at (drop (window.read + 1) window.bytes.items) ≡ body_at (drop (window.gate + 1) file)

@@ -34,16 +34,16 @@ fn read_front<D: Disk>(alloc: Global, disk: &mut D, most: u64) -> Result<Vec<u8>
     Ok(bytes)
 }
 
-// What an area tells, whose disk is firm after it.
+// What an area tells, whose disk is durable after it.
 fn told_by<D: Disk>(alloc: Global, disk: &mut D) -> Result<Option<Option<u64>>, JournalError>
     ensures told { IfOk result (λ told. told ≡ tells (D.device.content disk.old)) }
     ensures content { D.device.content disk.new ≡ D.device.content disk.old }
-    ensures firm { OnOk result (LeavesOnly (D.device.content disk.new) (D.device.outcome disk.new)) }
+    ensures durable { OnOk result (LeavesOnly (D.device.content disk.new) (D.device.outcome disk.new)) }
     ensures any_moment { AtEachMoment D.device disk.old disk.new (D.device.outcome disk.old) }
     ensures errors { IfErr result (λ error. (error ≡ JournalError.Memory) ⊎ (error ≡ JournalError.Device)) }
     ensures cause { TellsFault JournalError.Device (D.device.faults disk.old) (D.device.faults disk.new) result }
 {
-    // The gate has to be firm before it is read.
+    // The gate has to be durable before it is read.
     disk.sync()?;
     let bytes = read_front(alloc, disk, WINDOW_BYTES)?;
     Ok(tells(alloc, &bytes)?)
@@ -91,7 +91,7 @@ fn open_area<D: Disk, R: Reader>(
     ensures tells { OnOk result (tells (D.device.content disk.new) ≡ tells (D.device.content disk.old)) }
     ensures content { OnOk result (IsClosedUp (D.device.content disk.old) (D.device.content disk.new)) }
     ensures unchanged { IfErr result (λ error. error ≢ JournalError.Device → D.device.content disk.new ≡ D.device.content disk.old) }
-    ensures firm { OnOk result (LeavesOnly (D.device.content disk.new) (D.device.outcome disk.new)) }
+    ensures durable { OnOk result (LeavesOnly (D.device.content disk.new) (D.device.outcome disk.new)) }
     ensures any_moment { AtEachMoment D.device disk.old disk.new (IsSameAs (D.device.content disk.old)) }
     ensures damaged { (place : ℕ) → IsErrOf result (JournalError.Damaged place) → stands_at side (D.device.content disk.old) ≡ Err place }
     ensures cause { TellsFault JournalError.Device (D.device.faults disk.old) (D.device.faults disk.new) result }
@@ -106,12 +106,12 @@ fn open_area<D: Disk, R: Reader>(
 // Leaves one closed gate of an area that tells nothing.
 fn shut_area<D: Disk>(disk: &mut D) -> Result<(), JournalError>
     requires shut { tells (D.device.content disk.old) ≡ None }
-    requires firm { LeavesOnly (D.device.content disk.old) (D.device.outcome disk.old) }
+    requires durable { LeavesOnly (D.device.content disk.old) (D.device.outcome disk.old) }
     ensures len { OnOk result (length (D.device.content disk.new) ≡ 1) }
     ensures content { OnOk result (IsClosedUp (D.device.content disk.old) (D.device.content disk.new)) }
     ensures tells { OnOk result (tells (D.device.content disk.new) ≡ tells (D.device.content disk.old)) }
     ensures same { OnOk result (stands (D.device.content disk.new) ≡ stands (D.device.content disk.old)) }
-    ensures firm { OnOk result (LeavesOnly (D.device.content disk.new) (D.device.outcome disk.new)) }
+    ensures durable { OnOk result (LeavesOnly (D.device.content disk.new) (D.device.outcome disk.new)) }
     ensures any_moment { AtEachMoment D.device disk.old disk.new (IsSameAs (D.device.content disk.old)) }
     ensures errors { IfErr result (λ error. error ≡ JournalError.Device) }
     ensures cause { TellsFault JournalError.Device (D.device.faults disk.old) (D.device.faults disk.new) result }
@@ -123,9 +123,9 @@ fn shut_area<D: Disk>(disk: &mut D) -> Result<(), JournalError>
 // Leaves an area that isn't read at rest: one closed gate where it tells nothing, and else all its bytes.
 fn rest_area<D: Disk>(disk: &mut D, shut: bool) -> Result<(), JournalError>
     requires shut { shut ≡ is_shut (D.device.content disk.old) }
-    requires firm { LeavesOnly (D.device.content disk.old) (D.device.outcome disk.old) }
+    requires durable { LeavesOnly (D.device.content disk.old) (D.device.outcome disk.old) }
     ensures rested { OnOk result (IsRested (D.device.content disk.old) (D.device.content disk.new)) }
-    ensures firm { OnOk result (LeavesOnly (D.device.content disk.new) (D.device.outcome disk.new)) }
+    ensures durable { OnOk result (LeavesOnly (D.device.content disk.new) (D.device.outcome disk.new)) }
     ensures any_moment { AtEachMoment D.device disk.old disk.new (IsSameAs (D.device.content disk.old)) }
     ensures errors { IfErr result (λ error. error ≡ JournalError.Device) }
     ensures cause { TellsFault JournalError.Device (D.device.faults disk.old) (D.device.faults disk.new) result }
@@ -149,8 +149,8 @@ fn settle<D: Disk, R: Reader>(
 ) -> Result<u64, JournalError>
     requires chosen { IsChosen side generation (D.device.content live.old) (D.device.content other.old) }
     requires shut { shut ≡ is_shut (D.device.content other.old) }
-    requires firm { LeavesOnly (D.device.content live.old) (D.device.outcome live.old) }
-    requires other_firm { LeavesOnly (D.device.content other.old) (D.device.outcome other.old) }
+    requires durable { LeavesOnly (D.device.content live.old) (D.device.outcome live.old) }
+    requires other_durable { LeavesOnly (D.device.content other.old) (D.device.outcome other.old) }
     ensures opened { OnOk result (AreOpened D.device side generation live.old other.old live.new other.new) }
     ensures records { OnOk result (TakesAll (λ records. R.takes reader.old records reader.new) (stands_in (pair_of side (D.device.content live.old) (D.device.content other.old)))) }
     ensures len { IfOk result (λ len. len ≡ length (D.device.content live.new)) }
@@ -190,8 +190,8 @@ fn settle_side<D: Disk, R: Reader>(
     requires choice { IsChoice choice.0 choice.1 (tells (D.device.content first.old)) (tells (D.device.content second.old)) }
     requires first_shut { first_shut ≡ is_shut (D.device.content first.old) }
     requires second_shut { second_shut ≡ is_shut (D.device.content second.old) }
-    requires first_firm { LeavesOnly (D.device.content first.old) (D.device.outcome first.old) }
-    requires second_firm { LeavesOnly (D.device.content second.old) (D.device.outcome second.old) }
+    requires first_durable { LeavesOnly (D.device.content first.old) (D.device.outcome first.old) }
+    requires second_durable { LeavesOnly (D.device.content second.old) (D.device.outcome second.old) }
     ensures chosen { IfOk result (λ opened. IsChoice opened.side opened.generation (tells (D.device.content first.old)) (tells (D.device.content second.old))) }
     ensures opened { IfOk result (λ opened. AreOpened D.device opened.side opened.generation (on_side opened.side first.old second.old) (off_side opened.side first.old second.old) (on_side opened.side first.new second.new) (off_side opened.side first.new second.new)) }
     ensures records { OnOk result (TakesAll (λ records. R.takes reader.old records reader.new) (stands_in (pair (D.device.content first.old) (D.device.content second.old)))) }

@@ -170,7 +170,7 @@ fn join(
 {
     // The first byte of its length takes the place of the closed gate.
     let number = (len as u32).to_be_bytes();
-    put_behind(bytes, number[0], &number[1..], parts)?;
+    put_after(bytes, number[0], &number[1..], parts)?;
     put_four(bytes, start, (body + (LENGTH_BYTES + len)) as u32);
     Ok(())
 }
@@ -188,12 +188,12 @@ fn begin(bytes: &mut Vec<u8>, len: usize, parts: &[&[u8]]) -> Result<(), AllocEr
     let lengths = [
         body[0], body[1], body[2], body[3], number[0], number[1], number[2], number[3],
     ];
-    put_behind(bytes, OPEN, &lengths, parts)
+    put_after(bytes, OPEN, &lengths, parts)
 }
 
-// Puts a byte in the place of the closed gate at the end, and behind it these bytes, a record, and a closed gate. Where
+// Puts a byte in the place of the closed gate at the end, and after it these bytes, a record, and a closed gate. Where
 // memory is refused the bytes are as before.
-fn put_behind(
+fn put_after(
     bytes: &mut Vec<u8>,
     first: u8,
     lengths: &[u8],
@@ -212,7 +212,7 @@ fn put_behind(
     Ok(())
 }
 
-// Puts these bytes, a record and a closed gate behind the others.
+// Puts these bytes, a record and a closed gate after the others.
 fn put_last(bytes: &mut Vec<u8>, lengths: &[u8], parts: &[&[u8]]) -> Result<(), AllocError>
     ensures items { OnOk result (bytes.new.items ≡ bytes.old.items ++ (lengths.now ++ (whole parts.now ++ CLOSED ∷ []))) }
     ensures kept { take (vec_len bytes.old) bytes.new.items ≡ bytes.old.items }
@@ -223,7 +223,7 @@ fn put_last(bytes: &mut Vec<u8>, lengths: &[u8], parts: &[&[u8]]) -> Result<(), 
     Ok(())
 }
 
-// Puts the parts of a record behind the bytes.
+// Puts the parts of a record after the bytes.
 fn put_parts(bytes: &mut Vec<u8>, parts: &[&[u8]]) -> Result<(), AllocError>
     ensures items { OnOk result (bytes.new.items ≡ bytes.old.items ++ whole parts.now) }
     ensures kept { take (vec_len bytes.old) bytes.new.items ≡ bytes.old.items }

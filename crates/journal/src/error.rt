@@ -16,7 +16,7 @@ pub enum JournalError {
     /// The disk failed.
     #[error("2 Device")]
     Device,
-    /// No whole group stands behind the open gate at this place, in bytes from the front.
+    /// No whole group stands after the open gate at this place, in bytes from the front.
     #[error("3 Damaged")]
     Damaged(u64),
     /// The journal was made with other settings. Opening and appending never answer it: it is for

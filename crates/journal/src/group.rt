@@ -60,7 +60,7 @@ impl Group {
         Group { bytes, count }
     }
 
-    // The bytes to be written behind the gate of this group.
+    // The bytes to be written after the gate of this group.
     pub(crate) fn bytes(&self) -> &[u8]
         ensures bytes { result.now ≡ group_bytes self.now }
         ensures fits { FitsGroup self.now }
@@ -96,7 +96,7 @@ fn body_len_within(records: &[Vec<u8>]) -> Option<usize>
     Some(total)
 }
 
-// The bytes of a group of these records behind its gate, with the closed gate for the next group.
+// The bytes of a group of these records after its gate, with the closed gate for the next group.
 fn bytes_of(alloc: Global, records: &[Vec<u8>], len: usize) -> Result<Vec<u8>, AllocError>
     requires fits { len ≤ MAX_GROUP_BYTES }
     requires len { len ≡ body_len (contents records.now) }
@@ -109,7 +109,7 @@ fn bytes_of(alloc: Global, records: &[Vec<u8>], len: usize) -> Result<Vec<u8>, A
     Ok(bytes)
 }
 
-// Puts the records behind the bytes, each with its length before it.
+// Puts the records after the bytes, each with its length before it.
 fn put_body(bytes: &mut Vec<u8>, records: &[Vec<u8>]) -> Result<(), AllocError>
     requires { body_len (contents records.now) ≤ MAX_GROUP_BYTES }
     ensures { OnOk result (bytes.new.items ≡ bytes.old.items ++ body_bytes (contents records.now)) }

@@ -101,7 +101,7 @@ impl<D: Disk> Journal<D> {
         ensures unchanged { IfErr result (λ failed. failed.error ≢ JournalError.Device → D.device.content failed.disk ≡ D.device.content disk) }
 
         // A stop at any moment of the call leaves bytes that one before it might have left, or the records of such bytes.
-        // So firm bytes that are damaged stay as they are.
+        // So durable bytes that are damaged stay as they are.
         ensures any_moment { AtEachMoment D.device disk (disk_after (λ opened. disk_of opened.0) result) (StandsAsOneOf (D.device.outcome disk)) }
 
         ensures damaged { IfErr result (λ failed. (gate : ℕ) → failed.error ≡ JournalError.Damaged gate → stands (D.device.content disk) ≡ Err gate) }
@@ -244,7 +244,7 @@ impl<D: Disk> Journal<D> {
         Journal { disk, len, spare }
     }
 
-    /// Adds a group behind the others. At `Ok` it is on the disk. At `Full` nothing has changed.
+    /// Adds a group after the others. At `Ok` it is on the disk. At `Full` nothing has changed.
     /// At `Device` nothing can be added any more: open the disk again. It takes no memory.
     pub fn append(&mut self, group: Group) -> Result<Synced, JournalError>
         requires alive { IsAlive D.device self.old }
@@ -428,19 +428,19 @@ impl<D: Disk> Journal<D> {
     }
 }
 
-// Writes a group behind the closed gate that ends a file of this length, and then opens that gate.
+// Writes a group after the closed gate that ends a file of this length, and then opens that gate.
 fn write_group<D: Disk>(disk: &mut D, len: u64, group: &Group) -> Result<(), JournalError>
     requires ends_closed { EndsClosed (D.device.content disk.old) }
     requires len { len ≡ length (D.device.content disk.old) }
     requires room { len + length (group_bytes group.now) < 2 ^ 64 }
-    requires firm { LeavesOnly (D.device.content disk.old) (D.device.outcome disk.old) }
+    requires durable { LeavesOnly (D.device.content disk.old) (D.device.outcome disk.old) }
 
     ensures ends_closed { OnOk result (EndsClosed (D.device.content disk.new)) }
     ensures fits { FitsGroup group.now }
     ensures len { OnOk result (length (D.device.content disk.new) ≡ len + length (group_bytes group.now)) }
     ensures records { OnOk result (stands (D.device.content disk.new) ≡ stands_with (D.device.content disk.old) group.now) }
     ensures content { OnOk result (D.device.content disk.new ≡ file_with (D.device.content disk.old) group.now) }
-    ensures firm { OnOk result (LeavesOnly (D.device.content disk.new) (D.device.outcome disk.new)) }
+    ensures durable { OnOk result (LeavesOnly (D.device.content disk.new) (D.device.outcome disk.new)) }
     ensures any_moment { AtEachMoment D.device disk.old disk.new (IsBeforeOrAfter (D.device.content disk.old) group.now) }
     ensures errors { IfErr result (λ error. error ≡ JournalError.Device) }
     ensures cause { TellsFault JournalError.Device (D.device.faults disk.old) (D.device.faults disk.new) result }
@@ -448,7 +448,7 @@ fn write_group<D: Disk>(disk: &mut D, len: u64, group: &Group) -> Result<(), Jou
     ensures calls_err { OnErr result (MadeSome (append_calls len group.now) (D.device.calls disk.old) (D.device.calls disk.new)) }
 {
     disk.write_at(len, group.bytes())?;
-    // The group has to be firm before its gate is opened.
+    // The group has to be durable before its gate is opened.
     disk.sync()?;
     disk.write_at(len - 1, &[OPEN])?;
     disk.sync()?;
@@ -467,31 +467,31 @@ fn repair<D: Disk, R: Reader>(
     ensures same { OnOk result (stands (D.device.content disk.new) ≡ stands (D.device.content disk.old)) }
     ensures content { OnOk result (IsClosedUp (D.device.content disk.old) (D.device.content disk.new)) }
     ensures unchanged { IfErr result (λ error. error ≢ JournalError.Device → D.device.content disk.new ≡ D.device.content disk.old) }
-    ensures firm { OnOk result (LeavesOnly (D.device.content disk.new) (D.device.outcome disk.new)) }
+    ensures durable { OnOk result (LeavesOnly (D.device.content disk.new) (D.device.outcome disk.new)) }
     ensures any_moment { AtEachMoment D.device disk.old disk.new (StandsAsOneOf (D.device.outcome disk.old)) }
     ensures damaged { (gate : ℕ) → IsErrOf result (JournalError.Damaged gate) → stands (D.device.content disk.old) ≡ Err gate }
     ensures cause { TellsFault JournalError.Device (D.device.faults disk.old) (D.device.faults disk.new) result }
     ensures never_full { IfErr result (λ error. error ≢ JournalError.Full) }
     ensures never_config { IfErr result (λ error. error ≢ JournalError.ConfigMismatch) }
 {
-    // Each gate has to be firm before it is read.
+    // Each gate has to be durable before it is read.
     disk.sync()?;
     let (gate, len) = read_area(alloc, Side::First, disk, reader)?;
     close_end(disk, len, gate)?;
     Ok(gate + 1)
 }
 
-// Makes the closed gate at this place the end of a firm file of this length.
+// Makes the closed gate at this place the end of a durable file of this length.
 pub(crate) fn close_end<D: Disk>(disk: &mut D, len: u64, gate: u64) -> Result<(), JournalError>
     requires len { len ≡ length (D.device.content disk.old) }
     requires found { ScansTo (D.device.content disk.old) gate }
-    requires firm { LeavesOnly (D.device.content disk.old) (D.device.outcome disk.old) }
+    requires durable { LeavesOnly (D.device.content disk.old) (D.device.outcome disk.old) }
 
     ensures ends_closed { OnOk result (EndsClosed (D.device.content disk.new)) }
     ensures len { OnOk result (length (D.device.content disk.new) ≡ gate + 1) }
     ensures content { OnOk result (IsClosedUp (D.device.content disk.old) (D.device.content disk.new)) }
     ensures records { OnOk result (stands (D.device.content disk.new) ≡ stands (D.device.content disk.old)) }
-    ensures firm { OnOk result (LeavesOnly (D.device.content disk.new) (D.device.outcome disk.new)) }
+    ensures durable { OnOk result (LeavesOnly (D.device.content disk.new) (D.device.outcome disk.new)) }
     ensures any_moment { AtEachMoment D.device disk.old disk.new (λ left. stands left ≡ stands (D.device.content disk.old)) }
     ensures tells { OnOk result (tells (D.device.content disk.new) ≡ tells (D.device.content disk.old)) }
     ensures telling { AtEachMoment D.device disk.old disk.new (λ left. tells left ≡ tells (D.device.content disk.old)) }

@@ -21,25 +21,25 @@ pub fn layout_in_numbers()
     ensures opened { OPEN ≡ 1 }
 {}
 
-/// Groups behind open gates, with a closed gate behind the last, stand for their records, each with
+/// Groups after open gates, with a closed gate after the last, stand for their records, each with
 /// the place of its group's gate, whatever follows; and bytes that stand for records are such
 /// groups, but for those of at most one byte, which stand for none.
 pub fn groups_stand()
-    ensures stand { (groups : List Gated) (behind : List ℕ) → All IsOpen groups → stands (in_turn groups ++ CLOSED ∷ behind) ≡ Ok (all_kept 0 (map (λ group. group.records) groups)) }
+    ensures stand { (groups : List Gated) (after : List ℕ) → All IsOpen groups → stands (in_turn groups ++ CLOSED ∷ after) ≡ Ok (all_kept 0 (map (λ group. group.records) groups)) }
     ensures only { (bytes : List ℕ) (records : List Record) → AreBytes bytes → 2 ≤ length bytes → stands bytes ≡ Ok records → AreGroups bytes records }
     ensures short { (bytes : List ℕ) → length bytes < 2 → stands bytes ≡ Ok [] }
 {}
 
-/// Bytes, two or more, are damaged at a place exactly where groups behind open gates end there, and an open gate
-/// there has no whole group behind it.
+/// Bytes, two or more, are damaged at a place exactly where groups after open gates end there, and an open gate
+/// there has no whole group after it.
 pub fn damage_is_found()
     ensures { (bytes : List ℕ) (place : ℕ) → AreBytes bytes → (stands bytes ≡ Err place) ↔ IsDamagedAt bytes place }
 {}
 
-/// The bytes of groups within their limits, with anything behind them, stand for the records of these
+/// The bytes of groups within their limits, with anything after them, stand for the records of these
 /// groups, each with the place of its group's gate. To append a group is to write one group more.
 pub fn written_groups_stand()
-    ensures stand { (groups : List (List (List ℕ))) (behind : List ℕ) → All FitsGroup groups → stands (file_bytes groups ++ behind) ≡ Ok (all_kept 0 groups) }
+    ensures stand { (groups : List (List (List ℕ))) (after : List ℕ) → All FitsGroup groups → stands (file_bytes groups ++ after) ≡ Ok (all_kept 0 groups) }
     ensures one_more { (groups : List (List (List ℕ))) (group : List (List ℕ)) → file_with (file_bytes groups) group ≡ file_bytes (groups ++ group ∷ []) }
 {}
 

@@ -15,7 +15,7 @@ use crate::side::Side;
 use std::alloc::{AllocError, Global};
 
 /// What the bytes of a journal stand for: the records of the groups whose gates are open, from the
-/// front. `Damaged` names the place of an open gate with no whole group behind it.
+/// front. `Damaged` names the place of an open gate with no whole group after it.
 #[tactic(auto, unfolding(crate::specs::Format::stands))]
 pub fn stands(alloc: Global, bytes: &[u8]) -> Result<Vec<Record>, JournalError>
     ensures ok { IfOk result (λ records. stands bytes.now ≡ Ok records.items) }
@@ -124,7 +124,7 @@ fn length_at(bytes: &[u8]) -> u32
     u32::from_be_bytes([front[0], front[1], front[2], front[3]])
 }
 
-// The body behind an open gate, if it and the next gate stand within the bytes.
+// The body after an open gate, if it and the next gate stand within the bytes.
 #[tactic(auto, unfolding(crate::specs::Format::body_at))]
 pub(crate) fn body_at(bytes: &[u8]) -> Option<&[u8]>
     ensures { option_copied result ≡ body_at bytes.now }
@@ -178,7 +178,7 @@ fn records_of<'b>(
     Ok(Some(records))
 }
 
-// The record at the front of the bytes, and the bytes behind it, if it is whole.
+// The record at the front of the bytes, and the bytes after it, if it is whole.
 #[tactic(auto, unfolding(crate::specs::Format::split_record))]
 fn split_record(bytes: &[u8]) -> Option<(&[u8], &[u8])>
     ensures { option_map (λ parts. (parts.0.now, parts.1.now)) result ≡ split_record bytes.now }

@@ -1,4 +1,4 @@
-//! How an area is rewritten: it is closed and cleared, its groups are written behind the closed gate, and then the gate is opened.
+//! How an area is rewritten: it is closed and cleared, its groups are written after the closed gate, and then the gate is opened.
 
 ghost use Rattle.std.specs.Prelude.{◌≡◌, ◌++◌, ◌∷◌, [], ℕ, IfErr, OnOk, OnErr};
 ghost use Rattle.diskmodel.specs.Disk.{LeavesOnly, AtEachMoment, TellsFault};
@@ -15,7 +15,7 @@ use diskmodel::Disk;
 pub(crate) fn rewrite_area<D: Disk>(disk: &mut D, bytes: &[u8]) -> Result<(), JournalError>
     requires { LeavesOnly (D.device.content disk.old) (D.device.outcome disk.old) }
     ensures content { OnOk result (D.device.content disk.new ≡ OPEN ∷ bytes.now) }
-    ensures firm { OnOk result (LeavesOnly (D.device.content disk.new) (D.device.outcome disk.new)) }
+    ensures durable { OnOk result (LeavesOnly (D.device.content disk.new) (D.device.outcome disk.new)) }
     ensures any_moment { (above : ℕ) → IsAtRest above (D.device.content disk.old) → AtEachMoment D.device disk.old disk.new (IsOlderOrNew above bytes.now) }
     ensures errors { IfErr result (λ error. error ≡ JournalError.Device) }
     ensures cause { TellsFault JournalError.Device (D.device.faults disk.old) (D.device.faults disk.new) result }
@@ -30,7 +30,7 @@ pub(crate) fn rewrite_area<D: Disk>(disk: &mut D, bytes: &[u8]) -> Result<(), Jo
 fn clear<D: Disk>(disk: &mut D) -> Result<(), JournalError>
     requires { LeavesOnly (D.device.content disk.old) (D.device.outcome disk.old) }
     ensures content { OnOk result (D.device.content disk.new ≡ CLOSED ∷ []) }
-    ensures firm { OnOk result (LeavesOnly (D.device.content disk.new) (D.device.outcome disk.new)) }
+    ensures durable { OnOk result (LeavesOnly (D.device.content disk.new) (D.device.outcome disk.new)) }
     ensures any_moment { (above : ℕ) → IsAtRest above (D.device.content disk.old) → AtEachMoment D.device disk.old disk.new (IsOlder above) }
     ensures errors { IfErr result (λ error. error ≡ JournalError.Device) }
     ensures cause { TellsFault JournalError.Device (D.device.faults disk.old) (D.device.faults disk.new) result }
@@ -38,19 +38,19 @@ fn clear<D: Disk>(disk: &mut D) -> Result<(), JournalError>
     ensures calls_err { OnErr result (MadeSome clear_calls (D.device.calls disk.old) (D.device.calls disk.new)) }
 {
     disk.write_at(0, &[CLOSED])?;
-    // The gate has to be firm before what stands behind it goes.
+    // The gate has to be durable before what stands after it goes.
     disk.sync()?;
     disk.cut(1)?;
     disk.sync()?;
     Ok(())
 }
 
-// Writes these bytes behind the closed gate of a cleared area, and opens it.
+// Writes these bytes after the closed gate of a cleared area, and opens it.
 fn fill<D: Disk>(disk: &mut D, bytes: &[u8]) -> Result<(), JournalError>
     requires cleared { D.device.content disk.old ≡ CLOSED ∷ [] }
-    requires firm { LeavesOnly (D.device.content disk.old) (D.device.outcome disk.old) }
+    requires durable { LeavesOnly (D.device.content disk.old) (D.device.outcome disk.old) }
     ensures content { OnOk result (D.device.content disk.new ≡ OPEN ∷ bytes.now) }
-    ensures firm { OnOk result (LeavesOnly (D.device.content disk.new) (D.device.outcome disk.new)) }
+    ensures durable { OnOk result (LeavesOnly (D.device.content disk.new) (D.device.outcome disk.new)) }
     ensures any_moment { (above : ℕ) → AtEachMoment D.device disk.old disk.new (IsOlderOrNew above bytes.now) }
     ensures errors { IfErr result (λ error. error ≡ JournalError.Device) }
     ensures cause { TellsFault JournalError.Device (D.device.faults disk.old) (D.device.faults disk.new) result }
@@ -58,7 +58,7 @@ fn fill<D: Disk>(disk: &mut D, bytes: &[u8]) -> Result<(), JournalError>
     ensures calls_err { OnErr result (MadeSome (fill_calls bytes.now) (D.device.calls disk.old) (D.device.calls disk.new)) }
 {
     disk.write_at(1, bytes)?;
-    // The groups have to be firm before their first gate is opened.
+    // The groups have to be durable before their first gate is opened.
     disk.sync()?;
     disk.write_at(0, &[OPEN])?;
     disk.sync()?;

@@ -105,7 +105,7 @@ impl Snapshot {
         requires { LeavesOnly (D.device.content disk.old) (D.device.outcome disk.old) }
         ensures same { self.new ≡ self.old }
         ensures content { OnOk result (D.device.content disk.new ≡ OPEN ∷ bytes_for generation self.old) }
-        ensures firm { OnOk result (LeavesOnly (D.device.content disk.new) (D.device.outcome disk.new)) }
+        ensures durable { OnOk result (LeavesOnly (D.device.content disk.new) (D.device.outcome disk.new)) }
         ensures any_moment { (above : ℕ) → IsAtRest above (D.device.content disk.old) → AtEachMoment D.device disk.old disk.new (IsOlderOrNew above (bytes_for generation self.old)) }
         ensures errors { IfErr result (λ error. error ≡ JournalError.Device) }
         ensures cause { TellsFault JournalError.Device (D.device.faults disk.old) (D.device.faults disk.new) result }

@@ -39,13 +39,13 @@ impl<D: Disk> Spare<D> {
         live: &mut D,
         snapshot: &mut Snapshot,
     ) -> Result<(), JournalError>
-        requires firm { LeavesOnly (D.device.content self.old.disk) (D.device.outcome self.old.disk) }
+        requires durable { LeavesOnly (D.device.content self.old.disk) (D.device.outcome self.old.disk) }
         requires generation { self.old.generation + 1 < 2 ^ 64 }
         ensures same { snapshot.new ≡ snapshot.old }
         ensures swapped { OnOk result (HasSwapped self.old self.new live.old) }
         ensures kept { OnErr result (HasKept self.old self.new live.old live.new) }
         ensures content { OnOk result (D.device.content live.new ≡ OPEN ∷ bytes_for (self.old.generation + 1) snapshot.old) }
-        ensures firm { OnOk result (LeavesOnly (D.device.content live.new) (D.device.outcome live.new)) }
+        ensures durable { OnOk result (LeavesOnly (D.device.content live.new) (D.device.outcome live.new)) }
         ensures any_moment { IsAtRest self.old.generation (D.device.content self.old.disk) → AtEachMoment D.device self.old.disk (written_disk result self.new live.new) (IsOlderOrNew self.old.generation (bytes_for (self.old.generation + 1) snapshot.old)) }
         ensures errors { IfErr result (λ error. error ≡ JournalError.Device) }
         ensures cause { TellsFault JournalError.Device (D.device.faults self.old.disk) (D.device.faults (written_disk result self.new live.new)) result }

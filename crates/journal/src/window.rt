@@ -104,7 +104,7 @@ impl Window {
         Ok(true)
     }
 
-    // Has the next gate and the group behind it, if there is a whole one.
+    // Has the next gate and the group after it, if there is a whole one.
     fn reach<D: Disk>(&mut self, disk: &mut D) -> Result<(), JournalError>
         requires { IsWindow (D.device.content disk.old) self.old }
         ensures window { OnOk result (IsWindow (D.device.content disk.old) self.new) }

@@ -24,16 +24,16 @@ use Rattle.spec_records.specs.Records.{record_of}
 use Rattle.spec_world.specs.World as world
 use Rattle.spec_world.specs.World.{bytes_of, IsPair, StandsFor}
 use Rattle.spec_world.proofs.Recovering.{stands_once}
-use Rattle.opening.specs.Told.{IsText, event_in, events_part, go_on, is_event, or_damaged, own_fault, read_behind, read_checkpoint, read_events, read_pair, read_state, state_part, told_in, Tells, unless, StandsAt}
+use Rattle.opening.specs.Decoded.{IsText, event_in, events_part, go_on, is_event, or_damaged, own_fault, read_after, read_checkpoint, read_events, read_pair, read_state, state_part, decoded_in, Tells, unless, StandsAt}
 use Rattle.opening.proofs.EventRecords.{record_read}
 use Rattle.opening.proofs.Histories.{read_back}
 use Rattle.opening.proofs.Laws.{unless_ok}
 use Rattle.opening.proofs.PairLaws.{areas_begin, found_in}
-use Rattle.opening.proofs.PairTelling.{checkpoint_is, pair_fails, pair_first, pair_none, told_pair_records}
+use Rattle.opening.proofs.PairTelling.{checkpoint_is, pair_fails, pair_first, pair_none, decoded_pair_records}
 use Rattle.opening.proofs.Telling.{read_nil}
 use Rattle.admission.specs.declared.tables.Tables.{Tables}
 use Rattle.validator.specs.Standing.{AreAtSound}
-use Rattle.journal_account.specs.Accounts.{behind_head, events_in, base_of, base_in, generation_in, side_in, IsReadAs, IsReadAt, given_to, given_by, given_in, AreKeptVotes, AreOrdered, AreVotes, Sums}
+use Rattle.journal_account.specs.Accounts.{after_head, events_in, base_of, base_in, generation_in, side_in, IsReadAs, IsReadAt, given_to, given_by, given_in, AreKeptVotes, AreOrdered, AreVotes, Sums}
 use Rattle.journal_account.specs.declared.summary.Summary.{Summary}
 use Rattle.journal_account.specs.declared.votes.Given.{Given}
 
@@ -49,11 +49,11 @@ records_are : (one other : List Record) → ◌≡◌ {A = Result (List Record) 
 records_are one other same = cc
 
 -- what comes after the configuration is the state with which it begins, and events
-behind_is : (node : Node) (first : Record) (rest : List Record)
-    → read_behind node first rest ≡ go_on (λ state. read_events node state (events_in (first ∷ rest))) (base_of node first rest)
-unfolding behind_head events_in base_of
-behind_is node first [] = refl
-behind_is node first (second ∷ more) =
+after_is : (node : Node) (first : Record) (rest : List Record)
+    → read_after node first rest ≡ go_on (λ state. read_events node state (events_in (first ∷ rest))) (base_of node first rest)
+unfolding after_head events_in base_of
+after_is node first [] = refl
+after_is node first (second ∷ more) =
     elim (cases_Bool (second.gate == first.gate)) [
       | inl shares ↦
           (λ i. cond (shares i) (read_checkpoint node first more) (read_events node (fresh node) (second ∷ more)))
@@ -70,7 +70,7 @@ behind_is node first (second ∷ more) =
 free : (node : Node) (first : Record) (rest : List Record) → own_fault node first ≡ None
     → read_pair node (first ∷ rest) ≡ or_damaged (go_on (λ state. read_events node state (events_in (first ∷ rest))) (base_of node first rest))
 free node first rest none =
-    pair_first node first rest ∙ ap (λ (f : Option JournalError). unless f (read_behind node first rest)) none ∙ ap or_damaged (behind_is node first rest)
+    pair_first node first rest ∙ ap (λ (f : Option JournalError). unless f (read_after node first rest)) none ∙ ap or_damaged (after_is node first rest)
 
 -- a journal that begins with a state, from which its events lead to another one, is read as that
 pub read_on : (node : Node) (records : List Record) (base state : State) → base_in node records ≡ Ok base → read_events node base (events_in records) ≡ Ok state
@@ -122,8 +122,8 @@ events_tell node records base Full begins fails = absurd fails
 
 -- what is told of areas is told of their records
 pub tells_areas : (node : Node) (areas : Areas) (records : List Record) (error : JournalError) → IsPair areas → stands_in areas ≡ Ok records → Tells error (read_pair node records)
-    → Tells error (told_in node areas)
-tells_areas node areas records error two is tells = subst (Tells error) (sym (told_pair_records node areas records two is)) tells
+    → Tells error (decoded_in node areas)
+tells_areas node areas records error two is tells = subst (Tells error) (sym (decoded_pair_records node areas records two is)) tells
 
 -- ---- the records of events
 
@@ -136,7 +136,7 @@ part_texts (one ∷ records) all = elim (cases_Bool (is_event one)) [
 ]
 
 event_texts : (records : List Record) → All IsText records → All IsText (events_in records)
-unfolding events_in behind_head
+unfolding events_in after_head
 event_texts [] all = all
 event_texts (first ∷ []) all = All-tail IsText first [] all
 event_texts (first ∷ second ∷ more) all =
@@ -197,7 +197,7 @@ found_as starts node areas records base state two sound base_sound texts is begi
         legal = record { node_is = sound; sound = base_sound; taken = more.are.taken; new = more.are.new };
         stands_for = subst (StandsFor node areas) more.parts stands;
         one_state = λ other stands_too. one_state node areas state other stands stands_too ∙ more.parts;
-        is_told = told_pair_records node areas records two is ∙ whole ∙ ap Ok more.parts;
+        is_told = decoded_pair_records node areas records two is ∙ whole ∙ ap Ok more.parts;
       };
       same = refl;
       leads = more.parts;
@@ -261,12 +261,12 @@ module _ {X Y : Type 0} (make : X → Option Y) where
 
 -- ---- the state with which a journal begins
 
-pub base_some : (node : Node) (first : Record) (rest others : List Record) → Some others ≡ behind_head first rest → base_of node first rest ≡ read_state node first (state_part others)
+pub base_some : (node : Node) (first : Record) (rest others : List Record) → Some others ≡ after_head first rest → base_of node first rest ≡ read_state node first (state_part others)
 unfolding base_of
 base_some node first rest others is =
     sym (ap (λ (o : Option (List Record)). option_map_or (λ records. read_state node first (state_part records)) o (Ok (fresh node))) is)
 
-pub base_none : (node : Node) (first : Record) (rest : List Record) → None ≡ behind_head first rest → base_of node first rest ≡ Ok (fresh node)
+pub base_none : (node : Node) (first : Record) (rest : List Record) → None ≡ after_head first rest → base_of node first rest ≡ Ok (fresh node)
 unfolding base_of
 base_none node first rest is =
     sym (ap (λ (o : Option (List Record)). option_map_or (λ records. read_state node first (state_part records)) o (Ok (fresh node))) is)

@@ -63,7 +63,7 @@ stands_below file records is = elim (cases_lt (length file) 2) [
   | inr long ↦ records_below file records (walk 0 0 file) refl (sym (stands_is file long) ∙ is)
 ]
 
--- and so does the gate without a whole group behind it
+-- and so does the gate without a whole group after it
 pub damaged_below : (bytes : List ℕ) (place : ℕ) → IsDamagedAt bytes place → place < length bytes
 damaged_below bytes place damaged =
-    omega (arith, damaged.here, ap length damaged.written, length-append (in_turn damaged.groups) (damaged.gate ∷ damaged.behind))
+    omega (arith, damaged.here, ap length damaged.written, length-append (in_turn damaged.groups) (damaged.gate ∷ damaged.after))

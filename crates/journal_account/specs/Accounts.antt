@@ -18,7 +18,7 @@ use Rattle.spec_model.specs.Slots.{header_digest}
 use Rattle.spec_model.specs.States.{State, floor_in}
 use Rattle.spec_model.specs.Words.{Digest, Event, Header}
 use Rattle.spec_world.specs.World.{StandsFor}
-use Rattle.opening.specs.Told.{event_in, events_part, own_fault, read_state, state_part, told_in, unless}
+use Rattle.opening.specs.Decoded.{event_in, events_part, own_fault, read_state, state_part, decoded_in, unless}
 use Rattle.admission.specs.declared.tables.Tables.{Tables}
 use Rattle.validator.specs.Standing.{AreAtSound}
 use Rattle.journal_account.specs.declared.summary.Summary.{Summary}
@@ -27,18 +27,18 @@ use Rattle.journal_account.specs.declared.votes.Given.{Given}
 -- ---- the parts of a journal's records
 
 -- the records after a head, where one stands in the group of the first record
-unfoldable pub behind_head : Record → List Record → Option (List Record)
-behind_head first [] = None
-behind_head first (second ∷ rest) = if second.gate == first.gate then Some rest else None
+unfoldable pub after_head : Record → List Record → Option (List Record)
+after_head first [] = None
+after_head first (second ∷ rest) = if second.gate == first.gate then Some rest else None
 
 -- the records of events: those after the first group, and after those of a checkpoint's state
 unfoldable pub events_in : List Record → List Record
 events_in [] = []
-events_in (first ∷ rest) = option_map_or events_part (behind_head first rest) rest
+events_in (first ∷ rest) = option_map_or events_part (after_head first rest) rest
 
 -- the state with which a journal begins, by the records after the configuration: that of a checkpoint, or the fresh one
 unfoldable pub base_of : Node → Record → List Record → Result State ℕ
-base_of node first rest = option_map_or (λ records. read_state node first (state_part records)) (behind_head first rest) (Ok (fresh node))
+base_of node first rest = option_map_or (λ records. read_state node first (state_part records)) (after_head first rest) (Ok (fresh node))
 
 -- the same of all records, or why they are none of the node's
 unfoldable pub base_in : Node → List Record → Result State JournalError
@@ -68,7 +68,7 @@ pub record IsReadAs (node : Node) (areas : Areas) (base : State) (events : Histo
   pub legal : IsLegalAfter node base events
   pub stands_for : StandsFor node areas (after_all node base events)
   pub one_state : (other : State) → StandsFor node areas other → other ≡ after_all node base events
-  pub is_told : told_in node areas ≡ Ok (after_all node base events)
+  pub is_told : decoded_in node areas ≡ Ok (after_all node base events)
 
 -- so they are, and tables stand at the state to which the events lead
 pub record IsReadAt (node : Node) (areas : Areas) (tables : Tables) : Type 0 where

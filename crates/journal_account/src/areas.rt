@@ -27,7 +27,7 @@ pub fn side_read(alloc: Global, first: &[u8], second: &[u8]) -> Result<Option<Si
 /// The records of a journal with these bytes in its two files, which are let go.
 ///
 /// # Errors
-/// Those of `side_read`; `Damaged` at an open gate without a whole group behind it, or `Memory`.
+/// Those of `side_read`; `Damaged` at an open gate without a whole group after it, or `Memory`.
 #[tactic(auto, unfolding(journal::specs::Areas::stands_in))]
 pub fn records_in(alloc: Global, first: Vec<u8>, second: Vec<u8>) -> Result<Vec<Record>, Flaw>
     ensures ok { IfOk result (λ records. stands_in (pair first.items second.items) ≡ Ok records.items) }

@@ -7,7 +7,7 @@ ghost use Rattle.spec_model.specs.States.{State};
 ghost use Rattle.admission.specs.Answers.{is_new_step};
 ghost use Rattle.validator.specs.Setting.{node_of};
 ghost use Rattle.validator.specs.Standing.{AreAtSound};
-ghost use Rattle.opening.specs.Told.{read_event, read_events, StandsAt, IsOld};
+ghost use Rattle.opening.specs.Decoded.{read_event, read_events, StandsAt, IsOld};
 
 use crate::flaw::{Flaw, Why};
 use committee::Committee;

@@ -18,7 +18,7 @@ pub enum Why {
     /// An allocation failed.
     #[error("out of memory")]
     Memory,
-    /// Behind an open gate there is no whole group.
+    /// After an open gate there is no whole group.
     #[error("no whole group stands behind this open gate")]
     Group,
     /// No first group stands in front: neither a configuration alone nor one with the head of a checkpoint.

@@ -3,7 +3,7 @@
 ghost use Rattle.std.specs.Prelude.{◌≡◌, ◌≢◌, ◌∷◌, IfOk, IfErr};
 ghost use Rattle.journal.specs.Format.{FailsAs};
 ghost use Rattle.opening.specs.PairReplayed.{error_at};
-ghost use Rattle.opening.specs.Told.{gate_of, gates_of, read_state, StandsAt};
+ghost use Rattle.opening.specs.Decoded.{gate_of, gates_of, read_state, StandsAt};
 ghost use Rattle.spec_checkpoint.specs.Loading.{at_record};
 ghost use Rattle.validator.specs.Setting.{node_of};
 

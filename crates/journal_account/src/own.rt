@@ -3,7 +3,7 @@
 ghost use Rattle.std.specs.Prelude.{◌≡◌, ◌≢◌, None, Some, IfErr, OnOk};
 ghost use Rattle.journal.specs.declared.error.JournalError.TheVariants as errors;
 ghost use Rattle.validator.specs.Setting.{node_of};
-ghost use Rattle.opening.specs.Told.{own_fault};
+ghost use Rattle.opening.specs.Decoded.{own_fault};
 
 use crate::flaw::{Flaw, Why};
 use journal::{Record, shaped_version};

@@ -3,8 +3,8 @@
 ghost use Rattle.std.specs.Prelude.{◌≡◌, ◌≤◌, length, take, drop};
 ghost use Rattle.std.specs.Option.{option_copied, option_map};
 ghost use Rattle.journal.specs.Areas.{head_in};
-ghost use Rattle.opening.specs.Told.{is_event as is_event_of, state_part, events_part};
-ghost use Rattle.journal_account.specs.Accounts.{behind_head, events_in, generation_in, side_in};
+ghost use Rattle.opening.specs.Decoded.{is_event as is_event_of, state_part, events_part};
+ghost use Rattle.journal_account.specs.Accounts.{after_head, events_in, generation_in, side_in};
 
 use journal::{HEAD, HEAD_BYTES, Record, SECOND_AREA, Side};
 use opening::EVENT;
@@ -15,7 +15,7 @@ pub(crate) fn events_of(records: &[Record]) -> &[Record]
     ensures { result.now ≡ events_in records.now }
 {
     match records.split_first() {
-        Some((first, rest)) => match behind_head(first, rest) {
+        Some((first, rest)) => match after_head(first, rest) {
             Some(others) => {
                 let (_, events) = others.split_at(state_count(others));
                 events
@@ -78,9 +78,9 @@ fn head_in(bytes: &[u8]) -> Option<u64>
 }
 
 /// The records after a head, where one stands in the group of the first record.
-#[tactic(auto, unfolding(crate::specs::Accounts::behind_head))]
-pub(crate) fn behind_head<'r>(first: &Record, rest: &'r [Record]) -> Option<&'r [Record]>
-    ensures { option_copied result ≡ behind_head first.now rest.now }
+#[tactic(auto, unfolding(crate::specs::Accounts::after_head))]
+pub(crate) fn after_head<'r>(first: &Record, rest: &'r [Record]) -> Option<&'r [Record]>
+    ensures { option_copied result ≡ after_head first.now rest.now }
 {
     match rest.split_first() {
         Some((head, others)) if head.gate == first.gate => Some(others),

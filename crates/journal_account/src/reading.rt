@@ -6,14 +6,14 @@ ghost use Rattle.journal.specs.Format.{FailsAs};
 ghost use Rattle.spec_machine.specs.Machine.{fresh};
 ghost use Rattle.spec_world.specs.World.{IsPair};
 ghost use Rattle.validator.specs.Setting.{node_of};
-ghost use Rattle.opening.specs.Told.{IsText, read_pair, Tells, StandsAt};
+ghost use Rattle.opening.specs.Decoded.{IsText, read_pair, Tells, StandsAt};
 ghost use Rattle.journal_account.specs.Accounts.{IsReadAt, base_of, base_in};
 
 use crate::events::replay;
 use crate::flaw::Flaw;
 use crate::loading::load;
 use crate::own::test_first;
-use crate::parts::{behind_head, events_of, state_count};
+use crate::parts::{after_head, events_of, state_count};
 use journal::Record;
 use opening::is_text;
 use sigface::Sign;
@@ -77,7 +77,7 @@ fn begun_by<'a, S: Sign>(
     ensures stands { let node = node_of S.scheme config.now in IfOk result (λ validator. StandsAt node (base_of node first.now rest.now) validator.tables) }
     ensures err { IfErr result (λ flaw. FailsAs flaw.error (base_of (node_of S.scheme config.now) first.now rest.now)) }
 {
-    match behind_head(first, rest) {
+    match after_head(first, rest) {
         Some(others) => {
             let (state, _) = others.split_at(state_count(others));
             load(alloc, config, first, state)

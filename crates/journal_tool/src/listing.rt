@@ -45,11 +45,11 @@ impl Row {
     }
 }
 
-/// Writes a line for each record of the groups from a place on, in bytes: those behind open gates, and the one that may stand behind
+/// Writes a line for each record of the groups from a place on, in bytes: those after open gates, and the one that may stand after
 /// the closed gate. Places are counted from the file's base.
 ///
 /// # Errors
-/// `Flawed` at the place of an open gate without a whole group behind it, after the lines of those before; `Memory`; `Output`.
+/// `Flawed` at the place of an open gate without a whole group after it, after the lines of those before; `Memory`; `Output`.
 pub(crate) fn list<W: Write>(
     alloc: Global,
     bytes: &[u8],
@@ -63,11 +63,11 @@ pub(crate) fn list<W: Write>(
     }
     let (mut rest, mut place): (&[u8], u64) = (bytes, base);
     for _ in 0..bytes.len() {
-        let Some((gate, behind)) = rest.split_first() else {
+        let Some((gate, following)) = rest.split_first() else {
             return Ok(());
         };
         let is_open = *gate != CLOSED;
-        let Some((body, after)) = split_group(behind) else {
+        let Some((body, after)) = split_group(following) else {
             return end_at(place, is_open);
         };
         if place >= from {
@@ -84,7 +84,7 @@ pub(crate) fn list<W: Write>(
     Ok(())
 }
 
-// What a place without a whole group behind it means.
+// What a place without a whole group after it means.
 fn end_at(place: u64, is_open: bool) -> Result<(), Ending> {
     if is_open {
         Err(Ending::Flawed(Flaw::at(place, Why::Group)))
@@ -93,7 +93,7 @@ fn end_at(place: u64, is_open: bool) -> Result<(), Ending> {
     }
 }
 
-// The number in a length field at the front, and what is behind it.
+// The number in a length field at the front, and what is after it.
 fn split_length(bytes: &[u8]) -> Option<(usize, &[u8])> {
     match bytes {
         [first, second, third, fourth, rest @ ..] => {
@@ -104,7 +104,7 @@ fn split_length(bytes: &[u8]) -> Option<(usize, &[u8])> {
     }
 }
 
-// The body after a gate, and what is behind it, if the next gate stands within the bytes too, and the body is whole records.
+// The body after a gate, and what is after it, if the next gate stands within the bytes too, and the body is whole records.
 fn split_group(bytes: &[u8]) -> Option<(&[u8], &[u8])> {
     let (len, rest) = split_length(bytes)?;
     if len == 0 || len > MAX_GROUP_BYTES || rest.len() <= len {
@@ -118,7 +118,7 @@ fn split_group(bytes: &[u8]) -> Option<(&[u8], &[u8])> {
     }
 }
 
-// The record at the front, and what is behind it, if it is whole.
+// The record at the front, and what is after it, if it is whole.
 fn split_record(bytes: &[u8]) -> Option<(&[u8], &[u8])> {
     let (len, rest) = split_length(bytes)?;
     if rest.len() < len {

@@ -23,8 +23,8 @@ use Rattle.node_shared.specs.declared.flush_seat.FlushSeat.{FlushSeat}
 use Rattle.admission.specs.declared.tables.Tables.{Tables}
 use Rattle.spec_world.specs.World.{Holds}
 use Rattle.opening.specs.Laws.{HoldsIn, IsOpeningOn, KeepsAlone}
-use Rattle.opening.specs.Stages.{IsToldThroughout}
-use Rattle.opening.specs.Told.{told_in, Tells}
+use Rattle.opening.specs.Stages.{IsDecodedThroughout}
+use Rattle.opening.specs.Decoded.{decoded_in, Tells}
 use Rattle.sigface.specs.Scheme.{Scheme}
 use Rattle.node.specs.Starting.{IsStartingOn}
 
@@ -49,16 +49,16 @@ flusher_first {S} {D} scheme device node flusher journal seat setting tables set
     let here : HoldsIn (node_of scheme node.setting) areas node.begun = subst (λ (t : Tables). HoldsIn (node_of scheme node.setting) areas t) (sym begun_is)
     (subst (λ (s : ConfigView S). HoldsIn (node_of scheme s) areas tables) (sym setting_is) held) in
     let is_here : IsNode (node_of scheme node.setting) = subst (λ (s : ConfigView S). IsNode (node_of scheme s)) (sym setting_is) is_node in
-    let first : HoldsAfter scheme node seat.seat.view.firm areas =
-    subst (λ (l : List Marked). HoldsAfter scheme node l areas) (sym nothing.firm) (holds_first scheme node areas is_here here) in
+    let first : HoldsAfter scheme node seat.seat.view.durable areas =
+    subst (λ (l : List Marked). HoldsAfter scheme node l areas) (sym nothing.durable) (holds_first scheme node areas is_here here) in
     record {
       seat = subst (IsFlushOf node) (sym seat_is) of;
       right = ap (λ (s : FlushSeat). s.seat.view.may_fail) seat_is ∙ right ∙ sym (ap not up);
-      rests = λ _. subst (λ (s : FlushSeat). s.taken ≡ s.settled) (sym seat_is) (taken ∙ sym (of.settled ∙ ap length nothing.firm));
+      rests = λ _. subst (λ (s : FlushSeat). s.taken ≡ s.settled) (sym seat_is) (taken ∙ sym (of.settled ∙ ap length nothing.durable));
       idle = λ _. ap (λ (s : FlushSeat). s.rewriting) seat_is ∙ idle;
       alive = λ _. subst (IsAlive device) (sym journal_is) alive;
-      holds = λ _. subst (λ (j : Journal D). HoldsAfter scheme node (seat_of flusher).seat.view.firm (areas_of device j)) (sym journal_is)
-          (subst (λ (s : FlushSeat). HoldsAfter scheme node s.seat.view.firm areas) (sym seat_is) first);
+      holds = λ _. subst (λ (j : Journal D). HoldsAfter scheme node (seat_of flusher).seat.view.durable (areas_of device j)) (sym journal_is)
+          (subst (λ (s : FlushSeat). HoldsAfter scheme node s.seat.view.durable areas) (sym seat_is) first);
     }
 
 -- an opening that failed is one of a node
@@ -83,16 +83,16 @@ opening_goes_on {T} {U} {D} node device ours theirs store opened (Ok started) at
   tells = tt;
   full = tt;
   cause = (ap (faults_in device) same ∙ at.cause.0, tt);
-  any_moment = subst (IsToldThroughout node device store) (sym same) at.any_moment;
+  any_moment = subst (IsDecodedThroughout node device store) (sym same) at.any_moment;
   keeps = subst (KeepsAlone node device store) (sym same) at.keeps;
   never_refused = tt;
   unchanged = tt;
 }
 opening_goes_on {T} {U} {D} node device ours theirs store opened (Err failed) at none same = record {
-  tells = λ other room. subst (λ (e : JournalError). Tells e (told_in node (areas_in device store))) (sym same.0) tt;
+  tells = λ other room. subst (λ (e : JournalError). Tells e (decoded_in node (areas_in device store))) (sym same.0) tt;
   full = λ is. absurd (let clash = sym same.0 ∙ is in cc);
   cause = (tt, (λ is. absurd (let clash = sym same.0 ∙ is in cc), λ other. ap (faults_in device) same.1 ∙ at.cause.0));
-  any_moment = subst (IsToldThroughout node device store) (sym same.1) at.any_moment;
+  any_moment = subst (IsDecodedThroughout node device store) (sym same.1) at.any_moment;
   keeps = subst (KeepsAlone node device store) (sym same.1) at.keeps;
   never_refused = λ left. inl (inr same.0);
   unchanged = λ other memory. absurd (memory same.0);

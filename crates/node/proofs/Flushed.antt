@@ -82,7 +82,7 @@ module _ {S D : Type 0} (scheme : Scheme S) (device : Device D) (only : Only dev
     settled = settles.settled;
     not_settled = settles.not_settled;
     memory = settles.memory;
-    any_moment = or_down at (λ moment up. of_spare device Either only result (journal_of before) (journal_of later) some (of.alive up).firm changed kept untouched moment);
+    any_moment = or_down at (λ moment up. of_spare device Either only result (journal_of before) (journal_of later) some (of.alive up).durable changed kept untouched moment);
     earlier = earlier;
     cause = fault_of_spare device flush.Device result (journal_of before) (journal_of later) some changed kept untouched cause;
     disks = both_pairs result (spare_of (journal_of before)) (spare_of (journal_of later)) some

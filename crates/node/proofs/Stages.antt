@@ -97,7 +97,7 @@ module _ {D : Type 0} (device : Device D) where
   IsStill disk = (c : List ℕ) → device.outcome_since disk (device.clock disk) c → c ≡ device.content disk
 
   pub still : Only → (disk : D) → LeavesOnly (device.content disk) (device.outcome disk) → IsStill disk
-  still only disk firm c left = firm c (only disk c left)
+  still only disk durable c left = durable c (only disk c left)
 
   stays : (disk : D) → IsStill disk → AtEachMoment device disk disk (λ c. c ≡ device.content disk)
   stays disk is = started device disk (λ c. c ≡ device.content disk) is
@@ -220,11 +220,11 @@ module _ {D : Type 0} (device : Device D) where
         → AtEachMoment device (disk_of old) (disk_of new) (λ left. P (areas_at device old left)) → AtEachMomentOn device P (store_of old) (store_of new)
     of_live only old new alive same at =
         subst (λ (s : Option (Spare D)). AtEachMomentOn device P (store_of old) (option_map_or (λ spare. two (by_area spare.side (disk_of new) spare.disk)) s (One (disk_of new)))) (sym same)
-        (live_moment (disk_of old) (disk_of new) (spare_of old) (firm_spare (spare_of old) alive) at)
+        (live_moment (disk_of old) (disk_of new) (spare_of old) (durable_spare (spare_of old) alive) at)
       where
-        firm_spare : (spare : Option (Spare D)) → IfSome spare (IsAlivePair device (disk_of old)) → IfSome spare (λ s. IsStill s.disk)
-        firm_spare None is = tt
-        firm_spare (Some s) is = still only s.disk is.firm
+        durable_spare : (spare : Option (Spare D)) → IfSome spare (IsAlivePair device (disk_of old)) → IfSome spare (λ s. IsStill s.disk)
+        durable_spare None is = tt
+        durable_spare (Some s) is = still only s.disk is.durable
 
     -- of two disks the other one is
     by_other : (side : Side) (live written then : D) → IsStill live → AtEachMoment device written then (λ left. P (pair_of side (device.content live) left))
@@ -236,9 +236,9 @@ module _ {D : Type 0} (device : Device D) where
     pub of_spare : {T E : Type 0} → Only → (result : Result T E) (old new : Journal D) → IsSome (spare_of old) → LeavesOnly (device.content (disk_of old)) (device.outcome (disk_of old))
         → OnOk result (HaveChangedPlaces old new) → OnErr result (HaveKeptPlaces old new) → untouched_disk result new ≡ disk_of old
         → AtEachMoment device (spare_disk old) (rewritten_disk result new) (λ left. P (areas_with device old left)) → AtEachMomentOn device P (store_of old) (store_of new)
-    of_spare {T} {E} only result old new some firm changed kept untouched at =
+    of_spare {T} {E} only result old new some durable changed kept untouched at =
         subst (λ (s : Store D). AtEachMomentOn device P s (store_of new)) (sym (store_is old some))
         (subst (λ (s : Store D). AtEachMomentOn device P (two (by_area (side_in old) (disk_of old) (spare_disk old))) s) (sym (store_then result old new changed kept untouched))
-        (by_other (side_in old) (disk_of old) (spare_disk old) (rewritten_disk result new) (still only (disk_of old) firm)
+        (by_other (side_in old) (disk_of old) (spare_disk old) (rewritten_disk result new) (still only (disk_of old) durable)
         (weaker device (spare_disk old) (rewritten_disk result new) (λ left. P (pair_of (side_in old) (device.content (disk_of old)) left)) (λ left. P (areas_with device old left)) at
         (λ left. subst P (areas_are old left some)))))

@@ -8,7 +8,7 @@ ghost use Rattle.validator.specs.Setting.{node_of};
 ghost use Rattle.validator.specs.Standing.{StandSomewhere};
 ghost use Rattle.node_shared.specs.Answers.{Submits, Gives};
 ghost use Rattle.node_shared.specs.Calls.{Looked, Learned, Brought, IsBeside};
-ghost use Rattle.node_shared.specs.Home.{IsBase, IsOf, seen_in, firm_in};
+ghost use Rattle.node_shared.specs.Home.{IsBase, IsOf, seen_in, durable_in};
 ghost use Rattle.node.specs.Callers.{StaysWith};
 
 use header::Checked;
@@ -113,7 +113,7 @@ impl<'n, 'a, S: Sign> Caller<'n, 'a, S> {
         ensures learned { Learned S.scheme self.old.node self.old.seat self.new.seat }
         ensures down { IsErrOf result Refusal.Down ↔ IsTrue self.new.seat.view.down }
         ensures order { let node = node_of S.scheme self.old.node.setting in IfOk result (λ digests. (base : State) → IsBase S.scheme self.old.node base
-            → digests.items ≡ drop from (firm_in node base self.new.seat).order) }
+            → digests.items ≡ drop from (durable_in node base self.new.seat).order) }
         ensures errors { IfErr result (λ refusal. (refusal ≡ Refusal.Down) ⊎ (refusal ≡ Refusal.Memory)) }
     {
         self.node.order(rt, &mut self.seat, from)
@@ -179,7 +179,7 @@ impl<'n, 'a, S: Sign> Caller<'n, 'a, S> {
     pub fn synced(&mut self) -> u64
         ensures stays { StaysWith self.old self.new }
         ensures learned { Learned S.scheme self.old.node self.old.seat self.new.seat }
-        ensures count { result ≡ length self.new.seat.view.firm }
+        ensures count { result ≡ length self.new.seat.view.durable }
     {
         self.node.synced(&mut self.seat)
     }

@@ -10,7 +10,7 @@ ghost use Rattle.journal.specs.Pairs.{areas_in, areas_of, store_of};
 ghost use Rattle.validator.specs.Setting.{node_of};
 ghost use Rattle.opening.specs.Laws.{HoldsIn, IsReadIn};
 ghost use Rattle.opening.specs.Renewing.{KeepsStatesIn, IsNewest};
-ghost use Rattle.opening.specs.Told.{told_in, StandsAt};
+ghost use Rattle.opening.specs.Decoded.{decoded_in, StandsAt};
 ghost use Rattle.node_shared.specs.Calls.{HasNothing};
 ghost use Rattle.node_shared.specs.Home.{IsOf};
 ghost use Rattle.flusher.specs.Rounds.{journal_of, is_down, settled_in, taken_in, IsFlusherOf};
@@ -38,7 +38,7 @@ pub fn start<'a, S: Sign, D: Disk>(
     store: Store<D>,
 ) -> Result<(Node<'a, S>, Seat, Flusher<D>), Failed<JournalError, Store<D>>>
     ensures setting { IfOk result (λ started. started.0.setting ≡ config.now) }
-    ensures begins { let node = node_of S.scheme config.now in IfOk result (λ started. StandsAt node (told_in node (areas_in D.device store)) started.0.begun) }
+    ensures begins { let node = node_of S.scheme config.now in IfOk result (λ started. StandsAt node (decoded_in node (areas_in D.device store)) started.0.begun) }
     ensures seat { IfOk result (λ started. IsOf started.0 started.1) }
     ensures nothing { IfOk result (λ started. HasNothing started.1) }
     ensures flusher { IfOk result (λ started. IsFlusherOf S.scheme D.device started.0 started.2) }

@@ -139,7 +139,7 @@ impl<'n, 'a, S: Sign, D: Disk> Rounds<'n, 'a, S, D> {
         ensures seat { self.new.seat ≡ self.old.seat }
         ensures stays { StaysAsIs self.old.flusher self.new.flusher }
         ensures caller { caller.new ≡ caller.old }
-        ensures covers { Begins caller.old.seat.view.firm (settled_in self.new.flusher) }
+        ensures covers { Begins caller.old.seat.view.durable (settled_in self.new.flusher) }
     {
         self.flusher.cover(rt, self.node, &mut caller.seat);
     }

@@ -17,7 +17,7 @@ const ABSENT: u64 = 0;
 const PRESENT: u64 = 1;
 
 /// Certificates after as many rounds without a coin as the size says. Without the work they are only tested.
-pub fn take_behind(task: Task, config: &Config<HashSign>, fold: &mut Fold) -> Result<(), Ending> {
+pub fn take_after(task: Task, config: &Config<HashSign>, fold: &mut Fold) -> Result<(), Ending> {
     let mut validator = Validator::new(task.alloc, config)?;
     let mut events = Events::new(task.alloc, config.committee(), Front::Nothing, false)?;
     let first = task.size.saturating_mul(u64::from(task.members));

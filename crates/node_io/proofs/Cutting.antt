@@ -18,8 +18,8 @@ takes_more held mid later taken byte all more every joined one two = record {
       (subst (λ b. Splits ((stream ++ taken) ++ byte ∷ []) b later) bodies both);
 }
 
-pub parts_more : (piece taken rest behind : List ℕ) (byte : ℕ) → piece ≡ taken ++ rest → rest ≡ byte ∷ behind → piece ≡ (taken ++ byte ∷ []) ++ behind
-parts_more piece taken rest behind byte parts is = parts ∙ ap (λ l. taken ++ l) is ∙ sym (append_assoc taken (byte ∷ []) behind)
+pub parts_more : (piece taken rest after : List ℕ) (byte : ℕ) → piece ≡ taken ++ rest → rest ≡ byte ∷ after → piece ≡ (taken ++ byte ∷ []) ++ after
+parts_more piece taken rest after byte parts is = parts ∙ ap (λ l. taken ++ l) is ∙ sym (append_assoc taken (byte ∷ []) after)
 
 pub breaks_more : (held mid taken : List ℕ) (byte : ℕ) (bodies : List (List ℕ)) → Takes held taken bodies mid → BreaksWith mid (byte ∷ []) → BreaksWith held (taken ++ byte ∷ [])
 breaks_more held mid taken byte bodies one breaks stream before splits =

@@ -8,12 +8,12 @@ number_grows before [] = omega arith
 number_grows before (digit ∷ rest) = let later = number_grows (before * 10 + (digit - 48)) rest in omega (arith, later)
 
 -- a digit is taken from the front of what is left: the number, and whether all are digits
-pub taken_value : (number next digit whole : ℕ) (rest behind : List ℕ) → rest ≡ digit ∷ behind → next ≡ number * 10 + (digit - 48)
-    → number_of number rest ≡ whole → number_of next behind ≡ whole
-taken_value number next digit whole rest behind is given value = rw given (subst (λ digits. number_of number digits ≡ whole) is value)
+pub taken_value : (number next digit whole : ℕ) (rest after : List ℕ) → rest ≡ digit ∷ after → next ≡ number * 10 + (digit - 48)
+    → number_of number rest ≡ whole → number_of next after ≡ whole
+taken_value number next digit whole rest after is given value = rw given (subst (λ digits. number_of number digits ≡ whole) is value)
 
-pub taken_ahead : {Whole : Type 0} (digit : ℕ) (rest behind : List ℕ) → rest ≡ digit ∷ behind → IsDigit digit → (All IsDigit rest → Whole) → All IsDigit behind → Whole
-taken_ahead digit rest behind is one ahead all = ahead (subst (All IsDigit) (sym is) (All-cons IsDigit digit behind one all))
+pub taken_ahead : {Whole : Type 0} (digit : ℕ) (rest after : List ℕ) → rest ≡ digit ∷ after → IsDigit digit → (All IsDigit rest → Whole) → All IsDigit after → Whole
+taken_ahead digit rest after is one ahead all = ahead (subst (All IsDigit) (sym is) (All-cons IsDigit digit after one all))
 
-pub taken_back : (digit : ℕ) (rest behind : List ℕ) → rest ≡ digit ∷ behind → All IsDigit rest → All IsDigit behind
-taken_back digit rest behind is all k d below = subst (All IsDigit) is all (suc k) d (omega (arith, below))
+pub taken_back : (digit : ℕ) (rest after : List ℕ) → rest ≡ digit ∷ after → All IsDigit rest → All IsDigit after
+taken_back digit rest after is all k d below = subst (All IsDigit) is all (suc k) d (omega (arith, below))

@@ -7,7 +7,7 @@ use Rattle.wire_read.specs.Frames.{Splits, Breaks}
 use Rattle.node_io.specs.declared.input.End.{End}
 use Rattle.node_io.specs.declared.input.End.TheVariants as ends
 
--- Bytes are taken behind what is held of the next frame: with them the stream is frames of these bodies more, and then this is held.
+-- Bytes are taken after what is held of the next frame: with them the stream is frames of these bodies more, and then this is held.
 pub record Takes (held taken : List ℕ) (bodies : List (List ℕ)) (later : List ℕ) : Type 0 where
   pub splits : (stream : List ℕ) (before : List (List ℕ)) → Splits stream before held → Splits (stream ++ taken) (before ++ bodies) later
 
@@ -19,23 +19,23 @@ BreaksWith held taken = (stream : List ℕ) (before : List (List ℕ)) → Split
 pub record TakesUntil (held piece : List ℕ) (bodies : List (List ℕ)) (later : List ℕ) : Type 0 where
   pub taken : List ℕ
   pub byte : ℕ
-  pub behind : List ℕ
-  pub parts : piece ≡ taken ++ byte ∷ behind
+  pub after : List ℕ
+  pub parts : piece ≡ taken ++ byte ∷ after
   pub takes : Takes held taken bodies later
   pub breaks : BreaksWith held (taken ++ byte ∷ [])
 
 -- of a piece a beginning is taken
 pub record TakesPart (held piece : List ℕ) (bodies : List (List ℕ)) : Type 0 where
   pub taken : List ℕ
-  pub behind : List ℕ
+  pub after : List ℕ
   pub later : List ℕ
-  pub parts : piece ≡ taken ++ behind
+  pub parts : piece ≡ taken ++ after
   pub takes : Takes held taken bodies later
 
 -- why no more frames come where a reader of frames refuses a piece: there was no memory for it, or such a length stands in it
-abbrev pub end_behind : WireError → End
-end_behind Memory = ends.Memory
-end_behind error = ends.Broken
+abbrev pub end_of_error : WireError → End
+end_of_error Memory = ends.Memory
+end_of_error error = ends.Broken
 
 -- what contracts see of a stream of frames: what it is read from, what is held of the next frame, and why no more frames come
 pub record InputView (I : Type 0) : Type 0 where
@@ -44,7 +44,7 @@ pub record InputView (I : Type 0) : Type 0 where
   pub end : Option End
 
 -- What came of a piece: all of it is taken, unless no more frames come, since a length in it is refused, before which all is
--- taken, or since there was no memory behind these bodies.
+-- taken, or since there was no memory after these bodies.
 pub record Cuts (held piece : List ℕ) (bodies : List (List ℕ)) (later : List ℕ) (end : Option End) : Type 0 where
   pub all : end ≡ None → Takes held piece bodies later
   pub broken : end ≡ Some ends.Broken → TakesUntil held piece bodies later

@@ -74,7 +74,7 @@ first_of (Some journal.Memory) (Some error) = Some error
 first_of (Some error) other = Some error
 
 -- what the end of the input means for a run
-abbrev pub behind_input : End → Bool → Faults
-behind_input ends.Whole lacked_memory = record { journal = None; output = false; memory = lacked_memory; input = false }
-behind_input ends.Broken lacked_memory = record { journal = None; output = false; memory = lacked_memory; input = true }
-behind_input ends.Memory lacked_memory = record { journal = None; output = false; memory = true; input = false }
+abbrev pub after_input : End → Bool → Faults
+after_input ends.Whole lacked_memory = record { journal = None; output = false; memory = lacked_memory; input = false }
+after_input ends.Broken lacked_memory = record { journal = None; output = false; memory = lacked_memory; input = true }
+after_input ends.Memory lacked_memory = record { journal = None; output = false; memory = true; input = false }

@@ -15,19 +15,19 @@ pub data Asked : Type 0 where
   seal : ℕ → Asked
   said : ℕ → Message → Asked
 
--- behind a transaction's sender: a worker's number and all the rest
+-- after a transaction's sender: a worker's number and all the rest
 abbrev pub transaction_in : List ℕ → Result Asked WireError
 transaction_in bytes = do
   worker ← number_at w16 bytes
   if nat_lt MAX_TRANSACTION_BYTES (length worker.1) then Err TooMany else Ok (transaction worker.0 worker.1)
 
--- behind a seal's sender: a worker's number, and nothing else
+-- after a seal's sender: a worker's number, and nothing else
 abbrev pub seal_in : List ℕ → Result Asked WireError
 seal_in bytes = do
   worker ← number_at w16 bytes
   if length worker.1 == 0 then Ok (seal worker.0) else Err Trailing
 
--- behind any other sender: a message
+-- after any other sender: a message
 abbrev pub message_in : ℕ → List ℕ → Result Asked WireError
 message_in sender bytes = do
   message ← message_of bytes
@@ -39,7 +39,7 @@ asked_in body = do
   sender ← number_at w16 body
   if sender.0 == 65535 then transaction_in sender.1 else if sender.0 == 65534 then seal_in sender.1 else message_in sender.0 sender.1
 
--- what is behind the sender is a message's: only that may want memory
+-- what is after the sender is a message's: only that may want memory
 pub record BringsMessage (body : List ℕ) : Type 0 where
   pub sender : ℕ
   pub rest : List ℕ

@@ -18,14 +18,14 @@ pub fn own_of(text: &str) -> Option<Author>
         return None;
     }
     let mut number: u16 = 0;
-    while let Some((digit, behind)) = rest.split_first() {
+    while let Some((digit, after)) = rest.split_first() {
         number = with_digit(number, *digit)?;
-        rest = behind;
+        rest = after;
     }
     Some(Author(number))
 }
 
-// A number with a digit behind it.
+// A number with a digit after it.
 fn with_digit(number: u16, digit: u8) -> Option<u16>
     ensures some { IfSome result (λ longer. IsDigit digit × (longer ≡ number * 10 + (digit - 48))) }
     ensures none { IsNone result → IsDigit digit → number * 10 + (digit - 48) < 2 ^ 16 → ⊥ }

@@ -1,7 +1,7 @@
 //! What went wrong while a node ran.
 
 ghost use Rattle.std.specs.Prelude.{◌≡◌, ◌||◌, None, Some, true, false};
-ghost use Rattle.node_io.specs.Endings.{behind_input, ending_of, first_of};
+ghost use Rattle.node_io.specs.Endings.{after_input, ending_of, first_of};
 
 use crate::ending::Ending;
 use crate::input::End;
@@ -55,7 +55,7 @@ impl Faults {
 
     /// No more frames come, and whether memory was refused outside an event before.
     pub fn of_input(end: End, lacked_memory: bool) -> Faults
-        ensures { result ≡ behind_input end lacked_memory }
+        ensures { result ≡ after_input end lacked_memory }
     {
         Faults {
             memory: end == End::Memory || lacked_memory,

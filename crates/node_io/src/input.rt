@@ -4,7 +4,7 @@ ghost use Rattle.std.specs.Prelude.{◌≡◌, ◌≢◌, ◌⊎◌, ◌++◌, �
 ghost use Rattle.std.specs.Io.KnownBytes.{IsAtEnd};
 ghost use Rattle.std.specs.declared.alloc.Global.{Global};
 ghost use Rattle.wire_read.specs.Frames.{bodies_bytes};
-ghost use Rattle.node_io.specs.Cutting.{Takes, BreaksWith, Cuts, ReadsAndCuts, TakesNothing, end_behind};
+ghost use Rattle.node_io.specs.Cutting.{Takes, BreaksWith, Cuts, ReadsAndCuts, TakesNothing, end_of_error};
 
 use std::alloc::{AllocError, Global};
 use std::io::{ErrorKind, Read};
@@ -18,7 +18,7 @@ const PIECE_BYTES: usize = 1_048_576;
 /// Why no more frames come.
 #[derive(Clone, Copy, Debug, PartialEq, Eq)]
 pub enum End {
-    /// The stream has ended behind a whole frame.
+    /// The stream has ended after a whole frame.
     Whole,
     /// It can't be read, a length in it is refused, or it has ended within a frame.
     Broken,
@@ -136,9 +136,9 @@ fn bodies_before_fault(
 {
     let mut all = Vec::new(alloc);
     let mut rest = piece;
-    while let Some((byte, behind)) = rest.split_first() {
+    while let Some((byte, after)) = rest.split_first() {
         match add_bodies(frames, *byte, &mut all) {
-            Ok(()) => rest = behind,
+            Ok(()) => rest = after,
             Err(end) => return (all, Some(end)),
         }
     }
@@ -160,9 +160,9 @@ fn add_bodies(frames: &mut FrameReader, byte: u8, all: &mut Vec<Vec<u8>>) -> Res
     }
 }
 
-// Why no more frames come behind what a reader of frames refused.
+// Why no more frames come after what a reader of frames refused.
 fn end_of(error: WireError) -> End
-    ensures { result ≡ end_behind error }
+    ensures { result ≡ end_of_error error }
 {
     match error {
         WireError::Memory => End::Memory,
@@ -170,11 +170,11 @@ fn end_of(error: WireError) -> End
     }
 }
 
-// Why no more frames come where the stream stops, behind a whole frame or within one.
-fn end_at_stop(is_behind_frame: bool) -> End
-    ensures { result ≡ (if is_behind_frame then End.Whole else End.Broken) }
+// Why no more frames come where the stream stops, after a whole frame or within one.
+fn end_at_stop(is_after_frame: bool) -> End
+    ensures { result ≡ (if is_after_frame then End.Whole else End.Broken) }
 {
-    if is_behind_frame {
+    if is_after_frame {
         End::Whole
     } else {
         End::Broken

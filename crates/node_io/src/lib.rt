@@ -9,8 +9,8 @@ mod faults;
 mod input;
 mod makers;
 mod regular_file;
+mod rejection;
 mod request;
-mod told;
 
 pub use arguments::own_of;
 pub use blocking::Blocking;
@@ -20,5 +20,5 @@ pub use faults::Faults;
 pub use input::{End, Input};
 pub use makers::Makers;
 pub use regular_file::read_regular_file;
+pub use rejection::Rejection;
 pub use request::{Request, SEALS, TRANSACTIONS, request_of};
-pub use told::Told;

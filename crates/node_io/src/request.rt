@@ -26,7 +26,7 @@ pub enum Request<'f> {
     Message { sender: Author, message: Message },
 }
 
-// The number at the front, and what is behind it.
+// The number at the front, and what is after it.
 fn number_of(bytes: &[u8]) -> Result<(u16, &[u8]), WireError>
     ensures number { Gives (λ found. (found.0, found.1.now)) result (number_at w16 bytes.now) }
     ensures never_memory { result ≢ Err WireError.Memory }
@@ -37,7 +37,7 @@ fn number_of(bytes: &[u8]) -> Result<(u16, &[u8]), WireError>
     }
 }
 
-/// What the body of a frame asks. `Short` where it ends within a number, `Trailing` where bytes are behind the worker of a seal,
+/// What the body of a frame asks. `Short` where it ends within a number, `Trailing` where bytes are after the worker of a seal,
 /// `TooMany` of a transaction above its limit, and what reading a message answers.
 pub fn request_of(alloc: Global, body: &[u8]) -> Result<Request<'_>, WireError>
     ensures asked { Gives shown result (asked_in body.now) }
@@ -70,8 +70,8 @@ fn seal_of(rest: &[u8]) -> Result<Request<'_>, WireError>
     ensures seal { Gives shown result (seal_in rest.now) }
     ensures never_memory { result ≢ Err WireError.Memory }
 {
-    let (worker, behind) = number_of(rest)?;
-    if !behind.is_empty() {
+    let (worker, after) = number_of(rest)?;
+    if !after.is_empty() {
         return Err(WireError::Trailing);
     }
     Ok(Request::Seal { worker })

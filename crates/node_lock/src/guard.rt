@@ -23,7 +23,7 @@ const TAKEN: u64 = 1;
 // Somebody has the value, and somebody else may sleep until it is back.
 const WANTED: u64 = 2;
 
-// How often the value is tried for before a sleep, each time behind twice as many pauses as the time before: some tens of
+// How often the value is tried for before a sleep, each time after twice as many pauses as the time before: some tens of
 // microseconds, which is what a sleep and who wakes it cost.
 const TRIES: u32 = 10;
 

@@ -6,8 +6,8 @@ use Rattle.header.specs.Digested.{certificate_digest_in}
 use Rattle.header.specs.declared.error.CheckError.{CheckError}
 use Rattle.spec_model.specs.Words.{Event}
 use Rattle.header.specs.declared.refusal.Refusal.{Refusal}
-use Rattle.node_io.specs.declared.told.Told.{Told}
-use Rattle.node_io.specs.declared.told.Told.TheVariants.{Unchecked}
+use Rattle.node_io.specs.declared.rejection.Rejection.{Rejection}
+use Rattle.node_io.specs.declared.rejection.Rejection.TheVariants.{Unchecked}
 use Rattle.node.specs.Callers.{CallerView}
 use Rattle.node_shared.specs.Home.{NodeView}
 use Rattle.sigface.specs.Scheme.{Scheme}
@@ -16,7 +16,7 @@ use Rattle.node_run.specs.Taking.{Handles, OnlyLooks, told_as}
 use Rattle.node_run.specs.declared.caller.Taken.{Taken}
 use Rattle.node_run.specs.declared.caller.Taken.TheVariants.{New, Known, Waits}
 
-either_way : (certificate : Event) (new : Bool) → ◌≡◌ {A = Result Taken Told} (Ok (cond new New Known)) (Ok (Waits certificate)) → ⊥
+either_way : (certificate : Event) (new : Bool) → ◌≡◌ {A = Result Taken Rejection} (Ok (cond new New Known)) (Ok (Waits certificate)) → ⊥
 either_way certificate true is = absurd cc
 either_way certificate false is = absurd cc
 
@@ -26,7 +26,7 @@ never_waits certificate (Ok receipt) is = either_way certificate receipt.new is
 never_waits certificate (Err why) is = absurd cc
 
 module _ {S : Type 0} (scheme : Scheme S) (node : NodeView S) (fault : Option CheckError) (event : Event) (before later : CallerView S) (old new : List Event)
-    (told : Result Taken Told) (handles : Handles scheme node fault event before later told) where
+    (told : Result Taken Rejection) (handles : Handles scheme node fault event before later told) where
   pub brings_new : told ≡ Ok New → new ≡ old → Brings scheme node fault event before later old new (Ok true)
   brings_new is same = record {
     told = told;
@@ -49,7 +49,7 @@ module _ {S : Type 0} (scheme : Scheme S) (node : NodeView S) (fault : Option Ch
     refused = λ why other. let bad : Ok Known ≡ Err why = sym is ∙ other in absurd cc;
   }
 
-  pub brings_refusal : (why : Told) → told ≡ Err why → new ≡ old → Brings scheme node fault event before later old new (Err why)
+  pub brings_refusal : (why : Rejection) → told ≡ Err why → new ≡ old → Brings scheme node fault event before later old new (Err why)
   brings_refusal why is same = record {
     told = told;
     later = later;
@@ -63,7 +63,7 @@ module _ {S : Type 0} (scheme : Scheme S) (node : NodeView S) (fault : Option Ch
         (ap Err one, same, refl);
   }
 
-  pub brings_waiting : (now : CallerView S) (certificate : Event) (result : Result Bool Told) → OnlyLooks later.seat now.seat → told
+  pub brings_waiting : (now : CallerView S) (certificate : Event) (result : Result Bool Rejection) → OnlyLooks later.seat now.seat → told
       ≡ Ok (Waits certificate) → result ≢ Ok true → OnOk result (Enters certificate old new) → OnErr result (new ≡ old)
       → IfErr result (CantWait certificate old)
       → Brings scheme node fault event before now old new result

@@ -10,7 +10,7 @@ use Rattle.journal.specs.declared.error.JournalError.TheVariants as journal
 use Rattle.journal.specs.declared.store.Store.{Store}
 use Rattle.node.specs.Callers.{RoundsView}
 use Rattle.node.specs.Disks.{MayBeLeft}
-use Rattle.node_io.specs.Endings.{behind_input, first_of}
+use Rattle.node_io.specs.Endings.{after_input, first_of}
 use Rattle.node_io.specs.declared.faults.Faults.{Faults}
 use Rattle.node_io.specs.declared.input.End.{End}
 use Rattle.node_io.specs.declared.input.End.TheVariants as ends
@@ -33,16 +33,16 @@ second_fine one other third fine = (or_parts one other (or_parts (one || other) 
 -- What was written is on the disks, where the one that wrote knew no more as settled than the rounds had settled on it.
 pub is_settled : {S D : Type 0} (scheme : Scheme S) (device : Device D) (rule : Rule) (first later : RoundsView S D) (tells : Faults) (node : NodeView S) (view : View) (left : Store D) (one other third all : Bool)
     (old new : Option (List ℕ)) → HasFlushed scheme device rule first later tells → is_down first.flusher ≡ false → node ≡ first.node
-    → left ≡ store_of (journal_of later.flusher) → Begins view.firm (settled_in later.flusher) → all ≡ ((one || other) || third)
+    → left ≡ store_of (journal_of later.flusher) → Begins view.durable (settled_in later.flusher) → all ≡ ((one || other) || third)
     → HasWritten (All (MayGo scheme node view)) (other ≡ false) old new → HasWritten (AreSettled scheme device first.node first.flusher left) (all ≡ false) old new
-is_settled {S} {D} scheme device rule first later tells node view left one other third all old new flushed up same is_left firm is_all written =
+is_settled {S} {D} scheme device rule first later tells node view left one other third all old new flushed up same is_left durable is_all written =
     written_weaker (All (MayGo scheme node view)) (AreSettled scheme device first.node first.flusher left) (other ≡ false) (all ≡ false) old new
     (λ outputs each. record {
       view = view;
       each = subst (λ (n : NodeView S). All (MayGo scheme n view) outputs) same each;
       on_disk = λ found may.
           let it = flushed.at_end up found (subst (λ (d : Store D). MayBeLeft device d found) is_left may) in
-          (it.0, begins_trans view.firm (settled_in later.flusher) it.0.more firm it.1);
+          (it.0, begins_trans view.durable (settled_in later.flusher) it.0.more durable it.1);
     })
     (λ fine. second_fine one other third (sym is_all ∙ fine)) written
 
@@ -63,7 +63,7 @@ third_alone one other third both all no_one no_other both_is all_is =
     let none : both ≡ None = both_is ∙ ap (λ (it : Option JournalError). first_of it other) no_one ∙ no_other in
     all_is ∙ ap (λ (it : Option JournalError). first_of it third) none
 
-pub none_of_input : (end : End) (lacked_memory : Bool) → (behind_input end lacked_memory).journal ≡ None
+pub none_of_input : (end : End) (lacked_memory : Bool) → (after_input end lacked_memory).journal ≡ None
 none_of_input ends.Whole lacked_memory = refl
 none_of_input ends.Broken lacked_memory = refl
 none_of_input ends.Memory lacked_memory = refl

@@ -21,7 +21,7 @@ use Rattle.node_seats.specs.declared.view.Marked.{Marked}
 use Rattle.node_shared.specs.Home.{NodeView}
 use Rattle.sigface.specs.Scheme.{Scheme}
 use Rattle.wire.specs.Lists.{Begins}
-use Rattle.node_run.specs.Ends.{faults_behind, TellsRounds, TellsJournal}
+use Rattle.node_run.specs.Ends.{faults_after, TellsRounds, TellsJournal}
 use Rattle.node_run.specs.Flushing.{FlushesOnce}
 use Rattle.node_run.specs.Rewriting.{AreSteps, ByTheRule, HasNoPlace, Point, Step, point_after, point_of, rule_after}
 use Rattle.node_run.specs.Runs.{HoldsMore, LeavesSettled}
@@ -45,7 +45,7 @@ by_rule_joins device rule mid_rule later first mid last here there = (here.0 ++ 
 
 -- ---- what is told
 
-tells_failed : (first mid now : ℕ) (error : FlushError) → mid ≡ first → TellsFault {T = ℕ} flush.Device mid now (Err error) → TellsRounds first now (faults_behind error).journal
+tells_failed : (first mid now : ℕ) (error : FlushError) → mid ≡ first → TellsFault {T = ℕ} flush.Device mid now (Err error) → TellsRounds first now (faults_after error).journal
 tells_failed first mid now flush.Memory same tells = record {
   disk = record { device = λ is. absurd (cc); no_fault = λ other. tells.1.1 (λ is. let bad : flush.Memory ≡ flush.Device = is in cc) ∙ same };
   which = tt;
@@ -63,7 +63,7 @@ tells_failed first mid now flush.Down same tells = record {
   which = tt;
 }
 
-no_others : (error : FlushError) → ((faults_behind error).output ≡ false) × ((faults_behind error).input ≡ false)
+no_others : (error : FlushError) → ((faults_after error).output ≡ false) × ((faults_after error).input ≡ false)
 no_others flush.Memory = (refl, refl)
 no_others flush.Device = (refl, refl)
 no_others flush.Full = (refl, refl)
@@ -73,7 +73,7 @@ no_others flush.Down = (refl, refl)
 error_is : (one other : FlushError) → ◌≡◌ {A = Result ℕ FlushError} (Err one) (Err other) → one ≡ other
 error_is one other is = ap error_in is
 
-fell : {D : Type 0} (before later : Flusher D) (error : FlushError) → is_down before ≡ false → GoesDown before later (Err error) → IsSome (faults_behind error).journal ↔ IsTrue (is_down later)
+fell : {D : Type 0} (before later : Flusher D) (error : FlushError) → is_down before ≡ false → GoesDown before later (Err error) → IsSome (faults_after error).journal ↔ IsTrue (is_down later)
 fell before later flush.Memory up goes = ((λ some. absurd (cc)), (λ down. absurd (by (goes.nothing_else down))))
   where
     by : IsErrOf {T = ℕ} (Err flush.Memory) flush.Device ⊎ IsErrOf {T = ℕ} (Err flush.Memory) flush.Full ⊎ IsErrOf {T = ℕ} (Err flush.Memory) flush.Down → ⊥
@@ -193,7 +193,7 @@ module _ {S D : Type 0} (scheme : Scheme S) (device : Device D) (rule now_rule l
 
   -- a fault came
   pub ended_by : (error : FlushError) → FlushesOnce scheme device now_rule later_rule later_missed now later (Err error)
-      → Ended scheme device rule later_rule later_missed first later (faults_behind error)
+      → Ended scheme device rule later_rule later_missed first later (faults_after error)
   ended_by error once = record {
     pair = once.pair loop.pair;
     rounds = tells_failed (faults_in device (store_of (journal_of first.flusher))) (faults_in device (store_of (journal_of now.flusher))) (faults_in device (store_of (journal_of later.flusher)))
@@ -214,34 +214,34 @@ module _ {S D : Type 0} (scheme : Scheme S) (device : Device D) (rule now_rule l
   }
     where
       stayed : (it : FlushError) → GoesDown now.flusher later.flusher (Err it) → is_down now.flusher ≡ true → now.flusher ≡ first.flusher
-          → ((faults_behind it).journal ≡ None) × (later.flusher ≡ first.flusher)
+          → ((faults_after it).journal ≡ None) × (later.flusher ≡ first.flusher)
       stayed flush.Memory goes down same = absurd (let bad : flush.Memory ≡ flush.Down = error_is flush.Memory flush.Down (goes.down.1 down) in cc)
       stayed flush.Device goes down same = absurd (let bad : flush.Device ≡ flush.Down = error_is flush.Device flush.Down (goes.down.1 down) in cc)
       stayed flush.Full goes down same = absurd (let bad : flush.Full ≡ flush.Down = error_is flush.Full flush.Down (goes.down.1 down) in cc)
       stayed flush.Down goes down same = (refl, goes.same refl ∙ same)
 
-      no_place : (it : FlushError) → (IsErrOf {T = ℕ} (Err it) flush.Full → HasNoPlace scheme device now.node later.flusher) → (faults_behind it).journal ≡ Some journal.Full
+      no_place : (it : FlushError) → (IsErrOf {T = ℕ} (Err it) flush.Full → HasNoPlace scheme device now.node later.flusher) → (faults_after it).journal ≡ Some journal.Full
           → HasNoPlace scheme device first.node later.flusher
       no_place flush.Memory full is = absurd (cc)
       no_place flush.Device full is = absurd (let bad : ◌≡◌ {A = Option JournalError} (Some journal.Device) (Some journal.Full) = is in cc)
       no_place flush.Full full is = subst (λ (n : NodeView S). HasNoPlace scheme device n later.flusher) loop.node (full refl)
       no_place flush.Down full is = absurd (cc)
 
-      no_end : (it : FlushError) → GoesDown now.flusher later.flusher (Err it) → is_down now.flusher ≡ false → (faults_behind it).journal ≡ None → (faults_behind it).memory ≡ false
+      no_end : (it : FlushError) → GoesDown now.flusher later.flusher (Err it) → is_down now.flusher ≡ false → (faults_after it).journal ≡ None → (faults_after it).memory ≡ false
           → ByTheRule device rule (point_of first.flusher) later_rule (point_of later.flusher)
       no_end flush.Memory goes up none fine = absurd (let bad : true ≡ false = fine in cc)
       no_end flush.Device goes up none fine = absurd (let bad : ◌≡◌ {A = Option JournalError} (Some journal.Device) None = none in cc)
       no_end flush.Full goes up none fine = absurd (let bad : ◌≡◌ {A = Option JournalError} (Some journal.Full) None = none in cc)
       no_end flush.Down goes up none fine = absurd (let bad : true ≡ false = sym (goes.down.0 refl) ∙ up in cc)
 
-      never_up : (it : FlushError) → GoesDown now.flusher later.flusher (Err it) → is_down later.flusher ≡ false → (faults_behind it).memory ≡ false
+      never_up : (it : FlushError) → GoesDown now.flusher later.flusher (Err it) → is_down later.flusher ≡ false → (faults_after it).memory ≡ false
           → TakesLongest first.seat.view.seen (settled_in later.flusher) (settled_in later.flusher)
       never_up flush.Memory goes up fine = absurd (let bad : true ≡ false = fine in cc)
       never_up flush.Device goes up fine = absurd (let bad : true ≡ false = sym (goes.device refl) ∙ up in cc)
       never_up flush.Full goes up fine = absurd (let bad : true ≡ false = sym (goes.full refl) ∙ up in cc)
       never_up flush.Down goes up fine = absurd (let bad : true ≡ false = sym (goes.down.0 refl) ∙ ap (λ (f : Flusher D). is_down f) (sym (goes.same refl)) ∙ up in cc)
 
-      none_taken : (it : FlushError) → (IsErrOf {T = ℕ} (Err it) flush.Memory → taken_in later.flusher ≡ settled_in later.flusher) → (faults_behind it).memory ≡ true
+      none_taken : (it : FlushError) → (IsErrOf {T = ℕ} (Err it) flush.Memory → taken_in later.flusher ≡ settled_in later.flusher) → (faults_after it).memory ≡ true
           → taken_in later.flusher ≡ settled_in later.flusher
       none_taken flush.Memory none lacks = none refl
       none_taken flush.Device none lacks = absurd (let bad : false ≡ true = lacks in cc)

@@ -14,8 +14,8 @@ use Rattle.spec_model.specs.States.{State}
 use Rattle.spec_model.specs.Words.{Author, Event, Header}
 use Rattle.header.specs.declared.refusal.Refusal.{Refusal}
 use Rattle.header.specs.declared.refusal.Refusal.TheVariants.{Memory}
-use Rattle.node_io.specs.declared.told.Told.{Told}
-use Rattle.node_io.specs.declared.told.Told.TheVariants.{Refused}
+use Rattle.node_io.specs.declared.rejection.Rejection.{Rejection}
+use Rattle.node_io.specs.declared.rejection.Rejection.TheVariants.{Refused}
 use Rattle.node_seats.proofs.Beginnings.{begins_same}
 use Rattle.node_shared.specs.Answers.{Submits}
 use Rattle.node_shared.specs.Home.{NodeView, IsBase, seen_in}
@@ -71,7 +71,7 @@ module _ {S : Type 0} (scheme : Scheme S) (shared : NodeView S) (before mid : Ca
     failed = λ _ _ _ _. (refl, mine);
   }
 
-  pub was_proposed : (later : CallerView S) (found : Option Header) (header : Header) (event : Event) (told : Result Taken Told) (newness : Result Bool AllocError)
+  pub was_proposed : (later : CallerView S) (found : Option Header) (header : Header) (event : Event) (told : Result Taken Rejection) (newness : Result Bool AllocError)
       → Finds found → found ≡ Some header → event ≡ own_event node header → fault_of node.charter accepts_all event ≡ None
       → Begins mid.seat.view.seen later.seat.view.seen → IsSubmitted scheme shared event before later told
       → IfOk newness (λ new. new ≡ is_told_new told) → IfOk newness (λ new. IsProposed scheme shared before later new)
@@ -102,13 +102,13 @@ module _ {S : Type 0} (scheme : Scheme S) (shared : NodeView S) (before mid : Ca
       on_ok (Err error) newly = tt
 
 -- what is refused is no event of one's own
-refused_mine : {S : Type 0} (scheme : Scheme S) (node : NodeView S) (event : Event) (before later : CallerView S) (why : Told) (answer : Result Receipt Refusal)
+refused_mine : {S : Type 0} (scheme : Scheme S) (node : NodeView S) (event : Event) (before later : CallerView S) (why : Rejection) (answer : Result Receipt Refusal)
     → Submits scheme node event before.seat.view later.seat.view answer → told_as answer ≡ Err why → later.seat.view.mine ≡ before.seat.view.mine
 refused_mine scheme node event before later why (Ok receipt) submits is = absurd cc
 refused_mine scheme node event before later why (Err refusal) submits is = let same = submits.same in same.1
 
 -- want of memory is told only where nothing was accepted
-pub lacked_memory : {S : Type 0} (scheme : Scheme S) (node : NodeView S) (event : Event) (before mid later : CallerView S) (told : Result Taken Told) (newness : Result Bool AllocError)
+pub lacked_memory : {S : Type 0} (scheme : Scheme S) (node : NodeView S) (event : Event) (before mid later : CallerView S) (told : Result Taken Rejection) (newness : Result Bool AllocError)
     → mid.seat.view.mine ≡ before.seat.view.mine → IsSubmitted scheme node event mid later told → OnErr newness (told ≡ Err (Refused Memory)) → OnErr newness (later.seat.view.mine ≡ before.seat.view.mine)
 lacked_memory scheme node event before mid later told (Ok new) mine done why = tt
 lacked_memory scheme node event before mid later told (Err error) mine done why = refused_mine scheme node event mid later (Refused Memory) done.answer done.submits (sym done.is ∙ why) ∙ mine

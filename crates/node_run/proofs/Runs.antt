@@ -9,7 +9,7 @@ use Rattle.std.specs.Prelude.{◌≢◌, ◌⊎◌, ◌||◌, Ok, IfSome, IsSome
 use Rattle.diskmodel.specs.Disk.{Device}
 use Rattle.admission.proofs.OneState.{one_state}
 use Rattle.book.specs.Book.{GoesOutAfter, IsCheckpoint}
-use Rattle.flusher.specs.Rounds.{journal_of, settled_in, taken_in, HoldsAfter, records_behind}
+use Rattle.flusher.specs.Rounds.{journal_of, settled_in, taken_in, HoldsAfter, records_after}
 use Rattle.flusher.specs.declared.flusher.Flusher.{Flusher}
 use Rattle.journal.specs.Areas.{Areas, alone, pair}
 use Rattle.journal.specs.Format.{FitsGroup}
@@ -35,8 +35,8 @@ use Rattle.node_seats.specs.declared.view.Marked.{Marked}
 use Rattle.node_shared.specs.Home.{NodeView}
 use Rattle.opening.specs.Laws.{IsFullIn, IsLeftIn, IsNoRefusalOfBoth, IsReadIn}
 use Rattle.opening.specs.Renewing.{KeepsStatesIn}
-use Rattle.opening.specs.Stages.{IsToldAsBoth, IsToldThroughout}
-use Rattle.opening.specs.Told.{told_in, StandsAt, Tells, IsToldAsOneOf}
+use Rattle.opening.specs.Stages.{IsDecodedAsBoth, IsDecodedThroughout}
+use Rattle.opening.specs.Decoded.{decoded_in, StandsAt, Tells, IsDecodedAsOneOf}
 use Rattle.spec_machine.specs.After.{after_all, IsLegalAfter}
 use Rattle.spec_machine.proofs.AfterAll.{after_none}
 use Rattle.spec_model.specs.Nodes.{Node}
@@ -78,8 +78,8 @@ told_unless (Some journal.ConfigMismatch) other error none is = ap fault_in is
 told_unless (Some journal.Full) other error none is = ap fault_in is
 
 -- a run ends with a fault of the journal only where that was told
-told_of_journal : (faults : Faults) (error : JournalError) → ending_of faults ≡ ends.Journal error → faults.journal ≡ Some error
-told_of_journal faults error is = told_unless faults.journal _ error (other_none faults.output (lacks_memory faults) faults.input error) is
+decoded_of_journal : (faults : Faults) (error : JournalError) → ending_of faults ≡ ends.Journal error → faults.journal ≡ Some error
+decoded_of_journal faults error is = told_unless faults.journal _ error (other_none faults.output (lacks_memory faults) faults.input error) is
 
 -- and where its disk's fault was told, so it ends
 ends_with_device : (fault : Option JournalError) (other : Ending) → fault ≡ Some journal.Device → unless_journal fault other ≡ ends.Journal journal.Device
@@ -89,12 +89,12 @@ some_same : (one other : JournalError) → Some one ≡ Some other → one ≡ o
 some_same one other is = ap (λ (o : Option JournalError). option_map_or (λ (e : JournalError). e) o one) is
 
 -- one that the opening answered
-opening_told : (error named : JournalError) → of_journal error ≡ ends.Journal named → error ≡ named
-opening_told journal.Memory named is = absurd (none-some named (ap fault_in is))
-opening_told journal.Device named is = some_same journal.Device named (ap fault_in is)
-opening_told (journal.Damaged place) named is = some_same (journal.Damaged place) named (ap fault_in is)
-opening_told journal.ConfigMismatch named is = some_same journal.ConfigMismatch named (ap fault_in is)
-opening_told journal.Full named is = some_same journal.Full named (ap fault_in is)
+opening_decoded : (error named : JournalError) → of_journal error ≡ ends.Journal named → error ≡ named
+opening_decoded journal.Memory named is = absurd (none-some named (ap fault_in is))
+opening_decoded journal.Device named is = some_same journal.Device named (ap fault_in is)
+opening_decoded (journal.Damaged place) named is = some_same (journal.Damaged place) named (ap fault_in is)
+opening_decoded journal.ConfigMismatch named is = some_same journal.ConfigMismatch named (ap fault_in is)
+opening_decoded journal.Full named is = some_same journal.Full named (ap fault_in is)
 
 -- a run whose ending tells of no failed write had none
 wrote_all_unless : (fault : Option JournalError) (output : Bool) (other : Ending) → is_all_written (unless_journal fault (if output then ends.Output else other)) ≡ true → output ≡ false
@@ -161,9 +161,9 @@ events_begin front whole begins = record {
 }
 
 abbrev IsOfRun : Node → Areas → JournalError → Type 0
-IsOfRun node before error = (error ≡ journal.Device) ⊎ (error ≡ journal.Full) ⊎ Tells error (told_in node before)
+IsOfRun node before error = (error ≡ journal.Device) ⊎ (error ≡ journal.Full) ⊎ Tells error (decoded_in node before)
 
-kind_of : (node : Node) (before : Areas) (error : JournalError) → (error ≢ journal.Device → error ≢ journal.Full → Tells error (told_in node before)) → IsOfRun node before error
+kind_of : (node : Node) (before : Areas) (error : JournalError) → (error ≢ journal.Device → error ≢ journal.Full → Tells error (decoded_in node before)) → IsOfRun node before error
 kind_of node before journal.Memory tells =
     inr (inr (tells (λ is. let bad : journal.Memory ≡ journal.Device = is in cc) (λ is. let bad : journal.Memory ≡ journal.Full = is in cc)))
 kind_of node before journal.Device tells = inl refl
@@ -174,9 +174,9 @@ kind_of node before journal.ConfigMismatch tells =
 kind_of node before journal.Full tells = inr (inl refl)
 
 not_refused : (error named : JournalError) → of_journal error ≡ ends.Journal named → IsNoRefusalOfBoth error → (named ≡ journal.Device) ⊎ (named ≡ journal.Full)
-not_refused error named is (inl (inl device)) = inl (sym (opening_told error named is) ∙ device)
+not_refused error named is (inl (inl device)) = inl (sym (opening_decoded error named is) ∙ device)
 not_refused error named is (inl (inr memory)) = absurd (none-some named (ap fault_in (ap of_journal (sym memory) ∙ is)))
-not_refused error named is (inr full) = inr (sym (opening_told error named is) ∙ full)
+not_refused error named is (inr full) = inr (sym (opening_decoded error named is) ∙ full)
 
 module _ {S D : Type 0} (scheme : Scheme S) (device : Device D) where
   -- what a stop may leave
@@ -185,11 +185,11 @@ module _ {S D : Type 0} (scheme : Scheme S) (device : Device D) where
 
   -- what an opening leaves is read as one outcome from before it
   abbrev IsOpened : Node → Store D → Areas → Type 0
-  IsOpened node (One disk) (alone left) = IsToldAsOneOf node (device.outcome disk) left
-  IsOpened node (Two first second) (pair one other) = IsToldAsBoth node device (first, second) one other
+  IsOpened node (One disk) (alone left) = IsDecodedAsOneOf node (device.outcome disk) left
+  IsOpened node (Two first second) (pair one other) = IsDecodedAsBoth node device (first, second) one other
   IsOpened node store areas = ⊥
 
-  opened_on : (node : Node) (store later : Store D) → IsToldThroughout node device store later → AtEachMomentOn device (IsOpened node store) store later
+  opened_on : (node : Node) (store later : Store D) → IsDecodedThroughout node device store later → AtEachMomentOn device (IsOpened node store) store later
   opened_on node (One disk) (One now) leaves = leaves
   opened_on node (Two first second) (Two now also) leaves = leaves
   opened_on node (One disk) (Two now also) leaves = absurd leaves
@@ -201,7 +201,7 @@ module _ {S D : Type 0} (scheme : Scheme S) (device : Device D) where
   read_as_one node (One disk) (pair one other) it = absurd it
   read_as_one node (Two first second) (alone left) it = absurd it
 
-  from_opening : (node : Node) (store later : Store D) → IsToldThroughout node device store later → AtEachMomentOn device (May node store) store later
+  from_opening : (node : Node) (store later : Store D) → IsDecodedThroughout node device store later → AtEachMomentOn device (May node store) store later
   from_opening node store later leaves =
       on_weaker device (May node store) (IsOpened node store) store later (opened_on node store later leaves) (λ areas it. inl (read_as_one node store areas it))
 
@@ -214,23 +214,23 @@ module _ {S D : Type 0} (scheme : Scheme S) (device : Device D) where
   two_where_due node (Two first second) every opened read some = read.0
 
   -- the node wasn't opened
-  pub not_opened : (node : Node) (store later : Store D) (every : ℕ) (error : JournalError) → (error ≢ journal.Device → error ≢ journal.Full → Tells error (told_in node (areas_in device store)))
+  pub not_opened : (node : Node) (store later : Store D) (every : ℕ) (error : JournalError) → (error ≢ journal.Device → error ≢ journal.Full → Tells error (decoded_in node (areas_in device store)))
       → (error ≡ journal.Device → faults_in device store < faults_in device later) × (error ≢ journal.Device → faults_in device later ≡ faults_in device store)
-      → IsToldThroughout node device store later → (IsLeftIn node (areas_in device store) → IsNoRefusalOfBoth error) → (error ≡ journal.Full → IsFullIn node device store)
+      → IsDecodedThroughout node device store later → (IsLeftIn node (areas_in device store) → IsNoRefusalOfBoth error) → (error ≡ journal.Full → IsFullIn node device store)
       → RunsOver node device store every (of_journal error) (Some later)
   not_opened node store later every error tells cause leaves never_refused full = record {
-    device = λ is. cause.0 (opening_told error journal.Device is);
+    device = λ is. cause.0 (opening_decoded error journal.Device is);
     no_fault = λ other. cause.1 (λ is. other (ap of_journal is));
-    told_as = λ named is. subst (IsOfRun node (areas_in device store)) (opening_told error named is) (kind_of node (areas_in device store) error tells);
+    told_as = λ named is. subst (IsOfRun node (areas_in device store)) (opening_decoded error named is) (kind_of node (areas_in device store) error tells);
     never_refused = λ left named is. not_refused error named is (never_refused left);
-    full = λ is. inl (full (opening_told error journal.Full is));
+    full = λ is. inl (full (opening_decoded error journal.Full is));
     lost = some_left later (of_journal error);
     any_moment = from_opening node store later leaves;
     rewritten = λ brought. absurd (nothing_brought error brought);
   }
 
   -- it was opened, and memory was refused then
-  pub not_run : (node : Node) (store now : Store D) (every : ℕ) → faults_in device now ≡ faults_in device store → IsToldThroughout node device store now → RunsOver node device store every ends.Memory (Some now)
+  pub not_run : (node : Node) (store now : Store D) (every : ℕ) → faults_in device now ≡ faults_in device store → IsDecodedThroughout node device store now → RunsOver node device store every ends.Memory (Some now)
   not_run node store now every same leaves = record {
     device = λ is. absurd (none-some journal.Device (ap fault_in is));
     no_fault = λ other. same;
@@ -261,7 +261,7 @@ module _ {S D : Type 0} (scheme : Scheme S) (device : Device D) where
   -- What areas hold after more events of a node that began where the disks were read, they hold after the same events from the state as which
   -- they were read.
   goes_on : (shared : NodeView S) (node : Node) (store : Store D) (now : Areas) (settled : List Marked) → node_of scheme shared.setting ≡ node
-      → StandsAt node (told_in node (areas_in device store)) shared.begun → KeepsStatesIn node (areas_in device store) now → settled ≡ []
+      → StandsAt node (decoded_in node (areas_in device store)) shared.begun → KeepsStatesIn node (areas_in device store) now → settled ≡ []
       → (areas : Areas) (it : HoldsMore scheme shared settled now areas) → (on : GoesOn node (areas_in device store) areas) × (on.more ≡ events it.more)
   goes_on shared node store now settled of_node begins kept_all none areas it =
       let holds = it.leaves.holds in (
@@ -277,7 +277,7 @@ module _ {S D : Type 0} (scheme : Scheme S) (device : Device D) where
       )
     where
       -- the disks were told as each base
-      is_told : {marked : List Marked} {some : Areas} → (it : HoldsAfter scheme shared marked some) → told_in node (areas_in device store) ≡ Ok it.base
+      is_told : {marked : List Marked} {some : Areas} → (it : HoldsAfter scheme shared marked some) → decoded_in node (areas_in device store) ≡ Ok it.base
       is_told it =
           let at = subst (λ (n : Node). AreAtSound n shared.begun it.base) of_node it.is_base in
           begins.is_read ∙ ap Ok (one_state node shared.begun begins.state it.base begins.at.sound begins.at.at at.sound at.at)
@@ -289,7 +289,7 @@ module _ {S D : Type 0} (scheme : Scheme S) (device : Device D) where
           subst (λ (l : List Marked). Holds (node_of scheme shared.setting) now (after_all (node_of scheme shared.setting) began (events l))) (sym none) after
 
   -- a journal that has no place for what was taken is full, after the state as which the disks were read
-  full_after : (shared : NodeView S) (node : Node) (store left : Store D) → node_of scheme shared.setting ≡ node → StandsAt node (told_in node (areas_in device store)) shared.begun
+  full_after : (shared : NodeView S) (node : Node) (store left : Store D) → node_of scheme shared.setting ≡ node → StandsAt node (decoded_in node (areas_in device store)) shared.begun
       → IsFullUp scheme device shared left → IsFullAfter node device store left
   full_after shared node store left of_node begins up = record {
     base = begins.state;
@@ -300,7 +300,7 @@ module _ {S D : Type 0} (scheme : Scheme S) (device : Device D) where
   }
     where
       by : HasNoPlace scheme device shared up.last → HasNoRoomAfter node device begins.state (journal_of up.last)
-      by (inl add) = inl (records_behind (settled_in up.last) (taken_in up.last), subst FitsGroup add.group.is add.group.longest.fits, add.room.too_long)
+      by (inl add) = inl (records_after (settled_in up.last) (taken_in up.last), subst FitsGroup add.group.is add.group.longest.fits, add.room.too_long)
       by (inr rewrite) =
           let is_base = subst (λ (n : Node). AreAtSound n shared.begun begins.state) (sym of_node) begins.at in
           let all = events (taken_in up.last) in
@@ -309,17 +309,17 @@ module _ {S D : Type 0} (scheme : Scheme S) (device : Device D) where
 
   -- it ran
   has_run : (shared : NodeView S) (node : Node) (store now : Store D) (every : ℕ) (opened : Journal D) (later : Store D) (told_of : Faults) → node_of scheme shared.setting ≡ node
-      → StandsAt node (told_in node (areas_in device store)) shared.begun → faults_in device now ≡ faults_in device store
-      → TellsRounds (faults_in device now) (faults_in device later) told_of.journal → IsToldThroughout node device store now
+      → StandsAt node (decoded_in node (areas_in device store)) shared.begun → faults_in device now ≡ faults_in device store
+      → TellsRounds (faults_in device now) (faults_in device later) told_of.journal → IsDecodedThroughout node device store now
       → AtEachMomentOn device (HoldsMore scheme shared [] (areas_of device opened)) now later → KeepsStatesIn node (areas_in device store) (areas_of device opened)
       → IsReadIn node device store opened → IsAlive device opened → (told_of.journal ≡ None → told_of.memory ≡ false → ComesByRule device (rule_on device store every opened) (point_at opened) later)
       → (told_of.journal ≡ Some journal.Full → IsFullUp scheme device shared later) → RunsOver node device store every (ending_of told_of) (Some later)
   has_run shared node store now every opened later told_of of_node begins same tells opening leaves kept_all read alive by_rule full = record {
-    device = λ is. subst (λ n. n < faults_in device later) same (tells.disk.device (told_of_journal told_of journal.Device is));
+    device = λ is. subst (λ n. n < faults_in device later) same (tells.disk.device (decoded_of_journal told_of journal.Device is));
     no_fault = λ other. tells.disk.no_fault (λ is. other (ends_with_device told_of.journal _ is)) ∙ same;
     told_as = λ named is. elim (which named is) [ inl device ↦ inl device | inr full ↦ inr (inl full) ];
     never_refused = λ left. which;
-    full = λ is. inr (full_after shared node store later of_node begins (full (told_of_journal told_of journal.Full is)));
+    full = λ is. inr (full_after shared node store later of_node begins (full (decoded_of_journal told_of journal.Full is)));
     lost = some_left later (ending_of told_of);
     any_moment = on_joins device (May node store) (HoldsMore scheme shared [] (areas_of device opened)) store now later (from_opening node store now opening) leaves more;
     rewritten = λ brought.
@@ -328,16 +328,16 @@ module _ {S D : Type 0} (scheme : Scheme S) (device : Device D) where
   }
     where
       which : (named : JournalError) → ending_of told_of ≡ ends.Journal named → (named ≡ journal.Device) ⊎ (named ≡ journal.Full)
-      which named is = subst (λ (f : Option JournalError). IfSome f (λ error. (error ≡ journal.Device) ⊎ (error ≡ journal.Full))) (told_of_journal told_of named is) tells.which
+      which named is = subst (λ (f : Option JournalError). IfSome f (λ error. (error ≡ journal.Device) ⊎ (error ≡ journal.Full))) (decoded_of_journal told_of named is) tells.which
 
       more : (left : Areas) → HoldsMore scheme shared [] (areas_of device opened) left → May node store left
       more left it = inr (goes_on shared node store (areas_of device opened) [] of_node begins kept_all refl left it).0
 
   -- its threads have ended
   pub ended : (shared : NodeView S) (node : Node) (store now : Store D) (every : ℕ) (opened : Journal D) (told_of : Faults) (left : Option (Store D)) → node_of scheme shared.setting ≡ node
-      → StandsAt node (told_in node (areas_in device store)) shared.begun → faults_in device now ≡ faults_in device store
+      → StandsAt node (decoded_in node (areas_in device store)) shared.begun → faults_in device now ≡ faults_in device store
       → IfSome left (λ later. TellsRounds (faults_in device now) (faults_in device later) told_of.journal) → (left ≡ None → told_of ≡ no_memory)
-      → IsToldThroughout node device store now
+      → IsDecodedThroughout node device store now
       → IfSome left (λ later. AtEachMomentOn device (HoldsMore scheme shared [] (areas_of device opened)) now later) → KeepsStatesIn node (areas_in device store) (areas_of device opened)
       → IsReadIn node device store opened → IsAlive device opened
       → (told_of.journal ≡ None → told_of.memory ≡ false → IfSome left (ComesByRule device (rule_on device store every opened) (point_at opened)))
@@ -350,34 +350,34 @@ module _ {S D : Type 0} (scheme : Scheme S) (device : Device D) where
 
   -- what might go out after settled events goes out after them from the state as which the disks were read
   goes_out : (shared : NodeView S) (node : Node) (base : State) (view : View) → node_of scheme shared.setting ≡ node → AreAtSound node shared.begun base
-      → (output : Output) → MayGo scheme shared view output → GoesOutAfterPrefix node base (events view.firm) output
+      → (output : Output) → MayGo scheme shared view output → GoesOutAfterPrefix node base (events view.durable) output
   goes_out shared node base view of_node at output may =
       let first = take may.count may.settled in
       record {
         events = events first;
-        begins = events_begin first view.firm (begins_trans first may.settled view.firm (take_begins may.count may.settled) may.begins);
+        begins = events_begin first view.durable (begins_trans first may.settled view.durable (take_begins may.count may.settled) may.begins);
         goes_out = subst (λ (n : Node). GoesOutAfter n base (events first) output) of_node (may.put_out base (subst (λ (n : Node). AreAtSound n shared.begun base) (sym of_node) at));
       }
 
   -- what is settled on the disks is there from the state as which they were read
   on_disk : (shared : NodeView S) (node : Node) (store : Store D) (first : Flusher D) (left : Store D) → node_of scheme shared.setting ≡ node
-      → StandsAt node (told_in node (areas_in device store)) shared.begun → KeepsStatesIn node (areas_in device store) (areas_of device (journal_of first)) → settled_in first ≡ []
+      → StandsAt node (decoded_in node (areas_in device store)) shared.begun → KeepsStatesIn node (areas_in device store) (areas_of device (journal_of first)) → settled_in first ≡ []
       → (outputs : List Output) → AreSettled scheme device shared first left outputs → NoneOrOnDisk node device store left outputs
   on_disk shared node store first left of_node begins kept_all none outputs it = inr (record {
     base = begins.state;
     is_read = begins.is_read;
-    settled = events it.view.firm;
-    each = All-weaker (MayGo scheme shared it.view) (GoesOutAfterPrefix node begins.state (events it.view.firm)) (goes_out shared node begins.state it.view of_node begins.at) outputs it.each;
+    settled = events it.view.durable;
+    each = All-weaker (MayGo scheme shared it.view) (GoesOutAfterPrefix node begins.state (events it.view.durable)) (goes_out shared node begins.state it.view of_node begins.at) outputs it.each;
     on_disk = λ found may.
         let holds = it.on_disk found may in
         let on = goes_on shared node store (areas_of device (journal_of first)) (settled_in first) of_node begins kept_all none found holds.0 in
-        (on.0, subst (Begins (events it.view.firm)) (sym on.1) (events_begin it.view.firm holds.0.more holds.1));
+        (on.0, subst (Begins (events it.view.durable)) (sym on.1) (events_begin it.view.durable holds.0.more holds.1));
   })
 
   -- what its threads wrote is on the disks
   pub gives_only : {W : Type 0} (contents : W → Option (List ℕ)) (shared : NodeView S) (node : Node) (store : Store D) (first : Flusher D) (writer : W)
       (old : Option (List ℕ)) (ran : Ran D W) (told_of : Faults)
-      → node_of scheme shared.setting ≡ node → StandsAt node (told_in node (areas_in device store)) shared.begun
+      → node_of scheme shared.setting ≡ node → StandsAt node (decoded_in node (areas_in device store)) shared.begun
       → KeepsStatesIn node (areas_in device store) (areas_of device (journal_of first)) → settled_in first ≡ [] → old ≡ contents writer → ran.ending ≡ ending_of told_of
       → IfSome ran.store (λ left. IfSome ran.writer (λ later. HasWritten (AreSettled scheme device shared first left) (told_of.output ≡ false) old (contents later)))
       → (ran.writer ≡ None → (told_of.output ≡ false) × (told_of.memory ≡ true))

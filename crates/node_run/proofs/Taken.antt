@@ -17,8 +17,8 @@ use Rattle.node_seats.proofs.Beginnings.{begins_same, begins_trans, begins_more}
 use Rattle.node_seats.specs.Views.{mark}
 use Rattle.node_shared.specs.Answers.{Submits}
 use Rattle.header.specs.declared.error.CheckError.{CheckError}
-use Rattle.node_io.specs.declared.told.Told.{Told}
-use Rattle.node_io.specs.declared.told.Told.TheVariants.{Unchecked}
+use Rattle.node_io.specs.declared.rejection.Rejection.{Rejection}
+use Rattle.node_io.specs.declared.rejection.Rejection.TheVariants.{Unchecked}
 use Rattle.node.specs.Callers.{CallerView}
 use Rattle.node_run.specs.declared.caller.Taken.{Taken}
 use Rattle.node_run.specs.declared.caller.Taken.TheVariants.{Waits}
@@ -96,7 +96,7 @@ waits scheme node event before later fault is lacks same = record {
 }
 
 -- any other event is submitted
-pub submitted : {S : Type 0} (scheme : Scheme S) (node : NodeView S) (event : Event) (before later : CallerView S) (fault : Option CheckError) (told : Result Taken Told)
+pub submitted : {S : Type 0} (scheme : Scheme S) (node : NodeView S) (event : Event) (before later : CallerView S) (fault : Option CheckError) (told : Result Taken Rejection)
     → fault ≡ None → MayBeSubmitted scheme node event before later → IsSubmitted scheme node event before later told → Handles scheme node fault event before later told
 submitted scheme node event before later fault told is goes done = record {
   unchecked = λ other there. let bad : Some other ≡ None = sym there ∙ is in absurd cc;
@@ -104,7 +104,7 @@ submitted scheme node event before later fault told is goes done = record {
 }
 
 -- after a look
-pub submitted_since : {S : Type 0} (scheme : Scheme S) (node : NodeView S) (event : Event) (before mid later : CallerView S) (told : Result Taken Told)
+pub submitted_since : {S : Type 0} (scheme : Scheme S) (node : NodeView S) (event : Event) (before mid later : CallerView S) (told : Result Taken Rejection)
     → mid.seat.view.number ≡ before.seat.view.number → mid.seat.view.mine ≡ before.seat.view.mine
     → Begins before.seat.view.seen mid.seat.view.seen → IsSubmitted scheme node event mid later told → IsSubmitted scheme node event before later told
 submitted_since scheme node event before mid later told number mine more done = record {

@@ -245,11 +245,11 @@ puts_some bytes faults old new up less = record {
 }
 
 -- what might go before may go yet
-pub may_go_yet : {S : Type 0} (scheme : Scheme S) (node : NodeView S) (before later : View) → Begins before.firm later.firm
+pub may_go_yet : {S : Type 0} (scheme : Scheme S) (node : NodeView S) (before later : View) → Begins before.durable later.durable
     → (output : Output) → MayGo scheme node before output → MayGo scheme node later output
 may_go_yet scheme node before later more output may = record {
   settled = may.settled;
-  begins = begins_trans may.settled before.firm later.firm may.begins more;
+  begins = begins_trans may.settled before.durable later.durable may.begins more;
   may = may.may;
   count = may.count;
   within = may.within;
@@ -258,10 +258,10 @@ may_go_yet scheme node before later more output may = record {
 
 pub goes_now : {S : Type 0} (scheme : Scheme S) (node : NodeView S) (view : View) (output : Output)
     → ((base : State) (history : History) → IsBase scheme node base → IsLegal (node_of scheme node.setting) history → kept (node_of scheme node.setting) history ≡ base
-    → MayGive (node_of scheme node.setting) (history ++ events view.firm) output) → IsPutOutBy scheme node view output → MayGo scheme node view output
+    → MayGive (node_of scheme node.setting) (history ++ events view.durable) output) → IsPutOutBy scheme node view output → MayGo scheme node view output
 goes_now scheme node view output may put = record {
-  settled = view.firm;
-  begins = record { rest = []; parts = sym (append-nil view.firm) };
+  settled = view.durable;
+  begins = record { rest = []; parts = sym (append-nil view.durable) };
   may = may;
   count = put.count;
   within = put.settled;

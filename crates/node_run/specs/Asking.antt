@@ -7,7 +7,7 @@ use Rattle.spec_model.specs.Nodes.{Node, IsNode}
 use Rattle.spec_model.specs.States.{State}
 use Rattle.spec_model.specs.Words.{Author, Certificate, Message}
 use Rattle.wire.specs.declared.message.Message.TheVariants as message
-use Rattle.node_io.specs.declared.told.Told.{Told}
+use Rattle.node_io.specs.declared.rejection.Rejection.{Rejection}
 use Rattle.node_run.specs.declared.due.Due.{Due}
 
 -- a message from a sender is a new event at a sound state of a member's node
@@ -50,6 +50,6 @@ both_due one other = record { waiting = one.waiting || other.waiting; proposal =
 
 -- What is due after a message, where this is told of whether it was new: after a new one what was due before, and all but what the
 -- message leaves, and else what was due before.
-pub record IsDueBehind (own : Author) (sent : Message) (old new : Due) (told : Result Bool Told) : Type 0 where
+pub record IsDueAfter (own : Author) (sent : Message) (old new : Due) (told : Result Bool Rejection) : Type 0 where
   pub other : told ≢ Ok true → new ≡ old
-  pub behind : told ≡ Ok true → (due : Due) × Leaves own sent due × (new ≡ both_due old due)
+  pub new_one : told ≡ Ok true → (due : Due) × Leaves own sent due × (new ≡ both_due old due)

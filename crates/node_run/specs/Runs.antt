@@ -27,7 +27,7 @@ use Rattle.node_seats.specs.declared.view.View.{View}
 use Rattle.node_shared.specs.Home.{NodeView}
 use Rattle.opening.specs.Laws.{IsFullIn, IsLeftIn, IsReadIn}
 use Rattle.opening.specs.Renewing.{KeepsStatesIn}
-use Rattle.opening.specs.Told.{told_in, Tells}
+use Rattle.opening.specs.Decoded.{decoded_in, Tells}
 use Rattle.spec_machine.specs.After.{after_all, IsLegalAfter}
 use Rattle.spec_model.specs.Histories.{History}
 use Rattle.wire.specs.Lists.{Begins}
@@ -96,13 +96,13 @@ pub record IsFullUp {S D : Type 0} (scheme : Scheme S) (device : Device D) (node
 pub record AreSettled {S D : Type 0} (scheme : Scheme S) (device : Device D) (node : NodeView S) (first : Flusher D) (left : Store D) (outputs : List Output) : Type 0 where
   pub view : View
   pub each : All (MayGo scheme node view) outputs
-  pub on_disk : LeavesSettled scheme device node first view.firm left
+  pub on_disk : LeavesSettled scheme device node first view.durable left
 
 -- Disks were told as a state, and areas are the node's journal at it, or at the state after more events, which are legal there. For each
 -- state for which the disks stood, they are its journal at the state after the same events.
 pub record GoesOn (node : Node) (before left : Areas) : Type 0 where
   pub base : State
-  pub is_told : told_in node before ≡ Ok base
+  pub is_told : decoded_in node before ≡ Ok base
   pub more : History
   pub legal : IsLegalAfter node base more
   pub holds : Holds node left (after_all node base more)
@@ -112,7 +112,7 @@ pub record GoesOn (node : Node) (before left : Areas) : Type 0 where
 pub record IsReadAsOneOf {D : Type 0} (node : Node) (disks : Device D) (store : Store D) (left : Areas) : Type 0 where
   pub was : Areas
   pub might : MayBeLeft disks store was
-  pub same : told_in node left ≡ told_in node was
+  pub same : decoded_in node left ≡ decoded_in node was
 
 -- an ending hides no fault of what was brought to the disks
 abbrev pub is_all_brought : Ending → Bool
@@ -152,7 +152,7 @@ HasNoRoomAfter node disks base last =
 -- A journal on the disks that a run leaves has no room for what comes next, after the state as which the disks were read at the start.
 pub record IsFullAfter {D : Type 0} (node : Node) (disks : Device D) (store left : Store D) : Type 0 where
   pub base : State
-  pub is_read : told_in node (areas_in disks store) ≡ Ok base
+  pub is_read : decoded_in node (areas_in disks store) ≡ Ok base
   pub last : Journal D
   pub is_left : left ≡ store_of last
   pub no_room : HasNoRoomAfter node disks base last
@@ -166,7 +166,7 @@ pub record IsFullAfter {D : Type 0} (node : Node) (disks : Device D) (store left
 pub record RunsOver {D : Type 0} (node : Node) (disks : Device D) (store : Store D) (every : ℕ) (ending : Ending) (left : Option (Store D)) : Type 0 where
   pub device : ending ≡ endings.Journal errors.Device → IfSome left (λ later. faults_in disks store < faults_in disks later)
   pub no_fault : ending ≢ endings.Journal errors.Device → IfSome left (λ later. faults_in disks later ≡ faults_in disks store)
-  pub told_as : (error : JournalError) → ending ≡ endings.Journal error → (error ≡ errors.Device) ⊎ (error ≡ Full) ⊎ Tells error (told_in node (areas_in disks store))
+  pub told_as : (error : JournalError) → ending ≡ endings.Journal error → (error ≡ errors.Device) ⊎ (error ≡ Full) ⊎ Tells error (decoded_in node (areas_in disks store))
   pub never_refused : IsLeftIn node (areas_in disks store) → (error : JournalError) → ending ≡ endings.Journal error → (error ≡ errors.Device) ⊎ (error ≡ Full)
   pub full : ending ≡ endings.Journal Full → IsFullIn node disks store ⊎ IfSome left (IsFullAfter node disks store)
   pub lost : left ≡ None → ending ≡ endings.Memory
@@ -184,7 +184,7 @@ pub record GoesOutAfterPrefix (node : Node) (base : State) (settled : History) (
 -- events, and perhaps after more, from that same state.
 pub record AreOnDisk {D : Type 0} (node : Node) (disks : Device D) (store left : Store D) (outputs : List Output) : Type 0 where
   pub base : State
-  pub is_read : told_in node (areas_in disks store) ≡ Ok base
+  pub is_read : decoded_in node (areas_in disks store) ≡ Ok base
   pub settled : History
   pub each : All (GoesOutAfterPrefix node base settled) outputs
   pub on_disk : (found : Areas) → MayBeLeft disks left found → (it : GoesOn node (areas_in disks store) found) × Begins settled it.more

@@ -11,8 +11,8 @@ use Rattle.spec_machine.specs.Machine.{answered, is_missing_parents, proposed}
 use Rattle.spec_model.specs.States.{State}
 use Rattle.spec_model.specs.Words.{Event, Header}
 use Rattle.header.specs.declared.refusal.Refusal.{Refusal}
-use Rattle.node_io.specs.declared.told.Told.{Told}
-use Rattle.node_io.specs.declared.told.Told.TheVariants.{Unchecked, Refused}
+use Rattle.node_io.specs.declared.rejection.Rejection.{Rejection}
+use Rattle.node_io.specs.declared.rejection.Rejection.TheVariants.{Unchecked, Refused}
 use Rattle.node_seats.specs.Sights.{SeatView}
 use Rattle.node_seats.specs.Views.{events, IsSame}
 use Rattle.node_seats.specs.declared.view.Marked.{Marked}
@@ -25,12 +25,12 @@ use Rattle.node_run.specs.declared.caller.Taken.{Taken}
 use Rattle.node_run.specs.declared.caller.Taken.TheVariants.{New, Known, Waits}
 
 -- a receipt or a refusal, as it is told
-abbrev pub told_as : Result Receipt Refusal → Result Taken Told
+abbrev pub told_as : Result Receipt Refusal → Result Taken Rejection
 told_as (Ok receipt) = Ok (if receipt.new then New else Known)
 told_as (Err refusal) = Err (Refused refusal)
 
 -- an event was submitted, and this is told of the answer
-pub record IsSubmitted {S : Type 0} (scheme : Scheme S) (node : NodeView S) (event : Event) (before later : CallerView S) (told : Result Taken Told) : Type 0 where
+pub record IsSubmitted {S : Type 0} (scheme : Scheme S) (node : NodeView S) (event : Event) (before later : CallerView S) (told : Result Taken Rejection) : Type 0 where
   pub answer : Result Receipt Refusal
   pub submits : Submits scheme node event before.seat.view later.seat.view answer
   pub is : told ≡ told_as answer
@@ -53,22 +53,22 @@ pub record MayBeSubmitted {S : Type 0} (scheme : Scheme S) (node : NodeView S) (
 pub record OnlyLooks (before later : SeatView) : Type 0 where
   pub same : IsSame before later
   pub seen : Begins before.view.seen later.view.seen
-  pub firm : Begins before.view.firm later.view.firm
-  pub within : Begins later.view.firm later.view.seen
+  pub durable : Begins before.view.durable later.view.durable
+  pub within : Begins later.view.durable later.view.seen
 
 -- What came of an event: the first fault of the checks is told, or it waits, or it might go and was submitted.
-pub record Handles {S : Type 0} (scheme : Scheme S) (node : NodeView S) (fault : Option CheckError) (event : Event) (before later : CallerView S) (told : Result Taken Told) : Type 0 where
+pub record Handles {S : Type 0} (scheme : Scheme S) (node : NodeView S) (fault : Option CheckError) (event : Event) (before later : CallerView S) (told : Result Taken Rejection) : Type 0 where
   pub unchecked : (error : CheckError) → fault ≡ Some error → (told ≡ Err (Unchecked error)) × (later ≡ before)
   pub checked : fault ≡ None → (LacksParents scheme node event later × IsSame before.seat later.seat × (told ≡ Ok (Waits event)))
       ⊎ (MayBeSubmitted scheme node event before later × IsSubmitted scheme node event before later told)
 
 -- what came of an event that has waited: the first fault of the checks is told, or it was submitted
-pub record HandlesAgain {S : Type 0} (scheme : Scheme S) (node : NodeView S) (fault : Option CheckError) (event : Event) (before later : CallerView S) (told : Result Taken Told) : Type 0 where
+pub record HandlesAgain {S : Type 0} (scheme : Scheme S) (node : NodeView S) (fault : Option CheckError) (event : Event) (before later : CallerView S) (told : Result Taken Rejection) : Type 0 where
   pub unchecked : (error : CheckError) → fault ≡ Some error → (told ≡ Err (Unchecked error)) × (later ≡ before)
   pub checked : fault ≡ None → IsSubmitted scheme node event before later told
 
 -- it is told that the event was new
-abbrev pub is_told_new : Result Taken Told → Bool
+abbrev pub is_told_new : Result Taken Rejection → Bool
 is_told_new (Ok New) = true
 is_told_new other = false
 
@@ -83,6 +83,6 @@ pub record IsProposed {S : Type 0} (scheme : Scheme S) (node : NodeView S) (befo
   pub none : found ≡ None → (new ≡ false) × (later.seat.view.mine ≡ before.seat.view.mine)
   pub some : (header : Header) → found ≡ Some header
       → fault_of node.setting.charter accepts_all (own_event (node_of scheme node.setting) header) ≡ None
-      → (told : Result Taken Told) × IsSubmitted scheme node (own_event (node_of scheme node.setting) header) before later told × (new ≡ is_told_new told)
+      → (told : Result Taken Rejection) × IsSubmitted scheme node (own_event (node_of scheme node.setting) header) before later told × (new ≡ is_told_new told)
   pub failed : (header : Header) (error : CheckError) → found ≡ Some header
       → fault_of node.setting.charter accepts_all (own_event (node_of scheme node.setting) header) ≡ Some error → (new ≡ false) × (later.seat.view.mine ≡ before.seat.view.mine)

@@ -49,7 +49,7 @@ pub record Puts (bytes : List ℕ) (before later : Faults) (old new : Option (Li
 -- them, at each legal history that keeps a base.
 pub record MayGo {S : Type 0} (scheme : Scheme S) (node : NodeView S) (view : View) (output : Output) : Type 0 where
   pub settled : List Marked
-  pub begins : Begins settled view.firm
+  pub begins : Begins settled view.durable
   pub may : (base : State) (history : History) → IsBase scheme node base → IsLegal (node_of scheme node.setting) history → kept (node_of scheme node.setting) history ≡ base
       → MayGive (node_of scheme node.setting) (history ++ events settled) output
   pub count : ℕ

@@ -8,7 +8,7 @@ ghost use Rattle.flusher.specs.Rounds.{settled_in, StaysAsIs};
 ghost use Rattle.spec_machine.specs.Machine.{answered, is_missing_parents};
 ghost use Rattle.spec_model.specs.States.{State};
 ghost use Rattle.node_seats.specs.Views.{IsSame};
-ghost use Rattle.node_io.specs.declared.told.Told.TheVariants.{Refused};
+ghost use Rattle.node_io.specs.declared.rejection.Rejection.TheVariants.{Refused};
 ghost use Rattle.node_shared.specs.Answers.{Gives};
 ghost use Rattle.node_shared.specs.Calls.{Learned};
 ghost use Rattle.node_shared.specs.Home.{IsBase, seen_in};
@@ -20,7 +20,7 @@ ghost use Rattle.node_run.specs.Taking.{Handles, HandlesAgain, IsSubmitted, IsPr
 use diskmodel::Disk;
 use header::{Checked, check, passes, recheck};
 use node::{Refusal, Rounds};
-use node_io::Told;
+use node_io::Rejection;
 use sigface::{HashVerify, Sign};
 use std::alloc::AllocError;
 use std::marker::Model;
@@ -78,13 +78,13 @@ impl<'n, 'a, S: Sign> Caller<'n, 'a, S> {
         rt: &R,
         sender: Author,
         message: Message,
-    ) -> Result<Taken, Told>
+    ) -> Result<Taken, Rejection>
         ensures stays { StaysWith self.old self.new }
         ensures handles { Handles S.scheme self.old.node (fault_of self.old.setting.charter is_pair_signature (record { sender = sender; message = message })) (record { sender = sender; message = message }) self.old self.new result }
     {
         let event = match check(self.node.config().committee(), &HashVerify, sender, message) {
             Ok(event) => event,
-            Err(error) => return Err(Told::Unchecked(error)),
+            Err(error) => return Err(Rejection::Unchecked(error)),
         };
         if !self.may_go(rt, &event) {
             return Ok(Taken::Waits(event));
@@ -97,7 +97,7 @@ impl<'n, 'a, S: Sign> Caller<'n, 'a, S> {
         requires passed { fault_of self.old.setting.charter accepts_all event.now ≡ None }
         ensures stays { StaysWith self.old self.new }
         ensures same { IsSame self.old.seat self.new.seat }
-        ensures firm { self.new.seat.view.firm ≡ self.old.seat.view.firm }
+        ensures durable { self.new.seat.view.durable ≡ self.old.seat.view.durable }
         ensures more { Begins self.old.seat.view.seen self.new.seat.view.seen }
         ensures waits { result ≡ false → LacksParents S.scheme self.old.node event.now self.new }
         ensures goes { result ≡ true → MayBeSubmitted S.scheme self.old.node event.now self.old self.new }
@@ -112,7 +112,7 @@ impl<'n, 'a, S: Sign> Caller<'n, 'a, S> {
     pub(crate) fn is_ready<R: Wait>(&mut self, rt: &R, event: &Checked) -> bool
         ensures stays { StaysWith self.old self.new }
         ensures same { IsSame self.old.seat self.new.seat }
-        ensures firm { self.new.seat.view.firm ≡ self.old.seat.view.firm }
+        ensures durable { self.new.seat.view.durable ≡ self.old.seat.view.durable }
         ensures more { Begins self.old.seat.view.seen self.new.seat.view.seen }
         ensures checked { result ≡ true → fault_of self.old.setting.charter accepts_all event.now ≡ None }
         ensures ready { let node = node_of S.scheme self.old.node.setting in result ≡ true → (base : State) → IsBase S.scheme self.old.node base
@@ -124,7 +124,11 @@ impl<'n, 'a, S: Sign> Caller<'n, 'a, S> {
     }
 
     /// Submits what has waited.
-    pub(crate) fn take_waiting<R: Wait>(&mut self, rt: &R, event: Checked) -> Result<Taken, Told>
+    pub(crate) fn take_waiting<R: Wait>(
+        &mut self,
+        rt: &R,
+        event: Checked,
+    ) -> Result<Taken, Rejection>
         ensures stays { StaysWith self.old self.new }
         ensures handles { HandlesAgain S.scheme self.old.node (fault_of self.old.setting.charter accepts_all event) event self.old self.new result }
     {
@@ -151,14 +155,14 @@ impl<'n, 'a, S: Sign> Caller<'n, 'a, S> {
     }
 
     /// `Down` where the node is down.
-    pub(crate) fn test_up(&mut self) -> Result<(), Told>
+    pub(crate) fn test_up(&mut self) -> Result<(), Rejection>
         ensures stays { StaysWith self.old self.new }
         ensures looks { OnlyLooks self.old.seat self.new.seat }
         ensures down { OnErr result (result ≡ Err (Refused Refusal.Down)) }
         ensures knows { IsErr result ↔ IsTrue self.new.seat.view.down }
     {
         if self.node.is_down() {
-            return Err(Told::Refused(Refusal::Down));
+            return Err(Rejection::Refused(Refusal::Down));
         }
         Ok(())
     }
@@ -167,7 +171,7 @@ impl<'n, 'a, S: Sign> Caller<'n, 'a, S> {
     pub(crate) fn cover<D: Disk, R: Wait>(&mut self, rt: &R, rounds: &mut Rounds<'n, 'a, S, D>)
         requires node { self.old.node ≡ rounds.old.node }
         ensures stays { StaysAsIs rounds.old.flusher rounds.new.flusher }
-        ensures covers { Begins self.old.seat.view.firm (settled_in rounds.new.flusher) }
+        ensures covers { Begins self.old.seat.view.durable (settled_in rounds.new.flusher) }
     {
         rounds.cover(rt, &mut self.node);
     }
@@ -186,7 +190,7 @@ fn submit<S: Sign, R: Wait>(
     rt: &R,
     node: &mut node::Caller<'_, '_, S>,
     event: Checked,
-) -> Result<Taken, Told>
+) -> Result<Taken, Rejection>
     requires { fault_of node.old.setting.charter accepts_all event ≡ None }
     ensures stays { StaysWith node.old node.new }
     ensures submitted { IsSubmitted S.scheme node.old.node event node.old node.new result }
@@ -200,13 +204,13 @@ fn submit<S: Sign, R: Wait>(
 }
 
 // Whether it is told that a proposal was new. A node that is down refuses it, and the run says so at its end.
-fn newness(told: Result<Taken, Told>) -> Result<bool, AllocError>
+fn newness(told: Result<Taken, Rejection>) -> Result<bool, AllocError>
     ensures ok { IfOk result (λ new. new ≡ is_told_new told) }
     ensures err { OnErr result (told ≡ Err (Refused Refusal.Memory)) }
 {
     match told {
         Ok(Taken::New) => Ok(true),
-        Err(Told::Refused(Refusal::Memory)) => Err(AllocError),
+        Err(Rejection::Refused(Refusal::Memory)) => Err(AllocError),
         _ => Ok(false),
     }
 }

@@ -55,7 +55,7 @@ impl Due {
 
 /// What is due after a new event of a member's node. What isn't due is answered as before the event: no certificate entered and no
 /// floor moved where the waiting ones aren't, and no round, availability or own header changed where the proposal isn't.
-pub(crate) fn due_behind(own: Author, message: &Message) -> Due
+pub(crate) fn due_after(own: Author, message: &Message) -> Due
     ensures left { Leaves own message.now result }
 {
     spec_machine::sound_stays();

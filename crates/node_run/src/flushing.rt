@@ -7,7 +7,7 @@ ghost use Rattle.journal.specs.Stores.{faults_in};
 ghost use Rattle.node.specs.Disks.{AtEachMomentOn};
 ghost use Rattle.wire.specs.Lists.{Begins};
 ghost use Rattle.flusher.specs.Rounds.{journal_of, is_down, settled_in, taken_in, KeepsEarlier, TakesLongest};
-ghost use Rattle.node_run.specs.Ends.{faults_behind, TellsRounds, TellsJournal};
+ghost use Rattle.node_run.specs.Ends.{faults_after, TellsRounds, TellsJournal};
 ghost use Rattle.node_run.specs.Flushing.{FlushesOnce};
 ghost use Rattle.node_run.specs.Rewriting.{length_in, point_of, ByTheRule, RewritesWhereDue, HasNoPlace};
 ghost use Rattle.node_run.specs.Runs.{HoldsMore, LeavesSettled};
@@ -167,7 +167,7 @@ pub(crate) fn length_of<S: Sign, D: Disk>(rounds: &Rounds<'_, '_, S, D>) -> u64
 
 // What a round that failed means for the run. That of a node which is down was told before.
 fn faults_of(error: FlushError) -> Faults
-    ensures { result ≡ faults_behind error }
+    ensures { result ≡ faults_after error }
 {
     match error {
         FlushError::Memory => Faults::of_memory(),

@@ -7,16 +7,16 @@ ghost use Rattle.node_io.specs.Makers.{fresh_makers};
 ghost use Rattle.sigface.specs.Pair.{is_pair_signature};
 ghost use Rattle.node.specs.Callers.{StaysWith};
 ghost use Rattle.wire.specs.declared.message.Message.TheVariants as message;
-ghost use Rattle.node_run.specs.Asking.{IsDueBehind, nothing_due, all_due};
+ghost use Rattle.node_run.specs.Asking.{IsDueAfter, nothing_due, all_due};
 ghost use Rattle.node_run.specs.Bringing.{Brings, CantWait, Enters, own_batch};
 ghost use Rattle.node_run.specs.Ends.{told_of_wait};
 ghost use Rattle.node_run.specs.Taking.{IsProposed, OnlyLooks};
 
 use crate::bell::Bell;
 use crate::caller::{Caller, Taken};
-use crate::due::{Due, due_behind};
+use crate::due::{Due, due_after};
 use header::Checked;
-use node_io::{Makers, Request, Told, request_of};
+use node_io::{Makers, Rejection, Request, request_of};
 use sigface::{Sign, TableSeed};
 use std::alloc::{AllocError, Global};
 use std::io::Write;
@@ -121,7 +121,7 @@ impl<'n, 'a, S: Sign> Intake<'n, 'a, S> {
     }
 
     // Whether what a frame of this body brings is a new record.
-    fn answer<R: Wait>(&mut self, rt: &R, body: &[u8]) -> Result<bool, Told>
+    fn answer<R: Wait>(&mut self, rt: &R, body: &[u8]) -> Result<bool, Rejection>
         ensures mark { self.new.was_refused_memory ≡ self.old.was_refused_memory }
     {
         match request_of(self.alloc, body)? {
@@ -142,12 +142,12 @@ impl<'n, 'a, S: Sign> Intake<'n, 'a, S> {
     }
 
     // Submits a batch of the node's own, if one was given.
-    fn submit_batch<R: Wait>(&mut self, rt: &R, batch: Option<Batch>) -> Result<bool, Told>
+    fn submit_batch<R: Wait>(&mut self, rt: &R, batch: Option<Batch>) -> Result<bool, Rejection>
         ensures makers { self.new.makers ≡ self.old.makers }
         ensures mark { self.new.was_refused_memory ≡ self.old.was_refused_memory }
         ensures stays { StaysWith self.old.caller self.new.caller }
         ensures none { batch ≡ None → (result ≡ Ok false) × (self.new ≡ self.old) }
-        ensures due { IfSome batch (λ given. IsDueBehind self.old.caller.setting.own (message.Batch given) self.old.due self.new.due result) }
+        ensures due { IfSome batch (λ given. IsDueAfter self.old.caller.setting.own (message.Batch given) self.old.due self.new.due result) }
         ensures some { IfSome batch (λ given. Brings S.scheme self.old.caller.node (fault_of self.old.caller.setting.charter is_pair_signature (own_batch self.old.caller.setting.own given)) (own_batch self.old.caller.setting.own given) self.old.caller self.new.caller self.old.waiter self.new.waiter result) }
     {
         match batch {
@@ -160,17 +160,22 @@ impl<'n, 'a, S: Sign> Intake<'n, 'a, S> {
     }
 
     // Submits a message, or lets it wait. After a new record what it left as it was stays undue.
-    fn submit<R: Wait>(&mut self, rt: &R, sender: Author, message: Message) -> Result<bool, Told>
-        ensures due { IsDueBehind self.old.caller.setting.own message self.old.due self.new.due result }
+    fn submit<R: Wait>(
+        &mut self,
+        rt: &R,
+        sender: Author,
+        message: Message,
+    ) -> Result<bool, Rejection>
+        ensures due { IsDueAfter self.old.caller.setting.own message self.old.due self.new.due result }
         ensures makers { self.new.makers ≡ self.old.makers }
         ensures mark { self.new.was_refused_memory ≡ self.old.was_refused_memory }
         ensures stays { StaysWith self.old.caller self.new.caller }
         ensures brings { Brings S.scheme self.old.caller.node (fault_of self.old.caller.setting.charter is_pair_signature (record { sender = sender; message = message })) (record { sender = sender; message = message }) self.old.caller self.new.caller self.old.waiter self.new.waiter result }
     {
-        let behind = due_behind(self.caller.config().own(), &message);
+        let after = due_after(self.caller.config().own(), &message);
         match self.caller.take(rt, sender, message) {
             Ok(Taken::New) => {
-                self.due = self.due.and(behind);
+                self.due = self.due.and(after);
                 self.pending.ring(rt);
                 Ok(true)
             }
@@ -184,7 +189,7 @@ impl<'n, 'a, S: Sign> Intake<'n, 'a, S> {
     }
 
     // Lets a certificate wait. That is no new record.
-    fn offer(&mut self, event: Checked) -> Result<bool, Told>
+    fn offer(&mut self, event: Checked) -> Result<bool, Rejection>
         requires { certificate_digest_in event.message ≢ None }
         ensures makers { self.new.makers ≡ self.old.makers }
         ensures mark { self.new.was_refused_memory ≡ self.old.was_refused_memory }
@@ -246,16 +251,16 @@ impl<'n, 'a, S: Sign> Intake<'n, 'a, S> {
 }
 
 // Where a line can't be written nobody is told.
-fn write_line<E: Write>(errors: &mut E, told: Told) {
+fn write_line<E: Write>(errors: &mut E, told: Rejection) {
     let _ = writeln!(errors, "{told}");
 }
 
 // What is told of a certificate that can't wait: that memory was refused, or why it would have had to.
-fn told_of_wait(refusal: WaitRefusal) -> Told
+fn told_of_wait(refusal: WaitRefusal) -> Rejection
     ensures { result ≡ told_of_wait refusal }
 {
     match refusal {
-        WaitRefusal::Memory => Told::Refused(Refusal::Memory),
-        _ => Told::Refused(Refusal::MissingParents),
+        WaitRefusal::Memory => Rejection::Refused(Refusal::Memory),
+        _ => Rejection::Refused(Refusal::MissingParents),
     }
 }

@@ -8,7 +8,7 @@ ghost use Rattle.journal.specs.Stores.{faults_in};
 ghost use Rattle.node.specs.Disks.{AtEachMomentOn};
 ghost use Rattle.flusher.specs.Rounds.{journal_of, is_down, settled_in};
 ghost use Rattle.wire.specs.Lists.{Begins};
-ghost use Rattle.node_io.specs.Endings.{behind_input};
+ghost use Rattle.node_io.specs.Endings.{after_input};
 ghost use Rattle.node_io.specs.declared.input.End.{End};
 ghost use Rattle.node_run.specs.Ends.{TellsRounds};
 ghost use Rattle.node_run.specs.Rewriting.{point_of};
@@ -135,10 +135,10 @@ struct Reading<'n, 'a, 'e, S: Sign, I: Read + Drop, E: Write> {
 impl<'n, 'a, 'e, R: Wait, S: Sign, I: Read + Drop, E: Write> Work<R, Faults>
     for Reading<'n, 'a, 'e, S, I, E> {
     ghost use Rattle.std.specs.Prelude.{◌≡◌, Bool};
-    ghost use Rattle.node_io.specs.Endings.{behind_input};
+    ghost use Rattle.node_io.specs.Endings.{after_input};
     ghost use Rattle.node_io.specs.declared.input.End.{End};
 
-    ghost does = { λ work result. (end : End) × (lacked_memory : Bool) × (result ≡ behind_input end lacked_memory) };
+    ghost does = { λ work result. (end : End) × (lacked_memory : Bool) × (result ≡ after_input end lacked_memory) };
 
     fn work(self, rt: &R) -> Faults {
         let Reading {
@@ -278,7 +278,7 @@ where
     requires node { wrote.caller.node ≡ rounds.node }
     ensures store { result.0 ≡ store_of (journal_of rounds.entry.flusher) }
     ensures writer { result.1 ≡ wrote.entry.writer }
-    ensures covers { Begins wrote.entry.caller.seat.view.firm (settled_in rounds.entry.flusher) }
+    ensures covers { Begins wrote.entry.caller.seat.view.durable (settled_in rounds.entry.flusher) }
 {
     let Wrote {
         mut caller,
@@ -309,7 +309,7 @@ where
     Y: Send + Drop,
     requires { C.pre instead }
     ensures first { IfSome result (λ done. F.does first done.0) }
-    ensures others { IfSome result (λ done. IfSome done.1 (λ two. G.does second two.0 × ((end : End) × (lacked_memory : Bool) × (two.1 ≡ behind_input end lacked_memory)))) }
+    ensures others { IfSome result (λ done. IfSome done.1 (λ two. G.does second two.0 × ((end : End) × (lacked_memory : Bool) × (two.1 ≡ after_input end lacked_memory)))) }
 {
     do_beside(rt, first, second, reading, instead)
 }

@@ -36,7 +36,7 @@ pub(crate) fn write_outputs<S: Sign, W: Write + Drop, R: Wait>(
 )
     ensures stays { StaysWith caller.old caller.new }
     ensures same { IsSame caller.old.seat caller.new.seat }
-    ensures more { Begins caller.old.seat.view.firm caller.new.seat.view.firm }
+    ensures more { Begins caller.old.seat.view.durable caller.new.seat.view.durable }
     ensures only { WritesOnly (MayGo S.scheme caller.old.node caller.new.seat.view) sink.old.faults sink.new.faults (writer_contents W.contents sink.old.writer) (writer_contents W.contents sink.new.writer) }
 {
     for _ in rt.forever() {
@@ -57,7 +57,7 @@ fn write_due<S: Sign, W: Write + Drop, R: Wait>(
 )
     ensures stays { StaysWith caller.old caller.new }
     ensures same { IsSame caller.old.seat caller.new.seat }
-    ensures more { Begins caller.old.seat.view.firm caller.new.seat.view.firm }
+    ensures more { Begins caller.old.seat.view.durable caller.new.seat.view.durable }
     ensures only { WritesOnly (MayGo S.scheme caller.old.node caller.new.seat.view) sink.old.faults sink.new.faults (writer_contents W.contents sink.old.writer) (writer_contents W.contents sink.new.writer) }
 {
     for _ in rt.forever() {
@@ -76,7 +76,7 @@ fn write_next<S: Sign, W: Write + Drop, R: Wait>(
 ) -> bool
     ensures stays { StaysWith caller.old caller.new }
     ensures same { IsSame caller.old.seat caller.new.seat }
-    ensures more { Begins caller.old.seat.view.firm caller.new.seat.view.firm }
+    ensures more { Begins caller.old.seat.view.durable caller.new.seat.view.durable }
     ensures next { result ≡ true → WritesNext (MayGo S.scheme caller.old.node caller.new.seat.view) sink.old.faults sink.new.faults (writer_contents W.contents sink.old.writer) (writer_contents W.contents sink.new.writer) }
     ensures none { result ≡ false → sink.new ≡ sink.old }
 {

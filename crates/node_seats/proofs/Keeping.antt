@@ -21,15 +21,15 @@ pub not_here : {X : Type 0} (xs : List X) (i : ℕ) (x : X) → length xs ≤ i 
 not_here xs i x past at = let inside = there xs i x at in omega (arith, past, inside)
 
 -- what a seat knows stays so where the lists grow and nothing of its own is added
-pub fits_longer : (accepted settled longer firmer : List Marked) (was down : Bool) (number : ℕ) (view : View) → Fits accepted settled was number view
-    → Begins accepted longer → Begins settled firmer → (was ≡ true → down ≡ true) → events_by number longer ≡ events_by number accepted → Fits longer firmer down number view
-fits_longer accepted settled longer firmer was down number view fits more firm stays same = record {
+pub fits_longer : (accepted settled longer more_settled : List Marked) (was down : Bool) (number : ℕ) (view : View) → Fits accepted settled was number view
+    → Begins accepted longer → Begins settled more_settled → (was ≡ true → down ≡ true) → events_by number longer ≡ events_by number accepted → Fits longer more_settled down number view
+fits_longer accepted settled longer more_settled was down number view fits more durable stays same = record {
   number_is = fits.number_is;
   seen = begins_trans view.seen accepted longer fits.seen more;
-  firm = begins_trans view.firm settled firmer fits.firm firm;
-  firm_seen = fits.firm_seen;
+  durable = begins_trans view.durable settled more_settled fits.durable durable;
+  durable_seen = fits.durable_seen;
   told = begins_trans view.told accepted longer fits.told more;
-  told_firm = begins_trans view.told_firm settled firmer fits.told_firm firm;
+  told_durable = begins_trans view.told_durable settled more_settled fits.told_durable durable;
   mine = same ∙ fits.mine;
   own = fits.own;
   down_is = λ is. stays (fits.down_is is);
@@ -38,7 +38,7 @@ fits_longer accepted settled longer firmer was down number view fits more firm s
 module _ (Legal : History → Type 0) (words : List ℕ) (views : List View) where
   module _ (kept : IsKept Legal words views) (id : ℕ) (before later : View) (at : get_elem? views id ≡ some before)
       (accepted settled : List Marked) (down : Bool)
-      (more : Begins kept.accepted accepted) (firmer : Begins kept.settled settled) (begins : Begins settled accepted) (stays : kept.down ≡ true → down ≡ true)
+      (more : Begins kept.accepted accepted) (more_settled : Begins kept.settled settled) (begins : Begins settled accepted) (stays : kept.down ≡ true → down ≡ true)
       (legal : (count : ℕ) → Legal (events (take count accepted)))
       (others : (number : ℕ) → number ≢ id → events_by number accepted ≡ events_by number kept.accepted)
       (mine : later.live ≡ true → Fits accepted settled down id later)
@@ -62,6 +62,6 @@ module _ (Legal : History → Type 0) (words : List ℕ) (views : List View) whe
             subst (λ (v : View). Fits accepted settled down number v) t.1
             (subst (λ (n : ℕ). Fits accepted settled down n later) (sym t.0) (mine (subst (λ (v : View). v.live ≡ true) (sym t.1) live))))
             (λ (t : (number ≢ id) × (get_elem? views number ≡ some view)).
-            fits_longer kept.accepted kept.settled accepted settled kept.down down number view (kept.fits number view t.1 live) more firmer stays (others number t.0))
+            fits_longer kept.accepted kept.settled accepted settled kept.down down number view (kept.fits number view t.1 live) more more_settled stays (others number t.0))
             (at_set views id number later view here);
       }

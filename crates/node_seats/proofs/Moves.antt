@@ -16,7 +16,7 @@ use Rattle.node_seats.specs.declared.view.Marked.{Marked}
 use Rattle.node_seats.specs.declared.view.View.{View}
 use Rattle.node_seats.specs.Views.{mark, events, events_by, flag, HasOwn, first_view, newcomer, informed, spent}
 use Rattle.node_seats.specs.Rule.{Fits, IsKept}
-use Rattle.node_seats.specs.Plays.{Looks, Reads, ReadsDown, Accepts, Settles, with_event, with_firm, with_down}
+use Rattle.node_seats.specs.Plays.{Looks, Reads, ReadsDown, Accepts, Settles, with_event, with_durable, with_down}
 use Rattle.node_seats.proofs.Beginnings.{begins_same, begins_nothing, begins_trans, begins_whole, begins_more, shorter_begins, take_begins, begins_take}
 use Rattle.node_seats.proofs.Keeping.{there, step_keeps}
 use Rattle.node_seats.proofs.Marks.{by_same, by_other, by_between, by_nobody, events_push}
@@ -105,10 +105,10 @@ module _ {S : Type 0} (Legal : History → Type 0) where
           stays state kept id me.0 w at (λ _. record {
             number_is = fits.number_is;
             seen = begins_same kept.accepted;
-            firm = fits.firm;
-            firm_seen = begins_trans me.0.firm me.0.seen kept.accepted fits.firm_seen fits.seen;
+            durable = fits.durable;
+            durable_seen = begins_trans me.0.durable me.0.seen kept.accepted fits.durable_seen fits.seen;
             told = fits.told;
-            told_firm = fits.told_firm;
+            told_durable = fits.told_durable;
             mine = fits.mine;
             own = fits.mine;
             down_is = fits.down_is;
@@ -130,24 +130,24 @@ module _ {S : Type 0} (Legal : History → Type 0) where
         let fits = kept.fits id me.0 at live in
         let more = longer me.0.seen kept.settled kept.accepted fits.seen kept.begins in
         let own : events_by id more.list ≡ me.0.mine = by_between id me.0.seen more.list kept.accepted me.0.mine more.one_begins more.begins fits.own fits.mine in
-        let w : View = record me.0 { seen = more.list; firm = kept.settled } in (
+        let w : View = record me.0 { seen = more.list; durable = kept.settled } in (
           w,
           stays state kept id me.0 w at (λ _. record {
             number_is = fits.number_is;
             seen = more.begins;
-            firm = begins_same kept.settled;
-            firm_seen = more.other_begins;
+            durable = begins_same kept.settled;
+            durable_seen = more.other_begins;
             told = fits.told;
-            told_firm = fits.told_firm;
+            told_durable = fits.told_durable;
             mine = fits.mine;
             own = own;
             down_is = fits.down_is;
           }),
           record {
             rest = refl;
-            firm = fits.firm;
-            told = fits.told_firm;
-            firm_seen = more.other_begins;
+            durable = fits.durable;
+            told = fits.told_durable;
+            durable_seen = more.other_begins;
             seen = more.one_begins;
             same = more.same;
             count_is = second_count state kept;
@@ -180,10 +180,10 @@ module _ {S : Type 0} (Legal : History → Type 0) where
         let after = stays state kept id me.0 w at (λ _. record {
           number_is = fits.number_is;
           seen = fits.seen;
-          firm = fits.firm;
-          firm_seen = fits.firm_seen;
+          durable = fits.durable;
+          durable_seen = fits.durable_seen;
           told = fits.told;
-          told_firm = fits.told_firm;
+          told_durable = fits.told_durable;
           mine = fits.mine;
           own = fits.own;
           down_is = λ is. is;
@@ -206,10 +206,10 @@ module _ {S : Type 0} (Legal : History → Type 0) where
         (λ _. record {
           number_is = fits.number_is;
           seen = fits.seen;
-          firm = fits.firm;
-          firm_seen = fits.firm_seen;
+          durable = fits.durable;
+          durable_seen = fits.durable_seen;
           told = fits.told;
-          told_firm = fits.told_firm;
+          told_durable = fits.told_durable;
           mine = fits.mine;
           own = fits.own;
           down_is = λ _. refl;
@@ -225,10 +225,10 @@ module _ {S : Type 0} (Legal : History → Type 0) where
         let after = stays state kept id me.0 w at (λ _. record {
           number_is = λ _. refl;
           seen = fits.seen;
-          firm = fits.firm;
-          firm_seen = fits.firm_seen;
+          durable = fits.durable;
+          durable_seen = fits.durable_seen;
           told = fits.told;
-          told_firm = fits.told_firm;
+          told_durable = fits.told_durable;
           mine = fits.mine;
           own = fits.own;
           down_is = fits.down_is;
@@ -285,10 +285,10 @@ module _ {S : Type 0} (Legal : History → Type 0) where
             (λ _. record {
               number_is = fits.number_is;
               seen = subst (λ (l : List Marked). Begins w.seen l) seen (begins_same w.seen);
-              firm = fits.firm;
-              firm_seen = begins_more me.0.firm me.0.seen (mark me.0.number event ∷ []) fits.firm_seen;
+              durable = fits.durable;
+              durable_seen = begins_more me.0.durable me.0.seen (mark me.0.number event ∷ []) fits.durable_seen;
               told = begins_more me.0.told kept.accepted (mark me.0.number event ∷ []) fits.told;
-              told_firm = fits.told_firm;
+              told_durable = fits.told_durable;
               mine = subst (λ (n : ℕ). events_by id (kept.accepted ++ mark n event ∷ []) ≡ me.0.mine ++ event ∷ []) (sym mine)
                   (by_same id event kept.accepted ∙ ap (λ (h : History). h ++ event ∷ []) fits.mine);
               own = subst (λ (n : ℕ). events_by id (me.0.seen ++ mark n event ∷ []) ≡ me.0.mine ++ event ∷ []) (sym mine) (by_same id event me.0.seen ∙ ap (λ (h : History). h ++ event ∷ []) fits.own);
@@ -300,7 +300,7 @@ module _ {S : Type 0} (Legal : History → Type 0) where
             (w, keeps, tt, (subst (λ (ws : List ℕ). IsKept Legal ws (set state.views id w)) (sym words) after), (record { won = λ _. (size, refl); lost = λ apart. absurd (apart same) }, refl))
 
     -- events are settled that the seat has seen
-    pub settles : (old new : ℕ) → me.0.live ≡ true → old ≤ length me.0.firm → old ≤ new → new ≤ length me.0.seen
+    pub settles : (old new : ℕ) → me.0.live ≡ true → old ≤ length me.0.durable → old ≤ new → new ≤ length me.0.seen
         → Allows Rule slots id me 1 (λ n. either (n == old) new n) (λ n later. Settles old new me.0 n later.0 × (later.1 ≡ me.1))
     settles old new live enough more most state holds sizes at word = exchanged (slice_index state.words 1) old new After won lost
       where
@@ -327,27 +327,27 @@ module _ {S : Type 0} (Legal : History → Type 0) where
         won : slice_index state.words 1 ≡ old → After new
         won same =
             let count : length kept.settled ≡ old = second_count state kept ∙ same in
-            let all : me.0.firm ≡ kept.settled = begins_whole me.0.firm kept.settled fits.firm (omega (arith, count, enough)) in
-            let size : length me.0.firm ≡ old = ap length all ∙ count in
-            let firm : List Marked = take new me.0.seen in
-            let w : View = with_firm me.0 new in
-            let long : length firm ≡ new = let is : length firm ≡ min new (length me.0.seen) = length-take new me.0.seen in omega (arith, is, most) in
-            let grown : Begins kept.settled firm = subst (λ (l : List Marked). Begins l firm) all (begins_take me.0.firm me.0.seen new fits.firm_seen (omega (arith, size, more))) in
-            let within : Begins firm kept.accepted = begins_trans firm me.0.seen kept.accepted (take_begins new me.0.seen) fits.seen in
-            let after = step_keeps Legal state.words state.views kept id me.0 w at kept.accepted firm kept.down
+            let all : me.0.durable ≡ kept.settled = begins_whole me.0.durable kept.settled fits.durable (omega (arith, count, enough)) in
+            let size : length me.0.durable ≡ old = ap length all ∙ count in
+            let durable : List Marked = take new me.0.seen in
+            let w : View = with_durable me.0 new in
+            let long : length durable ≡ new = let is : length durable ≡ min new (length me.0.seen) = length-take new me.0.seen in omega (arith, is, most) in
+            let grown : Begins kept.settled durable = subst (λ (l : List Marked). Begins l durable) all (begins_take me.0.durable me.0.seen new fits.durable_seen (omega (arith, size, more))) in
+            let within : Begins durable kept.accepted = begins_trans durable me.0.seen kept.accepted (take_begins new me.0.seen) fits.seen in
+            let after = step_keeps Legal state.words state.views kept id me.0 w at kept.accepted durable kept.down
             (begins_same kept.accepted) grown within (λ is. is) kept.legal (λ number apart. refl)
             (λ _. record {
               number_is = fits.number_is;
               seen = fits.seen;
-              firm = begins_same firm;
-              firm_seen = take_begins new me.0.seen;
+              durable = begins_same durable;
+              durable_seen = take_begins new me.0.seen;
               told = fits.told;
-              told_firm = begins_trans me.0.told_firm kept.settled firm fits.told_firm grown;
+              told_durable = begins_trans me.0.told_durable kept.settled durable fits.told_durable grown;
               mine = fits.mine;
               own = fits.own;
               down_is = fits.down_is;
             }) in
-            let words : slice_set state.words 1 new ≡ length kept.accepted ∷ length firm ∷ flag kept.down ∷ [] =
+            let words : slice_set state.words 1 new ≡ length kept.accepted ∷ length durable ∷ flag kept.down ∷ [] =
             ap (λ (ws : List ℕ). slice_set ws 1 new) kept.words_are ∙ ap (λ (n : ℕ). length kept.accepted ∷ n ∷ flag kept.down ∷ []) (sym long) in
             (w, keeps, tt, (subst (λ (ws : List ℕ). IsKept Legal ws (set state.views id w)) (sym words) after), (record { won = λ _. (size, refl); lost = λ apart. absurd (apart same) }, refl))
 
@@ -366,10 +366,10 @@ module _ {S : Type 0} (Legal : History → Type 0) where
       new_fits number past = record {
         number_is = λ bad. absurd cc;
         seen = fits.seen;
-        firm = fits.firm;
-        firm_seen = fits.firm_seen;
+        durable = fits.durable;
+        durable_seen = fits.durable_seen;
         told = begins_nothing kept.accepted;
-        told_firm = begins_nothing kept.settled;
+        told_durable = begins_nothing kept.settled;
         mine = kept.nobody number past;
         own = by_nobody number view.seen kept.accepted fits.seen (kept.nobody number past);
         down_is = fits.down_is;
@@ -410,10 +410,10 @@ module _ {S : Type 0} (Legal : History → Type 0) where
       told = stays state kept id view (informed view from) at (λ _. record {
         number_is = fits.number_is;
         seen = fits.seen;
-        firm = fits.firm;
-        firm_seen = fits.firm_seen;
+        durable = fits.durable;
+        durable_seen = fits.durable_seen;
         told = theirs.seen;
-        told_firm = theirs.firm;
+        told_durable = theirs.durable;
         mine = fits.mine;
         own = fits.own;
         down_is = either_is view.down from.down kept.down fits.down_is theirs.down_is;
@@ -450,10 +450,10 @@ begins_kept Legal legal = record {
     first_fits = record {
       number_is = λ _. refl;
       seen = begins_same [];
-      firm = begins_same [];
-      firm_seen = begins_same [];
+      durable = begins_same [];
+      durable_seen = begins_same [];
       told = begins_same [];
-      told_firm = begins_same [];
+      told_durable = begins_same [];
       mine = refl;
       own = refl;
       down_is = λ bad. absurd cc;

@@ -22,7 +22,7 @@ same_then one two three first second = record {
 
 -- a seat that has seen more, and knows more as settled, is the same
 pub same_seat : (before later : SeatView) → (later.table ≡ before.table) × (later.id ≡ before.id) → later.view
-    ≡ record before.view { seen = later.view.seen; firm = later.view.firm } → IsSame before later
+    ≡ record before.view { seen = later.view.seen; durable = later.view.durable } → IsSame before later
 same_seat before later of rest = record {
   table = of.0;
   id = of.1;
@@ -48,14 +48,14 @@ same_told before later other told = record {
 }
 
 -- a look changes nothing of what is known as settled
-pub looked : (before later : View) → later ≡ record before { seen = later.seen } → later ≡ record before { seen = later.seen; firm = later.firm }
-looked before later rest = rest ∙ sym (ap (λ f. record before { seen = later.seen; firm = f }) (ap (λ v. v.firm) rest))
+pub looked : (before later : View) → later ≡ record before { seen = later.seen } → later ≡ record before { seen = later.seen; durable = later.durable }
+looked before later rest = rest ∙ sym (ap (λ f. record before { seen = later.seen; durable = f }) (ap (λ v. v.durable) rest))
 
 -- a seat that saw nothing more while no more was settled than it had seen at first still sees that, where a turn adds nothing
-pub still_seen : (first before later : View) → Begins first.seen before.seen → Begins before.firm later.firm → (length before.firm ≤ length first.seen → before.seen ≡ first.seen)
-    → (length later.firm ≤ length before.seen → later.seen ≡ before.seen) → length later.firm ≤ length first.seen → later.seen ≡ first.seen
-still_seen first before later seen firm so_far turn few =
-    let more = begins_length before.firm later.firm firm in
+pub still_seen : (first before later : View) → Begins first.seen before.seen → Begins before.durable later.durable → (length before.durable ≤ length first.seen → before.seen ≡ first.seen)
+    → (length later.durable ≤ length before.seen → later.seen ≡ before.seen) → length later.durable ≤ length first.seen → later.seen ≡ first.seen
+still_seen first before later seen durable so_far turn few =
+    let more = begins_length before.durable later.durable durable in
     let longer = begins_length first.seen before.seen seen in
     turn (omega (arith, few, longer)) ∙ so_far (omega (arith, few, more))
 

@@ -17,15 +17,15 @@ pub record Looks (Judged : History → Type 0) (before : View) (count : ℕ) (la
 
 -- the seat knows now all that is settled, which are so many events, and has seen these
 pub record Reads (Judged : History → Type 0) (before : View) (count : ℕ) (later : View) : Type 0 where
-  pub rest : later ≡ record before { seen = later.seen; firm = later.firm }
-  pub firm : Begins before.firm later.firm
-  pub told : Begins before.told_firm later.firm
-  pub firm_seen : Begins later.firm later.seen
+  pub rest : later ≡ record before { seen = later.seen; durable = later.durable }
+  pub durable : Begins before.durable later.durable
+  pub told : Begins before.told_durable later.durable
+  pub durable_seen : Begins later.durable later.seen
   pub seen : Begins before.seen later.seen
-  pub same : length later.firm ≤ length before.seen → later.seen ≡ before.seen
-  pub count_is : length later.firm ≡ count
+  pub same : length later.durable ≤ length before.seen → later.seen ≡ before.seen
+  pub count_is : length later.durable ≡ count
   pub own : later.numbered ≡ true → HasOwn later
-  pub judged : Judged (events later.firm)
+  pub judged : Judged (events later.durable)
 
 -- the event is accepted after all that the seat has seen
 abbrev pub with_event : View → Event → View
@@ -37,13 +37,13 @@ pub record Accepts (old : ℕ) (event : Event) (before : View) (count : ℕ) (la
   pub lost : count ≢ old → Looks (λ list. Unit {0}) before count later
 
 -- so many of the events that the seat has seen are settled
-abbrev pub with_firm : View → ℕ → View
-with_firm view count = record view { firm = take count view.seen }
+abbrev pub with_durable : View → ℕ → View
+with_durable view count = record view { durable = take count view.seen }
 
 -- where the second word was this number, so many of the events that the seat has seen are settled, which before were exactly those
 -- that it knew as settled; else the seat has read
 pub record Settles (old new : ℕ) (before : View) (count : ℕ) (later : View) : Type 0 where
-  pub won : count ≡ old → (length before.firm ≡ old) × (later ≡ with_firm before new)
+  pub won : count ≡ old → (length before.durable ≡ old) × (later ≡ with_durable before new)
   pub lost : count ≢ old → Reads (λ list. Unit {0}) before count later
 
 -- the seat knows now whether the node is down, which it stays

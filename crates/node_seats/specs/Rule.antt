@@ -13,10 +13,10 @@ use Rattle.node_seats.specs.Views.{events, events_by, flag}
 pub record Fits (accepted settled : List Marked) (down : Bool) (number : ℕ) (view : View) : Type 0 where
   pub number_is : view.numbered ≡ true → view.number ≡ number
   pub seen : Begins view.seen accepted
-  pub firm : Begins view.firm settled
-  pub firm_seen : Begins view.firm view.seen
+  pub durable : Begins view.durable settled
+  pub durable_seen : Begins view.durable view.seen
   pub told : Begins view.told accepted
-  pub told_firm : Begins view.told_firm settled
+  pub told_durable : Begins view.told_durable settled
   pub mine : events_by number accepted ≡ view.mine
   pub own : events_by number view.seen ≡ view.mine
   pub down_is : view.down ≡ true → down ≡ true

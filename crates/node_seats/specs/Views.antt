@@ -35,12 +35,12 @@ first_view = record {
   numbered = true;
   number = 0;
   seen = [];
-  firm = [];
+  durable = [];
   mine = [];
   down = false;
   may_fail = true;
   told = [];
-  told_firm = [];
+  told_durable = [];
 }
 
 -- a seat that knows what this one does, has brought nothing and can't take the node down; it doesn't know its number yet
@@ -50,17 +50,17 @@ newcomer view = record {
   numbered = false;
   number = 0;
   seen = view.seen;
-  firm = view.firm;
+  durable = view.durable;
   mine = [];
   down = view.down;
   may_fail = false;
   told = [];
-  told_firm = [];
+  told_durable = [];
 }
 
 -- a seat that was told what another one knows
 abbrev pub informed : View → View → View
-informed view other = record view { down = view.down || other.down; told = other.seen; told_firm = other.firm }
+informed view other = record view { down = view.down || other.down; told = other.seen; told_durable = other.durable }
 
 -- one that another seat took in
 abbrev pub spent : View
@@ -69,12 +69,12 @@ spent = record {
   numbered = false;
   number = 0;
   seen = [];
-  firm = [];
+  durable = [];
   mine = [];
   down = false;
   may_fail = false;
   told = [];
-  told_firm = [];
+  told_durable = [];
 }
 
 -- an event, for where none is meant

@@ -21,7 +21,7 @@ impl<K, L: Law<K>> Words<K, L> {
         ensures other { other.new ≡ other.old }
         ensures same { IsSame seat.old seat.new }
         ensures down { seat.new.view.down ≡ (seat.old.view.down || other.old.view.down) }
-        ensures firm { seat.new.view.firm ≡ seat.old.view.firm }
+        ensures durable { seat.new.view.durable ≡ seat.old.view.durable }
         ensures seen { seat.new.view.seen ≡ other.old.view.seen }
         ensures more { Begins seat.old.view.seen seat.new.view.seen }
         ensures own { seat.old.view.numbered ≡ true → HasOwn seat.new.view }
@@ -37,7 +37,7 @@ impl<K, L: Law<K>> Words<K, L> {
     }
 
     /// Reads until the seat knows exactly what another does as settled, which are so many events.
-    pub fn catch_up_firm<J: Judge, R: Wait>(
+    pub fn catch_up_durable<J: Judge, R: Wait>(
         &self,
         rt: &R,
         seat: &mut Seat,
@@ -46,18 +46,18 @@ impl<K, L: Law<K>> Words<K, L> {
     )
         requires seat { (seat.old.table ≡ self.now.table) × (seat.old.view.live ≡ true) }
         requires other { (other.old.table ≡ self.now.table) × (other.old.view.live ≡ true) }
-        requires count { length other.old.view.firm ≡ count }
+        requires count { length other.old.view.durable ≡ count }
         requires judge { (list : History) → L.legal self.now.key list → J.judged list }
         ensures other { other.new ≡ other.old }
         ensures same { IsSame seat.old seat.new }
         ensures down { seat.new.view.down ≡ (seat.old.view.down || other.old.view.down) }
-        ensures firm { seat.new.view.firm ≡ other.old.view.firm }
-        ensures more { Begins seat.old.view.firm seat.new.view.firm }
-        ensures firm_seen { Begins seat.new.view.firm seat.new.view.seen }
+        ensures durable { seat.new.view.durable ≡ other.old.view.durable }
+        ensures more { Begins seat.old.view.durable seat.new.view.durable }
+        ensures durable_seen { Begins seat.new.view.durable seat.new.view.seen }
         ensures seen { Begins seat.old.view.seen seat.new.view.seen }
         ensures stays { count ≤ length seat.old.view.seen → seat.new.view.seen ≡ seat.old.view.seen }
         ensures own { seat.old.view.numbered ≡ true → HasOwn seat.new.view }
-        ensures judged { J.judged (events seat.new.view.firm) }
+        ensures judged { J.judged (events seat.new.view.durable) }
     {
         for _ in rt.forever() {
             self.tell(other, seat);
@@ -73,14 +73,14 @@ impl<K, L: Law<K>> Words<K, L> {
     pub fn cover<R: Wait>(&self, rt: &R, seat: &mut Seat, other: &mut Seat, count: u64)
         requires seat { (seat.old.table ≡ self.now.table) × (seat.old.view.live ≡ true) }
         requires other { (other.old.table ≡ self.now.table) × (other.old.view.live ≡ true) }
-        requires count { length seat.old.view.firm ≡ count }
+        requires count { length seat.old.view.durable ≡ count }
         requires seen { count ≤ length seat.old.view.seen }
         ensures other { other.new ≡ other.old }
         ensures same { IsSame seat.old seat.new }
         ensures down { seat.new.view.down ≡ (seat.old.view.down || other.old.view.down) }
-        ensures firm { seat.new.view.firm ≡ seat.old.view.firm }
+        ensures durable { seat.new.view.durable ≡ seat.old.view.durable }
         ensures seen { seat.new.view.seen ≡ seat.old.view.seen }
-        ensures covers { Begins other.old.view.firm seat.new.view.firm }
+        ensures covers { Begins other.old.view.durable seat.new.view.durable }
     {
         for _ in rt.forever() {
             self.tell(other, seat);
@@ -100,7 +100,7 @@ impl<K, L: Law<K>> Words<K, L> {
         requires legal { L.legal self.now.key (events seat.old.view.seen ++ C.event ∷ []) }
         ensures same { (seat.new.table ≡ seat.old.table) × (seat.new.id ≡ seat.old.id) × (seat.new.view.live ≡ true) × (seat.new.view.numbered ≡ true) × (seat.new.view.number ≡ seat.old.view.number) × (seat.new.view.may_fail ≡ seat.old.view.may_fail) }
         ensures down { seat.new.view.down ≡ seat.old.view.down }
-        ensures firm { seat.new.view.firm ≡ seat.old.view.firm }
+        ensures durable { seat.new.view.durable ≡ seat.old.view.durable }
         ensures seen { seat.new.view.seen ≡ seat.old.view.seen ++ mark seat.old.view.number C.event ∷ [] }
         ensures mine { seat.new.view.mine ≡ seat.old.view.mine ++ C.event ∷ [] }
     {
@@ -113,16 +113,16 @@ impl<K, L: Law<K>> Words<K, L> {
     }
 
     /// Tries until so many of the events that the seat has seen are settled, where those that it knows as settled are.
-    pub fn raise_firm<R: Wait>(&self, rt: &R, seat: &mut Seat, from: u64, to: u64)
+    pub fn raise_durable<R: Wait>(&self, rt: &R, seat: &mut Seat, from: u64, to: u64)
         requires of { seat.old.table ≡ self.now.table }
         requires live { seat.old.view.live ≡ true }
-        requires firm { length seat.old.view.firm ≡ from }
+        requires durable { length seat.old.view.durable ≡ from }
         requires rising { from ≤ to }
         requires seen { to ≤ length seat.old.view.seen }
         ensures same { IsSame seat.old seat.new }
         ensures down { seat.new.view.down ≡ seat.old.view.down }
         ensures seen { seat.new.view.seen ≡ seat.old.view.seen }
-        ensures firm { seat.new.view.firm ≡ take to seat.old.view.seen }
+        ensures durable { seat.new.view.durable ≡ take to seat.old.view.seen }
     {
         for _ in rt.forever() {
             if self.settle(seat, from, to) == from {
@@ -138,8 +138,8 @@ impl<K, L: Law<K>> Words<K, L> {
         requires first { (first.old.table ≡ self.now.table) × (first.old.view.live ≡ true) }
         requires second { (second.old.table ≡ self.now.table) × (second.old.view.live ≡ true) }
         requires judge { (list : History) → L.legal self.now.key list → J.judged list }
-        ensures first { IsSame first.old first.new × Begins first.old.view.seen first.new.view.seen × (first.new.view.firm ≡ first.old.view.firm) }
-        ensures second { IsSame second.old second.new × Begins second.old.view.seen second.new.view.seen × (second.new.view.firm ≡ second.old.view.firm) }
+        ensures first { IsSame first.old first.new × Begins first.old.view.seen first.new.view.seen × (first.new.view.durable ≡ first.old.view.durable) }
+        ensures second { IsSame second.old second.new × Begins second.old.view.seen second.new.view.seen × (second.new.view.durable ≡ second.old.view.durable) }
         ensures meets { Begins first.new.view.seen second.new.view.seen }
         ensures down { (first.new.view.down ≡ first.old.view.down) × (second.new.view.down ≡ (second.old.view.down || first.old.view.down)) }
         ensures count { result ≡ length second.new.view.seen }

@@ -18,7 +18,7 @@ pub struct View {
     pub numbered: bool,
     pub number: u64,
     pub seen: LinkedList<Marked>,
-    pub firm: LinkedList<Marked>,
+    pub durable: LinkedList<Marked>,
     pub mine: LinkedList<Checked>,
     /// Whether it knows that the node is down.
     pub down: bool,
@@ -26,5 +26,5 @@ pub struct View {
     pub may_fail: bool,
     /// What it was told by another seat, of what was accepted and of what is settled.
     pub told: LinkedList<Marked>,
-    pub told_firm: LinkedList<Marked>,
+    pub told_durable: LinkedList<Marked>,
 }

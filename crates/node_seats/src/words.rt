@@ -148,7 +148,7 @@ impl<K, L: Law<K>> Words<K, L> {
     pub fn settle(&self, seat: &mut Seat, from: u64, to: u64) -> u64
         requires of { seat.old.table ≡ self.now.table }
         requires live { seat.old.view.live ≡ true }
-        requires firm { from ≤ length seat.old.view.firm }
+        requires durable { from ≤ length seat.old.view.durable }
         requires rising { from ≤ to }
         requires seen { to ≤ length seat.old.view.seen }
         ensures of { (seat.new.table ≡ seat.old.table) × (seat.new.id ≡ seat.old.id) }

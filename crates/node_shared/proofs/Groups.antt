@@ -24,8 +24,8 @@ begins_is_take : {X : Type 0} (one all : List X) (count : ℕ) → Begins one al
 begins_is_take one all count begins size = sym (take_at one begins.rest count size) ∙ ap (take count) (sym begins.parts)
 
 -- a list of no more than so many
-nothing_behind : {X Y : Type 0} (f : X → Y) (xs : List X) (count : ℕ) → map f (drop count xs) ≡ [] → length xs ≤ count
-nothing_behind f xs count none = omega (arith, ap length none, length-map (drop count xs) f, length-drop count xs)
+nothing_after : {X Y : Type 0} (f : X → Y) (xs : List X) (count : ℕ) → map f (drop count xs) ≡ [] → length xs ≤ count
+nothing_after f xs count none = omega (arith, ap length none, length-map (drop count xs) f, length-drop count xs)
 
 -- the first elements of what grows stay
 pub same_front : {X : Type 0} (one other : List X) (count : ℕ) → Begins one other → count ≤ length one → take count other ≡ take count one
@@ -52,7 +52,7 @@ module _ {S : Type 0} (shared : NodeView S) (scheme : Scheme S) (seat : SeatView
   size : length (events seat.view.seen) ≡ length flush.seat.view.seen
   size = ap length (sym seen_events) ∙ length-map flush.seat.view.seen (λ (one : Marked). one.event)
 
-  settled_size : length (events seat.view.firm) ≡ flush.settled
+  settled_size : length (events seat.view.durable) ≡ flush.settled
   settled_size = sym stood.settled ∙ tied.settled
 
   taken_size : length home.taken ≡ flush.taken
@@ -81,7 +81,7 @@ module _ {S : Type 0} (shared : NodeView S) (scheme : Scheme S) (seat : SeatView
     counted = ap (λ (b : BookView S). b.taken) is ∙ ap (λ (n : ℕ). n + length group) (tied.taken ∙ rests)
 
     pub home_taken : IsAtHome scheme shared seat later
-    home_taken = at_home shared scheme seat later (events seat.view.seen) (with_taken run (length group)).taken (events seat.view.firm) home.somewhere
+    home_taken = at_home shared scheme seat later (events seat.view.seen) (with_taken run (length group)).taken (events seat.view.durable) home.somewhere
         (ap (λ (b : BookView S). b.validator.setting) is ∙ home.setting)
         home.of_node afterwards refl refl (λ down. home.down (sym (ap (λ (b : BookView S). b.down) is) ∙ down))
         (none_rewrites later (ap (λ (b : BookView S). b.rewriting) is ∙ is_none book.rewriting (tied.rewriting ∙ idle)))
@@ -104,7 +104,7 @@ module _ {S : Type 0} (shared : NodeView S) (scheme : Scheme S) (seat : SeatView
     tied_taken = record {
       flush_of = flush_taken;
       seen = tied.seen;
-      firm = tied.firm;
+      durable = tied.durable;
       settled = ap (λ (b : BookView S). b.settled) is ∙ tied.settled;
       taken = refl;
       rewriting = ap (λ (b : BookView S). is_some b.rewriting) is ∙ tied.rewriting;
@@ -133,7 +133,7 @@ module _ {S : Type 0} (shared : NodeView S) (scheme : Scheme S) (seat : SeatView
         (run_of base seat.view home.taken) (home.stands base at)
 
     pub home_all : IsAtHome scheme shared seat later
-    home_all = at_home shared scheme seat later (events seat.view.seen) (events seat.view.seen) (events seat.view.firm) home.somewhere
+    home_all = at_home shared scheme seat later (events seat.view.seen) (events seat.view.seen) (events seat.view.durable) home.somewhere
         (ap (λ (b : BookView S). b.validator.setting) is ∙ home.setting)
         home.of_node afterwards_all refl refl (λ down. home.down (sym (ap (λ (b : BookView S). b.down) is) ∙ down)) (subst RewritesAllTaken (sym is) refl)
 
@@ -157,7 +157,7 @@ module _ {S : Type 0} (shared : NodeView S) (scheme : Scheme S) (seat : SeatView
     tied_all = record {
       flush_of = flush_all;
       seen = tied.seen;
-      firm = tied.firm;
+      durable = tied.durable;
       settled = ap (λ (b : BookView S). b.settled) is ∙ tied.settled;
       taken = refl;
       rewriting = ap (λ (b : BookView S). is_some b.rewriting) is;
@@ -173,10 +173,10 @@ module _ {S : Type 0} (shared : NodeView S) (scheme : Scheme S) (seat : SeatView
         (run_of base seat.view home.taken) (home.stands base at))
 
   -- where nothing is pending all is settled
-  pub all_settled : flush.taken ≡ flush.settled → book.pending ≡ [] → flush.seat.view.firm ≡ flush.seat.view.seen
+  pub all_settled : flush.taken ≡ flush.settled → book.pending ≡ [] → flush.seat.view.durable ≡ flush.seat.view.seen
   all_settled rests none =
-      let less : length (events seat.view.seen) ≤ length home.taken = nothing_behind record_of (events seat.view.seen) (length home.taken) (sym stood.pending ∙ none) in
-      begins_whole flush.seat.view.firm flush.seat.view.seen tied.flush_of.begins (omega (arith, less, size, taken_size, rests, tied.flush_of.settled))
+      let less : length (events seat.view.seen) ≤ length home.taken = nothing_after record_of (events seat.view.seen) (length home.taken) (sym stood.pending ∙ none) in
+      begins_whole flush.seat.view.durable flush.seat.view.seen tied.flush_of.begins (omega (arith, less, size, taken_size, rests, tied.flush_of.settled))
 
   -- what the flush seat has taken may be settled
   module _ (synced : List (List ℕ)) (group : flush.rewriting ≡ false → synced ≡ group_of flush) (checkpoint : flush.rewriting ≡ true → IsCheckpointAfter scheme shared (taken_by flush) synced) where
@@ -190,7 +190,7 @@ module _ {S : Type 0} (shared : NodeView S) (scheme : Scheme S) (seat : SeatView
 
       group_whole : take (length run.settled + length synced) home.taken ≡ events (taken_by flush)
       group_whole =
-          let less : length (events seat.view.firm) ≤ length home.taken = begins_length _ _ stood.settled_begins in
+          let less : length (events seat.view.durable) ≤ length home.taken = begins_length _ _ stood.settled_begins in
           let count : length synced ≡ length (drop (length run.settled) run.taken) = ap length are ∙ length-map (drop (length run.settled) run.taken) record_of in
           let left : length (drop (length run.settled) run.taken) ≡ length run.taken - length run.settled = length-drop (length run.settled) run.taken in
           take_all (length run.settled + length synced) run.taken (omega (arith, less, count, left)) ∙ taken_is
@@ -229,8 +229,8 @@ module _ {S : Type 0} (shared : NodeView S) (scheme : Scheme S) (seat : SeatView
     pub home_settled : (later : BookView S) (afterwards : SeatView) → later.validator.setting ≡ book.validator.setting → later.down ≡ book.down → later.rewriting ≡ None
         → ((run : Run) → Stands (node_of scheme book.validator.setting) run book → Settles (node_of scheme book.validator.setting) run book.rewriting synced
         → Stands (node_of scheme book.validator.setting) (settled_by run book.rewriting (length synced)) later)
-        → IsSame seat afterwards → afterwards.view.seen ≡ seat.view.seen → afterwards.view.firm ≡ taken_by flush → IsAtHome scheme shared afterwards later
-    home_settled later afterwards setting down none stands same seen firm =
+        → IsSame seat afterwards → afterwards.view.seen ≡ seat.view.seen → afterwards.view.durable ≡ taken_by flush → IsAtHome scheme shared afterwards later
+    home_settled later afterwards setting down none stands same seen durable =
         let here = subst (λ (s : ConfigView S). (r : Run) → Stands (node_of scheme s) r book → Settles (node_of scheme s) r book.rewriting synced
         → Stands (node_of scheme s) (settled_by r book.rewriting (length synced)) later) home.setting stands in
         let after = λ (base : State) (at : IsBase scheme shared base).
@@ -238,5 +238,5 @@ module _ {S : Type 0} (shared : NodeView S) (scheme : Scheme S) (seat : SeatView
         (here (run_of base seat.view home.taken) (home.stands base at) (settles_at base at book.rewriting refl)) in
         at_home shared scheme afterwards later (events seat.view.seen) home.taken (events (taken_by flush)) home.somewhere (setting ∙ home.setting)
         (of_same shared seat afterwards home.of_node same) after
-        (ap events (sym seen)) (ap events (sym firm)) (λ is. same.down (home.down (sym down ∙ is)))
+        (ap events (sym seen)) (ap events (sym durable)) (λ is. same.down (home.down (sym down ∙ is)))
         (none_rewrites later none)

@@ -18,7 +18,7 @@ use Rattle.node_seats.specs.declared.view.Marked.{Marked}
 use Rattle.node_seats.proofs.Beginnings.{begins_trans}
 use Rattle.book.specs.Book.{BookView, Run, GoesOutAfter, Stands, state_in, settled_in, GoesOutSettled, releasable}
 use Rattle.node_shared.specs.Answers.{IsPutOutBy}
-use Rattle.node_shared.specs.Home.{NodeView, IsBase, IsAtHome, run_of, seen_in, firm_in}
+use Rattle.node_shared.specs.Home.{NodeView, IsBase, IsAtHome, run_of, seen_in, durable_in}
 use Rattle.node_shared.proofs.Groups.{same_front}
 use Rattle.sigface.specs.Scheme.{Scheme}
 
@@ -39,37 +39,37 @@ module _ {S : Type 0} (shared : NodeView S) (scheme : Scheme S) (seat mine : Sea
       let is : state_in node (run_of base seat.view home.taken) ≡ seen_in node base mine = λ i. seen_in node base (record mine { view = record mine.view { seen = sym same i } }) in
       subst (P node) is (at_base (λ n run. P n (state_in n run)) told base at)
 
-  pub firm_of : (P : Node → State → Type 0) → mine.view.firm ≡ seat.view.firm
+  pub durable_of : (P : Node → State → Type 0) → mine.view.durable ≡ seat.view.durable
       → ((run : Run) → Stands (node_of scheme book.validator.setting) run book → P (node_of scheme book.validator.setting) (settled_in (node_of scheme book.validator.setting) run))
-      → (base : State) → IsBase scheme shared base → P node (firm_in node base mine)
-  firm_of P same told base at =
-      let is : settled_in node (run_of base seat.view home.taken) ≡ firm_in node base mine = λ i. firm_in node base (record mine { view = record mine.view { firm = sym same i } }) in
+      → (base : State) → IsBase scheme shared base → P node (durable_in node base mine)
+  durable_of P same told base at =
+      let is : settled_in node (run_of base seat.view home.taken) ≡ durable_in node base mine = λ i. durable_in node base (record mine { view = record mine.view { durable = sym same i } }) in
       subst (P node) is (at_base (λ n run. P n (settled_in n run)) told base at)
 
   -- an output that goes out may be given out with what the seat knows as settled
-  pub given : mine.view.firm ≡ seat.view.firm → (output : Option Output)
+  pub given : mine.view.durable ≡ seat.view.durable → (output : Option Output)
       → IfSome output (λ one. (run : Run) → Stands (node_of scheme book.validator.setting) run book → GoesOutSettled (node_of scheme book.validator.setting) run one)
       → IfSome output (λ one. (base : State) (history : History) → IsBase scheme shared base → IsLegal node history → kept node history ≡ base
-      → MayGive node (history ++ events mine.view.firm) one)
+      → MayGive node (history ++ events mine.view.durable) one)
   given same None goes = goes
   given same (Some one) goes = λ base history at legal keeps.
       let out = at_base (λ n run. GoesOutSettled n run one) goes base at in
       subst (λ (l : List Marked). MayGive node (history ++ events l) one) (sym same) (out.may history legal keeps)
 
   -- what a ticket counts of what the seat knows as settled
-  ticket_size : length (events seat.view.firm) ≡ length seat.view.firm
-  ticket_size = length-map seat.view.firm (λ (one : Marked). one.event)
+  ticket_size : length (events seat.view.durable) ≡ length seat.view.durable
+  ticket_size = length-map seat.view.durable (λ (one : Marked). one.event)
 
-  front : (base : State) → IsBase scheme shared base → mine.view.firm ≡ seat.view.firm → (ticket : ℕ) → ticket ≤ length (events seat.view.firm)
-      → take ticket (events seat.view.seen) ≡ events (take ticket mine.view.firm)
+  front : (base : State) → IsBase scheme shared base → mine.view.durable ≡ seat.view.durable → (ticket : ℕ) → ticket ≤ length (events seat.view.durable)
+      → take ticket (events seat.view.seen) ≡ events (take ticket mine.view.durable)
   front base at same ticket within =
       let stands = home.stands base at in
-      let begins = begins_trans (events seat.view.firm) home.taken (events seat.view.seen) stands.settled_begins stands.taken_begins in
-      same_front (events seat.view.firm) (events seat.view.seen) ticket begins within ∙ take-map (λ (one : Marked). one.event) ticket seat.view.firm
+      let begins = begins_trans (events seat.view.durable) home.taken (events seat.view.seen) stands.settled_begins stands.taken_begins in
+      same_front (events seat.view.durable) (events seat.view.seen) ticket begins within ∙ take-map (λ (one : Marked). one.event) ticket seat.view.durable
       ∙ ap (λ (l : List Marked). events (take ticket l)) (sym same)
 
   -- and an event of that put it out
-  pub put_out_by : mine.view.firm ≡ seat.view.firm → (output : Option Output)
+  pub put_out_by : mine.view.durable ≡ seat.view.durable → (output : Option Output)
       → IfSome output (λ one. (run : Run) → Stands (node_of scheme book.validator.setting) run book → GoesOutSettled (node_of scheme book.validator.setting) run one)
       → IfSome output (λ one. IsPutOutBy scheme shared mine.view one)
   put_out_by same None goes = goes
@@ -83,17 +83,17 @@ module _ {S : Type 0} (shared : NodeView S) (scheme : Scheme S) (seat mine : Sea
             let first_base = home.somewhere.0 in
             let same_base : first_base ≡ base = one_state node shared.begun first_base base home.somewhere.1.sound home.somewhere.1.at at.sound at.at in
             let events_are = front first_base home.somewhere.1 same first.ticket first.settled in
-            subst (λ (s : State). GoesOutAfter node s (events (take first.ticket mine.view.firm)) one) same_base
+            subst (λ (s : State). GoesOutAfter node s (events (take first.ticket mine.view.durable)) one) same_base
             (subst (λ (l : History). GoesOutAfter node first_base l one) events_are first.goes_out);
       }
 
   -- the order that is told is that of what the seat knows as settled
-  pub ordered : mine.view.firm ≡ seat.view.firm → {D E : Type 0} → (items : D → List Digest) (from : ℕ) (result : Result D E)
+  pub ordered : mine.view.durable ≡ seat.view.durable → {D E : Type 0} → (items : D → List Digest) (from : ℕ) (result : Result D E)
       → IfOk result (λ digests. (run : Run) → Stands (node_of scheme book.validator.setting) run book
       → items digests ≡ drop from (settled_in (node_of scheme book.validator.setting) run).order)
-      → IfOk result (λ digests. (base : State) → IsBase scheme shared base → items digests ≡ drop from (firm_in node base mine).order)
+      → IfOk result (λ digests. (base : State) → IsBase scheme shared base → items digests ≡ drop from (durable_in node base mine).order)
   ordered same items from (Err error) told = told
-  ordered same items from (Ok digests) told = firm_of (λ n state. items digests ≡ drop from state.order) same told
+  ordered same items from (Ok digests) told = durable_of (λ n state. items digests ≡ drop from state.order) same told
 
   -- and the header that is proposed is that of what it has seen
   pub proposed : mine.view.seen ≡ seat.view.seen → {E : Type 0} → (result : Result (Option Header) E) (validator : ValidatorView S) → validator ≡ book.validator

@@ -35,7 +35,7 @@ module _ {S : Type 0} (shared : NodeView S) where
     -- a book stands at home where it stands at a run with these lists, from each base on
     pub at_home : (seat : SeatView) (book : BookView S) (accepted taken settled : History) → StandSomewhere (node_of scheme shared.setting) shared.begun → book.validator.setting ≡ shared.setting → IsOf shared seat
         → ((base : State) → IsBase scheme shared base → Stands (node_of scheme shared.setting) (record { base = base; accepted = accepted; taken = taken; settled = settled }) book)
-        → accepted ≡ events seat.view.seen → settled ≡ events seat.view.firm → (book.down ≡ true → seat.view.down ≡ true) → RewritesAllTaken book → IsAtHome scheme shared seat book
+        → accepted ≡ events seat.view.seen → settled ≡ events seat.view.durable → (book.down ≡ true → seat.view.down ≡ true) → RewritesAllTaken book → IsAtHome scheme shared seat book
     at_home seat book accepted taken settled somewhere setting of_node stands accepted_is settled_is down whole = record {
       somewhere = somewhere;
       setting = setting;
@@ -48,11 +48,11 @@ module _ {S : Type 0} (shared : NodeView S) where
     }
 
     -- a book that is at home stays so where its seat sees and knows the same
-    pub stays_home : (seat later : SeatView) (book : BookView S) → IsAtHome scheme shared seat book → IsSame seat later → later.view.seen ≡ seat.view.seen → later.view.firm ≡ seat.view.firm
+    pub stays_home : (seat later : SeatView) (book : BookView S) → IsAtHome scheme shared seat book → IsSame seat later → later.view.seen ≡ seat.view.seen → later.view.durable ≡ seat.view.durable
         → IsAtHome scheme shared later book
-    stays_home seat later book home same seen firm =
-        at_home later book (events seat.view.seen) home.taken (events seat.view.firm) home.somewhere home.setting (of_same seat later home.of_node same) home.stands
-        (ap events (sym seen)) (ap events (sym firm)) (λ is. same.down (home.down is)) home.whole
+    stays_home seat later book home same seen durable =
+        at_home later book (events seat.view.seen) home.taken (events seat.view.durable) home.somewhere home.setting (of_same seat later home.of_node same) home.stands
+        (ap events (sym seen)) (ap events (sym durable)) (λ is. same.down (home.down is)) home.whole
 
     -- and where it stands wherever it stood
     pub home_where : (seat : SeatView) (book later : BookView S) → IsAtHome scheme shared seat book → later.validator.setting ≡ book.validator.setting → (later.down ≡ true → book.down ≡ true)
@@ -75,9 +75,9 @@ module _ {S : Type 0} (shared : NodeView S) where
         → Stays seat afterwards → afterwards.view.down ≡ true → IsAtHome scheme shared afterwards later
     home_down seat afterwards book later home is stands stays down =
         let there = subst (λ (s : ConfigView S). (run : Run) → Stands (node_of scheme s) run book → Stands (node_of scheme s) run later) home.setting stands in
-        at_home afterwards later (events seat.view.seen) home.taken (events seat.view.firm) home.somewhere (ap (λ (b : BookView S). b.validator.setting) is ∙ home.setting)
+        at_home afterwards later (events seat.view.seen) home.taken (events seat.view.durable) home.somewhere (ap (λ (b : BookView S). b.validator.setting) is ∙ home.setting)
         (of_same seat afterwards home.of_node stays.same)
-        (λ base at. there (run_of base seat.view home.taken) (home.stands base at)) (ap events (sym stays.seen)) (ap events (sym stays.firm)) (λ _. down)
+        (λ base at. there (run_of base seat.view home.taken) (home.stands base at)) (ap events (sym stays.seen)) (ap events (sym stays.durable)) (λ _. down)
         (rewrites_same book later (ap (λ (b : BookView S). b.rewriting) is) (ap (λ (b : BookView S). b.taken) is) home.whole)
 
 -- a book without the first of its outputs, or as it was, is set up as it was

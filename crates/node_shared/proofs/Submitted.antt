@@ -51,12 +51,12 @@ module _ {S : Type 0} (shared : NodeView S) (scheme : Scheme S) (seat : SeatView
 
     -- and the book is at home again once its seat has seen it
     pub home_with : (afterwards : SeatView) (by : ℕ) → later.validator.setting ≡ book.validator.setting → IsSame seat afterwards → afterwards.view.seen
-        ≡ seat.view.seen ++ mark by event ∷ [] → afterwards.view.firm ≡ seat.view.firm → (later.down ≡ true → ⊥)
+        ≡ seat.view.seen ++ mark by event ∷ [] → afterwards.view.durable ≡ seat.view.durable → (later.down ≡ true → ⊥)
         → IsAtHome scheme shared afterwards later
-    home_with afterwards by setting same seen firm up =
-        at_home shared scheme afterwards later (events seat.view.seen ++ event ∷ []) home.taken (events seat.view.firm) home.somewhere (setting ∙ home.setting)
+    home_with afterwards by setting same seen durable up =
+        at_home shared scheme afterwards later (events seat.view.seen ++ event ∷ []) home.taken (events seat.view.durable) home.somewhere (setting ∙ home.setting)
         (of_same shared seat afterwards home.of_node same) (λ base at. here.stands (run base) (home.stands base at))
-        (sym (events_push by event seat.view.seen) ∙ ap events (sym seen)) (ap events (sym firm)) (λ down. absurd (up down))
+        (sym (events_push by event seat.view.seen) ∙ ap events (sym seen)) (ap events (sym durable)) (λ down. absurd (up down))
         (rewrites_same book later here.rewriting here.taken home.whole)
 
     -- the answer

@@ -17,29 +17,29 @@ use Rattle.node_shared.proofs.Groups.{same_front}
 use Rattle.node_shared.proofs.Standing.{of_same}
 
 -- what is settled is the same list where it is as many
-pub firm_same : {X : Type 0} (one other : List X) (count : ℕ) → Begins one other → count ≡ length one → count ≡ length other → other ≡ one
-firm_same one other count begins first second = sym (begins_whole one other begins (omega (arith, first, second)))
+pub durable_same : {X : Type 0} (one other : List X) (count : ℕ) → Begins one other → count ≡ length one → count ≡ length other → other ≡ one
+durable_same one other count begins first second = sym (begins_whole one other begins (omega (arith, first, second)))
 
 -- a seat that knows just what the book's seat does, and numbers that are the book's
 pub tied_with : {S : Type 0} (shared : NodeView S) (scheme : Scheme S) (seat : SeatView) (book : BookView S) → IsAtHome scheme shared seat book
-    → (mine : SeatView) (settled taken : ℕ) (rewriting : Bool) → IsOf shared mine → mine.view.seen ≡ seat.view.seen → mine.view.firm ≡ seat.view.firm → Begins mine.view.firm mine.view.seen
+    → (mine : SeatView) (settled taken : ℕ) (rewriting : Bool) → IsOf shared mine → mine.view.seen ≡ seat.view.seen → mine.view.durable ≡ seat.view.durable → Begins mine.view.durable mine.view.seen
     → settled ≤ taken → book.settled ≡ settled → book.taken ≡ taken → is_some book.rewriting ≡ rewriting
     → IsTied shared seat book (record { seat = mine; settled = settled; taken = taken; rewriting = rewriting })
-tied_with shared scheme seat book home mine settled taken rewriting of_node seen firm begins rising settled_is taken_is rewriting_is =
+tied_with shared scheme seat book home mine settled taken rewriting of_node seen durable begins rising settled_is taken_is rewriting_is =
     let stood = home.stands home.somewhere.0 home.somewhere.1 in
-    let firm_size = length-map seat.view.firm (λ (one : Marked). one.event) in
+    let durable_size = length-map seat.view.durable (λ (one : Marked). one.event) in
     let seen_size = length-map seat.view.seen (λ (one : Marked). one.event) in
     let within = begins_length home.taken (events seat.view.seen) stood.taken_begins in
     record {
       flush_of = record {
         of_node = of_node;
-        settled = omega (arith, settled_is, stood.settled, firm_size, ap length firm);
+        settled = omega (arith, settled_is, stood.settled, durable_size, ap length durable);
         rising = rising;
         seen = omega (arith, taken_is, stood.taken, within, seen_size, ap length seen);
         begins = begins;
       };
       seen = seen;
-      firm = firm;
+      durable = durable;
       settled = settled_is;
       taken = taken_is;
       rewriting = rewriting_is;
@@ -47,20 +47,20 @@ tied_with shared scheme seat book home mine settled taken rewriting of_node seen
 
 -- a flush seat whose seat then knows all that it had taken as settled
 pub settles_taken : {S : Type 0} (shared : NodeView S) (flush : FlushSeat) → IsFlushOf shared flush → (mid other : SeatView) → IsSame flush.seat mid → mid.view.seen ≡ flush.seat.view.seen
-    → mid.view.firm ≡ taken_by flush → other ≡ mid → SettlesTaken shared flush (record { seat = other; settled = flush.taken; taken = flush.taken; rewriting = false })
-settles_taken shared flush of mid other same seen firm other_is =
+    → mid.view.durable ≡ taken_by flush → other ≡ mid → SettlesTaken shared flush (record { seat = other; settled = flush.taken; taken = flush.taken; rewriting = false })
+settles_taken shared flush of mid other same seen durable other_is =
     let size : length (taken_by flush) ≡ flush.taken = length-take-le flush.taken flush.seat.view.seen of.seen in
     subst (λ (s : SeatView). SettlesTaken shared flush (record { seat = s; settled = flush.taken; taken = flush.taken; rewriting = false })) (sym other_is) (record {
       flush_of = record {
         of_node = of_same shared flush.seat mid of.of_node same;
-        settled = sym size ∙ ap length (sym firm);
+        settled = sym size ∙ ap length (sym durable);
         rising = omega arith;
         seen = omega (arith, of.seen, ap length seen);
-        begins = subst (λ (l : List Marked). Begins l mid.view.seen) (sym firm)
+        begins = subst (λ (l : List Marked). Begins l mid.view.seen) (sym durable)
             (subst (λ (l : List Marked). Begins (taken_by flush) l) (sym seen) (take_begins flush.taken flush.seat.view.seen));
       };
       same = same;
-      firm = firm;
+      durable = durable;
       settled = refl;
       taken = refl;
       idle = refl;
@@ -79,7 +79,7 @@ settles_from shared before mid later of same taken seen settles =
     record {
       flush_of = settles.flush_of;
       same = same_then before.seat mid.seat later.seat same settles.same;
-      firm = settles.firm ∙ taken_from shared before mid of taken seen;
+      durable = settles.durable ∙ taken_from shared before mid of taken seen;
       settled = settles.settled ∙ taken;
       taken = settles.taken ∙ taken;
       idle = settles.idle;

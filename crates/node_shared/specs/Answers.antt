@@ -72,11 +72,11 @@ pub record Submits {S : Type 0} (scheme : Scheme S) (node : NodeView S) (event :
 -- an output goes out after so many of the events that a seat knows as settled, from each base on
 pub record IsPutOutBy {S : Type 0} (scheme : Scheme S) (node : NodeView S) (view : View) (output : Output) : Type 0 where
   pub count : ℕ
-  pub settled : count ≤ length view.firm
-  pub goes_out : (base : State) → IsBase scheme node base → GoesOutAfter (node_of scheme node.setting) base (events (take count view.firm)) output
+  pub settled : count ≤ length view.durable
+  pub goes_out : (base : State) → IsBase scheme node base → GoesOutAfter (node_of scheme node.setting) base (events (take count view.durable)) output
 
 -- an output may be given out at each legal history that keeps a base, with what a seat knows as settled, of which an event put it out
 pub record Gives {S : Type 0} (scheme : Scheme S) (node : NodeView S) (seat : SeatView) (output : Output) : Type 0 where
   pub may : (base : State) (history : History) → IsBase scheme node base → IsLegal (node_of scheme node.setting) history → kept (node_of scheme node.setting) history ≡ base
-      → MayGive (node_of scheme node.setting) (history ++ events seat.view.firm) output
+      → MayGive (node_of scheme node.setting) (history ++ events seat.view.durable) output
   pub put_out : IsPutOutBy scheme node seat.view output

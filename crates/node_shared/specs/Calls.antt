@@ -15,7 +15,7 @@ use Rattle.sigface.specs.Scheme.{Scheme}
 pub record Looked {S : Type 0} (scheme : Scheme S) (node : NodeView S) (before later : SeatView) : Type 0 where
   pub of_node : IsOf node later
   pub same : IsSame before later
-  pub firm : later.view.firm ≡ before.view.firm
+  pub durable : later.view.durable ≡ before.view.durable
   pub more : Begins before.view.seen later.view.seen
   pub own : HasOwn later.view
   pub legal : (base : State) → IsBase scheme node base → IsLegalAfter (node_of scheme node.setting) base (events later.view.seen)
@@ -25,11 +25,11 @@ pub record Looked {S : Type 0} (scheme : Scheme S) (node : NodeView S) (before l
 pub record Learned {S : Type 0} (scheme : Scheme S) (node : NodeView S) (before later : SeatView) : Type 0 where
   pub of_node : IsOf node later
   pub same : IsSame before later
-  pub more : Begins before.view.firm later.view.firm
+  pub more : Begins before.view.durable later.view.durable
   pub seen : Begins before.view.seen later.view.seen
-  pub within : Begins later.view.firm later.view.seen
+  pub within : Begins later.view.durable later.view.seen
   pub own : HasOwn later.view
-  pub legal : (base : State) → IsBase scheme node base → IsLegalAfter (node_of scheme node.setting) base (events later.view.firm)
+  pub legal : (base : State) → IsBase scheme node base → IsLegalAfter (node_of scheme node.setting) base (events later.view.durable)
 
 -- A seat brought an event, which is new or isn't: it is the same one of the node but for that, knows as settled what it did, that the
 -- node is down if it did, and has the right to take it down if it had. What it has seen is legal after each base, and its own events are those of that which are marked with its number.
@@ -39,7 +39,7 @@ pub record Brought {S : Type 0} (scheme : Scheme S) (node : NodeView S) (before 
   pub number : later.view.number ≡ before.view.number
   pub down : before.view.down ≡ true → later.view.down ≡ true
   pub right : later.view.may_fail ≡ before.view.may_fail
-  pub firm : later.view.firm ≡ before.view.firm
+  pub durable : later.view.durable ≡ before.view.durable
   pub own : HasOwn later.view
   pub legal : (base : State) → IsBase scheme node base → IsLegalAfter (node_of scheme node.setting) base (events later.view.seen)
 
@@ -47,12 +47,12 @@ pub record Brought {S : Type 0} (scheme : Scheme S) (node : NodeView S) (before 
 pub record Stays (before later : SeatView) : Type 0 where
   pub same : IsSame before later
   pub seen : later.view.seen ≡ before.view.seen
-  pub firm : later.view.firm ≡ before.view.firm
+  pub durable : later.view.durable ≡ before.view.durable
 
 -- a seat that has seen nothing since its node began, and doesn't know that this is down
 pub record HasNothing (seat : SeatView) : Type 0 where
   pub seen : seat.view.seen ≡ []
-  pub firm : seat.view.firm ≡ []
+  pub durable : seat.view.durable ≡ []
   pub mine : seat.view.mine ≡ []
   pub up : seat.view.down ≡ false
 
@@ -60,7 +60,7 @@ pub record HasNothing (seat : SeatView) : Type 0 where
 pub record IsBeside {S : Type 0} (node : NodeView S) (seat other : SeatView) : Type 0 where
   pub of_node : IsOf node other
   pub seen : other.view.seen ≡ seat.view.seen
-  pub firm : other.view.firm ≡ seat.view.firm
+  pub durable : other.view.durable ≡ seat.view.durable
   pub down : other.view.down ≡ seat.view.down
   pub mine : other.view.mine ≡ []
   pub own : HasOwn other.view
@@ -70,7 +70,7 @@ pub record IsBeside {S : Type 0} (node : NodeView S) (seat other : SeatView) : T
 
 -- what it took: of what it has seen the next group, or nothing, where all of that is settled or memory was wanting
 pub record Takes {E : Type 0} (before later : FlushSeat) (result : Result (Option (List (List ℕ))) E) : Type 0 where
-  pub none : IfOk result (λ found. IsNone found → (later.taken ≡ before.taken) × (later.seat.view.firm ≡ later.seat.view.seen))
+  pub none : IfOk result (λ found. IsNone found → (later.taken ≡ before.taken) × (later.seat.view.durable ≡ later.seat.view.seen))
   pub group : IfOk result (λ found. IfSome found (λ group. TakesNext later group))
   pub err : OnErr result (later.taken ≡ before.taken)
 
@@ -84,7 +84,7 @@ pub record TakesAll {S E : Type 0} (scheme : Scheme S) (node : NodeView S) (befo
 pub record SettlesTaken {S : Type 0} (node : NodeView S) (before later : FlushSeat) : Type 0 where
   pub flush_of : IsFlushOf node later
   pub same : IsSame before.seat later.seat
-  pub firm : later.seat.view.firm ≡ taken_by before
+  pub durable : later.seat.view.durable ≡ taken_by before
   pub settled : later.settled ≡ before.taken
   pub taken : later.taken ≡ before.taken
   pub idle : later.rewriting ≡ false

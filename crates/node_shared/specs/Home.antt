@@ -47,16 +47,16 @@ pub record IsOf {S : Type 0} (node : NodeView S) (seat : SeatView) : Type 0 wher
 abbrev pub seen_in : Node → State → SeatView → State
 seen_in node base seat = after_all node base (events seat.view.seen)
 
-abbrev pub firm_in : Node → State → SeatView → State
-firm_in node base seat = after_all node base (events seat.view.firm)
+abbrev pub durable_in : Node → State → SeatView → State
+durable_in node base seat = after_all node base (events seat.view.durable)
 
 -- A flush seat is a node's: its seat is, so many of the events that this has seen are settled, which it knows, and so many are taken.
 pub record IsFlushOf {S : Type 0} (node : NodeView S) (flush : FlushSeat) : Type 0 where
   pub of_node : IsOf node flush.seat
-  pub settled : flush.settled ≡ length flush.seat.view.firm
+  pub settled : flush.settled ≡ length flush.seat.view.durable
   pub rising : flush.settled ≤ flush.taken
   pub seen : flush.taken ≤ length flush.seat.view.seen
-  pub begins : Begins flush.seat.view.firm flush.seat.view.seen
+  pub begins : Begins flush.seat.view.durable flush.seat.view.seen
 
 -- what of that is taken, and the records of it that aren't settled
 abbrev pub taken_by : FlushSeat → List Marked
@@ -75,7 +75,7 @@ pub record TakesNext (flush : FlushSeat) (group : List (List ℕ)) : Type 0 wher
 
 -- the run on a base of a book whose seat knows this, and of which this was taken
 abbrev pub run_of : State → View → History → Run
-run_of base view taken = record { base = base; accepted = events view.seen; taken = taken; settled = events view.firm }
+run_of base view taken = record { base = base; accepted = events view.seen; taken = taken; settled = events view.durable }
 
 -- a rewriting that is in flight settles all that was taken
 abbrev pub RewritesAllTaken : {S : Type 0} → BookView S → Type 0
@@ -97,7 +97,7 @@ pub record IsAtHome {S : Type 0} (scheme : Scheme S) (node : NodeView S) (seat :
 pub record IsTied {S : Type 0} (node : NodeView S) (seat : SeatView) (book : BookView S) (flush : FlushSeat) : Type 0 where
   pub flush_of : IsFlushOf node flush
   pub seen : flush.seat.view.seen ≡ seat.view.seen
-  pub firm : flush.seat.view.firm ≡ seat.view.firm
+  pub durable : flush.seat.view.durable ≡ seat.view.durable
   pub settled : book.settled ≡ flush.settled
   pub taken : book.taken ≡ flush.taken
   pub rewriting : is_some book.rewriting ≡ flush.rewriting

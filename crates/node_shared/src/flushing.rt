@@ -36,7 +36,7 @@ impl<'a, S: Sign> Node<'a, S> {
         requires of { IsOf self.now seat.old }
         ensures flush { IsFlushOf self.now flush.new }
         ensures flush_same { IsSame flush.old.seat flush.new.seat }
-        ensures flush_firm { flush.new.seat.view.firm ≡ flush.old.seat.view.firm }
+        ensures flush_durable { flush.new.seat.view.durable ≡ flush.old.seat.view.durable }
         ensures flush_settled { flush.new.settled ≡ flush.old.settled }
         ensures flush_idle { flush.new.rewriting ≡ false }
         ensures looked { Looked S.scheme self.now seat.old seat.new }
@@ -72,7 +72,7 @@ impl<'a, S: Sign> Node<'a, S> {
         requires of { IsOf self.now seat.old }
         ensures flush { IsFlushOf self.now flush.new }
         ensures flush_same { IsSame flush.old.seat flush.new.seat }
-        ensures flush_firm { flush.new.seat.view.firm ≡ flush.old.seat.view.firm }
+        ensures flush_durable { flush.new.seat.view.durable ≡ flush.old.seat.view.durable }
         ensures flush_settled { flush.new.settled ≡ flush.old.settled }
         ensures looked { Looked S.scheme self.now seat.old seat.new }
         ensures seen { Begins seat.new.view.seen flush.new.seat.view.seen }
@@ -120,11 +120,11 @@ impl<'a, S: Sign> Node<'a, S> {
         ensures flush { flush.new ≡ flush.old }
         ensures learned { Learned S.scheme self.now seat.old seat.new }
         ensures down { seat.new.view.down ≡ (seat.old.view.down || flush.old.seat.view.down) }
-        ensures firm { seat.new.view.firm ≡ flush.old.seat.view.firm }
+        ensures durable { seat.new.view.durable ≡ flush.old.seat.view.durable }
     {
         let count = flush.settled;
         self.words
-            .catch_up_firm::<Brand, R>(rt, seat, &mut flush.seat, count);
+            .catch_up_durable::<Brand, R>(rt, seat, &mut flush.seat, count);
     }
 
     /// What the seat knows as settled is then known to be among what the flush seat does, which else stays as it was.
@@ -136,7 +136,7 @@ impl<'a, S: Sign> Node<'a, S> {
         ensures counts { CountsAs flush.old flush.new }
         ensures down { flush.new.seat.view.down ≡ (flush.old.seat.view.down || seat.old.view.down) }
         ensures seat { seat.new ≡ seat.old }
-        ensures covers { Begins seat.old.view.firm flush.new.seat.view.firm }
+        ensures covers { Begins seat.old.view.durable flush.new.seat.view.durable }
     {
         let count = flush.settled;
         self.words.cover(rt, &mut flush.seat, seat, count);
@@ -166,7 +166,7 @@ impl<'a, S: Sign> Node<'a, S> {
         ensures same { IsSame flush.old.seat flush.new.seat }
         ensures down { flush.new.seat.view.down ≡ (flush.old.seat.view.down || locked.old.seat.view.down) }
         ensures counts { CountsAs flush.old flush.new }
-        ensures firm { Begins flush.old.seat.view.firm flush.new.seat.view.firm }
+        ensures durable { Begins flush.old.seat.view.durable flush.new.seat.view.durable }
         ensures seen { Begins flush.old.seat.view.seen flush.new.seat.view.seen }
         ensures legal { (base : State) → IsBase S.scheme self.now base → IsLegalAfter (node_of S.scheme self.now.setting) base (events flush.new.seat.view.seen) }
         ensures tied { result ≡ true → IsTied self.now locked.old.seat locked.old.book flush.new }
@@ -237,9 +237,9 @@ impl<'a, S: Sign> Node<'a, S> {
     {
         locked.book.settle(synced);
         self.words
-            .raise_firm(rt, &mut flush.seat, flush.settled, flush.taken);
+            .raise_durable(rt, &mut flush.seat, flush.settled, flush.taken);
         self.words
-            .catch_up_firm::<Anything, R>(rt, &mut locked.seat, &mut flush.seat, flush.taken);
+            .catch_up_durable::<Anything, R>(rt, &mut locked.seat, &mut flush.seat, flush.taken);
         flush.settled = flush.taken;
         flush.rewriting = false;
     }

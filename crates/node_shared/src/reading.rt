@@ -9,7 +9,7 @@ ghost use Rattle.spec_model.specs.States.{State};
 ghost use Rattle.validator.specs.Setting.{node_of};
 ghost use Rattle.node_shared.specs.Answers.{Gives};
 ghost use Rattle.node_shared.specs.Calls.{Looked, Learned, Stays};
-ghost use Rattle.node_shared.specs.Home.{IsBase, IsOf, IsAtHome, seen_in, firm_in};
+ghost use Rattle.node_shared.specs.Home.{IsBase, IsOf, IsAtHome, seen_in, durable_in};
 
 use crate::home::Locked;
 use crate::node::Node;
@@ -39,7 +39,7 @@ impl<'a, S: Sign> Node<'a, S> {
         requires of { IsOf self.now seat.old }
         ensures learned { Learned S.scheme self.now seat.old seat.new }
         ensures down { seat.new.view.down ≡ seat.old.view.down }
-        ensures count { result ≡ length seat.new.view.firm }
+        ensures count { result ≡ length seat.new.view.durable }
     {
         self.words.read::<Brand>(seat)
     }
@@ -89,11 +89,11 @@ impl<'a, S: Sign> Node<'a, S> {
         ensures locked { locked.new ≡ locked.old }
         ensures learned { Learned S.scheme self.now seat.old seat.new }
         ensures down { seat.new.view.down ≡ (seat.old.view.down || locked.old.seat.view.down) }
-        ensures firm { seat.new.view.firm ≡ locked.old.seat.view.firm }
+        ensures durable { seat.new.view.durable ≡ locked.old.seat.view.durable }
     {
         let count = locked.book.settled();
         self.words
-            .catch_up_firm::<Brand, R>(rt, seat, &mut locked.seat, count);
+            .catch_up_durable::<Brand, R>(rt, seat, &mut locked.seat, count);
     }
 
     // The seat then knows whether the node is down, and the book is just where the seat knows that.
@@ -154,7 +154,7 @@ impl<'a, S: Sign> Node<'a, S> {
         ensures learned { Learned S.scheme self.now seat.old seat.new }
         ensures down { IsErrOf result Refusal.Down ↔ IsTrue seat.new.view.down }
         ensures order { let node = node_of S.scheme self.now.setting in IfOk result (λ digests. (base : State) → IsBase S.scheme self.now base
-            → digests.items ≡ drop from (firm_in node base seat.new).order) }
+            → digests.items ≡ drop from (durable_in node base seat.new).order) }
         ensures errors { IfErr result (λ refusal. (refusal ≡ Refusal.Down) ⊎ (refusal ≡ Refusal.Memory)) }
     {
         let (turn, mut home) = self.lock.acquire(rt);

@@ -24,8 +24,8 @@ use Rattle.validator.specs.Setting.{ConfigView, node_of}
 use Rattle.validator.specs.Standing.{ValidatorView}
 use Rattle.opening.specs.Laws.{StandsForAt, HoldsAt, KeepsStates, KeepsAlone, IsOpening, IsOpeningOn, IsOpenedIn}
 use Rattle.opening.specs.Renewing.{KeepsStatesIn}
-use Rattle.opening.specs.Stages.{IsToldThroughout}
-use Rattle.opening.specs.Told.{told, told_in, StandsAt}
+use Rattle.opening.specs.Stages.{IsDecodedThroughout}
+use Rattle.opening.specs.Decoded.{decoded, decoded_in, StandsAt}
 use Rattle.opening.proofs.Laws.{alone_stands}
 
 areas_by : {D : Type 0} (device : Disks D) (live : D) (spare : Option (Spare D)) → spare ≡ None
@@ -56,8 +56,8 @@ module _ {S D : Type 0} (scheme : Scheme S) (device : Disks D) (setting : Config
   abbrev node : Node
   node = node_of scheme setting
 
-  pub alone_opened : (validator : ValidatorView S) (journal : Journal D) → validator.setting ≡ setting → StandsAt node (told node (device.content disk)) validator.tables
-      → told node (device.content (disk_of journal)) ≡ told node (device.content disk) → IsAlive device journal → stands (device.content (disk_of journal)) ≢ Ok []
+  pub alone_opened : (validator : ValidatorView S) (journal : Journal D) → validator.setting ≡ setting → StandsAt node (decoded node (device.content disk)) validator.tables
+      → decoded node (device.content (disk_of journal)) ≡ decoded node (device.content disk) → IsAlive device journal → stands (device.content (disk_of journal)) ≢ Ok []
       → spare_of journal ≡ None → StandsForAt node (device.content disk) validator.tables → KeepsStates node (device.content disk) (device.content (disk_of journal))
       → HoldsAt node (device.content (disk_of journal)) validator.tables → IsOpening {T = Given} node device (λ opened. disk_of opened.1) disk (Ok (validator, journal))
       → IsOpenedIn scheme device setting (One disk) (Ok (validator, journal))
@@ -67,7 +67,7 @@ module _ {S D : Type 0} (scheme : Scheme S) (device : Disks D) (setting : Config
       record {
         set = set;
         stands = at;
-        same = ap (told_in node) areas ∙ same;
+        same = ap (decoded_in node) areas ∙ same;
         alive = alive;
         configured = λ empty. some (sym (alone_stands (device.content (disk_of journal))) ∙ ap stands_in (sym areas) ∙ empty);
         begun = λ is. absurd (not_two (spare_of journal) none is);
@@ -77,7 +77,7 @@ module _ {S D : Type 0} (scheme : Scheme S) (device : Disks D) (setting : Config
         kept = subst (λ (a : Areas). KeepsStatesIn node (alone (device.content disk)) a) (sym areas) keeps;
         holds = record {
           state = kept node held.history;
-          told_as = ap (told_in node) areas ∙ held.told_as;
+          told_as = ap (decoded_in node) areas ∙ held.told_as;
           holds = subst (λ (a : Areas). Holds node a (kept node held.history)) (sym areas) held.holds;
           at = held.at;
         };
@@ -85,7 +85,7 @@ module _ {S D : Type 0} (scheme : Scheme S) (device : Disks D) (setting : Config
           tells = tt;
           full = tt;
           cause = (ap (faults_in device) store ∙ opening.cause.0, tt);
-          any_moment = subst (IsToldThroughout node device (One disk)) (sym store) opening.any_moment;
+          any_moment = subst (IsDecodedThroughout node device (One disk)) (sym store) opening.any_moment;
           keeps = subst (KeepsAlone node device (One disk)) (sym store) opening.keeps;
           never_refused = tt;
           unchanged = tt;

@@ -15,7 +15,7 @@ use Rattle.spec_records.specs.Records.{configuration_of, CanTell}
 use Rattle.journal.specs.Configuration.{number_of, size_in, has_front, is_configuration, shaped_version}
 use Rattle.journal.specs.declared.version.Version.{Version}
 use Rattle.journal.specs.declared.version.Version.TheVariants.{First, Second}
-use Rattle.opening.specs.Told.{has_ones, can_tell}
+use Rattle.opening.specs.Decoded.{has_ones, can_tell}
 use Rattle.wire.specs.declared.keys.Author.{Author}
 
 -- ---- stakes

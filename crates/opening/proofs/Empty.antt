@@ -4,7 +4,7 @@ use Rattle.std.proofs.Common.{◌≡◌, ◌≢◌, ℕ, ◌+◌, ◌-◌, ◌<�
 use Rattle.std.proofs.Common.{Some, None, Result, Ok, Err, refl, sym, ap, ◌∙◌, arith, length-append}
 use Rattle.std.specs.Option.{option_map, option_and_then, option_map_or}
 use Rattle.std.proofs.lemmas.Bool.{cases_eq, cases_lt, le-ltb, ne_eqb, cond-false}
-use Rattle.journal.specs.Format.{group_bytes, split_record, records_behind, records_of, group_of, body_at, kept_at, kept, with_front, walk, scan, only_records, stands}
+use Rattle.journal.specs.Format.{group_bytes, split_record, records_after, records_of, group_of, body_at, kept_at, kept, with_front, walk, scan, only_records, stands}
 use Rattle.journal.specs.Journal.{with_group, EndsClosed, IsBeforeOrAfter}
 use Rattle.journal.specs.declared.layout.TheConstants.{MAX_GROUP_RECORDS, MAX_JOURNAL_BYTES}
 use Rattle.journal.specs.declared.record.Record.{Record}
@@ -12,7 +12,7 @@ use Rattle.journal.proofs.Walks.{walk_closed, body_stands, goes, stands_short}
 use Rattle.spec_model.specs.Nodes.{Node}
 use Rattle.spec_records.specs.Records.{configuration_of}
 use Rattle.journal.specs.declared.version.Version.{Version}
-use Rattle.opening.specs.Told.{KeepsOrBegins}
+use Rattle.opening.specs.Decoded.{KeepsOrBegins}
 
 abbrev Found : Type 0
 Found = List Record × ℕ
@@ -28,8 +28,8 @@ some_first (Some p) more is = some_more p.0 (more p) is
 
 -- a body of some bytes has a record
 records_some : (byte : ℕ) (rest : List ℕ) → records_of (byte ∷ rest) ≡ Some [] → ⊥
-unfolding records_behind
-records_some byte rest is = some_first (split_record (byte ∷ rest)) (λ p. records_behind (3 + length p.0) rest) is
+unfolding records_after
+records_some byte rest is = some_first (split_record (byte ∷ rest)) (λ p. records_after (3 + length p.0) rest) is
 
 too_many : (b : Bool) (r : List ℕ) (rs : List (List ℕ)) → ◌≡◌ {A = Option (List (List ℕ))} (cond b None (Some (r ∷ rs))) (Some []) → ⊥
 too_many true r rs is = cc
@@ -61,19 +61,19 @@ ok_is : (one other : List Record) → ◌≡◌ {A = Result (List Record) ℕ} (
 ok_is one other same = cc
 
 -- what an open gate gives has a record
-front_some : (records : List (List ℕ)) (behind : Result Found ℕ) (place : ℕ) → with_front (kept 0 records) behind ≡ Ok ([], place) → records ≡ []
+front_some : (records : List (List ℕ)) (after : Result Found ℕ) (place : ℕ) → with_front (kept 0 records) after ≡ Ok ([], place) → records ≡ []
 front_some records (Err gate) place is = absurd (cc)
 front_some [] (Ok found) place is = refl
 front_some (r ∷ rs) (Ok found) place is = absurd (none_there (kept_at 0 r) (kept 0 rs ++ found.0) (ap firsts is))
 
-in_group : (group : Option (List (List ℕ))) (behind : Result Found ℕ) (place : ℕ) → option_map_or (λ records. with_front (kept 0 records) behind) group (Err 0) ≡ Ok ([], place) → group ≡ Some []
-in_group None behind place is = absurd (cc)
-in_group (Some records) behind place is = ap Some (front_some records behind place is)
+in_group : (group : Option (List (List ℕ))) (after : Result Found ℕ) (place : ℕ) → option_map_or (λ records. with_front (kept 0 records) after) group (Err 0) ≡ Ok ([], place) → group ≡ Some []
+in_group None after place is = absurd (cc)
+in_group (Some records) after place is = ap Some (front_some records after place is)
 
-in_body : (body : Option (List ℕ)) (behind : List ℕ → Result Found ℕ) (place : ℕ) → ((b : List ℕ) → body ≡ Some b → 1 ≤ length b)
-    → option_map_or (λ b. option_map_or (λ records. with_front (kept 0 records) (behind b)) (group_of b) (Err 0)) body (Err 0) ≡ Ok ([], place) → ⊥
-in_body None behind place long is = cc
-in_body (Some b) behind place long is = group_some b (long b refl) (in_group (group_of b) (behind b) place is)
+in_body : (body : Option (List ℕ)) (after : List ℕ → Result Found ℕ) (place : ℕ) → ((b : List ℕ) → body ≡ Some b → 1 ≤ length b)
+    → option_map_or (λ b. option_map_or (λ records. with_front (kept 0 records) (after b)) (group_of b) (Err 0)) body (Err 0) ≡ Ok ([], place) → ⊥
+in_body None after place long is = cc
+in_body (Some b) after place long is = group_some b (long b refl) (in_group (group_of b) (after b) place is)
 
 pub walk_open : (gate : ℕ) (rest : List ℕ) (place : ℕ) → gate ≢ 0 → walk 0 0 (gate ∷ rest) ≡ Ok ([], place) → ⊥
 unfolding walk

@@ -19,7 +19,7 @@ use Rattle.wire.specs.Spelling.{spelling}
 use Rattle.wire.specs.declared.error.WireError.{WireError}
 use Rattle.wire_read.proofs.Messages.{is_spelled, is_read}
 use Rattle.wire_read.proofs.Steps.{IsBytes, IsBytes-drop, IsBytes-take}
-use Rattle.opening.specs.Told.{if_passed, checked_in, sender_in, event_in}
+use Rattle.opening.specs.Decoded.{if_passed, checked_in, sender_in, event_in}
 use Rattle.opening.proofs.Telling.{event_short, event_other, event_is}
 
 -- ---- an event's record is read

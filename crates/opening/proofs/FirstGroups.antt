@@ -19,7 +19,7 @@ use Rattle.journal.proofs.Stops.{scan_ok, scan_err}
 use Rattle.journal.proofs.Telling.{gate_open, tells_long, tells_first, by_telling}
 use Rattle.journal.proofs.Walks.{goes, closed_is}
 use Rattle.spec_world.proofs.Recovering.{at_side}
-use Rattle.opening.specs.Told.{IsText}
+use Rattle.opening.specs.Decoded.{IsText}
 use Rattle.opening.proofs.Empty.{scans_long}
 use Rattle.opening.proofs.EventRecords.{each_byte}
 use Rattle.opening.proofs.GroupTexts.{OnlyGroups, stands_texts}

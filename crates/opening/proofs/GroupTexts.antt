@@ -9,17 +9,17 @@ use Rattle.diskmodel.specs.Outcomes.{AreBytes}
 use Rattle.journal.specs.Format.{body_len, record_bytes, body_bytes, sized_body, Gated, with_gate, in_turn, kept_at, kept, all_kept, stands, AreGroups}
 use Rattle.journal.specs.declared.record.Record.{Record}
 use Rattle.journal.proofs.Walks.{stands_short}
-use Rattle.opening.specs.Told.{IsText}
+use Rattle.opening.specs.Decoded.{IsText}
 
 -- what a file of two bytes or more stands for are the records of groups: a law of the journal
 abbrev pub OnlyGroups : Type 0
 OnlyGroups = (bytes : List ℕ) (records : List Record) → AreBytes bytes → 2 ≤ length bytes → stands bytes ≡ Ok records → AreGroups bytes records
 
-front_part : (front behind : List ℕ) → AreBytes (front ++ behind) → AreBytes front
-front_part front behind are = subst AreBytes (take_at front behind (length front) refl) (All-take (λ byte. byte < 256) (length front) (front ++ behind) are)
+front_part : (front after : List ℕ) → AreBytes (front ++ after) → AreBytes front
+front_part front after are = subst AreBytes (take_at front after (length front) refl) (All-take (λ byte. byte < 256) (length front) (front ++ after) are)
 
-back_part : (front behind : List ℕ) → AreBytes (front ++ behind) → AreBytes behind
-back_part front behind are = subst AreBytes (drop_at front behind (length front) refl) (All-drop (λ byte. byte < 256) (length front) (front ++ behind) are)
+back_part : (front after : List ℕ) → AreBytes (front ++ after) → AreBytes after
+back_part front after are = subst AreBytes (drop_at front after (length front) refl) (All-drop (λ byte. byte < 256) (length front) (front ++ after) are)
 
 kept_texts : (gate : ℕ) (records : List (List ℕ)) → AreBytes (body_bytes records) → All IsText (kept gate records)
 kept_texts gate [] are = All-nil IsText
@@ -46,5 +46,5 @@ stands_texts only bytes records are is =
       | inl short ↦ subst (All IsText) (ok_is [] records (sym (stands_short bytes short) ∙ is)) (All-nil IsText)
       | inr long ↦
           let found = only bytes records are long is in
-          subst (All IsText) (sym found.found) (groups_texts 0 found.groups (front_part (in_turn found.groups) (0 ∷ found.behind) (subst AreBytes found.written are)))
+          subst (All IsText) (sym found.found) (groups_texts 0 found.groups (front_part (in_turn found.groups) (0 ∷ found.after) (subst AreBytes found.written are)))
     ]

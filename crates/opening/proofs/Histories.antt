@@ -13,7 +13,7 @@ use Rattle.spec_model.specs.States.{State}
 use Rattle.spec_model.specs.Words.{Event}
 use Rattle.spec_records.specs.Records.{record_of}
 use Rattle.spec_world.specs.World.{bytes_of}
-use Rattle.opening.specs.Told.{IsText, event_in, read_event, read_events}
+use Rattle.opening.specs.Decoded.{IsText, event_in, read_event, read_events}
 use Rattle.opening.proofs.EventRecords.{record_read, read_record}
 use Rattle.opening.proofs.Telling.{read_none, read_new, read_old, read_nil, read_ok, read_err}
 

@@ -33,14 +33,14 @@ use Rattle.wire.specs.declared.keys.Key.{Key}
 use Rattle.spec_world.specs.Promise.{NothingTakenBack}
 use Rattle.spec_world.specs.Runs.{AreKeys}
 use Rattle.spec_world.specs.World.{bytes_of, IsJournal, own_configuration, BeginsAs, as_fresh, as_checkpoint, Holds, as_journal, as_empty}
-use Rattle.opening.specs.Laws.{IsOfBytes, ToldStandsFor, WhatStandsIsTold, WorldsAreTold}
-use Rattle.opening.specs.Told.{IsText, is_alone, can_tell, is_own, mismatch, first_fault, unless, read_events, read_journal, told}
+use Rattle.opening.specs.Laws.{IsOfBytes, DecodedStandsFor, WhatStandsIsDecoded, WorldsAreDecoded}
+use Rattle.opening.specs.Decoded.{IsText, is_alone, can_tell, is_own, mismatch, first_fault, unless, read_events, read_journal, decoded}
 use Rattle.journal.specs.Configuration.{stakes_size, shaped_version}
 use Rattle.opening.proofs.Configured.{all_pass, all_passed, tells_of, told_of, shaped_is}
 use Rattle.opening.proofs.Empty.{first_at_zero}
 use Rattle.opening.proofs.GroupTexts.{OnlyGroups, stands_texts}
 use Rattle.opening.proofs.Histories.{AreEvents, read_back, read_whole}
-use Rattle.opening.proofs.Telling.{by_version, fault_none, ok_told, journal_nil, journal_cons, told_records, told_damaged, bytes_same}
+use Rattle.opening.proofs.Telling.{by_version, fault_none, ok_decoded, journal_nil, journal_cons, decoded_records, decoded_damaged, bytes_same}
 
 -- ---- the first record
 
@@ -153,13 +153,13 @@ found_records starts node bytes state (first ∷ records) sound texts stands_for
     }
 
 found_by : StartsFresh → OnlyGroups → (node : Node) (bytes : List ℕ) (state : State) (read : Result (List Record) ℕ) → IsNode node → AreBytes bytes → stands bytes ≡ read
-    → told node bytes ≡ Ok state → IsOfBytes node bytes state
+    → decoded node bytes ≡ Ok state → IsOfBytes node bytes state
 found_by starts only node bytes state (Ok records) sound are stands_for is =
-    found_records starts node bytes state records sound (All-drop IsText 1 records (stands_texts only bytes records are stands_for)) stands_for (sym (told_records node bytes records stands_for) ∙ is)
-found_by starts only node bytes state (Err place) sound are stands_for is = absurd (no_ok (Damaged place) state (sym (told_damaged node bytes place stands_for) ∙ is))
+    found_records starts node bytes state records sound (All-drop IsText 1 records (stands_texts only bytes records are stands_for)) stands_for (sym (decoded_records node bytes records stands_for) ∙ is)
+found_by starts only node bytes state (Err place) sound are stands_for is = absurd (no_ok (Damaged place) state (sym (decoded_damaged node bytes place stands_for) ∙ is))
 
-pub told_stands_for : StartsFresh → OnlyGroups → ToldStandsFor
-told_stands_for starts only node bytes state sound are is = found_by starts only node bytes state (stands bytes) sound are refl is
+pub decoded_stands_for : StartsFresh → OnlyGroups → DecodedStandsFor
+decoded_stands_for starts only node bytes state sound are is = found_by starts only node bytes state (stands bytes) sound are refl is
 
 -- ---- what stands is told
 
@@ -191,16 +191,16 @@ configuration_shape version node sound keys =
     let both = length-append (flat_map (λ (key : Key). key.0) charter.keys) (stakes_of version charter.stakes) in
     shaped_is version charter node.own (omega (arith, sound.charter.size)) (omega (arith, long, stakes, both))
 
-told_new : (node : Node) (bytes : List ℕ) (state : State) → stands bytes ≡ Ok [] → state ≡ fresh node → told node bytes ≡ Ok state
-told_new node bytes state none is = told_records node bytes [] none ∙ journal_nil node ∙ ap Ok (sym is)
+told_new : (node : Node) (bytes : List ℕ) (state : State) → stands bytes ≡ Ok [] → state ≡ fresh node → decoded node bytes ≡ Ok state
+told_new node bytes state none is = decoded_records node bytes [] none ∙ journal_nil node ∙ ap Ok (sym is)
 
-told_held : (version : Version) (node : Node) (bytes : List ℕ) (records : List Record) (events : History) → AreKeys node → IsLegalAfter node (fresh node) events → stands bytes ≡ Ok records
+decoded_held : (version : Version) (node : Node) (bytes : List ℕ) (records : List Record) (events : History) → AreKeys node → IsLegalAfter node (fresh node) events → stands bytes ≡ Ok records
     → bytes_of records ≡ own_configuration version node ∷ map record_of events → All (λ (one : Record). 0 < one.gate) (drop 1 records) → CanTell version node.charter
-    → told node bytes ≡ Ok (after_all node (fresh node) events)
-told_held version node bytes [] events keys legal stands_for are alone_in can = absurd (omega (arith, ap length are))
-told_held version node bytes (first ∷ records) events keys legal stands_for are alone_in can =
+    → decoded node bytes ≡ Ok (after_all node (fresh node) events)
+decoded_held version node bytes [] events keys legal stands_for are alone_in can = absurd (omega (arith, ap length are))
+decoded_held version node bytes (first ∷ records) events keys legal stands_for are alone_in can =
     let own : first.bytes ≡ configuration_of version node.charter node.own = ap (λ (l : List (List ℕ)). get_or l 0 []) are in
-    let behind : AreEvents node (fresh node) records events = record { same = ap (λ (l : List (List ℕ)). drop 1 l) are; taken = legal.taken; new = legal.new } in
+    let after : AreEvents node (fresh node) records events = record { same = ap (λ (l : List (List ℕ)). drop 1 l) are; taken = legal.taken; new = legal.new } in
     let is : HasNoFault node first records = record {
       version = version;
       shape = ap shaped_version own ∙ configuration_shape version node legal.node_is keys;
@@ -208,37 +208,37 @@ told_held version node bytes (first ∷ records) events keys legal stands_for ar
       tells = told_of version node.charter can;
       own = own;
     } in
-    told_records node bytes (first ∷ records) stands_for ∙ journal_cons node first records
-    ∙ ok_told (first_fault node first records) (read_events node (fresh node) records) (after_all node (fresh node) events) (free node first records is)
-    (read_whole node (fresh node) records events legal.node_is behind)
+    decoded_records node bytes (first ∷ records) stands_for ∙ journal_cons node first records
+    ∙ ok_decoded (first_fault node first records) (read_events node (fresh node) records) (after_all node (fresh node) events) (free node first records is)
+    (read_whole node (fresh node) records events legal.node_is after)
 
 -- a journal on one disk begins with its configuration, and no checkpoint
-told_begun : (node : Node) (bytes : List ℕ) (front : List (List ℕ)) (in_first : ℕ) (base : State) (events : History) → AreKeys node → IsLegalAfter node base events
-    → IsJournal (stands_in (alone bytes)) front in_first events → BeginsAs node (alone bytes) front in_first base → told node bytes ≡ Ok (after_all node base events)
-told_begun node bytes front in_first base events keys legal is (as_fresh version can front_is first base_is) =
-    let behind : All (λ (one : Record). is.first_gate < one.gate) (drop 1 is.records) =
+decoded_begun : (node : Node) (bytes : List ℕ) (front : List (List ℕ)) (in_first : ℕ) (base : State) (events : History) → AreKeys node → IsLegalAfter node base events
+    → IsJournal (stands_in (alone bytes)) front in_first events → BeginsAs node (alone bytes) front in_first base → decoded node bytes ≡ Ok (after_all node base events)
+decoded_begun node bytes front in_first base events keys legal is (as_fresh version can front_is first base_is) =
+    let after : All (λ (one : Record). is.first_gate < one.gate) (drop 1 is.records) =
     subst (λ (n : ℕ). All (λ (one : Record). is.first_gate < one.gate) (drop n is.records)) first is.others in
-    told_held version node bytes is.records events keys (subst (λ (s : State). IsLegalAfter node s events) base_is legal) (sym (alone_stands bytes) ∙ is.stands_for)
+    decoded_held version node bytes is.records events keys (subst (λ (s : State). IsLegalAfter node s events) base_is legal) (sym (alone_stands bytes) ∙ is.stands_for)
     (is.are ∙ ap (λ (l : List (List ℕ)). l ++ map record_of events) front_is)
-    (All-weaker (λ (one : Record). is.first_gate < one.gate) (λ (one : Record). 0 < one.gate) (λ one less. omega (arith, less)) (drop 1 is.records) behind)
+    (All-weaker (λ (one : Record). is.first_gate < one.gate) (λ (one : Record). 0 < one.gate) (λ one less. omega (arith, less)) (drop 1 is.records) after)
     can
     ∙ ap (λ (s : State). Ok (after_all node s events)) (sym base_is)
-told_begun node bytes front in_first base events keys legal is (as_checkpoint version generation kept_data two can written front_is first base_is) = absurd two
+decoded_begun node bytes front in_first base events keys legal is (as_checkpoint version generation kept_data two can written front_is first base_is) = absurd two
 
-pub what_stands_is_told : WhatStandsIsTold
-what_stands_is_told node bytes state keys (as_journal holds) =
-    told_begun node bytes holds.front holds.in_first holds.base holds.events keys holds.legal holds.journal holds.begins ∙ ap Ok holds.leads
-what_stands_is_told node bytes state keys (as_empty none is) = told_new node bytes state (sym (alone_stands bytes) ∙ none) is
+pub what_stands_is_decoded : WhatStandsIsDecoded
+what_stands_is_decoded node bytes state keys (as_journal holds) =
+    decoded_begun node bytes holds.front holds.in_first holds.base holds.events keys holds.legal holds.journal holds.begins ∙ ap Ok holds.leads
+what_stands_is_decoded node bytes state keys (as_empty none is) = told_new node bytes state (sym (alone_stands bytes) ∙ none) is
 
 -- ---- the worlds
 
-pub worlds_are_told : NothingTakenBack → WorldsAreTold
-worlds_are_told kept_all node moves world bytes sound keys run may =
+pub worlds_are_decoded : NothingTakenBack → WorldsAreDecoded
+worlds_are_decoded kept_all node moves world bytes sound keys run may =
     let never = kept_all node moves world sound run in
     let (history, recovered, stands_for) = never.stands (alone bytes) may in
     record {
       history = history;
-      is_told = what_stands_is_told node bytes (kept node history) keys stands_for;
+      is_told = what_stands_is_decoded node bytes (kept node history) keys stands_for;
       stands_for = stands_for;
       recovered = recovered;
     }

@@ -25,9 +25,9 @@ use Rattle.spec_model.specs.Words.{Event}
 use Rattle.spec_records.specs.Records.{record_of}
 use Rattle.journal.specs.declared.version.Version.{Version}
 use Rattle.wire_read.proofs.Messages.{is_read}
-use Rattle.opening.specs.Told.{checked_in, if_passed, sender_in, event_in, read_event, read_events, unless, is_alone, is_own, first_fault, told}
+use Rattle.opening.specs.Decoded.{checked_in, if_passed, sender_in, event_in, read_event, read_events, unless, is_alone, is_own, first_fault, decoded}
 use Rattle.journal.specs.Configuration.{shaped_version}
-use Rattle.opening.proofs.Telling.{event_is, read_new, read_nil, read_ok, read_err, journal_cons, told_records, told_damaged, ok_told, by_version}
+use Rattle.opening.proofs.Telling.{event_is, read_new, read_nil, read_ok, read_err, journal_cons, decoded_records, decoded_damaged, ok_decoded, by_version}
 
 -- ---- the record of an event
 
@@ -108,33 +108,33 @@ alone_true true version own place none = refl
 alone_true false version own place none = absurd (cc)
 
 kept_alone : (gate : ℕ) (group : List (List ℕ)) → 0 < gate → is_alone (kept gate group) ≡ true
-kept_alone gate [] behind = refl
-kept_alone gate (bytes ∷ group) behind = and_from (nat_lt 0 gate) (is_alone (kept gate group)) (lt-ltb 0 gate behind) (kept_alone gate group behind)
+kept_alone gate [] following = refl
+kept_alone gate (bytes ∷ group) following = and_from (nat_lt 0 gate) (is_alone (kept gate group)) (lt-ltb 0 gate following) (kept_alone gate group following)
 
 -- a group after place 0 brings none
 no_fault_more : (node : Node) (first : Record) (events : List Record) (gate : ℕ) (group : List (List ℕ)) → 0 < gate → first_fault node first events ≡ None
     → first_fault node first (events ++ kept gate group) ≡ None
-no_fault_more node first events gate group behind none =
+no_fault_more node first events gate group following none =
     let version = shaped_version first.bytes in
     let own = is_own node first.bytes in
     let before = alone_true (is_alone events) version own first.gate none in
     let alone : is_alone (events ++ kept gate group) ≡ true =
-    list_all-append (λ (one : Record). nat_lt 0 one.gate) events (kept gate group) ∙ and_from (is_alone events) (is_alone (kept gate group)) before (kept_alone gate group behind) in
+    list_all-append (λ (one : Record). nat_lt 0 one.gate) events (kept gate group) ∙ and_from (is_alone events) (is_alone (kept gate group)) before (kept_alone gate group following) in
     ap (λ (b : Bool). by_version own (cond b version None) first.gate) (alone ∙ sym before) ∙ none
 
 -- ---- a journal with a group more
 
 -- records that stand after a first one
-record IsBehind (bytes : List ℕ) : Type 0 where
+record IsAfter (bytes : List ℕ) : Type 0 where
   pub first : Record
   pub events : List Record
   pub is : stands bytes ≡ Ok (first ∷ events)
   pub long : 2 ≤ length bytes
 
-some_records : (node : Node) (bytes : List ℕ) (state : State) → stands bytes ≢ Ok [] → told node bytes ≡ Ok state → IsBehind bytes
+some_records : (node : Node) (bytes : List ℕ) (state : State) → stands bytes ≢ Ok [] → decoded node bytes ≡ Ok state → IsAfter bytes
 some_records node bytes state some is = by_records (stands bytes) refl
   where
-    by_records : (r : Result (List Record) ℕ) → stands bytes ≡ r → IsBehind bytes
+    by_records : (r : Result (List Record) ℕ) → stands bytes ≡ r → IsAfter bytes
     by_records (Ok []) e = absurd (some e)
     by_records (Ok (first ∷ events)) e = record {
       first = first;
@@ -142,13 +142,13 @@ some_records node bytes state some is = by_records (stands bytes) refl
       is = e;
       long = elim (cases_lt (length bytes) 2) [ inl short ↦ absurd (some (stands_short bytes short)) | inr long ↦ long ];
     }
-    by_records (Err place) e = absurd (failed (sym (told_damaged node bytes place e) ∙ is))
+    by_records (Err place) e = absurd (failed (sym (decoded_damaged node bytes place e) ∙ is))
       where
         failed : ◌≡◌ {A = Result State JournalError} (Err (Damaged place)) (Ok state) → ⊥
         failed same = cc
 
-module _ (node : Node) (before later : List ℕ) (state : State) (some : stands before ≢ Ok []) (is : told node before ≡ Ok state) where
-  abbrev now : IsBehind before
+module _ (node : Node) (before later : List ℕ) (state : State) (some : stands before ≢ Ok []) (is : decoded node before ≡ Ok state) where
+  abbrev now : IsAfter before
   now = some_records node before state some is
 
   abbrev gate : ℕ
@@ -159,16 +159,16 @@ module _ (node : Node) (before later : List ℕ) (state : State) (some : stands 
   stands_later group with_it = with_it ∙ ap (with_group gate group) now.is
 
   -- and is told so
-  pub told_more : (more : History) → stands later ≡ stands_with before (map record_of more) → IsLegalAfter node state more → told node later ≡ Ok (after_all node state more)
-  told_more more with_it legal =
+  pub decoded_more : (more : History) → stands later ≡ stands_with before (map record_of more) → IsLegalAfter node state more → decoded node later ≡ Ok (after_all node state more)
+  decoded_more more with_it legal =
       let group = map record_of more in
       let was = unless_ok (first_fault node now.first now.events) (read_events node (fresh node) now.events) state
-      (sym (told_records node before (now.first ∷ now.events) now.is ∙ journal_cons node now.first now.events) ∙ is) in
-      let behind : 0 < gate = omega (arith, now.long) in
-      told_records node later (now.first ∷ (now.events ++ kept gate group)) (stands_later group with_it)
+      (sym (decoded_records node before (now.first ∷ now.events) now.is ∙ journal_cons node now.first now.events) ∙ is) in
+      let following : 0 < gate = omega (arith, now.long) in
+      decoded_records node later (now.first ∷ (now.events ++ kept gate group)) (stands_later group with_it)
       ∙ journal_cons node now.first (now.events ++ kept gate group)
-      ∙ ok_told (first_fault node now.first (now.events ++ kept gate group)) (read_events node (fresh node) (now.events ++ kept gate group)) (after_all node state more)
-      (no_fault_more node now.first now.events gate group behind was.0)
+      ∙ ok_decoded (first_fault node now.first (now.events ++ kept gate group)) (read_events node (fresh node) (now.events ++ kept gate group)) (after_all node state more)
+      (no_fault_more node now.first now.events gate group following was.0)
       (read_append node (fresh node) state now.events (kept gate group) was.1 ∙ read_written node gate state more legal.node_is legal.taken legal.new)
 
   -- and still has records

@@ -20,16 +20,16 @@ use Rattle.validator.specs.Standing.{AreAtSound}
 use Rattle.spec_world.proofs.Recovering.{holds_same, some_record}
 use Rattle.spec_world.specs.World.{own_configuration, as_fresh, Holds, StandsFor, as_journal, as_empty}
 use Rattle.opening.specs.Laws.{IsOfBytes, StandsForAt, HoldsAt, KeepsStates, IsNoRefusal}
-use Rattle.opening.specs.Told.{IsText, HasTexts, told, Tells, StandsAt, IsToldAsOneOf, KeepsOrBegins, KeepsRecords}
+use Rattle.opening.specs.Decoded.{IsText, HasTexts, decoded, Tells, StandsAt, IsDecodedAsOneOf, KeepsOrBegins, KeepsRecords}
 use Rattle.opening.proofs.Laws.{alone_stands, fresh_sound, found_records}
-use Rattle.opening.proofs.Telling.{told_records, told_damaged, told_same, as_one_of, keeps_one, keeps_same}
+use Rattle.opening.proofs.Telling.{decoded_records, decoded_damaged, decoded_same, as_one_of, keeps_one, keeps_same}
 use Rattle.admission.specs.declared.tables.Tables.{Tables}
 
 -- the tables stand where the bytes stand, if the records after the first are bytes
 pub stands_for_at : StartsFresh → (node : Node) (bytes : List ℕ) (records : List Record) (tables : Tables) → IsNode node → stands bytes ≡ Ok records → All IsText (drop 1 records)
-    → StandsAt node (told node bytes) tables → StandsForAt node bytes tables
+    → StandsAt node (decoded node bytes) tables → StandsForAt node bytes tables
 stands_for_at starts node bytes records tables sound is texts at =
-    let found = found_records starts node bytes at.state records sound texts is (sym (told_records node bytes records is) ∙ at.is_read) in
+    let found = found_records starts node bytes at.state records sound texts is (sym (decoded_records node bytes records is) ∙ at.is_read) in
     record {
       history = found.history;
       stands_for = subst (StandsFor node (alone bytes)) (sym found.keeps) found.stands_for;
@@ -97,7 +97,7 @@ keeps_states starts node before later sound (inr (none, is)) some state (as_jour
 keeps_states starts node before later sound (inr (none, is)) some state (as_empty also state_is) = subst (Holds node (alone later)) (sym state_is) (begun starts node later sound is)
 
 -- bytes with a record are a journal of what they are told as
-module _ (starts : StartsFresh) (node : Node) (later : List ℕ) (tables : Tables) (sound : IsNode node) (at : StandsAt node (told node later) tables) (texts : HasTexts later)
+module _ (starts : StartsFresh) (node : Node) (later : List ℕ) (tables : Tables) (sound : IsNode node) (at : StandsAt node (decoded node later) tables) (texts : HasTexts later)
     (some : stands later ≢ Ok []) where
   as_held : (found : IsOfBytes node later at.state) → StandsFor node (alone later) at.state → HoldsAt node later tables
   as_held found (as_journal held) = record {
@@ -111,9 +111,9 @@ module _ (starts : StartsFresh) (node : Node) (later : List ℕ) (tables : Table
 
   by_reading : (read : Result (List Record) ℕ) → stands later ≡ read → HoldsAt node later tables
   by_reading (Ok records) is =
-      let found = found_records starts node later at.state records sound (texts records is) is (sym (told_records node later records is) ∙ at.is_read) in
+      let found = found_records starts node later at.state records sound (texts records is) is (sym (decoded_records node later records is) ∙ at.is_read) in
       as_held found found.stands_for
-  by_reading (Err place) is = absurd (clash (Damaged place) at.state (told node later) at.is_read (told_damaged node later place is))
+  by_reading (Err place) is = absurd (clash (Damaged place) at.state (decoded node later) at.is_read (decoded_damaged node later place is))
 
   pub holds_at : HoldsAt node later tables
   holds_at = by_reading (stands later) refl
@@ -122,8 +122,8 @@ module _ (starts : StartsFresh) (node : Node) (later : List ℕ) (tables : Table
 
 -- at any moment of opening the journal
 module _ {D : Type 0} (node : Node) (device : Disks D) (old middle : D) (opened : AtEachMoment device old middle (StandsAsOneOf (device.outcome old))) where
-  pub first_told : AtEachMoment device old middle (IsToldAsOneOf node (device.outcome old))
-  first_told = weaker device old middle (IsToldAsOneOf node (device.outcome old)) (StandsAsOneOf (device.outcome old)) opened
+  pub first_decoded : AtEachMoment device old middle (IsDecodedAsOneOf node (device.outcome old))
+  first_decoded = weaker device old middle (IsDecodedAsOneOf node (device.outcome old)) (StandsAsOneOf (device.outcome old)) opened
       (λ left is. as_one_of node (device.outcome old) left is)
 
   pub first_kept : AtEachMoment device old middle (KeepsRecords node (device.outcome old))
@@ -132,10 +132,10 @@ module _ {D : Type 0} (node : Node) (device : Disks D) (old middle : D) (opened 
 
   -- and then of writing a configuration, where there is none
   module _ (new : D) (same : stands (device.content middle) ≡ stands (device.content old)) (now : device.outcome old (device.content old)) where
-    pub told_on : AtEachMoment device middle new (λ left. told node left ≡ told node (device.content middle))
-        → AtEachMoment device old new (IsToldAsOneOf node (device.outcome old))
-    told_on going = joins device old middle new (IsToldAsOneOf node (device.outcome old)) (λ left. told node left ≡ told node (device.content middle)) first_told going
-        (λ left as_is. (device.content old, now, as_is ∙ told_same node (device.content middle) (device.content old) same))
+    pub told_on : AtEachMoment device middle new (λ left. decoded node left ≡ decoded node (device.content middle))
+        → AtEachMoment device old new (IsDecodedAsOneOf node (device.outcome old))
+    told_on going = joins device old middle new (IsDecodedAsOneOf node (device.outcome old)) (λ left. decoded node left ≡ decoded node (device.content middle)) first_decoded going
+        (λ left as_is. (device.content old, now, as_is ∙ decoded_same node (device.content middle) (device.content old) same))
 
     pub kept_on : AtEachMoment device middle new (KeepsOrBegins Second node (device.content middle)) → AtEachMoment device old new (KeepsRecords node (device.outcome old))
     kept_on going = joins device old middle new (KeepsRecords node (device.outcome old)) (KeepsOrBegins Second node (device.content middle)) first_kept going

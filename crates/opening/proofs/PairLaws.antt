@@ -33,15 +33,15 @@ use Rattle.spec_world.specs.Promise.{NothingTakenBack}
 use Rattle.spec_world.specs.Runs.{AreKeys}
 use Rattle.spec_world.specs.World.{bytes_of, IsPair, own_configuration, BeginsAs, as_fresh, as_checkpoint, Holds, StandsFor, as_journal, as_empty}
 use Rattle.wire.specs.Fields.{AreBytes}
-use Rattle.opening.specs.Laws.{IsOfAreas, ToldInStandsFor, WhatStandsIsToldIn, WorldsAreToldIn}
-use Rattle.opening.specs.Told.{IsText, can_tell, is_own, mismatch, own_fault, or_damaged, go_on, read_events, is_event}
-use Rattle.opening.specs.Told.{state_part, events_part, gates_of, gate_of, loaded, read_state, read_checkpoint, read_behind, read_pair, told_in}
+use Rattle.opening.specs.Laws.{IsOfAreas, DecodedInStandsFor, WhatStandsIsDecodedIn, WorldsAreDecodedIn}
+use Rattle.opening.specs.Decoded.{IsText, can_tell, is_own, mismatch, own_fault, or_damaged, go_on, read_events, is_event}
+use Rattle.opening.specs.Decoded.{state_part, events_part, gates_of, gate_of, loaded, read_state, read_checkpoint, read_after, read_pair, decoded_in}
 use Rattle.opening.proofs.Configured.{tells_of, told_of}
 use Rattle.opening.proofs.FirstGroups.{IsAfterFirst, BeginsWith, with_head, without_head, begins_with, pair_texts, head_written}
 use Rattle.opening.proofs.Histories.{AreEvents, read_back, read_whole}
 use Rattle.opening.proofs.GroupTexts.{OnlyGroups}
-use Rattle.opening.proofs.Laws.{fresh_sound, unless_ok, configuration_shape, told_stands_for, what_stands_is_told}
-use Rattle.opening.proofs.PairTelling.{pair_none, pair_first, pair_headed, pair_alone, pair_apart, checkpoint_is, state_read, told_pair_records, told_pair_damaged}
+use Rattle.opening.proofs.Laws.{fresh_sound, unless_ok, configuration_shape, decoded_stands_for, what_stands_is_decoded}
+use Rattle.opening.proofs.PairTelling.{pair_none, pair_first, pair_headed, pair_alone, pair_apart, checkpoint_is, state_read, decoded_pair_records, decoded_pair_damaged}
 use Rattle.opening.proofs.StateTexts.{state_are, configuration_are}
 use Rattle.opening.proofs.Telling.{by_version, bytes_same, read_nil}
 
@@ -225,7 +225,7 @@ module _ (starts : StartsFresh) (node : Node) (areas : Areas) (two : IsPair area
         same_read : (one other : Checkpoint) → ◌≡◌ {A = Result Checkpoint ℕ} (Ok one) (Ok other) → one ≡ other
         same_read one other same = cc
 
-    by_group : BeginsWith first rest → All IsText (first ∷ rest) → read_behind node first rest ≡ Ok state → IsOfAreas node areas state
+    by_group : BeginsWith first rest → All IsText (first ∷ rest) → read_after node first rest ≡ Ok state → IsOfAreas node areas state
     by_group (with_head head records generation are shares head_is after) texts read =
         let all = subst (λ (l : List Record). All IsText (first ∷ l)) are texts in
         let others = All-tail IsText first (head ∷ records) all in
@@ -233,11 +233,11 @@ module _ (starts : StartsFresh) (node : Node) (areas : Areas) (two : IsPair area
         (All-cons IsText first records (All-head IsText first (head ∷ records) all) (All-tail IsText head records others)) after
         (sym (headed ∙ ap (λ (b : Bool). cond b (read_checkpoint node first records) (read_events node (fresh node) (head ∷ records))) (eq-eqb head.gate first.gate shares)) ∙ read)
       where
-        headed : read_behind node first rest ≡ read_behind node first (head ∷ records)
-        headed = ap (read_behind node first) are
+        headed : read_after node first rest ≡ read_after node first (head ∷ records)
+        headed = ap (read_after node first) are
     by_group (without_head after) texts read = of_events (All-tail IsText first rest texts) after (sym (apart rest after) ∙ read)
       where
-        apart : (l : List Record) → All (IsAfterFirst first) l → read_behind node first l ≡ read_events node (fresh node) l
+        apart : (l : List Record) → All (IsAfterFirst first) l → read_after node first l ≡ read_events node (fresh node) l
         apart [] all = refl
         apart (one ∷ others) all =
             let above = All-head (IsAfterFirst first) one others all in
@@ -249,7 +249,7 @@ module _ (starts : StartsFresh) (node : Node) (areas : Areas) (two : IsPair area
       let same = ok_is (fresh node) state (sym (pair_none node) ∙ read) in
       record { stands_for = as_empty is (sym same); sound = subst (IsSound node) same (fresh_sound starts node sound) }
   found_in (first ∷ rest) state texts is begins read =
-      let found = unless_ok (own_fault node first) (read_behind node first rest) state (sym (pair_first node first rest) ∙ read) in
+      let found = unless_ok (own_fault node first) (read_after node first rest) state (sym (pair_first node first rest) ∙ read) in
       by_group first rest state is (own_is node first found.0) (begins first rest refl) texts found.1
 
 -- the first group of areas that are two
@@ -326,23 +326,23 @@ loads_written node first state c sound keys own written state_sound rows =
 
 -- ---- a journal with a checkpoint
 
-pub checkpoint_told : (node : Node) (first head : Record) (records : List Record) (c : Checkpoint) (events : History) → AreKeys node → IsOwn node first → head.gate ≡ first.gate
+pub checkpoint_decoded : (node : Node) (first head : Record) (records : List Record) (c : Checkpoint) (events : History) → AreKeys node → IsOwn node first → head.gate ≡ first.gate
     → bytes_of records ≡ state_records c ++ map record_of events → IsWritten node c → IsLegalAfter node (state_in node c) events
     → read_pair node (first ∷ head ∷ records) ≡ Ok (after_all node (state_in node c) events)
-checkpoint_told node first head records c events keys own shares are written legal =
+checkpoint_decoded node first head records c events keys own shares are written legal =
     let parts = parts_are records (state_records c) (map record_of events) are (rows_of_state c) (each_of record_of OfEvent events (λ event. refl)) in
     let base : read_state node first (state_part records) ≡ Ok (state_in node c) =
     state_read node first (state_part records) c (loads_written node first (state_part records) c legal.node_is keys own written legal.sound parts.state)
     (ap (checkpoint_read node) parts.state ∙ (read_as_written node (state_records c) c (state_are node c written.canonical)).1 (written.canonical, refl)) in
-    let behind : AreEvents node (state_in node c) (events_part records) events = record { same = parts.events_are; taken = legal.taken; new = legal.new } in
+    let following : AreEvents node (state_in node c) (events_part records) events = record { same = parts.events_are; taken = legal.taken; new = legal.new } in
     pair_headed node first head records (own_free node first own) shares
     ∙ ap or_damaged (checkpoint_is node first records ∙ ap (go_on (λ s. read_events node s (events_part records))) base
-    ∙ read_whole node (state_in node c) (events_part records) events legal.node_is behind)
+    ∙ read_whole node (state_in node c) (events_part records) events legal.node_is following)
 
 -- one with events alone
-pub events_told : (node : Node) (first : Record) (rest : List Record) (events : History) → IsOwn node first → All (IsAfterFirst first) rest
+pub events_decoded : (node : Node) (first : Record) (rest : List Record) (events : History) → IsOwn node first → All (IsAfterFirst first) rest
     → bytes_of rest ≡ map record_of events → IsLegalAfter node (fresh node) events → read_pair node (first ∷ rest) ≡ Ok (after_all node (fresh node) events)
-events_told node first rest events own after are legal = by_rest rest after (read_whole node (fresh node) rest events legal.node_is (record { same = are; taken = legal.taken; new = legal.new }))
+events_decoded node first rest events own after are legal = by_rest rest after (read_whole node (fresh node) rest events legal.node_is (record { same = are; taken = legal.taken; new = legal.new }))
   where
     free : own_fault node first ≡ None
     free = own_free node first own
@@ -359,27 +359,27 @@ pub own_by_bytes : (node : Node) (first : Record) (version : Version) → IsNode
 own_by_bytes node first version sound keys can is = record { version = version; shape = ap shaped_version is ∙ configuration_shape version node sound keys; can = can; is = is }
 
 module _ (node : Node) (areas : Areas) (two : IsPair areas) (keys : AreKeys node) where
-  begun_told : (front : List (List ℕ)) (in_first : ℕ) (base : State) (events : History) → IsLegalAfter node base events → (records : List Record) → stands_in areas ≡ Ok records
+  begun_decoded : (front : List (List ℕ)) (in_first : ℕ) (base : State) (events : History) → IsLegalAfter node base events → (records : List Record) → stands_in areas ≡ Ok records
       → bytes_of records ≡ front ++ map record_of events → (gate : ℕ) → All (λ (one : Record). one.gate ≡ gate) (take in_first records)
       → All (λ (one : Record). gate < one.gate) (drop in_first records)
-      → BeginsAs node areas front in_first base → told_in node areas ≡ Ok (after_all node base events)
-  begun_told front in_first base events legal [] is are gate firsts others (as_fresh version can front_is first base_is) =
+      → BeginsAs node areas front in_first base → decoded_in node areas ≡ Ok (after_all node base events)
+  begun_decoded front in_first base events legal [] is are gate firsts others (as_fresh version can front_is first base_is) =
       absurd (omega (arith, ap length (are ∙ ap (λ (l : List (List ℕ)). l ++ map record_of events) front_is)))
-  begun_told front in_first base events legal (one ∷ rest) is are gate firsts others (as_fresh version can front_is first base_is) =
+  begun_decoded front in_first base events legal (one ∷ rest) is are gate firsts others (as_fresh version can front_is first base_is) =
       let rows : one.bytes ∷ bytes_of rest ≡ own_configuration version node ∷ map record_of events = are ∙ ap (λ (l : List (List ℕ)). l ++ map record_of events) front_is in
       let own = own_by_bytes node one version legal.node_is keys can (first_same one.bytes (own_configuration version node) (bytes_of rest) (map record_of events) rows) in
       let at : one.gate ≡ gate = All-head (λ (r : Record). r.gate ≡ gate) one [] (subst (λ (n : ℕ). All (λ (r : Record). r.gate ≡ gate) (take n (one ∷ rest))) first firsts) in
       let after : All (IsAfterFirst one) rest =
       subst (λ (g : ℕ). All (λ (r : Record). g < r.gate) rest) (sym at) (subst (λ (n : ℕ). All (λ (r : Record). gate < r.gate) (drop n (one ∷ rest))) first others) in
-      told_pair_records node areas (one ∷ rest) two is
-      ∙ events_told node one rest events own after (rest_same one.bytes (own_configuration version node) (bytes_of rest) (map record_of events) rows)
+      decoded_pair_records node areas (one ∷ rest) two is
+      ∙ events_decoded node one rest events own after (rest_same one.bytes (own_configuration version node) (bytes_of rest) (map record_of events) rows)
       (subst (λ (s : State). IsLegalAfter node s events) base_is legal)
       ∙ ap (λ (s : State). Ok (after_all node s events)) (sym base_is)
-  begun_told front in_first base events legal [] is are gate firsts others (as_checkpoint version generation c is_two can written front_is first base_is) =
+  begun_decoded front in_first base events legal [] is are gate firsts others (as_checkpoint version generation c is_two can written front_is first base_is) =
       absurd (omega (arith, ap length (are ∙ ap (λ (l : List (List ℕ)). l ++ map record_of events) front_is)))
-  begun_told front in_first base events legal (one ∷ []) is are gate firsts others (as_checkpoint version generation c is_two can written front_is first base_is) =
+  begun_decoded front in_first base events legal (one ∷ []) is are gate firsts others (as_checkpoint version generation c is_two can written front_is first base_is) =
       absurd (omega (arith, ap length (are ∙ ap (λ (l : List (List ℕ)). l ++ map record_of events) front_is)))
-  begun_told front in_first base events legal (one ∷ head ∷ rest) is are gate firsts others (as_checkpoint version generation c is_two can written front_is first base_is) =
+  begun_decoded front in_first base events legal (one ∷ head ∷ rest) is are gate firsts others (as_checkpoint version generation c is_two can written front_is first base_is) =
       let rows : one.bytes ∷ head.bytes ∷ bytes_of rest ≡ own_configuration version node ∷ head_record generation ∷ state_records c ++ map record_of events =
       are ∙ ap (λ (l : List (List ℕ)). l ++ map record_of events) front_is in
       let own = own_by_bytes node one version legal.node_is keys can
@@ -387,42 +387,42 @@ module _ (node : Node) (areas : Areas) (two : IsPair areas) (keys : AreKeys node
       let two_firsts = subst (λ (n : ℕ). All (λ (r : Record). r.gate ≡ gate) (take n (one ∷ head ∷ rest))) first firsts in
       let at = All-head (λ (r : Record). r.gate ≡ gate) one (head ∷ []) two_firsts in
       let also = All-head (λ (r : Record). r.gate ≡ gate) head [] (All-tail (λ (r : Record). r.gate ≡ gate) one (head ∷ []) two_firsts) in
-      told_pair_records node areas (one ∷ head ∷ rest) two is
-      ∙ checkpoint_told node one head rest c events keys own (also ∙ sym at) (ap (λ (l : List (List ℕ)). drop 2 l) rows) written
+      decoded_pair_records node areas (one ∷ head ∷ rest) two is
+      ∙ checkpoint_decoded node one head rest c events keys own (also ∙ sym at) (ap (λ (l : List (List ℕ)). drop 2 l) rows) written
       (subst (λ (s : State). IsLegalAfter node s events) base_is legal)
       ∙ ap (λ (s : State). Ok (after_all node s events)) (sym base_is)
 
-  pub two_are_told : (state : State) → StandsFor node areas state → told_in node areas ≡ Ok state
-  two_are_told state (as_journal holds) =
-      begun_told holds.front holds.in_first holds.base holds.events holds.legal holds.journal.records holds.journal.stands_for holds.journal.are
+  pub two_are_decoded : (state : State) → StandsFor node areas state → decoded_in node areas ≡ Ok state
+  two_are_decoded state (as_journal holds) =
+      begun_decoded holds.front holds.in_first holds.base holds.events holds.legal holds.journal.records holds.journal.stands_for holds.journal.are
       holds.journal.first_gate holds.journal.first holds.journal.others holds.begins ∙ ap Ok holds.leads
-  two_are_told state (as_empty none is) = told_pair_records node areas [] two none ∙ pair_none node ∙ ap Ok (sym is)
+  two_are_decoded state (as_empty none is) = decoded_pair_records node areas [] two none ∙ pair_none node ∙ ap Ok (sym is)
 
 -- ---- the laws of areas
 
-pub told_in_stands_for : StartsFresh → OnlyGroups → ToldInStandsFor
-told_in_stands_for starts only node (alone bytes) state sound are is =
-    let found = told_stands_for starts only node bytes state sound are is in
+pub decoded_in_stands_for : StartsFresh → OnlyGroups → DecodedInStandsFor
+decoded_in_stands_for starts only node (alone bytes) state sound are is =
+    let found = decoded_stands_for starts only node bytes state sound are is in
     record { stands_for = found.stands_for; sound = subst (IsSound node) found.keeps (kept_is_sound node found.history found.legal) }
-told_in_stands_for starts only node (pair one other) state sound are is = by_read (stands_in (pair one other)) refl
+decoded_in_stands_for starts only node (pair one other) state sound are is = by_read (stands_in (pair one other)) refl
   where
     by_read : (read : Result (List Record) ℕ) → stands_in (pair one other) ≡ read → IsOfAreas node (pair one other) state
     by_read (Ok records) stand =
         found_in starts node (pair one other) tt sound records state (pair_texts only one other records are.0 are.1 stand) stand
-        (λ first rest same. begins_with one other first rest (stand ∙ ap Ok same)) (sym (told_pair_records node (pair one other) records tt stand) ∙ is)
-    by_read (Err place) stand = absurd (no_ok (Damaged place) state (sym (told_pair_damaged node (pair one other) place tt stand) ∙ is))
+        (λ first rest same. begins_with one other first rest (stand ∙ ap Ok same)) (sym (decoded_pair_records node (pair one other) records tt stand) ∙ is)
+    by_read (Err place) stand = absurd (no_ok (Damaged place) state (sym (decoded_pair_damaged node (pair one other) place tt stand) ∙ is))
 
-pub what_stands_is_told_in : WhatStandsIsToldIn
-what_stands_is_told_in node (alone bytes) state sound keys stands_for = what_stands_is_told node bytes state keys stands_for
-what_stands_is_told_in node (pair one other) state sound keys stands_for = two_are_told node (pair one other) tt keys state stands_for
+pub what_stands_is_decoded_in : WhatStandsIsDecodedIn
+what_stands_is_decoded_in node (alone bytes) state sound keys stands_for = what_stands_is_decoded node bytes state keys stands_for
+what_stands_is_decoded_in node (pair one other) state sound keys stands_for = two_are_decoded node (pair one other) tt keys state stands_for
 
-pub worlds_are_told_in : NothingTakenBack → WorldsAreToldIn
-worlds_are_told_in kept_all node moves world areas sound keys run may =
+pub worlds_are_decoded_in : NothingTakenBack → WorldsAreDecodedIn
+worlds_are_decoded_in kept_all node moves world areas sound keys run may =
     let never = kept_all node moves world sound run in
     let (history, recovered, stands_for) = never.stands areas may in
     record {
       history = history;
-      is_told = what_stands_is_told_in node areas (kept node history) sound keys stands_for;
+      is_told = what_stands_is_decoded_in node areas (kept node history) sound keys stands_for;
       stands_for = stands_for;
       recovered = recovered;
     }

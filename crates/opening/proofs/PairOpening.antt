@@ -33,14 +33,14 @@ use Rattle.admission.specs.declared.tables.Tables.{Tables}
 use Rattle.validator.specs.Setting.{ConfigView, node_of}
 use Rattle.validator.specs.Standing.{ValidatorView}
 use Rattle.opening.specs.Finished.{done, gives_up, IsReady, IsGivenUp, at_records, at_renewal, IsFinished}
-use Rattle.opening.specs.Laws.{IsLeftIn, AreLeftToldIn, KeepsAlone, IsNoRefusalOfBoth, IsUnchanged, IsOpeningOn, IsOpenedIn, StandsForIn, HoldsIn}
+use Rattle.opening.specs.Laws.{IsLeftIn, AreLeftDecodedIn, KeepsAlone, IsNoRefusalOfBoth, IsUnchanged, IsOpeningOn, IsOpenedIn, StandsForIn, HoldsIn}
 use Rattle.opening.specs.PairReplayed.{version_in}
 use Rattle.opening.specs.Renewing.{KeepsStatesIn, IsFullOf, IsFullAt, IsReadOn, IsRenewed, IsPlaced}
-use Rattle.opening.specs.Stages.{IsStage, InStages, IsToldAsBoth, IsToldThroughout}
-use Rattle.opening.specs.Told.{IsText, StandsAt, Tells, read_pair, told_in}
-use Rattle.opening.proofs.PairLaws.{found_in, areas_begin, what_stands_is_told_in}
-use Rattle.opening.proofs.PairTelling.{told_pair_same, told_pair_records, told_pair_damaged}
-use Rattle.opening.proofs.Renewals.{areas_pair, generation_told, stage}
+use Rattle.opening.specs.Stages.{IsStage, InStages, IsDecodedAsBoth, IsDecodedThroughout}
+use Rattle.opening.specs.Decoded.{IsText, StandsAt, Tells, read_pair, decoded_in}
+use Rattle.opening.proofs.PairLaws.{found_in, areas_begin, what_stands_is_decoded_in}
+use Rattle.opening.proofs.PairTelling.{decoded_pair_same, decoded_pair_records, decoded_pair_damaged}
+use Rattle.opening.proofs.Renewals.{areas_pair, generation_decoded, stage}
 
 -- ---- the disks
 
@@ -84,9 +84,9 @@ refusal_by ConfigMismatch state read is tells = absurd (clash (sym is ∙ tells 
 refusal_by Full state read is tells = inr refl
 
 opening_tells : (node : Node) (areas : Areas) (error : JournalError) → IsPair areas → ((place : ℕ) → error ≡ Damaged place → stands_in areas ≡ Err place) → error ≢ Full → error ≢ ConfigMismatch
-    → error ≢ Device → Tells error (told_in node areas)
+    → error ≢ Device → Tells error (decoded_in node areas)
 opening_tells node areas Memory is_two damaged full config device = tt
-opening_tells node areas (Damaged place) is_two damaged full config device = told_pair_damaged node areas place is_two (damaged place refl)
+opening_tells node areas (Damaged place) is_two damaged full config device = decoded_pair_damaged node areas place is_two (damaged place refl)
 opening_tells node areas Device is_two damaged full config device = absurd (device refl)
 opening_tells node areas ConfigMismatch is_two damaged full config device = absurd (config refl)
 opening_tells node areas Full is_two damaged full config device = absurd (full refl)
@@ -106,25 +106,25 @@ renewal_tells error read is device full = by_error is
 -- ---- what tables stand for
 
 pub stands_for_in : StartsFresh → (node : Node) (areas : Areas) (records : List Record) (tables : Tables) → IsPair areas → IsNode node → All IsText records → stands_in areas ≡ Ok records
-    → StandsAt node (told_in node areas) tables → StandsForIn node areas tables
+    → StandsAt node (decoded_in node areas) tables → StandsForIn node areas tables
 stands_for_in starts node areas records tables is_two sound texts is at =
-    let read = sym (told_pair_records node areas records is_two is) ∙ at.is_read in
+    let read = sym (decoded_pair_records node areas records is_two is) ∙ at.is_read in
     record {
       state = at.state;
       stands_for = (found_in starts node areas is_two sound records at.state texts is (λ first rest same. areas_begin areas is_two first rest (is ∙ ap Ok same)) read).stands_for;
       at = at.at;
     }
 
-pub told_at : (node : Node) (areas : Areas) (records : List Record) (tables : Tables) → IsPair areas → stands_in areas ≡ Ok records → StandsAt node (read_pair node records) tables
-    → StandsAt node (told_in node areas) tables
-told_at node areas records tables is_two is at = record { state = at.state; is_read = told_pair_records node areas records is_two is ∙ at.is_read; at = at.at }
+pub decoded_at : (node : Node) (areas : Areas) (records : List Record) (tables : Tables) → IsPair areas → stands_in areas ≡ Ok records → StandsAt node (read_pair node records) tables
+    → StandsAt node (decoded_in node areas) tables
+decoded_at node areas records tables is_two is at = record { state = at.state; is_read = decoded_pair_records node areas records is_two is ∙ at.is_read; at = at.at }
 
 read_at : (node : Node) (one other : Result State JournalError) (tables : Tables) → one ≡ other → StandsAt node one tables → StandsAt node other tables
 read_at node one other tables same at = record { state = at.state; is_read = sym same ∙ at.is_read; at = at.at }
 
 pub tells_at : (node : Node) (areas : Areas) (records : List Record) (error : JournalError) → IsPair areas → stands_in areas ≡ Ok records → Tells error (read_pair node records)
-    → Tells error (told_in node areas)
-tells_at node areas records error is_two is tells = subst (Tells error) (sym (told_pair_records node areas records is_two is)) tells
+    → Tells error (decoded_in node areas)
+tells_at node areas records error is_two is tells = subst (Tells error) (sym (decoded_pair_records node areas records is_two is)) tells
 
 -- areas that stand for the same records stand for the same states
 stands_same : (node : Node) (one other : Areas) (state : State) → IsPair other → stands_in other ≡ stands_in one → StandsFor node one state → StandsFor node other state
@@ -136,10 +136,10 @@ keeps_on node one other later is_two same keeps state stands_for = keeps state (
 
 -- and there is one at which tables stand
 holds_in : (node : Node) (before later : Areas) (tables : Tables) → StandsForIn node before tables → IsNode node → AreKeys node
-    → told_in node later ≡ told_in node before → KeepsStatesIn node before later → HoldsIn node later tables
+    → decoded_in node later ≡ decoded_in node before → KeepsStatesIn node before later → HoldsIn node later tables
 holds_in node before later tables stands_for sound keys same keeps = record {
   state = stands_for.state;
-  told_as = same ∙ what_stands_is_told_in node before stands_for.state sound keys stands_for.stands_for;
+  told_as = same ∙ what_stands_is_decoded_in node before stands_for.state sound keys stands_for.stands_for;
   holds = keeps stands_for.state stands_for.stands_for;
   at = stands_for.at;
 }
@@ -154,7 +154,7 @@ version_of read records others version is of also = of ∙ ap version_in (same r
     same one other is_same = cc
 
 -- of two disks nothing more is said of the records
-keeps_two : {D : Type 0} (node : Node) (device : Disks D) (first second : D) (new : Store D) → IsToldThroughout node device (Two first second) new → KeepsAlone node device (Two first second) new
+keeps_two : {D : Type 0} (node : Node) (device : Disks D) (first second : D) (new : Store D) → IsDecodedThroughout node device (Two first second) new → KeepsAlone node device (Two first second) new
 keeps_two node device first second (One left) is = absurd is
 keeps_two node device first second (Two now also) is = tt
 
@@ -169,7 +169,7 @@ module _ {D : Type 0} (node : Node) (device : Disks D) (old new : Journal D) (ve
 
 -- ---- an opening
 
-module _ {S D : Type 0} (scheme : Scheme S) (device : Disks D) (setting : ConfigView S) (first second : D) (left_told : AreLeftToldIn (node_of scheme setting)) where
+module _ {S D : Type 0} (scheme : Scheme S) (device : Disks D) (setting : ConfigView S) (first second : D) (left_decoded : AreLeftDecodedIn (node_of scheme setting)) where
   abbrev Given : Type 0
   Given = ValidatorView S × Journal D
 
@@ -188,14 +188,14 @@ module _ {S D : Type 0} (scheme : Scheme S) (device : Disks D) (setting : Config
   -- ---- what a stop leaves
 
   opened_stage : (now also : D) → AtEachMoment device first now (IsAsOneOf (device.outcome first)) → AtEachMoment device second also (IsAsOneOf (device.outcome second))
-      → IsStage device (IsToldAsBoth node device (first, second)) (first, second) (now, also)
+      → IsStage device (IsDecodedAsBoth node device (first, second)) (first, second) (now, also)
   opened_stage now also one other =
-      stage device (IsToldAsBoth node device (first, second)) (first, second) (now, also) (IsAsOneOf (device.outcome first)) (IsAsOneOf (device.outcome second)) one other
+      stage device (IsDecodedAsBoth node device (first, second)) (first, second) (now, also) (IsAsOneOf (device.outcome first)) (IsAsOneOf (device.outcome second)) one other
       (λ a b left right.
       let both = both_stand_as_before (device.outcome first) (device.outcome second) a b left right in
-      (both.0, both.1, both.2, both.3, told_pair_same node (pair a b) (pair both.0 both.1) tt tt both.4))
+      (both.0, both.1, both.2, both.3, decoded_pair_same node (pair a b) (pair both.0 both.1) tt tt both.4))
 
-  throughout : (disk : Store D) → OpensAtEachMoment device store disk → IsToldThroughout node device store disk
+  throughout : (disk : Store D) → OpensAtEachMoment device store disk → IsDecodedThroughout node device store disk
   throughout (One left) at = at
   throughout (Two now also) at = ([], opened_stage now also at.0 at.1)
 
@@ -217,7 +217,7 @@ module _ {S D : Type 0} (scheme : Scheme S) (device : Disks D) (setting : Config
         cause = (tt, cause);
         any_moment = throughout failed.disk at;
         keeps = keeps_two node device first second failed.disk (throughout failed.disk at);
-        never_refused = λ left. let found = left_told before left in refusal_by failed.error found.0 (told_in node before) found.1 (λ device_not full_not. tells device_not);
+        never_refused = λ left. let found = left_decoded before left in refusal_by failed.error found.0 (decoded_in node before) found.1 (λ device_not full_not. tells device_not);
         unchanged = λ other. unchanged_by failed.disk at (ap stands_in (same other));
       }
 
@@ -247,8 +247,8 @@ module _ {S D : Type 0} (scheme : Scheme S) (device : Disks D) (setting : Config
 
   module _ (journal : Journal D) (some : IsSome (spare_of journal)) (at : OpensAtEachMoment device store (store_of journal)) (same : stands_in (areas_of device journal) ≡ stands_in before)
       (faults : faults_in device (store_of journal) ≡ faults_in device store) where
-    told_same : told_in node (areas_of device journal) ≡ told_in node before
-    told_same = ap (told_in node) (sym (store_areas device journal some)) ∙ told_pair_same node (areas_in device (store_of journal)) before (pair_there (store_of journal) at) tt
+    decoded_same : decoded_in node (areas_of device journal) ≡ decoded_in node before
+    decoded_same = ap (decoded_in node) (sym (store_areas device journal some)) ∙ decoded_pair_same node (areas_in device (store_of journal)) before (pair_there (store_of journal) at) tt
         (ap stands_in (store_areas device journal some) ∙ same)
       where
         pair_there : (disk : Store D) → OpensAtEachMoment device store disk → IsPair (areas_in device disk)
@@ -259,17 +259,17 @@ module _ {S D : Type 0} (scheme : Scheme S) (device : Disks D) (setting : Config
     unchanged_still = unchanged_by (store_of journal) at (ap stands_in (store_areas device journal some) ∙ same)
 
     -- its records are at fault
-    records_fail : (error : JournalError) (disk : Store D) → error ≢ Device → error ≢ Full → Tells error (told_in node (areas_of device journal)) → disk ≡ store_of journal
+    records_fail : (error : JournalError) (disk : Store D) → error ≢ Device → error ≢ Full → Tells error (decoded_in node (areas_of device journal)) → disk ≡ store_of journal
         → IsOpeningOn {T = Given} node device disks_in store (Err (record { error = error; disk = disk }))
     records_fail error disk device_not full_not tells disk_is =
-        let told = subst (Tells error) told_same tells in
+        let told = subst (Tells error) decoded_same tells in
         record {
           tells = λ one other. told;
           full = λ is. absurd (full_not is);
           cause = (tt, ((λ is. absurd (device_not is)), (λ other. ap (faults_in device) disk_is ∙ faults)));
-          any_moment = subst (IsToldThroughout node device store) (sym disk_is) (throughout (store_of journal) at);
-          keeps = keeps_two node device first second disk (subst (IsToldThroughout node device store) (sym disk_is) (throughout (store_of journal) at));
-          never_refused = λ left. let found = left_told before left in refusal_by error found.0 (told_in node before) found.1 (λ one other. told);
+          any_moment = subst (IsDecodedThroughout node device store) (sym disk_is) (throughout (store_of journal) at);
+          keeps = keeps_two node device first second disk (subst (IsDecodedThroughout node device store) (sym disk_is) (throughout (store_of journal) at));
+          never_refused = λ left. let found = left_decoded before left in refusal_by error found.0 (decoded_in node before) found.1 (λ one other. told);
           unchanged = λ other. subst (IsUnchanged device store) (sym disk_is) unchanged_still;
         }
 
@@ -277,27 +277,27 @@ module _ {S D : Type 0} (scheme : Scheme S) (device : Disks D) (setting : Config
 
     module _ (here : device.outcome first (device.content first)) (there : device.outcome second (device.content second)) where
       module _ (new : Journal D) (result : Result (Unit {0}) JournalError) (is : IsRenewed node device journal result new) where
-        stage_two : IsStage device (IsToldAsBoth node device (first, second)) (disks_of journal) (disks_of new)
+        stage_two : IsStage device (IsDecodedAsBoth node device (first, second)) (disks_of journal) (disks_of new)
         stage_two = record {
           first =
               weaker device (disks_of journal).0 (disks_of new).0 _ _ is.any_moment.first
-              (λ a each b right. (device.content first, device.content second, here, there, each b right ∙ told_same));
+              (λ a each b right. (device.content first, device.content second, here, there, each b right ∙ decoded_same));
           second =
               weaker device (disks_of journal).1 (disks_of new).1 _ _ is.any_moment.second
-              (λ b each a left. (device.content first, device.content second, here, there, each a left ∙ told_same));
+              (λ b each a left. (device.content first, device.content second, here, there, each a left ∙ decoded_same));
         }
 
-        in_stages : InStages device (IsToldAsBoth node device (first, second)) (first, second) (disks_of new)
+        in_stages : InStages device (IsDecodedAsBoth node device (first, second)) (first, second) (disks_of new)
         in_stages = (disks_of journal ∷ [], (stage_one (store_of journal) (store_two journal some) at, stage_two))
           where
             stage_one : (disk : Store D) → disk ≡ two (disks_of journal) → OpensAtEachMoment device store disk
-                → IsStage device (IsToldAsBoth node device (first, second)) (first, second) (disks_of journal)
+                → IsStage device (IsDecodedAsBoth node device (first, second)) (first, second) (disks_of journal)
             stage_one disk two_are opens =
                 let moved = subst (OpensAtEachMoment device store) two_are opens in
                 opened_stage (disks_of journal).0 (disks_of journal).1 moved.0 moved.1
 
-        all_through : IsToldThroughout node device store (store_of new)
-        all_through = subst (IsToldThroughout node device store) (sym (store_two new is.two)) in_stages
+        all_through : IsDecodedThroughout node device store (store_of new)
+        all_through = subst (IsDecodedThroughout node device store) (sym (store_two new is.two)) in_stages
 
         sums : faults_of_both device (disks_of journal) ≡ faults_in device store
         sums = ap (faults_in device) (sym (store_two journal some)) ∙ faults
@@ -322,7 +322,7 @@ module _ {S D : Type 0} (scheme : Scheme S) (device : Disks D) (setting : Config
       renewed_err error disk new is full disk_is =
           let now = ap (faults_in device) disk_is ∙ sums_now new (gives_up error) is in
           let then = sums new (gives_up error) is in
-          let tells = renewal_tells error (told_in node before) is.errors in
+          let tells = renewal_tells error (decoded_in node before) is.errors in
           record {
             tells = tells;
             full = full;
@@ -335,9 +335,9 @@ module _ {S D : Type 0} (scheme : Scheme S) (device : Disks D) (setting : Config
                 (λ other. now ∙ is.cause.1.1 other ∙ then),
               ),
             );
-            any_moment = subst (IsToldThroughout node device store) (sym disk_is) (all_through new (gives_up error) is);
-            keeps = keeps_two node device first second disk (subst (IsToldThroughout node device store) (sym disk_is) (all_through new (gives_up error) is));
-            never_refused = λ left. let found = left_told before left in refusal_by error found.0 (told_in node before) found.1 tells;
+            any_moment = subst (IsDecodedThroughout node device store) (sym disk_is) (all_through new (gives_up error) is);
+            keeps = keeps_two node device first second disk (subst (IsDecodedThroughout node device store) (sym disk_is) (all_through new (gives_up error) is));
+            never_refused = λ left. let found = left_decoded before left in refusal_by error found.0 (decoded_in node before) found.1 tells;
             unchanged = λ other.
                 let kept : disk ≡ store_of journal = disk_is ∙ ap store_of (is.unchanged other) in
                 subst (IsUnchanged device store) (sym kept) unchanged_still;
@@ -360,7 +360,7 @@ module _ {S D : Type 0} (scheme : Scheme S) (device : Disks D) (setting : Config
           generation = generation_in journal;
           chosen = chosen;
           state = full.state;
-          is_told = sym told_same ∙ full.is_told;
+          is_told = sym decoded_same ∙ full.is_told;
           no_room = full.no_room;
         }
 
@@ -375,12 +375,12 @@ module _ {S D : Type 0} (scheme : Scheme S) (device : Disks D) (setting : Config
                 generation = generation_in journal;
                 chosen = chosen;
                 rewritten = λ version. let moved = placed.rewritten version in (moved.places.side, moved.places.generation);
-                room = λ version. let moved = placed.rewritten version in (moved.room.state, sym told_same ∙ moved.room.is_told, moved.room.room);
+                room = λ version. let moved = placed.rewritten version in (moved.room.state, sym decoded_same ∙ moved.room.is_told, moved.room.room);
                 stays = λ other. let kept = placed.stays other in (kept.side, kept.generation);
               }
 
-          stands : StandsAt node (told_in node before) validator.tables
-          stands = read_at node (told_in node (areas_of device journal)) (told_in node before) validator.tables told_same ready.stands
+          stands : StandsAt node (decoded_in node before) validator.tables
+          stands = read_at node (decoded_in node (areas_of device journal)) (decoded_in node before) validator.tables decoded_same ready.stands
 
           stands_at : StandsForIn node before validator.tables
           stands_at = stands_for_in starts node before records validator.tables tt sound texts stands_for stands
@@ -388,22 +388,22 @@ module _ {S D : Type 0} (scheme : Scheme S) (device : Disks D) (setting : Config
           keeps : KeepsStatesIn node before (areas_of device new)
           keeps = keeps_on node before (areas_of device journal) (areas_of device new) (areas_pair device journal (device.content (spare_disk journal)) some) same ready.is.kept
 
-          told_then : told_in node (areas_of device new) ≡ told_in node before
-          told_then = ready.is.same ∙ told_same
+          decoded_then : decoded_in node (areas_of device new) ≡ decoded_in node before
+          decoded_then = ready.is.same ∙ decoded_same
 
           finished_ok : IsOpenedIn scheme device setting store (Ok (validator, new))
           finished_ok = record {
             set = ready.set;
             stands = stands;
-            same = told_then;
+            same = decoded_then;
             alive = ready.is.alive;
             configured = ready.is.configured;
-            begun = λ some_spare. generation_told device node new sound keys some_spare ready.is.alive ready.is.configured;
+            begun = λ some_spare. generation_decoded device node new sound keys some_spare ready.is.alive ready.is.configured;
             disks = (ready.is.two, read_on);
             newest = λ some_spare. ready.is.newest;
             stands_for = stands_at;
             kept = keeps;
-            holds = holds_in node before (areas_of device new) validator.tables stands_at sound keys told_then keeps;
+            holds = holds_in node before (areas_of device new) validator.tables stands_at sound keys decoded_then keeps;
             opening = renewed_ok validator new ready.is;
           }
 

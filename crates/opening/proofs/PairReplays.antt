@@ -27,7 +27,7 @@ use Rattle.admission.specs.declared.tables.Tables.{Tables}
 use Rattle.validator.specs.Loading.{LoadingView}
 use Rattle.validator.specs.Setting.{ConfigView, node_of}
 use Rattle.validator.specs.Standing.{AreAtSound, ValidatorView}
-use Rattle.opening.specs.Told.{IsText, StandsAt, Tells, can_tell, is_own, mismatch, own_fault, or_damaged, go_on, read_event, read_events, is_event, gates_of, gate_of, read_state, read_pair}
+use Rattle.opening.specs.Decoded.{IsText, StandsAt, Tells, can_tell, is_own, mismatch, own_fault, or_damaged, go_on, read_event, read_events, is_event, gates_of, gate_of, read_state, read_pair}
 use Rattle.opening.specs.PairReplayed.{version_in, IsOfBytesAlone, IsConfigured, IsLoadingTo, IsStandingAt, IsStandingBefore, IsFailedAs, HasReached, error_at, IsPut}
 use Rattle.opening.specs.declared.reached.Reached.{Reached}
 use Rattle.opening.specs.declared.reached.Reached.TheVariants as reached

@@ -23,8 +23,8 @@ use Rattle.spec_model.specs.Nodes.{Node}
 use Rattle.spec_model.specs.States.{State}
 use Rattle.spec_world.specs.World.{bytes_of, IsPair}
 use Rattle.wire.specs.Fields.{AreBytes}
-use Rattle.opening.specs.Told.{IsText, own_fault, or_damaged, unless, go_on, read_events, is_event, state_part, events_part, gates_of, gate_of, loaded}
-use Rattle.opening.specs.Told.{read_state, read_checkpoint, read_behind, read_pair, told_by_both, told_in}
+use Rattle.opening.specs.Decoded.{IsText, own_fault, or_damaged, unless, go_on, read_events, is_event, state_part, events_part, gates_of, gate_of, loaded}
+use Rattle.opening.specs.Decoded.{read_state, read_checkpoint, read_after, read_pair, decoded_by_both, decoded_in}
 use Rattle.opening.proofs.Telling.{read_nil}
 
 -- ---- a state's records, and the events after them
@@ -124,15 +124,15 @@ pub pair_none : (node : Node) → read_pair node [] ≡ Ok (fresh node)
 unfolding read_pair
 pair_none node = refl
 
-pub pair_first : (node : Node) (first : Record) (rest : List Record) → read_pair node (first ∷ rest) ≡ unless (own_fault node first) (read_behind node first rest)
+pub pair_first : (node : Node) (first : Record) (rest : List Record) → read_pair node (first ∷ rest) ≡ unless (own_fault node first) (read_after node first rest)
 unfolding read_pair
 pair_first node first rest = refl
 
 pub pair_fails : (node : Node) (first : Record) (rest : List Record) (error : JournalError) → own_fault node first ≡ Some error → read_pair node (first ∷ rest) ≡ Err error
-pair_fails node first rest error is = pair_first node first rest ∙ ap (λ (f : Option JournalError). unless f (read_behind node first rest)) is
+pair_fails node first rest error is = pair_first node first rest ∙ ap (λ (f : Option JournalError). unless f (read_after node first rest)) is
 
-pair_free : (node : Node) (first : Record) (rest : List Record) → own_fault node first ≡ None → read_pair node (first ∷ rest) ≡ or_damaged (read_behind node first rest)
-pair_free node first rest none = pair_first node first rest ∙ ap (λ (f : Option JournalError). unless f (read_behind node first rest)) none
+pair_free : (node : Node) (first : Record) (rest : List Record) → own_fault node first ≡ None → read_pair node (first ∷ rest) ≡ or_damaged (read_after node first rest)
+pair_free node first rest none = pair_first node first rest ∙ ap (λ (f : Option JournalError). unless f (read_after node first rest)) none
 
 -- a head stands after the configuration
 pub pair_headed : (node : Node) (first head : Record) (rest : List Record) → own_fault node first ≡ None → head.gate ≡ first.gate
@@ -221,15 +221,15 @@ module _ (fails : FailsAtFirst) (reads : ReadAsWritten) (node : Node) (first : R
 -- ---- areas
 
 -- two areas are read so
-pub told_both : (node : Node) (areas : Areas) → IsPair areas → told_in node areas ≡ told_by_both node (stands_in areas)
-told_both node (alone bytes) two = absurd two
-told_both node (pair one other) two = refl
+pub decoded_both : (node : Node) (areas : Areas) → IsPair areas → decoded_in node areas ≡ decoded_by_both node (stands_in areas)
+decoded_both node (alone bytes) two = absurd two
+decoded_both node (pair one other) two = refl
 
-pub told_pair_same : (node : Node) (one other : Areas) → IsPair one → IsPair other → stands_in one ≡ stands_in other → told_in node one ≡ told_in node other
-told_pair_same node one other two also same = told_both node one two ∙ ap (told_by_both node) same ∙ sym (told_both node other also)
+pub decoded_pair_same : (node : Node) (one other : Areas) → IsPair one → IsPair other → stands_in one ≡ stands_in other → decoded_in node one ≡ decoded_in node other
+decoded_pair_same node one other two also same = decoded_both node one two ∙ ap (decoded_by_both node) same ∙ sym (decoded_both node other also)
 
-pub told_pair_records : (node : Node) (areas : Areas) (records : List Record) → IsPair areas → stands_in areas ≡ Ok records → told_in node areas ≡ read_pair node records
-told_pair_records node areas records two is = told_both node areas two ∙ ap (told_by_both node) is
+pub decoded_pair_records : (node : Node) (areas : Areas) (records : List Record) → IsPair areas → stands_in areas ≡ Ok records → decoded_in node areas ≡ read_pair node records
+decoded_pair_records node areas records two is = decoded_both node areas two ∙ ap (decoded_by_both node) is
 
-pub told_pair_damaged : (node : Node) (areas : Areas) (place : ℕ) → IsPair areas → stands_in areas ≡ Err place → told_in node areas ≡ Err (Damaged place)
-told_pair_damaged node areas place two is = told_both node areas two ∙ ap (told_by_both node) is
+pub decoded_pair_damaged : (node : Node) (areas : Areas) (place : ℕ) → IsPair areas → stands_in areas ≡ Err place → decoded_in node areas ≡ Err (Damaged place)
+decoded_pair_damaged node areas place two is = decoded_both node areas two ∙ ap (decoded_by_both node) is

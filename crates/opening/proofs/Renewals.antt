@@ -46,13 +46,13 @@ use Rattle.checkpoint.specs.Describes.{Describes}
 use Rattle.opening.specs.Finished.{done, gives_up}
 use Rattle.opening.specs.Renewing.{KeepsStatesIn, IsFullAt, HasRoomAt, IsNewest, IsRenewed, IsRewritten, IsPlaced}
 use Rattle.opening.specs.Stages.{IsStage}
-use Rattle.opening.specs.Told.{own_fault, read_behind, StandsAt, told_in, KeepsOrBegins}
+use Rattle.opening.specs.Decoded.{own_fault, read_after, StandsAt, decoded_in, KeepsOrBegins}
 use Rattle.opening.proofs.Empty.{scans_long, walk_open}
 use Rattle.opening.proofs.FirstGroups.{walk_from}
 use Rattle.opening.proofs.Laws.{unless_ok, configuration_shape}
 use Rattle.opening.specs.PairReplayed.{version_in}
-use Rattle.opening.proofs.PairLaws.{own_is, own_free, own_by_bytes, checkpoint_told, two_are_told}
-use Rattle.opening.proofs.PairTelling.{pair_none, pair_first, pair_alone, told_pair_same, told_pair_records}
+use Rattle.opening.proofs.PairLaws.{own_is, own_free, own_by_bytes, checkpoint_decoded, two_are_decoded}
+use Rattle.opening.proofs.PairTelling.{pair_none, pair_first, pair_alone, decoded_pair_same, decoded_pair_records}
 
 -- ---- the disks of a journal on two
 
@@ -73,9 +73,9 @@ module _ {D : Type 0} (device : Disks D) where
   pub areas_pair : (journal : Journal D) (left : List ℕ) → IsSome (spare_of journal) → IsPair (areas_with device journal left)
   areas_pair journal left two = subst IsPair (sym (areas_are journal left two)) (side_pair (side_in journal) (device.content (disk_of journal)) left)
 
-  -- the other disk is at rest and firm, and the one that is read tells its generation, unless the journal is new
+  -- the other disk is at rest and durable, and the one that is read tells its generation, unless the journal is new
   pub record IsBeside (journal : Journal D) : Type 0 where
-    pub firm : LeavesOnly (device.content (spare_disk journal)) (device.outcome (spare_disk journal))
+    pub durable : LeavesOnly (device.content (spare_disk journal)) (device.outcome (spare_disk journal))
     pub older : IsOlder (generation_in journal) (device.content (spare_disk journal))
     pub of_generation : (tells (device.content (disk_of journal)) ≡ Some (Some (generation_in journal)))
         ⊎ IsNewPair (device.content (disk_of journal)) (device.content (spare_disk journal)) (side_in journal) (generation_in journal)
@@ -90,11 +90,11 @@ module _ {D : Type 0} (device : Disks D) where
     abbrev on : Side
     on = option_map_or (λ (s : Spare D). s.side) spare First
 
-    firm_by : LeavesOnly (device.content rest) (device.outcome rest)
-    firm_by = elim spare as (λ o. IsSome o → IfSome o (IsAlivePair device live)
+    durable_by : LeavesOnly (device.content rest) (device.outcome rest)
+    durable_by = elim spare as (λ o. IsSome o → IfSome o (IsAlivePair device live)
         → LeavesOnly (device.content (option_map_or (λ (s : Spare D). s.disk) o live)) (device.outcome (option_map_or (λ (s : Spare D). s.disk) o live))) [
           | None ↦ λ none _. absurd (cc none)
-          | Some s ↦ λ _ pair. pair.firm
+          | Some s ↦ λ _ pair. pair.durable
         ] some is
 
     older_by : IsOlder level (device.content rest)
@@ -115,7 +115,7 @@ module _ {D : Type 0} (device : Disks D) where
 
   pub beside : (journal : Journal D) → IsAlive device journal → IsSome (spare_of journal) → IsBeside journal
   beside journal alive two = record {
-    firm = firm_by (disk_of journal) (spare_of journal) two alive.pair;
+    durable = durable_by (disk_of journal) (spare_of journal) two alive.pair;
     older = older_by (disk_of journal) (spare_of journal) two alive.pair;
     of_generation = generation_by (disk_of journal) (spare_of journal) two alive.pair;
   }
@@ -272,10 +272,10 @@ module _ (node : Node) (areas : Areas) (two : IsPair areas) (sound : IsNode node
     rows : bytes_of others ≡ state_records c
     rows = all_bytes _ (packed (state_records c)) ∙ all_packed (state_records c)
 
-    pub told_rewritten : told_in node areas ≡ Ok (state_in node c)
-    told_rewritten =
-        told_pair_records node areas (own ∷ head ∷ others) two is
-        ∙ checkpoint_told node own head others c [] keys (own_by_bytes node own versions.Second sound keys tt refl) refl (rows ∙ sym (append-nil (state_records c))) written
+    pub decoded_rewritten : decoded_in node areas ≡ Ok (state_in node c)
+    decoded_rewritten =
+        decoded_pair_records node areas (own ∷ head ∷ others) two is
+        ∙ checkpoint_decoded node own head others c [] keys (own_by_bytes node own versions.Second sound keys tt refl) refl (rows ∙ sym (append-nil (state_records c))) written
         (legal_none node (state_in node c) sound sound_state)
         ∙ ap Ok (after_none node (state_in node c))
 
@@ -407,13 +407,13 @@ module _ (node : Node) (sound : IsNode node) (keys : AreKeys node) (left other :
   begun_stands is =
       both_older First 0 left other (tells_of_one left own_row versions.Second is (configuration_shape versions.Second node sound keys)) (inl (tells_short other (omega (arith, short)))) ∙ is
 
-  pub begun_told : (file : List ℕ) → stands file ≡ Ok [] → KeepsOrBegins versions.Second node file left → told_in node (pair left other) ≡ Ok (fresh node)
-  begun_told file none (inl (records, before, now)) =
+  pub begun_decoded : (file : List ℕ) → stands file ≡ Ok [] → KeepsOrBegins versions.Second node file left → decoded_in node (pair left other) ≡ Ok (fresh node)
+  begun_decoded file none (inl (records, before, now)) =
       let same = ok_same records [] (sym before ∙ none) in
-      told_pair_records node (pair left other) [] tt (none_and_none left other (tells_of_none left (now ∙ ap Ok same)) (tells_short other (omega (arith, short)))) ∙ pair_none node
-  begun_told file none (inr (also, is)) =
+      decoded_pair_records node (pair left other) [] tt (none_and_none left other (tells_of_none left (now ∙ ap Ok same)) (tells_short other (omega (arith, short)))) ∙ pair_none node
+  begun_decoded file none (inr (also, is)) =
       let own = kept_at 0 own_row in
-      told_pair_records node (pair left other) (own ∷ []) tt (begun_stands is)
+      decoded_pair_records node (pair left other) (own ∷ []) tt (begun_stands is)
       ∙ pair_alone node own (own_free node own (own_by_bytes node own versions.Second sound keys tt refl))
 
   -- it is a journal at the fresh state
@@ -444,19 +444,19 @@ module _ {D : Type 0} (device : Disks D) (node : Node) (journal : Journal D) (so
   areas_now = areas_pair device journal (device.content (spare_disk journal)) two
 
   -- the area that is read has its first group
-  pub generation_told : tells (device.content (disk_of journal)) ≡ Some (Some (generation_in journal))
-  generation_told = elim (beside device journal alive two).of_generation [
+  pub generation_decoded : tells (device.content (disk_of journal)) ≡ Some (Some (generation_in journal))
+  generation_decoded = elim (beside device journal alive two).of_generation [
     | inl told ↦ told
     | inr new ↦
         absurd (some (ap stands_in (areas_are device journal (device.content (spare_disk journal)) two)
         ∙ new_is_empty (device.content (disk_of journal)) (device.content (spare_disk journal)) (side_in journal) (generation_in journal) new))
   ]
 
-  module _ (one_state : OneState) (tables : Tables) (snapshot : List (List ℕ)) (at : StandsAt node (told_in node (areas_of device journal)) tables) (of : Describes node tables snapshot) where
+  module _ (one_state : OneState) (tables : Tables) (snapshot : List (List ℕ)) (at : StandsAt node (decoded_in node (areas_of device journal)) tables) (of : Describes node tables snapshot) where
     state_is : at.state ≡ state_in node of.checkpoint
     state_is = one_state node tables at.state (state_in node of.checkpoint) at.at.sound at.at.at of.sound of.at
 
-    told_now : told_in node (areas_of device journal) ≡ Ok (state_in node of.checkpoint)
+    told_now : decoded_in node (areas_of device journal) ≡ Ok (state_in node of.checkpoint)
     told_now = at.is_read ∙ ap Ok state_is
 
     -- areas that were rewritten
@@ -464,8 +464,8 @@ module _ {D : Type 0} (device : Disks D) (node : Node) (journal : Journal D) (so
       stands_rewritten : stands_in areas ≡ stands_as side generation (own_configuration versions.Second node ∷ state_records of.checkpoint)
       stands_rewritten = is ∙ ap (stands_as side generation) of.are
 
-      pub rewritten_same : told_in node areas ≡ told_in node (areas_of device journal)
-      rewritten_same = told_rewritten node areas pair_is sound keys side generation of.checkpoint of.written of.sound stands_rewritten ∙ sym told_now
+      pub rewritten_same : decoded_in node areas ≡ decoded_in node (areas_of device journal)
+      rewritten_same = decoded_rewritten node areas pair_is sound keys side generation of.checkpoint of.written of.sound stands_rewritten ∙ sym told_now
 
       pub rewritten_some : stands_in areas ≢ Ok []
       rewritten_some = some_rewritten areas side generation (own_configuration versions.Second node) (state_records of.checkpoint) stands_rewritten
@@ -475,7 +475,7 @@ module _ {D : Type 0} (device : Disks D) (node : Node) (journal : Journal D) (so
 
       pub rewritten_keeps : KeepsStatesIn node (areas_of device journal) areas
       rewritten_keeps state stands_for =
-          let told = two_are_told node (areas_of device journal) areas_now keys state stands_for in
+          let told = two_are_decoded node (areas_of device journal) areas_now keys state stands_for in
           subst (Holds node areas) (same_state (state_in node of.checkpoint) state (sym told_now ∙ told))
           (holds_rewritten node areas pair_is sound keys side generation of.checkpoint of.written of.sound stands_rewritten)
         where
@@ -483,8 +483,8 @@ module _ {D : Type 0} (device : Disks D) (node : Node) (journal : Journal D) (so
           same_state one other same = cc
 
     -- what a stop leaves
-    pub left_same : (left : List ℕ) → StandsAsOrAfter device journal snapshot left → told_in node (areas_with device journal left) ≡ told_in node (areas_of device journal)
-    left_same left (inl same) = told_pair_same node (areas_with device journal left) (areas_of device journal) (areas_pair device journal left two) areas_now same
+    pub left_same : (left : List ℕ) → StandsAsOrAfter device journal snapshot left → decoded_in node (areas_with device journal left) ≡ decoded_in node (areas_of device journal)
+    left_same left (inl same) = decoded_pair_same node (areas_with device journal left) (areas_of device journal) (areas_pair device journal left two) areas_now same
     left_same left (inr after) = rewritten_same (areas_with device journal left) (areas_pair device journal left two) (other_side (side_in journal)) (generation_in journal + 1) after
 
     -- and where there is no room for it
@@ -554,23 +554,23 @@ module _ {D : Type 0} (device : Disks D) (node : Node) (journal : Journal D) (so
     | inl told ↦
         let older = (beside device journal alive two).older in
         let none = stands_by (side_in journal) live (sym (both_older (side_in journal) (generation_in journal) live other told older) ∙ now_empty) in
-        absurd (some_told (sym (tells_of_none live none) ∙ told))
+        absurd (some_decoded (sym (tells_of_none live none) ∙ told))
   ]
     where
-      some_told : ◌≡◌ {A = Option (Option ℕ)} None (Some (Some (generation_in journal))) → ⊥
-      some_told same = cc
+      some_decoded : ◌≡◌ {A = Option (Option ℕ)} None (Some (Some (generation_in journal))) → ⊥
+      some_decoded same = cc
 
   pub file_none : stands live ≡ Ok []
   file_none = stands_short live (omega (arith, ap length new_pair.empty))
 
-  told_fresh : told_in node (areas_of device journal) ≡ Ok (fresh node)
-  told_fresh = told_pair_records node (areas_of device journal) [] (areas_pair device journal other two) empty ∙ pair_none node
+  decoded_fresh : decoded_in node (areas_of device journal) ≡ Ok (fresh node)
+  decoded_fresh = decoded_pair_records node (areas_of device journal) [] (areas_pair device journal other two) empty ∙ pair_none node
 
   -- whatever a stop leaves of the first area
-  left_fresh : (left : List ℕ) → KeepsOrBegins versions.Second node live left → told_in node (pair_of (side_in journal) left other) ≡ told_in node (areas_of device journal)
+  left_fresh : (left : List ℕ) → KeepsOrBegins versions.Second node live left → decoded_in node (pair_of (side_in journal) left other) ≡ decoded_in node (areas_of device journal)
   left_fresh left keeps =
-      ap (λ (s : Side). told_in node (pair_of s left other)) new_pair.first
-      ∙ begun_told node sound keys left other new_pair.other_short live file_none keeps ∙ sym told_fresh
+      ap (λ (s : Side). decoded_in node (pair_of s left other)) new_pair.first
+      ∙ begun_decoded node sound keys left other new_pair.other_short live file_none keeps ∙ sym decoded_fresh
 
   module _ (new : Journal D) (same : spare_of new ≡ spare_of journal) (keeps : AtEachMoment device (disk_of journal) (disk_of new) (KeepsOrBegins versions.Second node live))
       (only_now : (disk : D) (c : List ℕ) → device.outcome_since disk (device.clock disk) c → device.outcome disk c)
@@ -589,13 +589,13 @@ module _ {D : Type 0} (device : Disks D) (node : Node) (journal : Journal D) (so
     disks_then i = by_area (side_same i) (disk_of new) (spare_same i)
 
     still : IsStill device (spare_disk journal)
-    still c left = (beside device journal alive two).firm c (only_now (spare_disk journal) c left)
+    still c left = (beside device journal alive two).durable c (only_now (spare_disk journal) c left)
 
-    moments : IsStage device (λ one also. told_in node (pair one also) ≡ told_in node (areas_of device journal)) (disks_of journal) (disks_of new)
+    moments : IsStage device (λ one also. decoded_in node (pair one also) ≡ decoded_in node (areas_of device journal)) (disks_of journal) (disks_of new)
     moments =
-        stage_of_live device (λ areas. told_in node areas ≡ told_in node (areas_of device journal)) (side_in journal) (disk_of journal) (spare_disk journal) (disk_of new)
+        stage_of_live device (λ areas. decoded_in node areas ≡ decoded_in node (areas_of device journal)) (side_in journal) (disk_of journal) (spare_disk journal) (disk_of new)
         (disks_of journal) (disks_of new) refl disks_then still
-        (weaker device (disk_of journal) (disk_of new) (λ left. told_in node (pair_of (side_in journal) left other) ≡ told_in node (areas_of device journal))
+        (weaker device (disk_of journal) (disk_of new) (λ left. decoded_in node (pair_of (side_in journal) left other) ≡ decoded_in node (areas_of device journal))
         (KeepsOrBegins versions.Second node live) keeps left_fresh)
 
     abbrev later : List ℕ
@@ -623,12 +623,12 @@ module _ {D : Type 0} (device : Disks D) (node : Node) (journal : Journal D) (so
         record {
           alive = alive_then;
           two = two_then;
-          same = ap (told_in node) areas_then ∙ begun_told node sound keys later other new_pair.other_short live file_none keeps_then ∙ sym told_fresh;
+          same = ap (decoded_in node) areas_then ∙ begun_decoded node sound keys later other new_pair.other_short live file_none keeps_then ∙ sym decoded_fresh;
           configured = λ none. some_record (sym is ∙ none);
           newest = newest_begun node (areas_of device new) (areas_pair device new (device.content (spare_disk new)) two_then) sound keys 0 is;
           kept = λ state stands_for.
-              let told = two_are_told node (areas_of device journal) (areas_pair device journal other two) keys state stands_for in
-              subst (Holds node (areas_of device new)) (same_state (fresh node) state (sym told_fresh ∙ told))
+              let told = two_are_decoded node (areas_of device journal) (areas_pair device journal other two) keys state stands_for in
+              subst (Holds node (areas_of device new)) (same_state (fresh node) state (sym decoded_fresh ∙ told))
               (subst (λ (a : Areas). Holds node a (fresh node)) (sym areas_then) (begun_holds node sound keys later other new_pair.other_short fresh_sound (written_then some)));
           errors = tt;
           full = tt;
@@ -670,21 +670,21 @@ module _ {D : Type 0} (device : Disks D) (node : Node) (journal : Journal D) (so
 module _ {D : Type 0} (device : Disks D) (node : Node) (journal new : Journal D) (two : IsSome (spare_of journal)) (alive : IsAlive device journal)
     (only_now : (disk : D) (c : List ℕ) → device.outcome_since disk (device.clock disk) c → device.outcome disk c) where
   live_still : IsStill device (disk_of journal)
-  live_still c left = alive.firm c (only_now (disk_of journal) c left)
+  live_still c left = alive.durable c (only_now (disk_of journal) c left)
 
   rewritten_moments : (now : D) → disks_of new ≡ by_area (side_in journal) (disk_of journal) now
-      → AtEachMoment device (spare_disk journal) now (λ left. told_in node (areas_with device journal left) ≡ told_in node (areas_of device journal))
-      → IsStage device (λ one other. told_in node (pair one other) ≡ told_in node (areas_of device journal)) (disks_of journal) (disks_of new)
+      → AtEachMoment device (spare_disk journal) now (λ left. decoded_in node (areas_with device journal left) ≡ decoded_in node (areas_of device journal))
+      → IsStage device (λ one other. decoded_in node (pair one other) ≡ decoded_in node (areas_of device journal)) (disks_of journal) (disks_of new)
   rewritten_moments now disks at =
-      stage_of_spare device (λ areas. told_in node areas ≡ told_in node (areas_of device journal)) (side_in journal) (disk_of journal) (spare_disk journal) now
+      stage_of_spare device (λ areas. decoded_in node areas ≡ decoded_in node (areas_of device journal)) (side_in journal) (disk_of journal) (spare_disk journal) now
       (disks_of journal) (disks_of new) refl disks live_still
-      (weaker device (spare_disk journal) now (λ left. told_in node (pair_of (side_in journal) (device.content (disk_of journal)) left) ≡ told_in node (areas_of device journal))
-      (λ left. told_in node (areas_with device journal left) ≡ told_in node (areas_of device journal)) at
-      (λ left same. ap (told_in node) (sym (areas_are device journal left two)) ∙ same))
+      (weaker device (spare_disk journal) now (λ left. decoded_in node (pair_of (side_in journal) (device.content (disk_of journal)) left) ≡ decoded_in node (areas_of device journal))
+      (λ left. decoded_in node (areas_with device journal left) ≡ decoded_in node (areas_of device journal)) at
+      (λ left same. ap (decoded_in node) (sym (areas_are device journal left two)) ∙ same))
 
-  pub migrated : (generation : ℕ) → IsAlive device new → HaveChangedPlaces journal new → told_in node (areas_of device new) ≡ told_in node (areas_of device journal)
+  pub migrated : (generation : ℕ) → IsAlive device new → HaveChangedPlaces journal new → decoded_in node (areas_of device new) ≡ decoded_in node (areas_of device journal)
       → stands_in (areas_of device new) ≢ Ok [] → IsNewest (areas_of device new) → KeepsStatesIn node (areas_of device journal) (areas_of device new)
-      → AtEachMoment device (spare_disk journal) (disk_of new) (λ left. told_in node (areas_with device journal left) ≡ told_in node (areas_of device journal))
+      → AtEachMoment device (spare_disk journal) (disk_of new) (λ left. decoded_in node (areas_with device journal left) ≡ decoded_in node (areas_of device journal))
       → TellsFault Device (device.faults (spare_disk journal)) (device.faults (disk_of new)) (counts generation)
       → IsRenewed {X = Unit {0}} node device journal (Ok tt) new
   migrated generation alive_then swapped same some newest states at cause =
@@ -705,7 +705,7 @@ module _ {D : Type 0} (device : Disks D) (node : Node) (journal new : Journal D)
 
   pub not_migrated : (error : JournalError) → HaveKeptPlaces journal new → disk_of new ≡ disk_of journal → (error ≡ Device) ⊎ (error ≡ Memory) ⊎ (error ≡ Full)
       → (error ≡ Full → IsFullAt node device journal) → (error ≢ Device → new ≡ journal)
-      → AtEachMoment device (spare_disk journal) (spare_disk new) (λ left. told_in node (areas_with device journal left) ≡ told_in node (areas_of device journal))
+      → AtEachMoment device (spare_disk journal) (spare_disk new) (λ left. decoded_in node (areas_with device journal left) ≡ decoded_in node (areas_of device journal))
       → TellsFault Device (device.faults (spare_disk journal)) (device.faults (spare_disk new)) (counts_none error) → IsRenewed {X = Unit {0}} node device journal (Err error) new
   not_migrated error places untouched errors full unchanged at cause =
       let disks : disks_of new ≡ by_area (side_in journal) (disk_of journal) (spare_disk new) = (λ i. by_area (places.side i) (untouched i) (spare_disk new)) in
@@ -738,9 +738,9 @@ module _ {D : Type 0} (device : Disks D) (node : Node) (journal new : Journal D)
     full = tt;
     cause = (refl, tt);
     unchanged = tt;
-    any_moment = stage_of_none device (λ areas. told_in node areas ≡ told_in node (areas_of device journal)) (side_in journal) (disk_of journal) (spare_disk journal)
+    any_moment = stage_of_none device (λ areas. decoded_in node areas ≡ decoded_in node (areas_of device journal)) (side_in journal) (disk_of journal) (spare_disk journal)
         (disks_of journal) refl live_still spare_still
-        (ap (told_in node) (sym (areas_are device journal (device.content (spare_disk journal)) two)));
+        (ap (decoded_in node) (sym (areas_are device journal (device.content (spare_disk journal)) two)));
   }
     where
       held : (state : State) → StandsFor node (areas_of device journal) state → Holds node (areas_of device journal) state
@@ -814,12 +814,12 @@ never_full (Err error) errors = no_lack error errors
 -- ---- the version of a journal
 
 -- where the first record has none there is no record
-pub none_of_version : (node : Node) (areas : Areas) (records : List Record) (state : State) → IsPair areas → stands_in areas ≡ Ok records → told_in node areas ≡ Ok state → version_in records ≡ None
+pub none_of_version : (node : Node) (areas : Areas) (records : List Record) (state : State) → IsPair areas → stands_in areas ≡ Ok records → decoded_in node areas ≡ Ok state → version_in records ≡ None
     → stands_in areas ≡ Ok []
 none_of_version node areas [] state two is told none = is
 none_of_version node areas (first ∷ rest) state two is told none =
-    let read = sym (told_pair_records node areas (first ∷ rest) two is) ∙ told in
-    let free = (unless_ok (own_fault node first) (read_behind node first rest) state (sym (pair_first node first rest) ∙ read)).0 in
+    let read = sym (decoded_pair_records node areas (first ∷ rest) two is) ∙ told in
+    let free = (unless_ok (own_fault node first) (read_after node first rest) state (sym (pair_first node first rest) ∙ read)).0 in
     absurd (some_version (sym (own_is node first free).shape ∙ none))
   where
     some_version : {version : Version} → ◌≡◌ {A = Option Version} (Some version) None → ⊥

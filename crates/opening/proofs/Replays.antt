@@ -16,7 +16,7 @@ use Rattle.validator.specs.Setting.{ConfigView, node_of}
 use Rattle.validator.specs.Standing.{AreAtSound, ValidatorView}
 use Rattle.journal.specs.Configuration.{shaped_version}
 use Rattle.std.specs.Option.{option_map_or}
-use Rattle.opening.specs.Told.{IsText, StandsAt, read_event, read_events, go_on, or_damaged, unless, is_alone, is_own, mismatch, own_fault, read_journal}
+use Rattle.opening.specs.Decoded.{IsText, StandsAt, read_event, read_events, go_on, or_damaged, unless, is_alone, is_own, mismatch, own_fault, read_journal}
 use Rattle.opening.specs.Replayed.{HasReplayed, first_gate, read_apart}
 use Rattle.opening.proofs.Telling.{ok_weaker, err_weaker, read_nil, fails_not, journal_nil, journal_cons}
 

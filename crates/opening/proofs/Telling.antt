@@ -29,10 +29,10 @@ use Rattle.validator.specs.Standing.{AreAtSound}
 use Rattle.wire.specs.Reading.{Faults, message_of}
 use Rattle.wire.specs.declared.error.WireError.{WireError}
 use Rattle.wire.specs.declared.error.WireError.TheVariants as wire
-use Rattle.opening.specs.Told.{checked_in, sender_in, event_in, with_new, read_event, go_on, read_events, or_damaged, unless, can_tell}
+use Rattle.opening.specs.Decoded.{checked_in, sender_in, event_in, with_new, read_event, go_on, read_events, or_damaged, unless, can_tell}
 use Rattle.journal.specs.Configuration.{shaped_version}
-use Rattle.opening.specs.Told.{first_version, is_own, mismatch, first_fault, read_journal, told_by, told, Tells, StandsAt, IsOld}
-use Rattle.opening.specs.Told.{IsToldAsOneOf, KeepsOrBegins, KeepsRecords}
+use Rattle.opening.specs.Decoded.{first_version, is_own, mismatch, first_fault, read_journal, decoded_by, decoded, Tells, StandsAt, IsOld}
+use Rattle.opening.specs.Decoded.{IsDecodedAsOneOf, KeepsOrBegins, KeepsRecords}
 use Rattle.opening.proofs.Configured.{told_of}
 
 -- an error of which more is known
@@ -203,22 +203,22 @@ pub fault_none : (node : Node) (first : Record) (events : List Record) (version 
 fault_none node first events version own is own_is so = fault_own node first events version is ∙ ap mismatch (sym own_is ∙ so)
 
 -- an error of a reading of records is that of the journal after a first record without a fault
-pub fails_told : (fault : Option JournalError) (read : Result State ℕ) (error : JournalError) → fault ≡ None → FailsAs error read → Tells error (unless fault read)
-fails_told fault read Memory none fails = tt
-fails_told fault read (Damaged gate) none fails = ap (λ (f : Option JournalError). unless f read) none ∙ ap or_damaged fails
-fails_told fault read Device none fails = absurd fails
-fails_told fault read ConfigMismatch none fails = absurd fails
-fails_told fault read Full none fails = absurd fails
+pub fails_decoded : (fault : Option JournalError) (read : Result State ℕ) (error : JournalError) → fault ≡ None → FailsAs error read → Tells error (unless fault read)
+fails_decoded fault read Memory none fails = tt
+fails_decoded fault read (Damaged gate) none fails = ap (λ (f : Option JournalError). unless f read) none ∙ ap or_damaged fails
+fails_decoded fault read Device none fails = absurd fails
+fails_decoded fault read ConfigMismatch none fails = absurd fails
+fails_decoded fault read Full none fails = absurd fails
 
-pub fault_told : (fault : Option JournalError) (read : Result State ℕ) (error : JournalError) → (error ≢ Memory → fault ≡ Some error) → Tells error (unless fault read)
-fault_told fault read Memory is = tt
-fault_told fault read (Damaged gate) is = ap (λ (f : Option JournalError). unless f read) (is (λ same. cc))
-fault_told fault read Device is = ap (λ (f : Option JournalError). unless f read) (is (λ same. cc))
-fault_told fault read ConfigMismatch is = ap (λ (f : Option JournalError). unless f read) (is (λ same. cc))
-fault_told fault read Full is = ap (λ (f : Option JournalError). unless f read) (is (λ same. cc))
+pub fault_decoded : (fault : Option JournalError) (read : Result State ℕ) (error : JournalError) → (error ≢ Memory → fault ≡ Some error) → Tells error (unless fault read)
+fault_decoded fault read Memory is = tt
+fault_decoded fault read (Damaged gate) is = ap (λ (f : Option JournalError). unless f read) (is (λ same. cc))
+fault_decoded fault read Device is = ap (λ (f : Option JournalError). unless f read) (is (λ same. cc))
+fault_decoded fault read ConfigMismatch is = ap (λ (f : Option JournalError). unless f read) (is (λ same. cc))
+fault_decoded fault read Full is = ap (λ (f : Option JournalError). unless f read) (is (λ same. cc))
 
-pub ok_told : (fault : Option JournalError) (read : Result State ℕ) (state : State) → fault ≡ None → read ≡ Ok state → unless fault read ≡ Ok state
-ok_told fault read state none is = ap (λ (f : Option JournalError). unless f read) none ∙ ap or_damaged is
+pub ok_decoded : (fault : Option JournalError) (read : Result State ℕ) (state : State) → fault ≡ None → read ≡ Ok state → unless fault read ≡ Ok state
+ok_decoded fault read state none is = ap (λ (f : Option JournalError). unless f read) none ∙ ap or_damaged is
 
 pub journal_nil : (node : Node) → read_journal node [] ≡ Ok (fresh node)
 unfolding read_journal
@@ -228,17 +228,17 @@ pub journal_cons : (node : Node) (first : Record) (events : List Record) → rea
 unfolding read_journal
 journal_cons node first events = refl
 
-pub told_same : (node : Node) (one other : List ℕ) → stands one ≡ stands other → told node one ≡ told node other
-unfolding told
-told_same node one other same = ap (told_by node) same
+pub decoded_same : (node : Node) (one other : List ℕ) → stands one ≡ stands other → decoded node one ≡ decoded node other
+unfolding decoded
+decoded_same node one other same = ap (decoded_by node) same
 
-pub told_records : (node : Node) (bytes : List ℕ) (records : List Record) → stands bytes ≡ Ok records → told node bytes ≡ read_journal node records
-unfolding told
-told_records node bytes records is = ap (told_by node) is
+pub decoded_records : (node : Node) (bytes : List ℕ) (records : List Record) → stands bytes ≡ Ok records → decoded node bytes ≡ read_journal node records
+unfolding decoded
+decoded_records node bytes records is = ap (decoded_by node) is
 
-pub told_damaged : (node : Node) (bytes : List ℕ) (place : ℕ) → stands bytes ≡ Err place → told node bytes ≡ Err (Damaged place)
-unfolding told
-told_damaged node bytes place is = ap (told_by node) is
+pub decoded_damaged : (node : Node) (bytes : List ℕ) (place : ℕ) → stands bytes ≡ Err place → decoded node bytes ≡ Err (Damaged place)
+unfolding decoded
+decoded_damaged node bytes place is = ap (decoded_by node) is
 
 -- a reading that gave this error
 pub tells_is : (error : JournalError) (read : Result State JournalError) → read ≡ Err error → Tells error read
@@ -253,17 +253,17 @@ pub tells_same : (error : JournalError) (one other : Result State JournalError) 
 tells_same error one other same tells = subst (Tells error) same tells
 
 -- where the first record has no fault tables stand at what the others have
-stands_unless : (node : Node) (fault : Option JournalError) (read : Result State ℕ) (told_is : Result State JournalError) (tables : Tables)
-    → told_is ≡ unless fault read → fault ≡ None → StandsAt node read tables → StandsAt node told_is tables
-stands_unless node fault read told_is tables is none stands = record {
+stands_unless : (node : Node) (fault : Option JournalError) (read : Result State ℕ) (decoded_is : Result State JournalError) (tables : Tables)
+    → decoded_is ≡ unless fault read → fault ≡ None → StandsAt node read tables → StandsAt node decoded_is tables
+stands_unless node fault read decoded_is tables is none stands = record {
   state = stands.state;
-  is_read = is ∙ ok_told fault read stands.state none stands.is_read;
+  is_read = is ∙ ok_decoded fault read stands.state none stands.is_read;
   at = stands.at;
 }
 
-pub stands_behind : (node : Node) (first : Record) (events : List Record) (tables : Tables) → first_fault node first events ≡ None → StandsAt node (read_events node (fresh node) events) tables
+pub stands_after : (node : Node) (first : Record) (events : List Record) (tables : Tables) → first_fault node first events ≡ None → StandsAt node (read_events node (fresh node) events) tables
     → StandsAt node (read_journal node (first ∷ events)) tables
-stands_behind node first events tables none stands = stands_unless node (first_fault node first events) (read_events node (fresh node) events)
+stands_after node first events tables none stands = stands_unless node (first_fault node first events) (read_events node (fresh node) events)
     (read_journal node (first ∷ events)) tables (journal_cons node first events) none stands
 
 -- without records the others are none
@@ -274,13 +274,13 @@ pub stands_fresh : (node : Node) (tables : Tables) → StandsAt node (read_event
 stands_fresh node tables stands = stands_unless node None (read_events node (fresh node) []) (read_journal node []) tables (fresh_is node) refl stands
 
 -- an error of the others
-pub fails_behind : (node : Node) (first : Record) (events : List Record) (error : JournalError) → first_fault node first events ≡ None → FailsAs error (read_events node (fresh node) events)
+pub fails_after : (node : Node) (first : Record) (events : List Record) (error : JournalError) → first_fault node first events ≡ None → FailsAs error (read_events node (fresh node) events)
     → Tells error (read_journal node (first ∷ events))
-fails_behind node first events error none fails =
-    tells_same error _ _ (sym (journal_cons node first events)) (fails_told (first_fault node first events) (read_events node (fresh node) events) error none fails)
+fails_after node first events error none fails =
+    tells_same error _ _ (sym (journal_cons node first events)) (fails_decoded (first_fault node first events) (read_events node (fresh node) events) error none fails)
 
 pub fails_fresh : (node : Node) (error : JournalError) → FailsAs error (read_events node (fresh node) []) → Tells error (read_journal node [])
-fails_fresh node error fails = tells_same error _ _ (sym (fresh_is node)) (fails_told None (read_events node (fresh node) []) error refl fails)
+fails_fresh node error fails = tells_same error _ _ (sym (fresh_is node)) (fails_decoded None (read_events node (fresh node) []) error refl fails)
 
 pub fails_not : (error : JournalError) (read : Result State ℕ) → FailsAs error read → (error ≢ Device) × (error ≢ Full)
 fails_not Memory read fails = ((λ same. cc), (λ same. cc))
@@ -298,40 +298,40 @@ bytes_same bytes = elim (cases_Bool (bytes_eq bytes bytes)) [ inl so ↦ so | in
 -- ---- the configuration written
 
 -- a journal told as without records stays so with the configuration alone
-told_written : (version : Version) (node : Node) (before behind : List ℕ) (place : ℕ) → can_tell version node.charter ≡ true
+decoded_written : (version : Version) (node : Node) (before following : List ℕ) (place : ℕ) → can_tell version node.charter ≡ true
     → shaped_version (configuration_of version node.charter node.own) ≡ Some version → stands before ≡ Ok []
-    → stands behind ≡ Ok (kept_at place (configuration_of version node.charter node.own) ∷ []) → told node behind ≡ told node before
-told_written version node before behind place tells shape none written =
+    → stands following ≡ Ok (kept_at place (configuration_of version node.charter node.own) ∷ []) → decoded node following ≡ decoded node before
+decoded_written version node before following place tells shape none written =
     let one = kept_at place (configuration_of version node.charter node.own) in
     let own : is_own node one.bytes version ≡ true = and_from (can_tell version node.charter) (bytes_eq one.bytes one.bytes) tells (bytes_same one.bytes) in
     let free : first_fault node one [] ≡ None = fault_none node one [] version (is_own node one.bytes version) shape refl own in
-    told_records node behind (one ∷ []) written ∙ journal_cons node one [] ∙ ap (λ (f : Option JournalError). unless f (read_events node (fresh node) [])) free
+    decoded_records node following (one ∷ []) written ∙ journal_cons node one [] ∙ ap (λ (f : Option JournalError). unless f (read_events node (fresh node) [])) free
     ∙ ap or_damaged (read_nil node (fresh node))
-    ∙ sym (told_records node before [] none ∙ journal_nil node)
+    ∙ sym (decoded_records node before [] none ∙ journal_nil node)
 
 -- so does whatever a stop leaves while it is written
-pub told_before_or_after : (version : Version) (node : Node) (before left : List ℕ) → CanTell version node.charter
+pub decoded_before_or_after : (version : Version) (node : Node) (before left : List ℕ) → CanTell version node.charter
     → shaped_version (configuration_of version node.charter node.own) ≡ Some version → stands before ≡ Ok []
-    → IsBeforeOrAfter before (configuration_of version node.charter node.own ∷ []) left → told node left ≡ told node before
-told_before_or_after version node before left can shape none (inl same) = told_same node left before same
-told_before_or_after version node before left can shape none (inr with_it) =
-    told_written version node before left (length before - 1) (told_of version node.charter can) shape none
+    → IsBeforeOrAfter before (configuration_of version node.charter node.own ∷ []) left → decoded node left ≡ decoded node before
+decoded_before_or_after version node before left can shape none (inl same) = decoded_same node left before same
+decoded_before_or_after version node before left can shape none (inr with_it) =
+    decoded_written version node before left (length before - 1) (told_of version node.charter can) shape none
     (with_it ∙ ap (with_group (length before - 1) (configuration_of version node.charter node.own ∷ [])) none)
 
 -- ---- openings
 
 -- an opening of the journal fails by what is told, or by memory or the disk
 pub opening_fails : (node : Node) (bytes : List ℕ) (error : JournalError) → ((gate : ℕ) → error ≡ Damaged gate → stands bytes ≡ Err gate) → error ≢ Full → error ≢ ConfigMismatch → error ≢ Device
-    → Tells error (told node bytes)
+    → Tells error (decoded node bytes)
 opening_fails node bytes Memory damaged full config device = tt
-opening_fails node bytes (Damaged gate) damaged full config device = told_damaged node bytes gate (damaged gate refl)
+opening_fails node bytes (Damaged gate) damaged full config device = decoded_damaged node bytes gate (damaged gate refl)
 opening_fails node bytes Device damaged full config device = absurd (device refl)
 opening_fails node bytes ConfigMismatch damaged full config device = absurd (config refl)
 opening_fails node bytes Full damaged full config device = absurd (full refl)
 
-pub as_one_of : (node : Node) (outcome : List ℕ → Type 0) (left : List ℕ) → StandsAsOneOf outcome left → IsToldAsOneOf node outcome left
+pub as_one_of : (node : Node) (outcome : List ℕ → Type 0) (left : List ℕ) → StandsAsOneOf outcome left → IsDecodedAsOneOf node outcome left
 as_one_of node outcome left (inl possible) = (left, possible, refl)
-as_one_of node outcome left (inr (first, possible, (records, before, after))) = (first, possible, told_same node left first (after ∙ sym before))
+as_one_of node outcome left (inr (first, possible, (records, before, after))) = (first, possible, decoded_same node left first (after ∙ sym before))
 
 -- an opening of the journal leaves one outcome, or the records of one
 pub keeps_one : (node : Node) (outcome : List ℕ → Type 0) (left : List ℕ) → StandsAsOneOf outcome left → KeepsRecords node outcome left

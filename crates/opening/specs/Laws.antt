@@ -19,8 +19,8 @@ use Rattle.spec_model.specs.Histories.{History}
 use Rattle.spec_model.specs.Nodes.{Node, IsNode}
 use Rattle.spec_model.specs.States.{State}
 use Rattle.opening.specs.Renewing.{KeepsStatesIn, IsFullOf, IsNewest, HasBegun, IsReadOn}
-use Rattle.opening.specs.Stages.{IsToldThroughout}
-use Rattle.opening.specs.Told.{told, told_in, Tells, StandsAt, IsToldAsOneOf, KeepsRecords}
+use Rattle.opening.specs.Stages.{IsDecodedThroughout}
+use Rattle.opening.specs.Decoded.{decoded, decoded_in, Tells, StandsAt, IsDecodedAsOneOf, KeepsRecords}
 use Rattle.admission.specs.declared.tables.Tables.{Tables}
 use Rattle.sigface.specs.Scheme.{Scheme}
 use Rattle.validator.specs.Setting.{ConfigView, node_of}
@@ -39,24 +39,24 @@ pub record IsOfBytes (node : Node) (bytes : List ℕ) (state : State) : Type 0 w
   pub keeps : kept node history ≡ state
 
 -- what bytes are told as is such a state
-abbrev pub ToldStandsFor : Type 0
-ToldStandsFor = (node : Node) (bytes : List ℕ) (state : State) → IsNode node → AreBytes bytes → told node bytes ≡ Ok state
+abbrev pub DecodedStandsFor : Type 0
+DecodedStandsFor = (node : Node) (bytes : List ℕ) (state : State) → IsNode node → AreBytes bytes → decoded node bytes ≡ Ok state
     → IsOfBytes node bytes state
 
 -- and each state for which bytes stand is what they are told as
-abbrev pub WhatStandsIsTold : Type 0
-WhatStandsIsTold = (node : Node) (bytes : List ℕ) (state : State) → AreKeys node → StandsFor node (alone bytes) state → told node bytes ≡ Ok state
+abbrev pub WhatStandsIsDecoded : Type 0
+WhatStandsIsDecoded = (node : Node) (bytes : List ℕ) (state : State) → AreKeys node → StandsFor node (alone bytes) state → decoded node bytes ≡ Ok state
 
 -- bytes are told as what is kept of a history that the world promises to be found again
 pub record IsFound (node : Node) (world : World) (bytes : List ℕ) : Type 0 where
   pub history : History
-  pub is_told : told node bytes ≡ Ok (kept node history)
+  pub is_told : decoded node bytes ≡ Ok (kept node history)
   pub stands_for : StandsFor node (alone bytes) (kept node history)
   pub recovered : IsRecovered node world history
 
 -- whatever a stop leaves of one disk in a world of the node is told so
-abbrev pub WorldsAreTold : Type 0
-WorldsAreTold = (node : Node) (moves : List Move) (world : World) (bytes : List ℕ) → IsNode node → AreKeys node → IsRun node moves world
+abbrev pub WorldsAreDecoded : Type 0
+WorldsAreDecoded = (node : Node) (moves : List Move) (world : World) (bytes : List ℕ) → IsNode node → AreKeys node → IsRun node moves world
     → MayStop world (alone bytes) → IsFound node world bytes
 
 -- ---- the same of one disk or of two
@@ -72,24 +72,24 @@ pub record IsOfAreas (node : Node) (areas : Areas) (state : State) : Type 0 wher
   pub sound : IsSound node state
 
 -- what areas are told as is such a state
-abbrev pub ToldInStandsFor : Type 0
-ToldInStandsFor = (node : Node) (areas : Areas) (state : State) → IsNode node → AreBytesIn areas → told_in node areas ≡ Ok state
+abbrev pub DecodedInStandsFor : Type 0
+DecodedInStandsFor = (node : Node) (areas : Areas) (state : State) → IsNode node → AreBytesIn areas → decoded_in node areas ≡ Ok state
     → IsOfAreas node areas state
 
 -- and each state for which areas stand is what they are told as
-abbrev pub WhatStandsIsToldIn : Type 0
-WhatStandsIsToldIn = (node : Node) (areas : Areas) (state : State) → IsNode node → AreKeys node → StandsFor node areas state → told_in node areas ≡ Ok state
+abbrev pub WhatStandsIsDecodedIn : Type 0
+WhatStandsIsDecodedIn = (node : Node) (areas : Areas) (state : State) → IsNode node → AreKeys node → StandsFor node areas state → decoded_in node areas ≡ Ok state
 
 -- areas are told as what is kept of a history that the world promises to be found again
 pub record IsFoundIn (node : Node) (world : World) (areas : Areas) : Type 0 where
   pub history : History
-  pub is_told : told_in node areas ≡ Ok (kept node history)
+  pub is_told : decoded_in node areas ≡ Ok (kept node history)
   pub stands_for : StandsFor node areas (kept node history)
   pub recovered : IsRecovered node world history
 
 -- whatever a stop leaves in a world of the node is told so
-abbrev pub WorldsAreToldIn : Type 0
-WorldsAreToldIn = (node : Node) (moves : List Move) (world : World) (areas : Areas) → IsNode node → AreKeys node → IsRun node moves world
+abbrev pub WorldsAreDecodedIn : Type 0
+WorldsAreDecodedIn = (node : Node) (moves : List Move) (world : World) (areas : Areas) → IsNode node → AreKeys node → IsRun node moves world
     → MayStop world areas → IsFoundIn node world areas
 
 -- ---- what an opening answers
@@ -104,7 +104,7 @@ pub record StandsForAt (node : Node) (bytes : List ℕ) (tables : Tables) : Type
 -- bytes are a journal of the node at what is kept of a legal history, they are told as that, and tables stand there
 pub record HoldsAt (node : Node) (bytes : List ℕ) (tables : Tables) : Type 0 where
   pub history : History
-  pub told_as : told node bytes ≡ Ok (kept node history)
+  pub told_as : decoded node bytes ≡ Ok (kept node history)
   pub holds : Holds node (alone bytes) (kept node history)
   pub legal : IsLegal node history
   pub at : AreAtSound node tables (kept node history)
@@ -121,8 +121,8 @@ pub record IsLeft (node : Node) (bytes : List ℕ) : Type 0 where
   pub may_stop : MayStop world (alone bytes)
 
 -- all of that is told as a state
-abbrev pub AreLeftTold : Node → Type 0
-AreLeftTold node = (bytes : List ℕ) → IsLeft node bytes → (state : State) × (told node bytes ≡ Ok state)
+abbrev pub AreLeftDecoded : Node → Type 0
+AreLeftDecoded node = (bytes : List ℕ) → IsLeft node bytes → (state : State) × (decoded node bytes ≡ Ok state)
 
 -- only the disk or the memory failed
 abbrev pub IsNoRefusal : JournalError → Type 0
@@ -131,12 +131,12 @@ IsNoRefusal error = (error ≡ Device) ⊎ (error ≡ Memory)
 -- What an opening of a disk answers and leaves, whatever it gives. The disk is in what it gives, or handed back with the error.
 pub record IsOpening {T D : Type 0} (node : Node) (device : Disks D) (disk_in : T → D) (disk : D) (result : Result T (Failed JournalError D)) : Type 0 where
   -- each error but those of memory and of the disk is what the bytes are read as
-  pub tells : IfErr result (λ failed. failed.error ≢ Device → Tells failed.error (told node (device.content disk)))
+  pub tells : IfErr result (λ failed. failed.error ≢ Device → Tells failed.error (decoded node (device.content disk)))
   pub never_full : IfErr result (λ failed. failed.error ≢ Full)
   -- it answers Device exactly where the disk has failed
   pub cause : TellsFaultBack device disk_in Device disk result
   -- a stop at any moment leaves what is read as one outcome from before it is
-  pub any_moment : AtEachMoment device disk (disk_after disk_in result) (IsToldAsOneOf node (device.outcome disk))
+  pub any_moment : AtEachMoment device disk (disk_after disk_in result) (IsDecodedAsOneOf node (device.outcome disk))
   -- It leaves the records, whoever's they are, or where there are none the configuration alone. What it leaves that stands for no records
   -- is an outcome from before it, byte for byte.
   pub keeps : AtEachMoment device disk (disk_after disk_in result) (KeepsRecords node (device.outcome disk))
@@ -154,7 +154,7 @@ pub record StandsForIn (node : Node) (areas : Areas) (tables : Tables) : Type 0 
 -- areas are a journal of the node at a state, they are told as that, and tables stand there
 pub record HoldsIn (node : Node) (areas : Areas) (tables : Tables) : Type 0 where
   pub state : State
-  pub told_as : told_in node areas ≡ Ok state
+  pub told_as : decoded_in node areas ≡ Ok state
   pub holds : Holds node areas state
   pub at : AreAtSound node tables state
 
@@ -176,8 +176,8 @@ pub record IsLeftIn (node : Node) (areas : Areas) : Type 0 where
   pub may_stop : MayStop world areas
 
 -- all of that is told as a state
-abbrev pub AreLeftToldIn : Node → Type 0
-AreLeftToldIn node = (areas : Areas) → IsLeftIn node areas → (state : State) × (told_in node areas ≡ Ok state)
+abbrev pub AreLeftDecodedIn : Node → Type 0
+AreLeftDecodedIn node = (areas : Areas) → IsLeftIn node areas → (state : State) × (decoded_in node areas ≡ Ok state)
 
 -- only the disks or the memory failed, or a journal in the first version has no room for its checkpoint
 abbrev pub IsNoRefusalOfBoth : JournalError → Type 0
@@ -204,12 +204,12 @@ KeepsAlone node device old new = ⊥
 -- What an opening of one disk or of two answers and leaves, whatever it gives. The disks are in what it gives, or handed back with the error.
 pub record IsOpeningOn {T D : Type 0} (node : Node) (device : Disks D) (disks_in : T → Store D) (store : Store D) (result : Result T (Failed JournalError (Store D))) : Type 0 where
   -- each error but those of memory, of the disks and of a lack of room is what the areas are read as
-  pub tells : IfErr result (λ failed. failed.error ≢ Device → failed.error ≢ Full → Tells failed.error (told_in node (areas_in device store)))
+  pub tells : IfErr result (λ failed. failed.error ≢ Device → failed.error ≢ Full → Tells failed.error (decoded_in node (areas_in device store)))
   pub full : IfErr result (λ failed. failed.error ≡ Full → IsFullIn node device store)
   -- it answers Device exactly where a disk has failed
   pub cause : TellsFaultsBack (faults_in device) disks_in Device store result
   -- a stop at any moment leaves what is read as one outcome from before it is
-  pub any_moment : IsToldThroughout node device store (disk_after disks_in result)
+  pub any_moment : IsDecodedThroughout node device store (disk_after disks_in result)
   pub keeps : KeepsAlone node device store (disk_after disks_in result)
   -- what a stop leaves in a world of the node is never refused
   pub never_refused : IfErr result (λ failed. IsLeftIn node (areas_in device store) → IsNoRefusalOfBoth failed.error)
@@ -220,8 +220,8 @@ pub record IsOpeningOn {T D : Type 0} (node : Node) (device : Disks D) (disks_in
 pub record IsOpenedIn {S D : Type 0} (scheme : Scheme S) (device : Disks D) (setting : ConfigView S) (store : Store D)
     (result : Result (ValidatorView S × Journal D) (Failed JournalError (Store D))) : Type 0 where
   pub set : IfOk result (λ opened. opened.0.setting ≡ setting)
-  pub stands : IfOk result (λ opened. StandsAt (node_of scheme setting) (told_in (node_of scheme setting) (areas_in device store)) opened.0.tables)
-  pub same : IfOk result (λ opened. told_in (node_of scheme setting) (areas_of device opened.1) ≡ told_in (node_of scheme setting) (areas_in device store))
+  pub stands : IfOk result (λ opened. StandsAt (node_of scheme setting) (decoded_in (node_of scheme setting) (areas_in device store)) opened.0.tables)
+  pub same : IfOk result (λ opened. decoded_in (node_of scheme setting) (areas_of device opened.1) ≡ decoded_in (node_of scheme setting) (areas_in device store))
   pub alive : IfOk result (λ opened. IsAlive device opened.1)
   pub configured : IfOk result (λ opened. stands_in (areas_of device opened.1) ≢ Ok [])
   pub begun : IfOk result (λ opened. HasBegun device opened.1)

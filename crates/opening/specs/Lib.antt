@@ -6,4 +6,4 @@ pub mod Renewing
 pub mod Replayed
 pub mod Replays
 pub mod Stages
-pub mod Told
+pub mod Decoded

@@ -16,7 +16,7 @@ use Rattle.spec_world.specs.World.{bytes_of}
 use Rattle.validator.specs.Loading.{LoadingView}
 use Rattle.validator.specs.Setting.{ConfigView, node_of}
 use Rattle.validator.specs.Standing.{AreAtSound, ValidatorView}
-use Rattle.opening.specs.Told.{own_fault, or_damaged, read_events, is_event, gates_of, gate_of, read_pair}
+use Rattle.opening.specs.Decoded.{own_fault, or_damaged, read_events, is_event, gates_of, gate_of, read_pair}
 use Rattle.opening.specs.declared.reached.Reached.{Reached}
 use Rattle.opening.specs.declared.reached.Reached.TheVariants.{Empty, Configured, Checkpoint, Standing, Failed}
 

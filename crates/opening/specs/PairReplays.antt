@@ -3,7 +3,7 @@ use Rattle.std.specs.Prelude.{◌≡◌, All, List, ◌++◌}
 use Rattle.journal.specs.declared.record.Record.{Record}
 use Rattle.sigface.specs.Scheme.{Scheme}
 use Rattle.opening.specs.PairReplayed.{version_in, HasReached}
-use Rattle.opening.specs.Told.{IsText}
+use Rattle.opening.specs.Decoded.{IsText}
 use Rattle.opening.specs.declared.pair_replay.PairReplay.{PairReplay}
 
 -- it has taken these records

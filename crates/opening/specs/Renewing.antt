@@ -25,7 +25,7 @@ use Rattle.spec_model.specs.States.{State}
 use Rattle.spec_world.specs.World.{own_configuration, Holds, StandsFor}
 use Rattle.opening.specs.PairReplayed.{version_in}
 use Rattle.opening.specs.Stages.{IsStage}
-use Rattle.opening.specs.Told.{told_in}
+use Rattle.opening.specs.Decoded.{decoded_in}
 
 -- at each state for which the first areas stand, the second ones are a journal of the node
 abbrev pub KeepsStatesIn : Node → Areas → Areas → Type 0
@@ -59,19 +59,19 @@ pub record IsFullOf (node : Node) (one other : List ℕ) : Type 0 where
   pub generation : ℕ
   pub chosen : IsChoice side generation (tells one) (tells other)
   pub state : State
-  pub is_told : told_in node (pair one other) ≡ Ok state
+  pub is_told : decoded_in node (pair one other) ≡ Ok state
   pub no_room : HasNoRoom node generation state
 
 -- the same of a journal that is open, whatever its version
 pub record IsFullAt {D : Type 0} (node : Node) (device : Disks D) (journal : Journal D) : Type 0 where
   pub state : State
-  pub is_told : told_in node (areas_of device journal) ≡ Ok state
+  pub is_told : decoded_in node (areas_of device journal) ≡ Ok state
   pub no_room : HasNoRoom node (generation_in journal) state
 
 -- a journal that is open is told as a state of which a checkpoint has room
 pub record HasRoomAt {D : Type 0} (node : Node) (device : Disks D) (journal : Journal D) : Type 0 where
   pub state : State
-  pub is_told : told_in node (areas_of device journal) ≡ Ok state
+  pub is_told : decoded_in node (areas_of device journal) ≡ Ok state
   pub room : HasRoom node (generation_in journal) state
 
 -- of a journal on two disks the area that is read has its first group, which says its generation
@@ -86,7 +86,7 @@ IsNewest areas = (first : Record) (rest : List Record) → stands_in areas ≡ O
 pub record IsRenewed {X D : Type 0} (node : Node) (device : Disks D) (old : Journal D) (result : Result X JournalError) (new : Journal D) : Type 0 where
   pub alive : OnOk result (IsAlive device new)
   pub two : IsSome (spare_of new)
-  pub same : OnOk result (told_in node (areas_of device new) ≡ told_in node (areas_of device old))
+  pub same : OnOk result (decoded_in node (areas_of device new) ≡ decoded_in node (areas_of device old))
   pub configured : OnOk result (stands_in (areas_of device new) ≢ Ok [])
   pub newest : OnOk result (IsNewest (areas_of device new))
   pub kept : OnOk result (KeepsStatesIn node (areas_of device old) (areas_of device new))
@@ -94,7 +94,7 @@ pub record IsRenewed {X D : Type 0} (node : Node) (device : Disks D) (old : Jour
   pub full : IfErr result (λ error. error ≡ Full → IsFullAt node device old)
   pub cause : TellsFault Device (faults_of_both device (disks_of old)) (faults_of_both device (disks_of new)) result
   pub unchanged : IfErr result (λ error. error ≢ Device → new ≡ old)
-  pub any_moment : IsStage device (λ one other. told_in node (pair one other) ≡ told_in node (areas_of device old)) (disks_of old) (disks_of new)
+  pub any_moment : IsStage device (λ one other. decoded_in node (pair one other) ≡ decoded_in node (areas_of device old)) (disks_of old) (disks_of new)
 
 -- a journal on two disks was rewritten as a checkpoint: that had room, and the other area is read now, whose generation is one more
 pub record IsRewritten {D : Type 0} (node : Node) (device : Disks D) (old new : Journal D) : Type 0 where
@@ -115,5 +115,5 @@ pub record IsReadOn {D : Type 0} (node : Node) (one other : List ℕ) (journal :
   pub generation : ℕ
   pub chosen : IsChoice side generation (tells one) (tells other)
   pub rewritten : version_in records ≡ Some First → (side_in journal ≡ other_side side) × (generation_in journal ≡ generation + 1)
-  pub room : version_in records ≡ Some First → (state : State) × (told_in node (pair one other) ≡ Ok state) × HasRoom node generation state
+  pub room : version_in records ≡ Some First → (state : State) × (decoded_in node (pair one other) ≡ Ok state) × HasRoom node generation state
   pub stays : version_in records ≢ Some First → (side_in journal ≡ side) × (generation_in journal ≡ generation)

@@ -9,7 +9,7 @@ use Rattle.spec_model.specs.Nodes.{Node}
 use Rattle.spec_model.specs.States.{State}
 use Rattle.validator.specs.Setting.{ConfigView, node_of}
 use Rattle.validator.specs.Standing.{ValidatorView}
-use Rattle.opening.specs.Told.{IsText, StandsAt, read_events, own_fault, is_alone, unless}
+use Rattle.opening.specs.Decoded.{IsText, StandsAt, read_events, own_fault, is_alone, unless}
 
 -- the state after the events of a journal's records, or why they are none, in whichever groups they stand
 abbrev pub read_apart : Node → List Record → Result State JournalError

@@ -5,7 +5,7 @@ use Rattle.journal.specs.Areas.{pair}
 use Rattle.journal.specs.declared.store.Store.{Store}
 use Rattle.journal.specs.declared.store.Store.TheVariants.{One, Two}
 use Rattle.spec_model.specs.Nodes.{Node}
-use Rattle.opening.specs.Told.{told_in, IsToldAsOneOf}
+use Rattle.opening.specs.Decoded.{decoded_in, IsDecodedAsOneOf}
 
 -- Two disks come from one state to another, each over moments of its own: whatever a stop may have left of one of them meanwhile has P with
 -- whatever it may have left of the other one.
@@ -22,13 +22,13 @@ abbrev pub InStages : {D : Type 0} → Device D → (List ℕ → List ℕ → T
 InStages {D} device P old new = (states : List (D × D)) × AreStages device P old states new
 
 -- what a stop leaves of two disks is told as one outcome of both is
-abbrev pub IsToldAsBoth : {D : Type 0} → Node → Device D → D × D → List ℕ → List ℕ → Type 0
-IsToldAsBoth node device disks one other =
-    (first : List ℕ) × (second : List ℕ) × device.outcome disks.0 first × device.outcome disks.1 second × (told_in node (pair one other) ≡ told_in node (pair first second))
+abbrev pub IsDecodedAsBoth : {D : Type 0} → Node → Device D → D × D → List ℕ → List ℕ → Type 0
+IsDecodedAsBoth node device disks one other =
+    (first : List ℕ) × (second : List ℕ) × device.outcome disks.0 first × device.outcome disks.1 second × (decoded_in node (pair one other) ≡ decoded_in node (pair first second))
 
 -- What a stop at any moment of an opening leaves is told as an outcome from before it: of two disks in stages, since both have their own
 -- moments, and a rewriting begins only where both were synced.
-abbrev pub IsToldThroughout : {D : Type 0} → Node → Device D → Store D → Store D → Type 0
-IsToldThroughout node device (One old) (One new) = AtEachMoment device old new (IsToldAsOneOf node (device.outcome old))
-IsToldThroughout node device (Two first second) (Two now also) = InStages device (IsToldAsBoth node device (first, second)) (first, second) (now, also)
-IsToldThroughout node device old new = ⊥
+abbrev pub IsDecodedThroughout : {D : Type 0} → Node → Device D → Store D → Store D → Type 0
+IsDecodedThroughout node device (One old) (One new) = AtEachMoment device old new (IsDecodedAsOneOf node (device.outcome old))
+IsDecodedThroughout node device (Two first second) (Two now also) = InStages device (IsDecodedAsBoth node device (first, second)) (first, second) (now, also)
+IsDecodedThroughout node device old new = ⊥

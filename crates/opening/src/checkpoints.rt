@@ -7,7 +7,7 @@ ghost use Rattle.journal.specs.Journal.{disk_of, spare_of, IsAlive};
 ghost use Rattle.journal.specs.Pairs.{HaveChangedPlaces, HaveKeptPlaces, spare_disk, generation_in, areas_of, areas_with, rewritten_disk, untouched_disk};
 ghost use Rattle.validator.specs.Setting.{node_of};
 ghost use Rattle.opening.specs.Renewing.{KeepsStatesIn, IsNewest, IsFullAt, HasRoomAt};
-ghost use Rattle.opening.specs.Told.{told_in, StandsAt};
+ghost use Rattle.opening.specs.Decoded.{decoded_in, StandsAt};
 ghost use Rattle.spec_world.specs.Runs.{AreKeys};
 
 use crate::configuration::keys_hold;
@@ -29,13 +29,13 @@ pub fn checkpoint<S: Sign, D: Disk>(
     requires alive { IsAlive D.device journal.old }
     requires pair { IsSome (spare_of journal.old) }
     requires configured { stands_in (areas_of D.device journal.old) ≢ Ok [] }
-    requires stands { let node = node_of S.scheme validator.now.setting in StandsAt node (told_in node (areas_of D.device journal.old)) validator.now.tables }
+    requires stands { let node = node_of S.scheme validator.now.setting in StandsAt node (decoded_in node (areas_of D.device journal.old)) validator.now.tables }
 
     ensures generation { IfOk result (λ generation. generation ≡ generation_in journal.new) }
     ensures next { OnOk result (generation_in journal.new ≡ generation_in journal.old + 1) }
     ensures alive { OnOk result (IsAlive D.device journal.new) }
     ensures swapped { OnOk result (HaveChangedPlaces journal.old journal.new) }
-    ensures same { let node = node_of S.scheme validator.now.setting in OnOk result (told_in node (areas_of D.device journal.new) ≡ told_in node (areas_of D.device journal.old)) }
+    ensures same { let node = node_of S.scheme validator.now.setting in OnOk result (decoded_in node (areas_of D.device journal.new) ≡ decoded_in node (areas_of D.device journal.old)) }
     // It is then a journal of the node in the second version at each state for which it stood.
     ensures configured { OnOk result (stands_in (areas_of D.device journal.new) ≢ Ok []) }
     ensures newest { OnOk result (IsNewest (areas_of D.device journal.new)) }
@@ -43,7 +43,7 @@ pub fn checkpoint<S: Sign, D: Disk>(
 
     // What a stop at any moment leaves of the area that it writes is, with the other one, told as the same state.
     ensures any_moment { let node = node_of S.scheme validator.now.setting in AtEachMoment D.device (spare_disk journal.old) (rewritten_disk result journal.new)
-        (λ left. told_in node (areas_with D.device journal.old left) ≡ told_in node (areas_of D.device journal.old)) }
+        (λ left. decoded_in node (areas_with D.device journal.old left) ≡ decoded_in node (areas_of D.device journal.old)) }
     ensures untouched { untouched_disk result journal.new ≡ disk_of journal.old }
 
     ensures errors { IfErr result (λ error. (error ≡ JournalError.Device) ⊎ (error ≡ JournalError.Memory) ⊎ (error ≡ JournalError.Full)) }

@@ -2,7 +2,7 @@
 
 ghost use Rattle.std.specs.Prelude.{◌≡◌, true, All};
 ghost use Rattle.spec_records.specs.Records.{CanTell};
-ghost use Rattle.opening.specs.Told.{has_ones as told_ones, can_tell as told_by_version};
+ghost use Rattle.opening.specs.Decoded.{has_ones as decoded_ones, can_tell as decoded_by_version};
 ghost use Rattle.wire.specs.Fields.{HasBytes, AreBytes};
 
 use committee::Committee;
@@ -18,7 +18,7 @@ pub fn are_bytes(bytes: &[u8])
 
 /// Whether a version can tell a committee: the first one, which has no stakes, only where each is 1.
 pub fn can_tell(version: Version, committee: &Committee) -> bool
-    ensures value { result ≡ told_by_version version committee.now }
+    ensures value { result ≡ decoded_by_version version committee.now }
     ensures tells { result ≡ true → CanTell version committee.now }
 {
     match version {
@@ -29,7 +29,7 @@ pub fn can_tell(version: Version, committee: &Committee) -> bool
 
 // Whether each stake is 1.
 fn has_ones(committee: &Committee) -> bool
-    ensures { result ≡ told_ones committee.now }
+    ensures { result ≡ decoded_ones committee.now }
 {
     committee.limits_hold();
     committee.total() == committee.size() as u64

@@ -7,7 +7,7 @@ ghost use Rattle.spec_model.specs.States.{State};
 ghost use Rattle.admission.specs.Answers.{is_new_step};
 ghost use Rattle.validator.specs.Setting.{node_of};
 ghost use Rattle.validator.specs.Standing.{AreAtSound};
-ghost use Rattle.opening.specs.Told.{IsText, event_in, if_passed, read_event, StandsAt, IsOld};
+ghost use Rattle.opening.specs.Decoded.{IsText, event_in, if_passed, read_event, StandsAt, IsOld};
 
 use crate::configuration::are_bytes;
 use committee::Committee;

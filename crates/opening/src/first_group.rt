@@ -3,7 +3,7 @@
 ghost use Rattle.std.specs.Prelude.{◌≡◌, ◌+◌, ◌*◌, ◌≤◌, ◌++◌, [], ◌∷◌, length, flat_map, Some, IfOk, OnOk};
 ghost use Rattle.std.specs.Int.{w32, to_be_bytes};
 ghost use Rattle.committee.specs.declared.members.TheConstants.{MAX_MEMBERS};
-ghost use Rattle.journal.specs.Configuration.{stakes_size, size_in, shaped_version as told_version};
+ghost use Rattle.journal.specs.Configuration.{stakes_size, size_in, shaped_version as decoded_version};
 ghost use Rattle.journal.specs.Format.{FitsGroup};
 ghost use Rattle.journal.specs.declared.configuration.TheConstants.{SETTINGS_BYTES, KEY_BYTES, STAKE_BYTES};
 ghost use Rattle.spec_records.specs.Records.{stakes_of, configuration_of};
@@ -90,7 +90,7 @@ pub fn configuration_group(
     own: Author,
 ) -> Result<Group, AllocError>
     ensures group { IfOk result (λ group. group ≡ configuration_of version committee.now own ∷ []) }
-    ensures shape { OnOk result (told_version (configuration_of version committee.now own) ≡ Some version) }
+    ensures shape { OnOk result (decoded_version (configuration_of version committee.now own) ≡ Some version) }
     ensures short { OnOk result (length (configuration_of version committee.now own) ≤ SETTINGS_BYTES + MAX_MEMBERS * (KEY_BYTES + STAKE_BYTES)) }
 {
     committee.limits_hold();

@@ -19,7 +19,7 @@ pub use configuration::can_tell;
 pub use events::{EVENT, FRONT_BYTES, event_of, is_text};
 pub use reopening::{first_version, is_own, reopen, write_configuration};
 pub use standing::{
-    told_in_stands_for, told_stands_for, what_stands_is_told, what_stands_is_told_in,
-    worlds_are_told, worlds_are_told_in,
+    decoded_in_stands_for, decoded_stands_for, what_stands_is_decoded, what_stands_is_decoded_in,
+    worlds_are_decoded, worlds_are_decoded_in,
 };
 pub use stores::{reopen_pair, reopen_store};

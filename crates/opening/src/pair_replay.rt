@@ -3,7 +3,7 @@
 ghost use Rattle.std.specs.Prelude.{◌≡◌, ◌≢◌, ◌∷◌, [], ◌++◌, List, Some, None, Err, All, is_none, IfOk, IfErr, OnOk};
 ghost use Rattle.journal.specs.declared.record.Record.{Record};
 ghost use Rattle.validator.specs.Setting.{node_of};
-ghost use Rattle.opening.specs.Told.{IsText, StandsAt, Tells, read_pair};
+ghost use Rattle.opening.specs.Decoded.{IsText, StandsAt, Tells, read_pair};
 ghost use Rattle.opening.specs.PairReplayed.{HasReached, version_in};
 ghost use Rattle.opening.specs.PairReplays.{HasTakenPair, TakesMorePair};
 

@@ -6,7 +6,7 @@ ghost use Rattle.journal.specs.declared.record.Record.{Record};
 ghost use Rattle.spec_checkpoint.specs.Loading.{at_record};
 ghost use Rattle.spec_world.specs.World.{bytes_of};
 ghost use Rattle.validator.specs.Setting.{node_of};
-ghost use Rattle.opening.specs.Told.{IsText, is_event as is_event_of, gate_of, gates_of, first_of, read_state, StandsAt};
+ghost use Rattle.opening.specs.Decoded.{IsText, is_event as is_event_of, gate_of, gates_of, first_of, read_state, StandsAt};
 ghost use Rattle.opening.specs.PairReplayed.{IsConfigured, IsLoadingTo, IsStandingBefore, HasReached, IsPut, error_at};
 
 use crate::events::{EVENT, is_text, take_event};

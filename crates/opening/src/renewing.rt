@@ -8,7 +8,7 @@ ghost use Rattle.journal.specs.declared.record.Record.{Record};
 ghost use Rattle.validator.specs.Setting.{node_of};
 ghost use Rattle.opening.specs.PairReplayed.{version_in};
 ghost use Rattle.opening.specs.Renewing.{IsRenewed, IsPlaced, IsRewritten};
-ghost use Rattle.opening.specs.Told.{told_in, StandsAt};
+ghost use Rattle.opening.specs.Decoded.{decoded_in, StandsAt};
 
 use crate::checkpoints::checkpoint;
 use crate::reopening::write_configuration;
@@ -30,7 +30,7 @@ pub(crate) fn renew<S: Sign, D: Disk>(
     requires alive { IsAlive D.device journal.old }
     requires pair { IsSome (spare_of journal.old) }
     requires setting { validator.now.setting ≡ config.now }
-    requires stands { let node = node_of S.scheme config.now in StandsAt node (told_in node (areas_of D.device journal.old)) validator.now.tables }
+    requires stands { let node = node_of S.scheme config.now in StandsAt node (decoded_in node (areas_of D.device journal.old)) validator.now.tables }
     requires version { (records : List Record) × (stands_in (areas_of D.device journal.old) ≡ Ok records) × (version ≡ version_in records) }
     ensures renewed { IsRenewed (node_of S.scheme config.now) D.device journal.old result journal.new }
     // It rewrites one in the first version, and no other.
@@ -73,7 +73,7 @@ fn migrate<S: Sign, D: Disk>(
     requires pair { IsSome (spare_of journal.old) }
     requires setting { validator.now.setting ≡ config.now }
     requires configured { stands_in (areas_of D.device journal.old) ≢ Ok [] }
-    requires stands { let node = node_of S.scheme config.now in StandsAt node (told_in node (areas_of D.device journal.old)) validator.now.tables }
+    requires stands { let node = node_of S.scheme config.now in StandsAt node (decoded_in node (areas_of D.device journal.old)) validator.now.tables }
     ensures renewed { IsRenewed (node_of S.scheme config.now) D.device journal.old result journal.new }
     ensures rewritten { OnOk result (IsRewritten (node_of S.scheme config.now) D.device journal.old journal.new) }
 {

@@ -9,14 +9,14 @@ ghost use Rattle.journal.specs.Reader.{TakesAll};
 ghost use Rattle.journal.specs.declared.record.Record.{Record};
 ghost use Rattle.spec_records.specs.Records.{configuration_of, CanTell};
 ghost use Rattle.validator.specs.Setting.{node_of};
-ghost use Rattle.opening.specs.Laws.{StandsForAt, HoldsAt, KeepsStates, AreLeftTold, IsOpening};
+ghost use Rattle.opening.specs.Laws.{StandsForAt, HoldsAt, KeepsStates, AreLeftDecoded, IsOpening};
 ghost use Rattle.opening.specs.Replays.{HasTaken};
-ghost use Rattle.opening.specs.Told.{HasTexts, first_version as told_version, is_alone as told_alone, is_own as told_own, told, Tells, StandsAt, KeepsOrBegins};
+ghost use Rattle.opening.specs.Decoded.{HasTexts, first_version as decoded_version, is_alone as decoded_alone, is_own as decoded_own, decoded, Tells, StandsAt, KeepsOrBegins};
 
 use crate::configuration::can_tell;
 use crate::first_group::{configuration, configuration_group};
 use crate::replay::Replay;
-use crate::standing::worlds_are_told;
+use crate::standing::worlds_are_decoded;
 use diskmodel::Disk;
 use journal::{Failed, Journal, JournalError, Reader, Record, Store, Version, shaped_version};
 use sigface::Sign;
@@ -38,8 +38,8 @@ pub fn reopen<'a, S: Sign, D: Disk>(
 ) -> Result<(Validator<'a, S>, Journal<D>), Failed<JournalError, D>>
     // The validator stands at what the bytes are told as, and so is what they are then.
     ensures setting { IfOk result (λ opened. opened.0.setting ≡ config.now) }
-    ensures stands { let node = node_of S.scheme config.now in IfOk result (λ opened. StandsAt node (told node (D.device.content disk)) opened.0.tables) }
-    ensures same { let node = node_of S.scheme config.now in IfOk result (λ opened. told node (D.device.content (disk_of opened.1)) ≡ told node (D.device.content disk)) }
+    ensures stands { let node = node_of S.scheme config.now in IfOk result (λ opened. StandsAt node (decoded node (D.device.content disk)) opened.0.tables) }
+    ensures same { let node = node_of S.scheme config.now in IfOk result (λ opened. decoded node (D.device.content (disk_of opened.1)) ≡ decoded node (D.device.content disk)) }
     ensures alive { IfOk result (λ opened. IsAlive D.device opened.1) }
     ensures configured { IfOk result (λ opened. stands (D.device.content (disk_of opened.1)) ≢ Ok []) }
     ensures alone { IfOk result (λ opened. spare_of opened.1 ≡ None) }
@@ -58,7 +58,7 @@ pub fn reopen<'a, S: Sign, D: Disk>(
 {
     spec_machine::starts_fresh();
     config.limits_hold();
-    outcomes_are_told(config);
+    outcomes_are_decoded(config);
     let Ok(mut replay) = Replay::new(alloc, config) else {
         let error = JournalError::Memory;
         return Err(Failed { error, disk });
@@ -74,10 +74,10 @@ pub fn reopen<'a, S: Sign, D: Disk>(
 }
 
 // Whatever a stop leaves in a world of this node is told as a state. It looks at the keys, and does nothing.
-fn outcomes_are_told<S: Sign>(config: &Config<S>)
-    ensures { AreLeftTold (node_of S.scheme config.now) }
+fn outcomes_are_decoded<S: Sign>(config: &Config<S>)
+    ensures { AreLeftDecoded (node_of S.scheme config.now) }
 {
-    worlds_are_told();
+    worlds_are_decoded();
     config.limits_hold();
     config.keys_hold();
 }
@@ -125,16 +125,16 @@ fn validator_on<'a, S: Sign, D: Disk>(
     requires records { (records : List Record) × (stands (D.device.content (disk_of journal.old)) ≡ Ok records) × HasTaken S.scheme replay records }
 
     ensures setting { IfOk result (λ validator. validator.setting ≡ config.now) }
-    ensures stands { let node = node_of S.scheme config.now in IfOk result (λ validator. StandsAt node (told node (D.device.content (disk_of journal.old))) validator.tables) }
-    ensures same { let node = node_of S.scheme config.now in OnOk result (told node (D.device.content (disk_of journal.new)) ≡ told node (D.device.content (disk_of journal.old))) }
+    ensures stands { let node = node_of S.scheme config.now in IfOk result (λ validator. StandsAt node (decoded node (D.device.content (disk_of journal.old))) validator.tables) }
+    ensures same { let node = node_of S.scheme config.now in OnOk result (decoded node (D.device.content (disk_of journal.new)) ≡ decoded node (D.device.content (disk_of journal.old))) }
     ensures alive { OnOk result (IsAlive D.device journal.new) }
     ensures configured { OnOk result (stands (D.device.content (disk_of journal.new)) ≢ Ok []) }
     ensures spare { spare_of journal.new ≡ spare_of journal.old }
-    ensures err { IfErr result (λ error. error ≢ JournalError.Device → Tells error (told (node_of S.scheme config.now) (D.device.content (disk_of journal.old)))) }
+    ensures err { IfErr result (λ error. error ≢ JournalError.Device → Tells error (decoded (node_of S.scheme config.now) (D.device.content (disk_of journal.old)))) }
     ensures cause { TellsFault JournalError.Device (D.device.faults (disk_of journal.old)) (D.device.faults (disk_of journal.new)) result }
     ensures never_full { IfErr result (λ error. error ≢ JournalError.Full) }
     ensures unchanged { IfErr result (λ error. error ≢ JournalError.Device → D.device.content (disk_of journal.new) ≡ D.device.content (disk_of journal.old)) }
-    ensures any_moment { let node = node_of S.scheme config.now in AtEachMoment D.device (disk_of journal.old) (disk_of journal.new) (λ left. told node left ≡ told node (D.device.content (disk_of journal.old))) }
+    ensures any_moment { let node = node_of S.scheme config.now in AtEachMoment D.device (disk_of journal.old) (disk_of journal.new) (λ left. decoded node left ≡ decoded node (D.device.content (disk_of journal.old))) }
     ensures keeps { AtEachMoment D.device (disk_of journal.old) (disk_of journal.new) (KeepsOrBegins Version.Second (node_of S.scheme config.now) (D.device.content (disk_of journal.old))) }
     ensures texts { OnOk result (HasTexts (D.device.content (disk_of journal.old))) }
     ensures texts_left { OnOk result (HasTexts (D.device.content (disk_of journal.new))) }
@@ -149,7 +149,7 @@ fn validator_on<'a, S: Sign, D: Disk>(
 
 /// The version of the first record, if it has the shape of a configuration, and is alone in its group.
 pub fn first_version(first: &Record, events: &[Record]) -> Option<Version>
-    ensures { result ≡ told_version first.now events.now }
+    ensures { result ≡ decoded_version first.now events.now }
 {
     if is_alone(events) {
         shaped_version(first.bytes.as_slice())
@@ -160,7 +160,7 @@ pub fn first_version(first: &Record, events: &[Record]) -> Option<Version>
 
 // Whether none of these records stands in the first group.
 fn is_alone(events: &[Record]) -> bool
-    ensures { result ≡ told_alone events.now }
+    ensures { result ≡ decoded_alone events.now }
 {
     events.iter().all(|event| event.gate > 0)
 }
@@ -172,7 +172,7 @@ pub fn is_own<S: Sign>(
     version: Version,
     bytes: &[u8],
 ) -> Result<bool, AllocError>
-    ensures { IfOk result (λ own. own ≡ told_own (node_of S.scheme config.now) bytes.now version) }
+    ensures { IfOk result (λ own. own ≡ decoded_own (node_of S.scheme config.now) bytes.now version) }
 {
     let own = configuration(alloc, version, config.committee(), config.own())?;
     Ok(can_tell(version, config.committee()) && bytes == own.as_slice())
@@ -193,11 +193,11 @@ pub fn write_configuration<S: Sign, D: Disk>(
     ensures configured { OnOk result (stands (D.device.content (disk_of journal.new)) ≢ Ok []) }
     ensures spare { spare_of journal.new ≡ spare_of journal.old }
     ensures texts { OnOk result (HasTexts (D.device.content (disk_of journal.new))) }
-    ensures same { let node = node_of S.scheme config.now in OnOk result (told node (D.device.content (disk_of journal.new)) ≡ told node (D.device.content (disk_of journal.old))) }
+    ensures same { let node = node_of S.scheme config.now in OnOk result (decoded node (D.device.content (disk_of journal.new)) ≡ decoded node (D.device.content (disk_of journal.old))) }
     ensures errors { IfErr result (λ error. (error ≡ JournalError.Device) ⊎ (error ≡ JournalError.Memory)) }
     ensures cause { TellsFault JournalError.Device (D.device.faults (disk_of journal.old)) (D.device.faults (disk_of journal.new)) result }
     ensures unchanged { IfErr result (λ error. error ≡ JournalError.Memory → journal.new ≡ journal.old) }
-    ensures any_moment { let node = node_of S.scheme config.now in AtEachMoment D.device (disk_of journal.old) (disk_of journal.new) (λ left. told node left ≡ told node (D.device.content (disk_of journal.old))) }
+    ensures any_moment { let node = node_of S.scheme config.now in AtEachMoment D.device (disk_of journal.old) (disk_of journal.new) (λ left. decoded node left ≡ decoded node (D.device.content (disk_of journal.old))) }
     ensures keeps { AtEachMoment D.device (disk_of journal.old) (disk_of journal.new) (KeepsOrBegins version (node_of S.scheme config.now) (D.device.content (disk_of journal.old))) }
 {
     let group = configuration_group(alloc, version, config.committee(), config.own())?;

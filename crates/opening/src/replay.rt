@@ -3,7 +3,7 @@
 ghost use Rattle.std.specs.Prelude.{◌≡◌, ◌≢◌, ◌∷◌, [], ◌++◌, drop, is_none, List, Some, None, Err, All, IfOk, IfErr, IfSome, OnOk};
 ghost use Rattle.journal.specs.declared.record.Record.{Record};
 ghost use Rattle.validator.specs.Setting.{node_of};
-ghost use Rattle.opening.specs.Told.{IsText, StandsAt, read_journal, own_fault};
+ghost use Rattle.opening.specs.Decoded.{IsText, StandsAt, read_journal, own_fault};
 ghost use Rattle.opening.specs.Replays.{HasTaken, TakesMore};
 
 use crate::events::{is_text, take_event};

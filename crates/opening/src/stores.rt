@@ -7,16 +7,16 @@ ghost use Rattle.journal.specs.Pairs.{areas_in, areas_of, store_of};
 ghost use Rattle.journal.specs.declared.record.Record.{Record};
 ghost use Rattle.validator.specs.Setting.{node_of};
 ghost use Rattle.opening.specs.Finished.{IsFinished};
-ghost use Rattle.opening.specs.Laws.{StandsForIn, HoldsIn, AreLeftToldIn, IsReadIn, IsOpeningOn, IsOpenedIn, with_store};
+ghost use Rattle.opening.specs.Laws.{StandsForIn, HoldsIn, AreLeftDecodedIn, IsReadIn, IsOpeningOn, IsOpenedIn, with_store};
 ghost use Rattle.opening.specs.PairReplayed.{version_in};
 ghost use Rattle.opening.specs.PairReplays.{HasTakenPair};
 ghost use Rattle.opening.specs.Renewing.{KeepsStatesIn, IsNewest, HasBegun, IsReadOn};
-ghost use Rattle.opening.specs.Told.{told_in, StandsAt};
+ghost use Rattle.opening.specs.Decoded.{decoded_in, StandsAt};
 
 use crate::pair_replay::PairReplay;
 use crate::renewing::renew;
 use crate::reopening::reopen;
-use crate::standing::worlds_are_told_in;
+use crate::standing::worlds_are_decoded_in;
 use diskmodel::Disk;
 use journal::{Failed, Journal, JournalError, Store, Version};
 use sigface::Sign;
@@ -34,8 +34,8 @@ pub fn reopen_store<'a, S: Sign, D: Disk>(
 ) -> Result<(Validator<'a, S>, Journal<D>), Failed<JournalError, Store<D>>>
     // The validator stands at what the areas are told as, and so are they then.
     ensures setting { IfOk result (λ opened. opened.0.setting ≡ config.now) }
-    ensures stands { let node = node_of S.scheme config.now in IfOk result (λ opened. StandsAt node (told_in node (areas_in D.device store)) opened.0.tables) }
-    ensures same { let node = node_of S.scheme config.now in IfOk result (λ opened. told_in node (areas_of D.device opened.1) ≡ told_in node (areas_in D.device store)) }
+    ensures stands { let node = node_of S.scheme config.now in IfOk result (λ opened. StandsAt node (decoded_in node (areas_in D.device store)) opened.0.tables) }
+    ensures same { let node = node_of S.scheme config.now in IfOk result (λ opened. decoded_in node (areas_of D.device opened.1) ≡ decoded_in node (areas_in D.device store)) }
     ensures alive { IfOk result (λ opened. IsAlive D.device opened.1) }
     ensures configured { IfOk result (λ opened. stands_in (areas_of D.device opened.1) ≢ Ok []) }
     ensures begun { IfOk result (λ opened. HasBegun D.device opened.1) }
@@ -75,8 +75,8 @@ pub fn reopen_pair<'a, S: Sign, D: Disk>(
 ) -> Result<(Validator<'a, S>, Journal<D>), Failed<JournalError, (D, D)>>
     // The validator stands at what both areas are told as, and so are they then.
     ensures setting { IfOk result (λ opened. opened.0.setting ≡ config.now) }
-    ensures stands { let node = node_of S.scheme config.now in IfOk result (λ opened. StandsAt node (told_in node (pair (D.device.content first) (D.device.content second))) opened.0.tables) }
-    ensures same { let node = node_of S.scheme config.now in IfOk result (λ opened. told_in node (areas_of D.device opened.1) ≡ told_in node (pair (D.device.content first) (D.device.content second))) }
+    ensures stands { let node = node_of S.scheme config.now in IfOk result (λ opened. StandsAt node (decoded_in node (pair (D.device.content first) (D.device.content second))) opened.0.tables) }
+    ensures same { let node = node_of S.scheme config.now in IfOk result (λ opened. decoded_in node (areas_of D.device opened.1) ≡ decoded_in node (pair (D.device.content first) (D.device.content second))) }
     ensures alive { IfOk result (λ opened. IsAlive D.device opened.1) }
     ensures configured { IfOk result (λ opened. stands_in (areas_of D.device opened.1) ≢ Ok []) }
     ensures begun { IfOk result (λ opened. HasBegun D.device opened.1) }
@@ -136,7 +136,7 @@ fn open_both<'a, S: Sign, D: Disk>(
     spec_machine::starts_fresh();
     config.limits_hold();
     config.keys_hold();
-    both_are_told(config);
+    both_are_decoded(config);
     let mut replay = PairReplay::new(config);
     match Journal::open_store(alloc, Store::Two(first, second), &mut replay) {
         Ok(journal) => finish_on(alloc, config, replay, journal),
@@ -145,10 +145,10 @@ fn open_both<'a, S: Sign, D: Disk>(
 }
 
 // Whatever a stop leaves in a world of this node is told as a state. It looks at the keys, and does nothing.
-fn both_are_told<S: Sign>(config: &Config<S>)
-    ensures { AreLeftToldIn (node_of S.scheme config.now) }
+fn both_are_decoded<S: Sign>(config: &Config<S>)
+    ensures { AreLeftDecodedIn (node_of S.scheme config.now) }
 {
-    worlds_are_told_in();
+    worlds_are_decoded_in();
     config.limits_hold();
     config.keys_hold();
 }
@@ -187,7 +187,7 @@ fn renew_for<'a, S: Sign, D: Disk>(
     requires alive { IsAlive D.device journal }
     requires pair { IsSome (spare_of journal) }
     requires setting { validator.setting ≡ config.now }
-    requires stands { let node = node_of S.scheme config.now in StandsAt node (told_in node (areas_of D.device journal)) validator.tables }
+    requires stands { let node = node_of S.scheme config.now in StandsAt node (decoded_in node (areas_of D.device journal)) validator.tables }
     requires version { (records : List Record) × (stands_in (areas_of D.device journal) ≡ Ok records) × (version ≡ version_in records) }
     ensures { IsFinished S.scheme D.device config.now journal result }
 {

@@ -13,13 +13,13 @@ use Rattle.spec_world.specs.Text as script
 use Rattle.book.specs.Book.{BookView}
 use Rattle.committee.specs.Charter.{Charter}
 use Rattle.recovery.specs.Script.{said, script_of, CarriesOut, Passes, IsOf, IsOpenedOf, HasRun, Breaks, IsCutShort}
-use Rattle.opening.specs.Told.{told_in}
+use Rattle.opening.specs.Decoded.{decoded_in}
 use Rattle.recovery.specs.Writing.{AppendsPart}
 use Rattle.recovery.specs.declared.driving.Command.{Command}
 use Rattle.recovery.specs.declared.driving.Command.TheVariants.{Event, Flush, Checkpoint, Stop}
 use Rattle.recovery.specs.declared.driving.DriveError.{DriveError}
 use Rattle.desk.specs.Disks.{Leaves}
-use Rattle.desk.proofs.Stores.{firm_store}
+use Rattle.desk.proofs.Stores.{durable_store}
 use Rattle.journal.specs.Areas.{Areas}
 use Rattle.journal.specs.Pairs.{areas_in, store_of}
 use Rattle.recovery.proofs.Desks.{told_now}
@@ -30,8 +30,8 @@ use Rattle.diskmodel.specs.Disk.{Device}
 pub record IsCarriedOut {S D : Type 0} (node : Node) (device : Device D) (before : Areas) (done : List script.Command) (book : BookView S)
     (journal : Journal D) (old new : Option (List ℕ)) : Type 0 where
   pub state : State
-  pub told_first : told_in node before ≡ Ok state
-  pub is_of : IsOf node device (script.desk_behind node (script.desk_on state) done) book journal
+  pub told_first : decoded_in node before ≡ Ok state
+  pub is_of : IsOf node device (script.desk_after node (script.desk_on state) done) book journal
   pub writes : Appends old new (script.text node (script.desk_on state) done)
 
 module _ {S D : Type 0} (node : Node) (device : Device D) (before : Areas) where
@@ -47,7 +47,7 @@ module _ {S D : Type 0} (node : Node) (device : Device D) (before : Areas) where
   module _ (done : List script.Command) (next : script.Command) (book : BookView S) (journal : Journal D) (old mid : Option (List ℕ))
       (so_far : IsCarriedOut node device before done book journal old mid) where
     abbrev desk : script.Desk
-    desk = script.desk_behind node (script.desk_on so_far.state) done
+    desk = script.desk_after node (script.desk_on so_far.state) done
 
     -- one more
     pub next_carried : (later : BookView S) (new_journal : Journal D) (new : Option (List ℕ)) → IsOf node device (script.carried_out node desk next) later new_journal
@@ -95,9 +95,9 @@ module _ {S D : Type 0} (node : Node) (device : Device D) (before : Areas) where
     state = so_far.state;
     told_first = so_far.told_first;
     writes = subst (λ (l : List script.Command). Appends old new (script.text node (script.desk_on so_far.state) l)) (sym same) so_far.writes;
-    told_later = told_now node device _ book journal so_far.is_of
-        ∙ ap (λ (l : List script.Command). Ok (script.settled_in node (script.desk_behind node (script.desk_on so_far.state) l))) (sym same);
-    firm = λ areas may. firm_store device journal so_far.is_of.alive areas may;
+    decoded_later = told_now node device _ book journal so_far.is_of
+        ∙ ap (λ (l : List script.Command). Ok (script.settled_in node (script.desk_after node (script.desk_on so_far.state) l))) (sym same);
+    durable = λ areas may. durable_store device journal so_far.is_of.alive areas may;
   }
 
 -- ---- the commands one by one

@@ -15,9 +15,9 @@ use Rattle.spec_world.specs.Text.{Desk, desk_on, settled_in, stop, after}
 use Rattle.book.specs.Book.{BookView}
 use Rattle.recovery.specs.Faults.{ended_by}
 use Rattle.opening.specs.Laws.{IsNoRefusal, IsFullIn, KeepsAlone, IsOpeningOn}
-use Rattle.opening.specs.Stages.{AreStages, IsToldAsBoth, IsToldThroughout}
+use Rattle.opening.specs.Stages.{AreStages, IsDecodedAsBoth, IsDecodedThroughout}
 use Rattle.recovery.specs.Script.{is_two, IsOf, IsOpenedOf, IsFull, IsNotOpened, MayEnd, Breaks}
-use Rattle.opening.specs.Told.{told_in, KeepsRecords}
+use Rattle.opening.specs.Decoded.{decoded_in, KeepsRecords}
 use Rattle.recovery.specs.declared.driving.DriveError.{DriveError}
 use Rattle.recovery.specs.declared.driving.DriveError.TheVariants as ends
 use Rattle.recovery.specs.declared.driving.DriveError.TheVariants.{Full}
@@ -68,7 +68,7 @@ module _ {S D : Type 0} (node : Node) (device : Device D) (keys : AreKeys node) 
         };
       }
 
-module _ {S D : Type 0} (node : Node) (device : Device D) (desk : Desk) (before : Areas) (is : told_in node before ≡ Ok (settled_in node desk)) where
+module _ {S D : Type 0} (node : Node) (device : Device D) (desk : Desk) (before : Areas) (is : decoded_in node before ≡ Ok (settled_in node desk)) where
   -- what is settled begins the next run
   pub stopped_of : (book : BookView S) (journal : Journal D) → IsOpenedOf node device before book journal → IsOf node device (after node desk stop) book journal
   stopped_of book journal opened =
@@ -94,7 +94,7 @@ never_lacks cause (inr memory) full = two_errors (sym memory ∙ full)
 -- ---- an opening that failed
 
 -- a journal on as many disks is handed back
-pub same_disks : {D : Type 0} (node : Node) (device : Device D) (old new : Store D) → IsToldThroughout node device old new → is_two new ≡ is_two old
+pub same_disks : {D : Type 0} (node : Node) (device : Device D) (old new : Store D) → IsDecodedThroughout node device old new → is_two new ≡ is_two old
 same_disks node device (One old) (One new) is = refl
 same_disks node device (One old) (Two now also) is = absurd is
 same_disks node device (Two first second) (One new) is = absurd is
@@ -102,14 +102,14 @@ same_disks node device (Two first second) (Two now also) is = refl
 
 -- what may be left at the end of an opening is told as what might have been left before it
 module _ {D : Type 0} (node : Node) (device : Device D) (counts : (one : D) (t : ℕ) (c : List ℕ) → t ≤ device.clock one → device.outcome one c → device.outcome_since one t c) where
-  left_both : (first second now also : D) (old : D × D) (states : List (D × D)) → AreStages device (IsToldAsBoth node device (first, second)) old states (now, also)
-      → (one other : List ℕ) → device.outcome now one → device.outcome also other → IsToldAsBoth node device (first, second) one other
+  left_both : (first second now also : D) (old : D × D) (states : List (D × D)) → AreStages device (IsDecodedAsBoth node device (first, second)) old states (now, also)
+      → (one other : List ℕ) → device.outcome now one → device.outcome also other → IsDecodedAsBoth node device (first, second) one other
   left_both first second now also old [] stage one other may might =
       stage.first.each one (counts now (device.clock old.0) one stage.first.later may) other (counts also (device.clock old.1) other stage.second.later might)
   left_both first second now also old (mid ∷ more) stages one other may might = left_both first second now also mid more stages.1 one other may might
 
-  pub left_after : (old new : Store D) → IsToldThroughout node device old new → (areas : Areas) → Leaves device new areas
-      → (first : Areas) × Leaves device old first × (told_in node areas ≡ told_in node first)
+  pub left_after : (old new : Store D) → IsDecodedThroughout node device old new → (areas : Areas) → Leaves device new areas
+      → (first : Areas) × Leaves device old first × (decoded_in node areas ≡ decoded_in node first)
   left_after (One old) (One new) is (alone left) may =
       let first = is.each left (counts new (device.clock old) left is.later may) in (alone first.0, first.1, first.2)
   left_after (One old) (One new) is (pair one other) may = absurd may
@@ -144,7 +144,7 @@ module _ {D : Type 0} (node : Node) (device : Device D) (counts : (one : D) (t :
 
   -- A stop after which the node isn't opened: what it left is told as what is settled, which no opening refuses.
   pub stop_breaks : {T : Type 0} (desk : Desk) (disks_in : T → Store D) (store stopped : Store D) (failed : Failed JournalError (Store D)) (error : DriveError) → error ≡ ended_by failed.error
-      → HaveStopped device store stopped → ((areas : Areas) → Leaves device store areas → told_in node areas ≡ Ok (settled_in node desk))
+      → HaveStopped device store stopped → ((areas : Areas) → Leaves device store areas → decoded_in node areas ≡ Ok (settled_in node desk))
       → IsNoRefusal failed.error → IsOpeningOn node device disks_in stopped (Err failed) → Breaks node desk stop error (areas_in device failed.disk) (Leaves device failed.disk)
   stop_breaks desk disks_in store stopped failed error is have only no_refusal at = record {
     left = λ areas may. let one = left_after stopped failed.disk at.any_moment areas may in inl (one.2 ∙ only one.0 (have.outcomes one.0 one.1));

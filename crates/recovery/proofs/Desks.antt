@@ -35,20 +35,20 @@ use Rattle.spec_world.specs.Steps.{ticketed}
 use Rattle.spec_world.specs.Text.{Command, take_in, flush, Desk, state_in, settled_in, with_answer, group_of, flushed, after}
 use Rattle.book.specs.declared.book.TheConstants.{MAX_ACCEPTED}
 use Rattle.book.specs.declared.book.Receipt.{Receipt}
-use Rattle.book.specs.OnTheWay.{Flushes, FindsNoRoom, IsWithOrWithout}
+use Rattle.book.specs.InFlight.{Flushes, FindsNoRoom, IsWithOrWithout}
 use Rattle.book.specs.Pending.{IsLongestBeginning}
 use Rattle.book.specs.Book.{BookView, Run, Stands, with_taken, with_settled, TakesNew, TakesKnown, MayRefuse}
 use Rattle.recovery.specs.Script.{run_of, IsOf, IsAreaOf, for_group, MayEnd, Breaks}
-use Rattle.opening.specs.Told.{told_in}
+use Rattle.opening.specs.Decoded.{decoded_in}
 use Rattle.recovery.specs.declared.driving.DriveError.{DriveError}
 use Rattle.recovery.specs.declared.driving.DriveError.TheVariants as ends
 use Rattle.desk.proofs.Groups.{group_is, group_none}
 use Rattle.desk.specs.Desk as desks
 use Rattle.desk.specs.Disks.{AreReadAs, MayLeave, Leaves}
 use Rattle.desk.proofs.Standing as standing
-use Rattle.desk.proofs.Reading.{over, areas_over, same_spare, IsFirmBeside, firm_beside, read_beside, left_beside, told_of, more_tells, read_same, read_after, still_configured}
+use Rattle.desk.proofs.Reading.{over, areas_over, same_spare, IsDurableBeside, durable_beside, read_beside, left_beside, told_of, more_tells, read_same, read_after, still_configured}
 use Rattle.desk.proofs.Standing.{long_enough}
-use Rattle.desk.proofs.Stores.{may_leave, store_areas, firm_store}
+use Rattle.desk.proofs.Stores.{may_leave, store_areas, durable_store}
 use Rattle.diskmodel.specs.Disk.{Device}
 
 after_take_in : (node : Node) (desk : Desk) (event : Event) → after node desk (take_in event) ≡ with_answer desk event (answered node (state_in node desk) event)
@@ -194,7 +194,7 @@ module _ {S D : Type 0} (node : Node) (device : Device D) (desk : Desk) (before 
         })
 
   -- what areas are read as they are told as
-  pub told_as : (state : State) (areas : Areas) → AreReadAs node areas state → told_in node areas ≡ Ok state
+  pub told_as : (state : State) (areas : Areas) → AreReadAs node areas state → decoded_in node areas ≡ Ok state
   told_as state areas = told_of node state areas is.stands_at.legal.node_is (λ two. is.keys)
 
   -- whatever a stop leaves while a group is written
@@ -207,11 +207,11 @@ module _ {S D : Type 0} (node : Node) (device : Device D) (desk : Desk) (before 
       (read_flushed (record before { pending = with_it.1 }) with_it.0 with_it.2 bytes with_it.3))
 
   -- of the disk that is written to, the other one of two staying as it is
-  pub told_by_flush : (new : Journal D) → spare_of new ≡ spare_of old → ((bytes : List ℕ) → device.outcome (disk_of new) bytes → IsWithOrWithout before.pending file bytes)
-      → (areas : Areas) → Leaves device (store_of new) areas → (told_in node areas ≡ Ok (settled_in node desk)) ⊎ (told_in node areas ≡ Ok (settled_in node (after node desk flush)))
-  told_by_flush new same left areas may =
-      let firm = subst (IsFirmBeside device) (sym same) (firm_beside device old is.alive) in
-      let one = left_beside device new (spare_of new) areas refl firm (may_leave device new (store_of new) refl areas may) in
+  pub decoded_by_flush : (new : Journal D) → spare_of new ≡ spare_of old → ((bytes : List ℕ) → device.outcome (disk_of new) bytes → IsWithOrWithout before.pending file bytes)
+      → (areas : Areas) → Leaves device (store_of new) areas → (decoded_in node areas ≡ Ok (settled_in node desk)) ⊎ (decoded_in node areas ≡ Ok (settled_in node (after node desk flush)))
+  decoded_by_flush new same left areas may =
+      let durable = subst (IsDurableBeside device) (sym same) (durable_beside device old is.alive) in
+      let one = left_beside device new (spare_of new) areas refl durable (may_leave device new (store_of new) refl areas may) in
       let are : areas ≡ over device (spare_of old) one.live = one.are ∙ ap (λ (s : Option (Spare D)). over device s one.live) same in
       elim (left_by_flush one.live (left one.live one.may)) [
         | inl so ↦ inl (told_as (settled_in node desk) areas (subst (λ (a : Areas). AreReadAs node a (settled_in node desk)) (sym are) so))
@@ -246,22 +246,22 @@ module _ {S D : Type 0} (node : Node) (device : Device D) (desk : Desk) (before 
   run_at = record {
     stands_at = is.stands_at;
     up = λ _. record { configured = is.configured; read_as = is.read_as; settled = refl };
-    left = standing.left_firm node device (run_of desk) old is.read_as is.alive;
+    left = standing.left_durable node device (run_of desk) old is.read_as is.alive;
   }
 
   -- what a stop may leave is told as what is settled
-  pub left_told : (areas : Areas) → MayLeave device old areas → told_in node areas ≡ Ok (settled_in node desk)
-  left_told areas may =
+  pub left_decoded : (areas : Areas) → MayLeave device old areas → decoded_in node areas ≡ Ok (settled_in node desk)
+  left_decoded areas may =
       told_as (settled_in node desk) areas
-      (subst (λ (a : Areas). AreReadAs node a (settled_in node desk)) (sym (standing.firm_left device old is.alive areas may)) is.read_as)
+      (subst (λ (a : Areas). AreReadAs node a (settled_in node desk)) (sym (standing.durable_left device old is.alive areas may)) is.read_as)
 
   -- so are its disks
-  pub told_now : told_in node (areas_in device (store_of old)) ≡ Ok (settled_in node desk)
-  told_now = ap (told_in node) (store_areas device old) ∙ told_as (settled_in node desk) (areas_of device old) is.read_as
+  pub told_now : decoded_in node (areas_in device (store_of old)) ≡ Ok (settled_in node desk)
+  told_now = ap (decoded_in node) (store_areas device old) ∙ told_as (settled_in node desk) (areas_of device old) is.read_as
 
-  -- and so is what firm disks leave
-  pub left_firm : (areas : Areas) → Leaves device (store_of old) areas → told_in node areas ≡ Ok (settled_in node desk)
-  left_firm areas may = ap (told_in node) (firm_store device old is.alive areas may) ∙ told_now
+  -- and so is what durable disks leave
+  pub left_durable : (areas : Areas) → Leaves device (store_of old) areas → decoded_in node areas ≡ Ok (settled_in node desk)
+  left_durable areas may = ap (decoded_in node) (durable_store device old is.alive areas may) ∙ told_now
 
 -- ---- what comes of an event
 
@@ -323,7 +323,7 @@ module _ {S D : Type 0} (node : Node) (device : Device D) (desk : Desk) (book : 
   -- after want of memory, which changed nothing on the disk
   pub same_breaks : (command : Command) (error : DriveError) → error ≡ ends.Memory → Breaks node desk command error (areas_in device (store_of old)) (Leaves device (store_of old))
   same_breaks command error memory = record {
-    left = λ areas left. inl (left_firm node device desk book old is areas left);
+    left = λ areas left. inl (left_durable node device desk book old is areas left);
     errors = ends_any command error (inl memory);
     full = λ full. absurd (not_full error (inl memory) full);
   }
@@ -333,7 +333,7 @@ module _ {S D : Type 0} (node : Node) (device : Device D) (desk : Desk) (book : 
       → ((bytes : List ℕ) → device.outcome (disk_of new) bytes → IsWithOrWithout book.pending (device.content (disk_of old)) bytes)
       → Breaks node desk flush ends.Device (areas_in device (store_of new)) (Leaves device (store_of new))
   device_breaks new same left = record {
-    left = told_by_flush node device desk book old is new same left;
+    left = decoded_by_flush node device desk book old is new same left;
     errors = tt;
     full = λ so. absurd (cc);
   }
@@ -342,7 +342,7 @@ module _ {S D : Type 0} (node : Node) (device : Device D) (desk : Desk) (book : 
   pub full_breaks : (later : BookView S) (new : Journal D) → new ≡ old → FindsNoRoom node book later (device.content (disk_of old))
       → Breaks node desk flush ends.Full (areas_in device (store_of new)) (Leaves device (store_of new))
   full_breaks later new same no_room = subst (λ (j : Journal D). Breaks node desk flush ends.Full (areas_in device (store_of j)) (Leaves device (store_of j))) (sym same) (record {
-    left = λ areas left. inl (left_firm node device desk book old is areas left);
+    left = λ areas left. inl (left_durable node device desk book old is areas left);
     errors = tt;
     full = λ _. for_group (device.content (disk_of old)) refl (live_area device old)
         (subst (λ (l : List (List ℕ)). MAX_JOURNAL_BYTES < length (device.content (disk_of old)) + length (group_bytes l))
@@ -350,11 +350,11 @@ module _ {S D : Type 0} (node : Node) (device : Device D) (desk : Desk) (book : 
   })
 
 -- after an error in writing what a command made due
-pub behind_breaks : {S D : Type 0} (node : Node) (device : Device D) (desk : Desk) (command : Command) (book : BookView S) (new : Journal D)
+pub after_breaks : {S D : Type 0} (node : Node) (device : Device D) (desk : Desk) (command : Command) (book : BookView S) (new : Journal D)
     → IsOf node device (after node desk command) book new → (error : DriveError) → (error ≡ ends.Memory) ⊎ (error ≡ ends.Output)
     → Breaks node desk command error (areas_in device (store_of new)) (Leaves device (store_of new))
-behind_breaks {S} {D} node device desk command book new is error either = record {
-  left = λ areas left. inr (left_firm node device (after node desk command) book new is areas left);
+after_breaks {S} {D} node device desk command book new is error either = record {
+  left = λ areas left. inr (left_durable node device (after node desk command) book new is areas left);
   errors = ends_any command error either;
   full = λ full. absurd (not_full error either full);
 }

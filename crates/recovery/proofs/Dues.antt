@@ -16,7 +16,7 @@ use Rattle.book.specs.Queue.{settled_head, TicketsRise}
 use Rattle.book.specs.Book.{BookView, Run, Stands, releasable}
 use Rattle.recovery.specs.Script.{run_of, IsOf}
 use Rattle.recovery.specs.Writing.{WritesFirst, WritesNone, WritesPartOfFirst}
-use Rattle.wire_write.proofs.Appending.{part_behind, part_front}
+use Rattle.wire_write.proofs.Appending.{part_after, part_front}
 use Rattle.wire_write.specs.Frames.{AppendsLess}
 use Rattle.diskmodel.specs.Disk.{Device}
 
@@ -186,7 +186,7 @@ module _ {S : Type 0} (node : Node) (before now : BookView S) (old mid : Option 
         ∙ sym (append_assoc so_far.part (frame_of output) (frames (ready before.settled (drop 1 now.queue)))) in
         subst (AppendsLess old new) (sym all)
         (part_front old new (so_far.part ++ frame_of output) (frames (ready before.settled (drop 1 now.queue)))
-        (part_behind old mid new so_far.part (frame_of output) so_far.appends appends))
+        (part_after old mid new so_far.part (frame_of output) so_far.appends appends))
 
 -- ---- one call
 

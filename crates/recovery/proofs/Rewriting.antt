@@ -24,7 +24,7 @@ use Rattle.spec_world.specs.Text.{Desk, checkpoint, settled_in, state_in, after}
 use Rattle.recovery.specs.Script.{run_of, IsOf, Breaks, for_checkpoint}
 use Rattle.recovery.specs.declared.driving.DriveError.{DriveError}
 use Rattle.recovery.specs.declared.driving.DriveError.TheVariants as ends
-use Rattle.recovery.proofs.Desks.{left_firm, same_breaks, told_as}
+use Rattle.recovery.proofs.Desks.{left_durable, same_breaks, told_as}
 
 after_checkpoint : (node : Node) (desk : Desk) → after node desk checkpoint ≡ record desk { settled = desk.accepted }
 unfolding after
@@ -76,7 +76,7 @@ module _ {S D : Type 0} (node : Node) (device : Device D) (script : Desk) (befor
   full_breaks : later.journal ≡ before.journal → FindsNoRoomToRewrite node before.book later.book before.journal
       → Breaks node script checkpoint ends.Full (areas_in device (store_of later.journal)) (Leaves device (store_of later.journal))
   full_breaks same no_room = subst (λ (j : Journal D). Breaks node script checkpoint ends.Full (areas_in device (store_of j)) (Leaves device (store_of j))) (sym same) (record {
-    left = λ areas left. inl (left_firm node device script before.book before.journal is areas left);
+    left = λ areas left. inl (left_durable node device script before.book before.journal is areas left);
     errors = tt;
     full = λ _.
         let down = no_room.0 in

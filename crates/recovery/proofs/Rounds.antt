@@ -1,7 +1,7 @@
 -- What a round of a desk is to a script.
 use Rattle.std.proofs.Common.{◌≡◌, ◌≢◌, ◌⊎◌, ℕ, inl, inr, List, [], ◌∷◌, Result, Ok, Err, refl, sym, ap, ◌∙◌, subst}
 use Rattle.std.specs.Prelude.{None, IfOk, IfErr, OnOk, IsOk, IsErrOf}
-use Rattle.book.specs.OnTheWay.{Flushes, FindsNoRoom, IsWithOrWithout}
+use Rattle.book.specs.InFlight.{Flushes, FindsNoRoom, IsWithOrWithout}
 use Rattle.book.specs.declared.own.error.FlushError.{FlushError}
 use Rattle.book.specs.declared.own.error.FlushError.TheVariants as errors
 use Rattle.desk.specs.Desk as desks

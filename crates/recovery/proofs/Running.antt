@@ -58,7 +58,7 @@ module _ (node : Node) (sound : IsNode node) where
   -- also where the next command failed
   pub cut_given : {S D : Type 0} (device : Device D) (before : Areas) (done : List script.Command) (next : script.Command) (book : BookView S) (journal : Journal D) (old mid new : Option (List ℕ))
       (so_far : IsCarriedOut node device before done book journal old mid) (commands rest : List script.Command) (error : DriveError) → commands ≡ done ++ next ∷ rest
-      → AppendsPart error mid new (script.frames (script.due (script.after node (script.desk_behind node (script.desk_on so_far.state) done) next))) → All (IsTakenIn node) (done ++ next ∷ [])
+      → AppendsPart error mid new (script.frames (script.due (script.after node (script.desk_after node (script.desk_on so_far.state) done) next))) → All (IsTakenIn node) (done ++ next ∷ [])
       → EachRunOn node before (GivesOutNoLess node commands old new)
   cut_given device before done next book journal old mid new so_far commands rest error parts appends taken = λ history moves world is begun.
       let some = done ++ next ∷ [] in

@@ -10,7 +10,7 @@ use Rattle.spec_world.specs.Steps.{Move, IsRun}
 use Rattle.spec_world.specs.Scripts.{GivesOutText}
 use Rattle.spec_world.specs.Text as script
 use Rattle.journal.specs.Areas.{Areas}
-use Rattle.opening.specs.Told.{told_in}
+use Rattle.opening.specs.Decoded.{decoded_in}
 use Rattle.wire.specs.Grammar.{IsMessage}
 use Rattle.recovery.specs.declared.driving.Command.{Command}
 use Rattle.recovery.specs.declared.driving.Command.TheVariants.{Event}
@@ -28,7 +28,7 @@ pub record HasBegun (node : Node) (history : History) (moves : List Move) (world
 
 -- each run of the node that has just begun with a history of which what is kept is what areas are told as
 abbrev pub EachRunOn : Node → Areas → (History → List Move → World → Type 0) → Type 0
-EachRunOn node before P = (history : History) (moves : List Move) (world : World) → told_in node before ≡ Ok (kept node history) → HasBegun node history moves world → P history moves world
+EachRunOn node before P = (history : History) (moves : List Move) (world : World) → decoded_in node before ≡ Ok (kept node history) → HasBegun node history moves world → P history moves world
 
 -- it goes on as commands say, and what goes out on the way is what a writer got, as frames
 pub record GivesOut (node : Node) (commands : List script.Command) (old new : Option (List ℕ)) (history : History) (moves : List Move) (world : World) : Type 0 where

@@ -26,7 +26,7 @@ use Rattle.spec_world.specs.Runs.{AreKeys}
 use Rattle.spec_world.specs.Text as script
 use Rattle.recovery.specs.Faults.{ended_by}
 use Rattle.opening.specs.Renewing.{HasBegun, IsFullOf, HasNoRoom as LacksRoom}
-use Rattle.opening.specs.Told.{told_in, Tells, KeepsRecords}
+use Rattle.opening.specs.Decoded.{decoded_in, Tells, KeepsRecords}
 use Rattle.recovery.specs.Writing.{EndsAtDisk}
 use Rattle.recovery.specs.declared.driving.Command.{Command}
 use Rattle.recovery.specs.declared.driving.Command.TheVariants.{Event, Flush, Checkpoint, Stop}
@@ -91,7 +91,7 @@ Follows node device next before later =
 -- they are those of a run that began with the state that the disks were told as
 pub record IsOpenedOf {S D : Type 0} (node : Node) (device : Device D) (before : Areas) (book : BookView S) (journal : Journal D) : Type 0 where
   pub state : State
-  pub told_first : told_in node before ≡ Ok state
+  pub told_first : decoded_in node before ≡ Ok state
   pub is_of : IsOf node device (script.desk_on state) book journal
 
 -- ---- how a script ends
@@ -100,10 +100,10 @@ pub record IsOpenedOf {S D : Type 0} (node : Node) (device : Device D) (before :
 -- settled then, and no stop changes that.
 pub record HasRun (node : Node) (commands : List script.Command) (before later : Areas) (possible : Areas → Type 0) (old new : Option (List ℕ)) : Type 0 where
   pub state : State
-  pub told_first : told_in node before ≡ Ok state
+  pub told_first : decoded_in node before ≡ Ok state
   pub writes : Appends old new (script.text node (script.desk_on state) commands)
-  pub told_later : told_in node later ≡ Ok (script.settled_in node (script.desk_behind node (script.desk_on state) commands))
-  pub firm : (areas : Areas) → possible areas → areas ≡ later
+  pub decoded_later : decoded_in node later ≡ Ok (script.settled_in node (script.desk_after node (script.desk_on state) commands))
+  pub durable : (areas : Areas) → possible areas → areas ≡ later
 
 -- areas are two, and a journal in the first version, of which no checkpoint has room
 abbrev pub IsFull : Node → Areas → Type 0
@@ -116,9 +116,9 @@ IsFull node (pair one other) = IsFullOf node one other
 pub record IsNotOpened (node : Node) (error : DriveError) (before : Areas) (possible later : Areas → Type 0) : Type 0 where
   pub cause : JournalError
   pub is : error ≡ ended_by cause
-  pub tells : cause ≢ journal.Device → cause ≢ journal.Full → Tells cause (told_in node before)
+  pub tells : cause ≢ journal.Device → cause ≢ journal.Full → Tells cause (decoded_in node before)
   pub full : cause ≡ journal.Full → IsFull node before
-  pub left : (areas : Areas) → later areas → (first : Areas) × possible first × (told_in node areas ≡ told_in node first)
+  pub left : (areas : Areas) → later areas → (first : Areas) × possible first × (decoded_in node areas ≡ decoded_in node first)
   pub keeps : (bytes : List ℕ) → later (alone bytes) → KeepsRecords node (λ one. possible (alone one)) bytes
 
 -- and nothing was written
@@ -162,7 +162,7 @@ MayEnd command ConfigMismatch = ⊥
 -- A command failed at a desk: what a stop leaves is told as the state after what is settled there, or after the command.
 pub record Breaks (node : Node) (desk : script.Desk) (command : script.Command) (error : DriveError) (later : Areas) (possible : Areas → Type 0) : Type 0 where
   pub left : (areas : Areas) → possible areas
-      → (told_in node areas ≡ Ok (script.settled_in node desk)) ⊎ (told_in node areas ≡ Ok (script.settled_in node (script.after node desk command)))
+      → (decoded_in node areas ≡ Ok (script.settled_in node desk)) ⊎ (decoded_in node areas ≡ Ok (script.settled_in node (script.after node desk command)))
   pub errors : MayEnd command error
   pub full : error ≡ Full → HasNoRoom node desk later command
 
@@ -175,7 +175,7 @@ BreaksOff node device command before error store =
 -- one writes, not the whole of it where the writer failed, and nothing of it where that ended at the disk.
 pub record IsCutShort (node : Node) (commands : List script.Command) (error : DriveError) (before later : Areas) (possible : Areas → Type 0) (old new : Option (List ℕ)) : Type 0 where
   pub state : State
-  pub told_first : told_in node before ≡ Ok state
+  pub told_first : decoded_in node before ≡ Ok state
   pub done : List script.Command
   pub next : script.Command
   pub rest : List script.Command
@@ -186,4 +186,4 @@ pub record IsCutShort (node : Node) (commands : List script.Command) (error : Dr
   pub no_more : Begins written (script.text node (script.desk_on state) (done ++ next ∷ []))
   pub less : error ≡ Output → length written < length (script.text node (script.desk_on state) (done ++ next ∷ []))
   pub nothing : EndsAtDisk error → written ≡ script.text node (script.desk_on state) done
-  pub breaks : Breaks node (script.desk_behind node (script.desk_on state) done) next error later possible
+  pub breaks : Breaks node (script.desk_after node (script.desk_on state) done) next error later possible

@@ -6,6 +6,6 @@ mod driving;
 
 pub use driving::{Command, DriveError, drive, drive_pair};
 pub use opening::{
-    can_tell, checkpoint, reopen, reopen_pair, told_stands_for, what_stands_is_told,
-    worlds_are_told, write_configuration,
+    can_tell, checkpoint, decoded_stands_for, reopen, reopen_pair, what_stands_is_decoded,
+    worlds_are_decoded, write_configuration,
 };

@@ -50,8 +50,8 @@ pub fn header_outputs<S: Sign>(
     Ok(outputs)
 }
 
-/// What a list has behind so many as another one has.
-fn behind<'a>(before: &[Digest], after: &'a [Digest]) -> &'a [Digest]
+/// What a list has after so many as another one has.
+fn following<'a>(before: &[Digest], after: &'a [Digest]) -> &'a [Digest]
     ensures value { result.now ≡ drop (length before.now) after.now }
     ensures small { length before.now + length result.now < 2 ^ 63 }
 {
@@ -61,7 +61,7 @@ fn behind<'a>(before: &[Digest], after: &'a [Digest]) -> &'a [Digest]
     &after[before.len()..]
 }
 
-/// Adds what an order has behind the one before, in pieces.
+/// Adds what an order has after the one before, in pieces.
 fn push_grown(
     alloc: Global,
     outputs: &mut Outputs,
@@ -70,7 +70,7 @@ fn push_grown(
 ) -> Result<(), AllocError>
     ensures { OnOk result (outputs.new ≡ outputs.old ++ admitting.pieces (length before.now) (drop (length before.now) after.now)) }
 {
-    outputs.push_order(alloc, before.len() as u64, behind(before, after))
+    outputs.push_order(alloc, before.len() as u64, following(before, after))
 }
 
 /// Adds what is added to the order.

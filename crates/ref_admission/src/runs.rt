@@ -12,7 +12,7 @@ use ref_order::past::Past;
 use sigface::Sign;
 use std::alloc::{AllocError, Global};
 
-/// What an event is answered at the history behind which it comes.
+/// What an event is answered at the history after which it comes.
 pub fn admit<S: Sign>(
     alloc: Global,
     node: &Node<S>,

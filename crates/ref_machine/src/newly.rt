@@ -103,7 +103,7 @@ fn last_leader<'a>(ledger: &Ledger<'a>) -> Option<&'a Certificate>
 }
 
 /// What leaders order one after the other, after the leader before them.
-fn segments_behind<'a>(
+fn segments_after<'a>(
     alloc: Global,
     ledger: &Ledger,
     before: Option<&'a Certificate>,
@@ -126,7 +126,7 @@ fn newly_ordered(alloc: Global, before: &Ledger, later: &Ledger) -> Result<Vec<D
     ensures { IfOk result (λ found. found.items ≡ machine.newly_ordered (ledger_view before.now) (ledger_view later.now)) }
 {
     let leaders = newer(alloc, later, last_wave(before))?;
-    let ordered = segments_behind(alloc, later, last_leader(before), &leaders)?;
+    let ordered = segments_after(alloc, later, last_leader(before), &leaders)?;
     ordered.iter().map(|c| digest_of(&c.header)).collect(alloc)
 }
 

@@ -18,7 +18,7 @@ fn alone(alloc: Global, last: &Certificate) -> Result<Vec<Certificate>, AllocErr
     Ok(found)
 }
 
-/// A leader behind those of the waves above a base that are committed with it, from the waves up to one.
+/// A leader after those of the waves above a base that are committed with it, from the waves up to one.
 pub fn newer_to(
     alloc: Global,
     ledger: &Ledger,

@@ -140,7 +140,7 @@ pub fn rounds_to(alloc: Global, ledger: &Ledger, round: u64) -> Result<Vec<Certi
     Ok(found)
 }
 
-/// A leader orders a certificate, behind the leader before.
+/// A leader orders a certificate, after the leader before.
 fn is_ordered_by(
     alloc: Global,
     ledger: &Ledger,
@@ -159,7 +159,7 @@ fn is_ordered_by(
     Ok(!is_past(alloc, ledger, previous, certificate)?)
 }
 
-/// What a leader orders, behind the leader before.
+/// What a leader orders, after the leader before.
 pub fn segment(
     alloc: Global,
     ledger: &Ledger,

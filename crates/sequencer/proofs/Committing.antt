@@ -33,7 +33,7 @@ use Rattle.sequencer.proofs.Chaining.{IsSame, steps, same_last, higher_last}
 use Rattle.sequencer.proofs.Coming.{new_in, no_coin}
 use Rattle.sequencer.proofs.Growing.{later_slots, certificate_extends, above_last, coin_slots, coin_extends}
 use Rattle.sequencer.proofs.Preparing.{last_held, last_none, below_wave}
-use Rattle.sequencer.proofs.Standing.{IsGrownTo, is_behind, stands}
+use Rattle.sequencer.proofs.Standing.{IsGrownTo, is_after, stands}
 
 -- ---- the DAG's growth
 
@@ -226,7 +226,7 @@ pub goes_on : AreKnown → (node : Node) (state : State) (event : Event) (sequen
     → new.coins ≡ (grown node state event.message).coins → new.order ≡ sequence.order ++ prepared_digests prepared → IsAt node (after node state event) new
 goes_on known node state event sequence later prepared new comes ext ready stepped of commits coins order =
     let reached = grown node state event.message in
-    let back = is_behind known node state event sequence comes ext in
+    let back = is_after known node state event sequence comes ext in
     let ordered : new.order ≡ reached.order = order ∙ ap (λ l. l ++ prepared_digests prepared) comes.at.order ∙ ap (λ l. state.order ++ l) ready.digests in
     elim (given_or_none prepared.committed) [
       | inr none ↦

@@ -73,9 +73,9 @@ all_chained ledger placed =
     ]
 
 -- so do those after a beginning of them
-chained_behind : (ledger : Ledger) (previous : Option Certificate) (front back : List Certificate) → AreChained ledger previous (front ++ back) → AreChained ledger (last_or previous front) back
-chained_behind ledger previous [] back chained = chained
-chained_behind ledger previous (c ∷ front) back chained = chained_behind ledger (Some c) front back chained.2
+chained_after : (ledger : Ledger) (previous : Option Certificate) (front back : List Certificate) → AreChained ledger previous (front ++ back) → AreChained ledger (last_or previous front) back
+chained_after ledger previous [] back chained = chained
+chained_after ledger previous (c ∷ front) back chained = chained_after ledger (Some c) front back chained.2
 
 -- ---- over slots that hold the same from a round on
 
@@ -199,7 +199,7 @@ chained node before more low graph last holds =
     (chained_from node (coins later) low (slots_in graph) (slots node later) agree (last_leader_at node before) (newer_of node before more)
     (last_high (last_leader_at node before) refl)
     (λ c inside. let above = newer_above node before more low graph last holds c inside in omega (arith, above, within, under))
-    (chained_behind all None (committed_at node before) (newer_of node before more) whole))
+    (chained_after all None (committed_at node before) (newer_of node before more) whole))
   where
     last_high : (previous : Option Certificate) → last_leader_at node before ≡ previous → IfSome previous (λ p. low ≤ p.header.round)
     last_high None is = tt
@@ -211,10 +211,10 @@ chained node before more low graph last holds =
 -- ---- by their slots
 
 -- each of them was held
-was_behind : (ledger : Ledger) (previous : Option Certificate) (front back : List Certificate) → WasHeld ledger.slots previous
+was_after : (ledger : Ledger) (previous : Option Certificate) (front back : List Certificate) → WasHeld ledger.slots previous
     → AreChained ledger previous (front ++ back) → WasHeld ledger.slots (last_or previous front)
-was_behind ledger previous [] back was links = was
-was_behind ledger previous (c ∷ front) back was links = was_behind ledger (Some c) front back (λ d is. subst (IsIn ledger.slots) (same_Some c d is) links.0) links.2
+was_after ledger previous [] back was links = was
+was_after ledger previous (c ∷ front) back was links = was_after ledger (Some c) front back (λ d is. subst (IsIn ledger.slots) (same_Some c d is) links.0) links.2
 
 last_slot : (previous : Option Certificate) (front : List Certificate) → last_or (option_map slot_of previous) (map slot_of front) ≡ option_map slot_of (last_or previous front)
 last_slot previous [] = refl
@@ -252,8 +252,8 @@ one_orders node before more low graph last each holds marks front rest c parts =
     let first = last_leader_at node before in
     let previous = last_or first front in
     let links : AreChained (ledger_in graph values) first (front ++ c ∷ rest) = subst (AreChained (ledger_in graph values) first) parts (chained node before more low graph last holds) in
-    let here = chained_behind (ledger_in graph values) first front (c ∷ rest) links in
-    let held_previous = held_last graph previous (was_behind (ledger_in graph values) first front (c ∷ rest) (last_was node before more low graph last holds) links) in
+    let here = chained_after (ledger_in graph values) first front (c ∷ rest) links in
+    let held_previous = held_last graph previous (was_after (ledger_in graph values) first front (c ∷ rest) (last_was node before more low graph last holds) links) in
     let by_slots : map slot_of (newer_of node before more) ≡ map slot_of front ++ slot_of c ∷ map slot_of rest = ap (map slot_of) parts ∙ map-append slot_of front (c ∷ rest) in
     let follows = subst (λ p. Follows graph p (slot_of c)) (last_slot first front)
     (each graph (option_map slot_of first) (map slot_of front) (map slot_of rest) (slot_of c) holds.graph_is

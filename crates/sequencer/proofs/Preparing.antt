@@ -149,12 +149,12 @@ linked graph coins previous (c ∷ certificates) chained was = (
         ap (λ o. option_map_or (λ start. option_map_or (reaches (size_in graph) (slots_in graph) start) (slots_in graph p.header.round p.header.author.0) false) o false) chained.0
         ∙ ap (λ o. option_map_or (reaches (size_in graph) (slots_in graph) c) o false) (held p refl) ∙ is
 
-last_behind : {X : Type 0} (front : List X) (x : X) → slice_get (front ++ x ∷ []) (length (front ++ x ∷ []) - 1) ≡ Some x
-last_behind [] x = refl
-last_behind (y ∷ front) x =
+last_after : {X : Type 0} (front : List X) (x : X) → slice_get (front ++ x ∷ []) (length (front ++ x ∷ []) - 1) ≡ Some x
+last_after [] x = refl
+last_after (y ∷ front) x =
     let more : length (front ++ x ∷ []) ≡ length front + 1 = length-append front (x ∷ []) in
     let next : length (y ∷ (front ++ x ∷ [])) - 1 ≡ suc (length (front ++ x ∷ []) - 1) = omega (arith, more) in
-    ap (slice_get (y ∷ (front ++ x ∷ []))) next ∙ last_behind front x
+    ap (slice_get (y ∷ (front ++ x ∷ []))) next ∙ last_after front x
 
 -- ---- the chain of a step
 
@@ -222,7 +222,7 @@ chain_of node state event sequence node_is sound at ext slots all =
         | inr higher ↦
             let ends = newer_ends now base higher.0 higher.1 in
             let full : slots ≡ map slot_of ends.0 ++ slot_of higher.1 ∷ [] = all ∙ ap (map slot_of) (higher.2.all ∙ ends.1) ∙ map-append slot_of ends.0 (higher.1 ∷ []) in
-            let found = ap (λ l. slice_get l (length l - 1)) full ∙ last_behind (map slot_of ends.0) (slot_of higher.1) in
+            let found = ap (λ l. slice_get l (length l - 1)) full ∙ last_after (map slot_of ends.0) (slot_of higher.1) in
             let same_slot : slot_of higher.1 ≡ slot = same_Some (slot_of higher.1) slot (sym found ∙ ends_with) in
             let level = (leader_place now higher.0 higher.1 (members_some node node_is) ext.placed_after higher.2.leads).0 in
             let round : higher.1.header.round ≡ slot.0 = ap (λ (s : ℕ × Author). s.0) same_slot in

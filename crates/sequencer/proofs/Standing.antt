@@ -29,15 +29,15 @@ use Rattle.sequencer.proofs.Preparing.{last_held, last_none}
 -- ---- the state after an event
 
 -- it is sound, its floor is no lower, and its floor and its last leader are those of all that there is with the event
-pub record IsBehind (node : Node) (state : State) (event : Event) : Type 0 where
+pub record IsAfter (node : Node) (state : State) (event : Event) : Type 0 where
   pub sound : IsSound node (after node state event)
   pub rises : floor_in node state ≤ floor_in node (grown node state event.message)
   pub floors : floor_in node (grown node state event.message) ≡ floor_in node (after node state event)
   pub lasts : last_leader (ledger_in node (grown node state event.message)) ≡ last_leader (ledger_in node (after node state event))
 
-pub is_behind : AreKnown → (node : Node) (state : State) (event : Event) (sequence : SequencerView) → ComesTo node state event sequence
-    → Extends state.slots (grown node state event.message).slots → IsBehind node state event
-is_behind known node state event sequence comes ext =
+pub is_after : AreKnown → (node : Node) (state : State) (event : Event) (sequence : SequencerView) → ComesTo node state event sequence
+    → Extends state.slots (grown node state event.message).slots → IsAfter node state event
+is_after known node state event sequence comes ext =
     let later = grown node state event.message in
     let reached = after node state event in
     let low = floor_in node reached in
@@ -103,7 +103,7 @@ past_is node graph state round author last c charter slots held there =
     ∙ ap (λ (x : Charter). reaches (length x.keys) (slots_in graph) last c) charter
     ∙ ap (λ (s : Slots). reaches (length node.charter.keys) s last c) slots
 
-past_stays : (node : Node) (state : State) (event : Event) (graph later : DagView) → IsBehind node state event → IsNode node → IsGraph graph
+past_stays : (node : Node) (state : State) (event : Event) (graph later : DagView) → IsAfter node state event → IsNode node → IsGraph graph
     → IsGrownTo node state event graph → IsDropped graph later (floor_in node (grown node state event.message))
     → slots_in later ≡ (after node state event).slots → (round author : ℕ) (c : Certificate) → slots_in later round author ≡ Some c → (last : Option Certificate)
     → WasHeld (after node state event).slots last → is_past (ledger_in node (grown node state event.message)) last c ≡ is_past (ledger_in node (after node state event)) last c
@@ -126,7 +126,7 @@ not_below one other above = grind (arith, above)
 
 -- without what lies below the new floor it is the DAG of the state after the event
 pub stands : (node : Node) (state : State) (event : Event) (before sequence : SequencerView) (graph : DagView) → ComesTo node state event before
-    → IsBehind node state event → IsGraph graph → IsGrownTo node state event graph
+    → IsAfter node state event → IsGraph graph → IsGrownTo node state event graph
     → IsDropped graph sequence.graph (floor_in node (grown node state event.message)) → sequence.coins ≡ (grown node state event.message).coins
     → sequence.order ≡ (grown node state event.message).order
     → sequence.last ≡ option_map slot_of (last_leader (ledger_in node (grown node state event.message))) → IsAt node (after node state event) sequence

@@ -39,17 +39,17 @@ pub sequence_stays : SequenceStays
 sequence_stays node state event sequence comes no_certificate no_coin =
     let at = comes.at in
     let later = grown node state event.message in
-    let behind = after node state event in
+    let following = after node state event in
     let before = ledger_in node state in
     let slots = slots_same node state event no_certificate in
     let coins : later.coins ≡ state.coins = ap (λ o. state.coins ++ option_to_list o) no_coin ∙ append-nil state.coins in
     let now : ledger_in node later ≡ before = ap (λ (s : Slots). ledger_of node s later.coins) slots ∙ ap (ledger_of node state.slots) coins in
-    let kept : behind.slots ≡ state.slots =
+    let kept : following.slots ≡ state.slots =
     fun_ext (λ round. fun_ext (λ author.
     ap (λ (f : ℕ). if nat_lt round f then None else later.slots round author) (ap floor_by now)
     ∙ ap (λ (s : Slots). if nat_lt round (floor_in node state) then None else s round author) slots
     ∙ nothing_below node state (floor_in node state) round author comes.comes.sound.certificates.above)) in
-    let same : ledger_in node behind ≡ before = ap (λ (s : Slots). ledger_of node s later.coins) kept ∙ ap (ledger_of node state.slots) coins in
+    let same : ledger_in node following ≡ before = ap (λ (s : Slots). ledger_of node s later.coins) kept ∙ ap (ledger_of node state.slots) coins in
     let ordered : newly_ordered before (ledger_in node later) ≡ [] =
     ap (newly_ordered before) now ∙ ap (λ l. map (λ (c : Certificate). certificate_digest c.header) (segments before (last_leader before) l)) (newer_none before) in
     record {

@@ -1,4 +1,4 @@
--- The signatures of the insecure pair: two SHA-256 digests (FIPS 180-4) one behind the other.
+-- The signatures of the insecure pair: two SHA-256 digests (FIPS 180-4) one after the other.
 use Rattle.std.specs.Prelude.{ℕ, Bool, List, ◌∷◌, ◌++◌}
 use Rattle.std.specs.Str.{bytes_eq}
 use Rattle.sha2.specs.Sha256.{sha256}
@@ -10,7 +10,7 @@ use Rattle.wire.specs.declared.keys.Signature.{Signature}
 abbrev pub first_half : Key → Digest → List ℕ
 first_half key digest = sha256 (0x53 ∷ key.0 ++ digest.0)
 
--- the last 32 bytes: the same behind the letter T
+-- the last 32 bytes: the same after the letter T
 abbrev pub second_half : Key → Digest → List ℕ
 second_half key digest = sha256 (0x54 ∷ key.0 ++ digest.0)
 

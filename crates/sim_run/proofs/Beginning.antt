@@ -27,12 +27,12 @@ use Rattle.node_shared.specs.Calls.{HasNothing}
 use Rattle.node_shared.specs.Home.{NodeView, IsOf, IsFlushOf}
 use Rattle.node_shared.specs.declared.flush_seat.FlushSeat.{FlushSeat}
 use Rattle.opening.specs.Laws.{HoldsIn}
-use Rattle.opening.specs.Told.{told_in, KeepsOrBegins}
+use Rattle.opening.specs.Decoded.{decoded_in, KeepsOrBegins}
 use Rattle.opening.proofs.Empty.{scans_long, walk_open}
 use Rattle.opening.proofs.FirstGroups.{walk_from}
 use Rattle.opening.proofs.Laws.{configuration_shape}
 use Rattle.opening.proofs.PairLaws.{own_free, own_by_bytes}
-use Rattle.opening.proofs.PairTelling.{pair_alone, told_pair_records}
+use Rattle.opening.proofs.PairTelling.{pair_alone, decoded_pair_records}
 use Rattle.sigface.specs.Scheme.{Scheme}
 use Rattle.spec_machine.proofs.AfterAll.{after_none, legal_none}
 use Rattle.spec_machine.specs.Machine.{fresh}
@@ -70,19 +70,19 @@ begun_one {S} {D} scheme device node own flusher journal seat setting tables set
     let here : HoldsIn (node_of scheme node.setting) areas node.begun = subst (λ (t : Tables). HoldsIn (node_of scheme node.setting) areas t) (sym begun_is)
     (subst (λ (s : ConfigView S). HoldsIn (node_of scheme s) areas tables) (sym setting_is) held) in
     let is_here : IsNode (node_of scheme node.setting) = subst (λ (s : ConfigView S). IsNode (node_of scheme s)) (sym setting_is) is_node in
-    let first : HoldsAfter scheme node seat.seat.view.firm areas =
-    subst (λ (l : List Marked). HoldsAfter scheme node l areas) (sym nothing.firm) (holds_first scheme node areas is_here here) in
+    let first : HoldsAfter scheme node seat.seat.view.durable areas =
+    subst (λ (l : List Marked). HoldsAfter scheme node l areas) (sym nothing.durable) (holds_first scheme node areas is_here here) in
     record {
       set = setting_is;
       of_node = of_node;
       flushes = record {
         seat = subst (IsFlushOf node) (sym seat_is) of;
         right = ap (λ (s : FlushSeat). s.seat.view.may_fail) seat_is ∙ right ∙ sym (ap not up);
-        rests = λ _. subst (λ (s : FlushSeat). s.taken ≡ s.settled) (sym seat_is) (taken ∙ sym (of.settled ∙ ap length nothing.firm));
+        rests = λ _. subst (λ (s : FlushSeat). s.taken ≡ s.settled) (sym seat_is) (taken ∙ sym (of.settled ∙ ap length nothing.durable));
         idle = λ _. ap (λ (s : FlushSeat). s.rewriting) seat_is ∙ idle;
         alive = λ _. subst (IsAlive device) (sym journal_is) alive;
-        holds = λ _. subst (λ (j : Journal D). HoldsAfter scheme node (seat_of flusher).seat.view.firm (areas_of device j)) (sym journal_is)
-            (subst (λ (s : FlushSeat). HoldsAfter scheme node s.seat.view.firm areas) (sym seat_is) first);
+        holds = λ _. subst (λ (j : Journal D). HoldsAfter scheme node (seat_of flusher).seat.view.durable (areas_of device j)) (sym journal_is)
+            (subst (λ (s : FlushSeat). HoldsAfter scheme node s.seat.view.durable areas) (sym seat_is) first);
       };
       pair = subst (λ (j : Journal D). IsSome (spare_of j)) (sym journal_is) two;
     }
@@ -203,11 +203,11 @@ module _ {D : Type 0} (device : Device D) where
           | inl told ↦
               let now_empty = ap stands_in (sym (areas_are journal other two)) ∙ empty in
               let none = stands_by (side_in journal) live (sym (both_older (side_in journal) (generation_in journal) live other told beside.older) ∙ now_empty) in
-              absurd (some_told (sym (tells_of_none live none) ∙ told))
+              absurd (some_decoded (sym (tells_of_none live none) ∙ told))
         ]
       where
-        some_told : ◌≡◌ {A = Option (Option ℕ)} None (Some (Some (generation_in journal))) → ⊥
-        some_told same = cc
+        some_decoded : ◌≡◌ {A = Option (Option ℕ)} None (Some (Some (generation_in journal))) → ⊥
+        some_decoded same = cc
 
     pub file_none : stands live ≡ Ok []
     file_none = stands_short live (omega (arith, ap length new_pair.empty))
@@ -244,10 +244,10 @@ module _ {D : Type 0} (device : Device D) where
           both_older First 0 later other (tells_of_one later row version written (configuration_shape version node sound keys)) (inl (tells_short other (omega (arith, new_pair.other_short))))
           ∙ written
 
-      begun_told : told_in node (pair later other) ≡ Ok (fresh node)
-      begun_told =
+      begun_decoded : decoded_in node (pair later other) ≡ Ok (fresh node)
+      begun_decoded =
           let own = kept_at 0 row in
-          told_pair_records node (pair later other) (own ∷ []) tt both_stand ∙ pair_alone node own (own_free node own (own_by_bytes node own version sound keys tell refl))
+          decoded_pair_records node (pair later other) (own ∷ []) tt both_stand ∙ pair_alone node own (own_free node own (own_by_bytes node own version sound keys tell refl))
 
       begun_holds : IsSound node (fresh node) → Holds node (pair later other) (fresh node)
       begun_holds fresh_sound = record {
@@ -270,4 +270,4 @@ module _ {D : Type 0} (device : Device D) where
 
       pub begun_in : (tables : Tables) → AreAtSound node tables (fresh node) → HoldsIn node (areas_of device new) tables
       begun_in tables at = subst (λ (areas : Areas). HoldsIn node areas tables) (sym areas_then)
-          (record { state = fresh node; told_as = begun_told; holds = begun_holds at.sound; at = at })
+          (record { state = fresh node; told_as = begun_decoded; holds = begun_holds at.sound; at = at })

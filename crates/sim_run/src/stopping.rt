@@ -79,7 +79,7 @@ impl Disk for StoppingDisk<'_> {
     }
 
     fn sync(&mut self) -> Result<(), DiskFault>
-        ensures firm { OnOk result (LeavesOnly (content_of (memory_of self.old)) (CanStopAt (memory_of self.new))) }
+        ensures durable { OnOk result (LeavesOnly (content_of (memory_of self.old)) (CanStopAt (memory_of self.new))) }
         ensures content { content_of (memory_of self.new) ≡ content_of (memory_of self.old) }
         ensures outcomes { NoneNew (CanStopAt (memory_of self.old)) (CanStopAt (memory_of self.new)) }
         ensures time { TimeGoesOn (memory_of self.old) (memory_of self.new) }

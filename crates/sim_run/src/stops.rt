@@ -9,10 +9,10 @@ use std::alloc::{AllocError, Global};
 
 /// The disk, of which the next stop leaves the bytes of the last sync. `AllocError` where an allocation failed.
 pub fn losing(alloc: Global, mut disk: MemDisk) -> Result<MemDisk, AllocError>
-    ensures { IfOk result (λ left. WillLeave disk left (state_of disk).firm) }
+    ensures { IfOk result (λ left. WillLeave disk left (state_of disk).durable) }
 {
-    let firm = disk.firm().to_vec(alloc)?;
-    disk.choose(firm);
+    let durable = disk.durable().to_vec(alloc)?;
+    disk.choose(durable);
     Ok(disk)
 }
 

@@ -279,7 +279,7 @@ fn form_of<'a>(
     }))
 }
 
-// The words behind `pack`.
+// The words after `pack`.
 fn pack_of(words: &str) -> Option<Command<'_>> {
     let (name, words) = words.split_once(' ')?;
     let (author, words) = words.split_once(' ')?;

@@ -7,7 +7,7 @@ use wire::Author;
 /// The greatest number of a member or a worker that a script may name.
 const MAX_MEMBER: u64 = 254;
 
-/// Bytes of a label behind its first.
+/// Bytes of a label after its first.
 const LABEL_REST: usize = 15;
 
 // A small letter and then small letters or digits.

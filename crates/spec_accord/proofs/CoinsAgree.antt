@@ -17,13 +17,13 @@ Says f start xs = (place x : ℕ) → slice_get xs place ≡ Some x → x ≡ f 
 says_first : (f : ℕ → ℕ) (start x : ℕ) (xs : List ℕ) → Says f start (x ∷ xs) → x ≡ f start
 says_first f start x xs says = let at : start + 0 ≡ start = omega arith in says 0 x refl ∙ ap f at
 
-behind : (x : ℕ) (xs : List ℕ) (place y : ℕ) → slice_get xs place ≡ Some y → slice_get (x ∷ xs) (place + 1) ≡ Some y
-behind x xs place y is = let next : place + 1 ≡ suc place = omega arith in ap (slice_get (x ∷ xs)) next ∙ is
+after : (x : ℕ) (xs : List ℕ) (place y : ℕ) → slice_get xs place ≡ Some y → slice_get (x ∷ xs) (place + 1) ≡ Some y
+after x xs place y is = let next : place + 1 ≡ suc place = omega arith in ap (slice_get (x ∷ xs)) next ∙ is
 
 says_rest : (f : ℕ → ℕ) (start x : ℕ) (xs : List ℕ) → Says f start (x ∷ xs) → Says f (start + 1) xs
 says_rest f start x xs says place y is =
     let at : start + (place + 1) ≡ (start + 1) + place = omega arith in
-    says (place + 1) y (behind x xs place y is) ∙ ap f at
+    says (place + 1) y (after x xs place y is) ∙ ap f at
 
 -- with one thing more at their front lists agree still
 agree_more : {X : Type 0} (x y : X) (xs ys : List X) → x ≡ y → Agree xs ys → Agree (x ∷ xs) (y ∷ ys)

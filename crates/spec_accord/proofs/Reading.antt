@@ -13,8 +13,8 @@ use Rattle.spec_accord.specs.Members.{Party, IsTold, HaveNoClash, header_text, H
 use Rattle.spec_accord.proofs.Telling.{told_within}
 
 -- what stands after one letter is one
-behind_letter : (letter : ℕ) (one other : List ℕ) → letter ∷ one ≡ letter ∷ other → one ≡ other
-behind_letter letter one other same = cc
+after_letter : (letter : ℕ) (one other : List ℕ) → letter ∷ one ≡ letter ∷ other → one ≡ other
+after_letter letter one other same = cc
 
 -- fronts of one length are one
 same_front : (one other x y : List ℕ) → length one ≡ length other → one ++ x ≡ other ++ y → one ≡ other
@@ -50,7 +50,7 @@ module _ (party : Party) (signed : ℕ → Digest → Bool) (is : IsParty party 
   pub one_by_header : (one other : HeaderBody) → Told one → Told other → header_digest one ≡ header_digest other → one ≡ other
   one_by_header one other told also same =
       let text = all.clash.headers one other told also (ap (λ (d : Digest). d.0) same) in
-      one_body one other (all.fits one told) (all.fits other also) (behind_letter 72 _ _ text)
+      one_body one other (all.fits one told) (all.fits other also) (after_letter 72 _ _ text)
 
   -- and so are two whose certificates have one digest
   pub one_by_certificate : (one other : HeaderBody) → Told one → Told other → certificate_digest one ≡ certificate_digest other → one ≡ other
@@ -61,7 +61,7 @@ module _ (party : Party) (signed : ℕ → Digest → Bool) (is : IsParty party 
       let author : HeaderBody → List ℕ = λ body. to_be_bytes w16 body.author.0 in
       let long : length (digest one) ≡ length (digest other) = length-sha256 (header_text one) ∙ sym (length-sha256 (header_text other)) in
       let parts : digest one ++ (round one ++ author one) ≡ digest other ++ (round other ++ author other) =
-      sym (append_assoc (digest one) (round one) (author one)) ∙ behind_letter 67 _ _ text
+      sym (append_assoc (digest one) (round one) (author one)) ∙ after_letter 67 _ _ text
       ∙ append_assoc (digest other) (round other) (author other) in
       let front = same_front (digest one) (digest other) (round one ++ author one) (round other ++ author other) long parts in
       one_by_header one other told also (ap (λ (bytes : List ℕ). record { 0 = bytes }) front)

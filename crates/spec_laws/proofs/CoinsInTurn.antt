@@ -20,7 +20,7 @@ use Rattle.spec_laws.specs.Laws.{TellsCoin}
 use Rattle.spec_laws.proofs.Legal.{Adds, legal-induction}
 use Rattle.spec_laws.proofs.Lists.{filter_map-push}
 
--- a new coin is of the wave behind those that have theirs
+-- a new coin is of the wave after those that have theirs
 new_coin : (node : Node) (now later : State) (sender : Author) (coin : Coin) → is_new (coin_answer node now later sender coin) ≡ true
     → coin.wave ≡ length now.coins + 1
 new_coin node now later sender coin h = grind (arith, h, common_steps)

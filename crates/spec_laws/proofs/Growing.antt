@@ -191,7 +191,7 @@ segments_same before after ext more previous (last ∷ chain) past held =
     ∙ ap (λ l. segment before previous last ++ l)
     (segments_same before after ext more (Some last) chain (λ c is. subst (IsIn before.slots) (same_Some last c is) here) (λ c inside. held c (Contains-later last chain c inside)))
 
--- what leaders behind others order comes behind
+-- what leaders after others order comes after
 pub segments-append : (ledger : Ledger) (previous : Option Certificate) (front : List Certificate) (last : Certificate) (rest : List Certificate)
     → segments ledger previous ((front ++ last ∷ []) ++ rest) ≡ segments ledger previous (front ++ last ∷ []) ++ segments ledger (Some last) rest
 segments-append ledger previous [] last rest =

@@ -27,7 +27,7 @@ use Rattle.spec_laws.proofs.NewEvents.{new_header-unvoted, new_vote, new_certifi
 use Rattle.spec_laws.proofs.SlotsGrow.{completed-same, completed-other, completed-header, unvoted-incomplete, slots_grow}
 use Rattle.spec_laws.proofs.Votes.{of_its_slot, slot_is, one_header, each_headed}
 
--- a certificate behind one more event was there, or the event adds it to a slot that held nothing
+-- a certificate after one more event was there, or the event adds it to a slot that held nothing
 pub record IsAdded (node : Node) (history : History) (event : Event) (certificate : Certificate) : Type 0 where
   pub is : added node history event ≡ Some certificate
   pub free : slots node history certificate.header.round certificate.header.author.0 ≡ None
@@ -49,7 +49,7 @@ made_same node history event no_header no_vote certificate header inside made =
       | inr new ↦ absurd (Contains-nothing header (subst (λ o. Contains (option_to_list o) header) no_header new))
     ]
 
--- an own certificate behind each kind of event
+-- an own certificate after each kind of event
 made_more : (node : Node) (history : History) (sender : Author) (m : Message) → Adds node history (record { sender = sender; message = m })
     → (certificate : Certificate) (header : Header) → Contains (headers history ++ option_to_list (as_header m)) header
     → completed node (history ++ record { sender = sender; message = m } ∷ []) header ≡ Some certificate

@@ -37,7 +37,7 @@ pub legal-begins : (node : Node) (one other : History) → IsLegal node (one ++ 
 legal-begins node one other legal =
     record { sound = legal.sound; taken = (All-parts (IsTaken node) one other legal.taken).0; new = (each_new-parts node [] one other legal.new).0 }
 
--- an event that a node takes, new behind a legal history
+-- an event that a node takes, new after a legal history
 pub record Adds (node : Node) (history : History) (event : Event) : Type 0 where
   pub legal : IsLegal node history
   pub longer : IsLegal node (history ++ event ∷ [])

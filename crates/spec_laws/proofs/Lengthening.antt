@@ -82,7 +82,7 @@ committed_in ledger placed c inside =
           newer_held ledger placed 0 (found.0 - 1) lead.0 c (leader_in ledger (suc (found.0 - 1)) lead.0 placed lead.2) (subst (λ l. Contains l c) is inside)
     ]
 
--- one step: what the newer leaders order comes behind the order
+-- one step: what the newer leaders order comes after the order
 one_step : (before : Ledger) (after : Slots) → IsLonger before after → (more : List ℕ)
     → order_by (grown before after more) ≡ order_by before ++ digests (segments (grown before after more) (last_or None (committed before)) (newer (grown before after more) (last_wave before)))
 one_step before after longer more =

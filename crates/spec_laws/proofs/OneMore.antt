@@ -1,4 +1,4 @@
--- What a history has of each kind behind one more event.
+-- What a history has of each kind after one more event.
 use Rattle.spec_model.specs.Histories.{as_batch, as_ack, as_header, as_vote, as_certificate, as_coin}
 use Rattle.spec_model.specs.Holdings.{batch_digest}
 use Rattle.spec_laws.specs.Laws.{OneMore}

@@ -126,7 +126,7 @@ newer_held ledger placed base (suc wave) last c held inside =
       ]
     ]
 
--- what the leaders above a wave order, behind the one before them
+-- what the leaders above a wave order, after the one before them
 abbrev pub since : Ledger → ℕ → Option Certificate → List Digest
 since ledger base previous = map (λ c. certificate_digest c.header) (segments ledger previous (newer ledger base))
 
@@ -175,7 +175,7 @@ newer_same before after ext more base (suc wave) last within held =
 pub not_old : (base wave : ℕ) → base < wave → nat_le wave base ≡ false
 not_old base wave less = grind (arith, less)
 
--- behind the leaders that were committed come only leaders of later waves
+-- after the leaders that were committed come only leaders of later waves
 newer_longer : (before : Ledger) (after : Slots) → IsLonger before after → (more : List ℕ) (base wave : ℕ) (last : Certificate) → base ≤ wave → top before ≡ Some (suc wave)
     → leader before (suc wave) ≡ Some last → is_supported before.charter after last ≡ true → suc wave ≤ length before.coins
     → (higher : ℕ) (c : Certificate) → wave < higher → IsIn after c → last.header.round + 2 ≤ c.header.round

@@ -94,15 +94,15 @@ take_same zero xs = refl
 take_same (suc n) [] = refl
 take_same (suc n) (x ∷ xs) = ap (λ l. x ∷ l) (take_same n xs)
 
--- the pieces of what an order has behind a beginning
+-- the pieces of what an order has after a beginning
 piece_given : (order : List Digest) (place piece : ℕ) → piece < (length (drop place order) + 15999) / 16000
     → IsPiece order (place + 16000 * piece) (take 16000 (drop (16000 * piece) (drop place order)))
 piece_given order place piece within =
-    let behind = drop place order in
-    let rest = drop (16000 * piece) behind in
-    let whole = mul-div-le (length behind + 15999) 16000 in
-    let starts : 16000 * piece < length behind = omega (arith, whole, within) in
-    let long : length (take 16000 rest) ≡ min 16000 (length behind - 16000 * piece) = length-take 16000 rest ∙ ap (min 16000) (length-drop (16000 * piece) behind) in
+    let after = drop place order in
+    let rest = drop (16000 * piece) after in
+    let whole = mul-div-le (length after + 15999) 16000 in
+    let starts : 16000 * piece < length after = omega (arith, whole, within) in
+    let long : length (take 16000 rest) ≡ min 16000 (length after - 16000 * piece) = length-take 16000 rest ∙ ap (min 16000) (length-drop (16000 * piece) after) in
     record {
       some = omega (arith, long, starts);
       few = omega (arith, long);

@@ -29,7 +29,7 @@ use Rattle.spec_laws.proofs.NewEvents.{new_header-unvoted, new_vote, new_certifi
 use Rattle.spec_laws.proofs.Votes.{IsOnly, of_its_slot, slot_is, voted_header-push, one_header, each_headed, neither}
 use Rattle.spec_laws.proofs.Weighing.{alone_below}
 
--- a member's vote behind one more event: the one before, or that of the event
+-- a member's vote after one more event: the one before, or that of the event
 pub counted_vote-push : (node : Node) (history : History) (event : Event) (header : HeaderBody) (voter : ℕ)
     → counted_vote node (history ++ event ∷ []) header voter ≡ option_or (counted_vote node history header voter) (find (is_vote_on header voter) (option_to_list (as_vote event.message)))
 counted_vote-push node history event header voter =
@@ -152,7 +152,7 @@ slots-parts node history round author only =
     ∙ ap (λ o. option_or (first_at node round author) (option_or (slots_of (received history) round author) o))
     (found_made (completed node history) (completed-header node history) round author (headers history) one)
 
--- the received certificates behind one more event
+-- the received certificates after one more event
 received_at-push : (history : History) (event : Event) (round author : ℕ)
     → slots_of (received (history ++ event ∷ [])) round author ≡ option_or (slots_of (received history) round author) (slots_of (option_to_list (as_certificate event.message)) round author)
 received_at-push history event round author =
@@ -173,7 +173,7 @@ own_at-same node history event round author no_header no_vote =
 free_parts : {X : Type 0} (one two three : Option X) → option_or one (option_or two three) ≡ None → (one ≡ None) × (two ≡ None) × (three ≡ None)
 free_parts one two three h = let first = neither one (option_or two three) h in let rest = neither two three first.1 in (first.0, rest.0, rest.1)
 
--- what a slot holds behind an event that may add to one of its parts
+-- what a slot holds after an event that may add to one of its parts
 slot_more : (node : Node) (history : History) (event : Event) (round author : ℕ) → IsOnly history → IsOnly (history ++ event ∷ [])
     → (add : Option Certificate)
     → option_or (first_at node round author)
@@ -206,7 +206,7 @@ made_in one two three other new same free =
     let parts = free_parts one two three free in
     rw (same, parts.0, parts.1, parts.2) refl
 
--- the header of the slot behind one more header
+-- the header of the slot after one more header
 voted_header-unvoted : (node : Node) (history : History) (event : Event) (header : Header) (round author : ℕ) → as_header event.message ≡ Some header → as_vote event.message ≡ None
     → voted_header history header.body.round header.body.author.0 ≡ None → completed node history header ≡ None
     → own_at node (history ++ event ∷ []) round author ≡ own_at node history round author
@@ -252,7 +252,7 @@ pub completed-other : (node : Node) (history : History) (sender : Author) (vote 
 completed-other node history sender vote header other =
     completed-same node history (record { sender = sender; message = message.Vote vote }) header (λ voter. not_on vote header.body voter other)
 
--- the own certificates of other slots stay as they are behind a vote
+-- the own certificates of other slots stay as they are after a vote
 own_at-other : (node : Node) (history : History) (sender : Author) (vote : Vote) (round author : ℕ)
     → ((header : Header) → voted_header history round author ≡ Some header → is_of_slot vote.round vote.author.0 header.body ≡ false)
     → own_at node (history ++ record { sender = sender; message = message.Vote vote } ∷ []) round author ≡ own_at node history round author
@@ -280,7 +280,7 @@ vote_elsewhere vote own round author voted is_own voted_round voted_author other
       | inr not ↦ not
     ]
 
--- the slots behind each kind of event
+-- the slots after each kind of event
 slots_more : (node : Node) (history : History) (sender : Author) (m : Message) → Adds node history (record { sender = sender; message = m })
     → IsOnly history → IsOnly (history ++ record { sender = sender; message = m } ∷ []) → (round author : ℕ)
     → slots node (history ++ record { sender = sender; message = m } ∷ []) round author

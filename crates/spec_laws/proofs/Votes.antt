@@ -30,7 +30,7 @@ of_its_slot header = grind arith
 pub slot_is : (round author : ℕ) (header : HeaderBody) → is_of_slot round author header ≡ true → (header.round ≡ round) × (header.author.0 ≡ author)
 slot_is round author header of = let parts = and_parts (header.round == round) (header.author.0 == author) of in (eqb-true _ _ parts.0, eqb-true _ _ parts.1)
 
--- the header of an author and round behind one more event: the one before, or that of the event
+-- the header of an author and round after one more event: the one before, or that of the event
 pub voted_header-push : (history : History) (event : Event) (round author : ℕ)
     → voted_header (history ++ event ∷ []) round author
     ≡ option_or (voted_header history round author) (find (λ header. is_of_slot round author header.body) (option_to_list (as_header event.message)))

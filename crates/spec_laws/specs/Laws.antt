@@ -140,7 +140,7 @@ pub record SayTheSame (node : Node) (low : ℕ) (before : Ledger) (coins : List 
   pub same_segments : (previous : Option Certificate) → segments (ledger_of node held coins) previous (newer (ledger_of node held coins) (last_wave before))
       ≡ segments (ledger_of node all coins) previous (newer (ledger_of node all coins) (last_wave before))
 
--- what the leaders newer than a wave order behind that wave's leader
+-- what the leaders newer than a wave order after that wave's leader
 abbrev pub ordered_since : Ledger → ℕ → List Digest
 ordered_since ledger wave = map (λ c. certificate_digest c.header) (segments ledger (leader ledger wave) (newer ledger wave))
 

@@ -33,16 +33,16 @@ chosen P false true x y z f g h = g refl
 chosen P false false x y z f g h = h refl refl
 
 -- a list with a first element before the batch still rises with the batch in its place
-placed_behind : (first : BatchReference) (rest : List BatchReference) (batch : BatchReference) → IsTrue (batches_rise (first ∷ rest))
+placed_after : (first : BatchReference) (rest : List BatchReference) (batch : BatchReference) → IsTrue (batches_rise (first ∷ rest))
     → digest_before first.digest batch.digest ≡ true → IsTrue (batches_rise (first ∷ placed rest batch))
-placed_behind first [] batch rise before = both_true before refl
-placed_behind first (second ∷ rest) batch rise before =
+placed_after first [] batch rise before = both_true before refl
+placed_after first (second ∷ rest) batch rise before =
     let parts = both-are (digest_before first.digest second.digest) (batches_rise (second ∷ rest)) rise in
     chosen (λ l. IsTrue (batches_rise (first ∷ l))) (digest_before batch.digest second.digest) (same_digest second.digest batch.digest)
     (batch ∷ second ∷ rest) (second ∷ rest) (second ∷ placed rest batch)
     (λ h. both_true before (both_true h parts.1))
     (λ h. rise)
-    (λ after apart. both_true parts.0 (placed_behind second rest batch parts.1 (comes_before second.digest batch.digest after apart)))
+    (λ after apart. both_true parts.0 (placed_after second rest batch parts.1 (comes_before second.digest batch.digest after apart)))
 
 -- a list that rises still does with a batch in its place
 pub placed-rises : (batches : List BatchReference) (batch : BatchReference) → IsTrue (batches_rise batches) → IsTrue (batches_rise (placed batches batch))
@@ -52,7 +52,7 @@ placed-rises (first ∷ rest) batch rise =
     (batch ∷ first ∷ rest) (first ∷ rest) (first ∷ placed rest batch)
     (λ h. both_true h rise)
     (λ h. rise)
-    (λ after apart. placed_behind first rest batch rise (comes_before first.digest batch.digest after apart))
+    (λ after apart. placed_after first rest batch rise (comes_before first.digest batch.digest after apart))
 
 -- the first elements of a list that rises do
 pub take-rises : {X : Type 0} (below : X → X → Bool) (n : ℕ) (xs : List X) → IsTrue (rises below xs) → IsTrue (rises below (take n xs))

@@ -46,7 +46,7 @@ order_outputs now later = pieces (length now.order) (drop (length now.order) lat
 
 -- ---- the answers
 
--- a case of a table: where a look-up gives something, that decides, and else the cases behind it
+-- a case of a table: where a look-up gives something, that decides, and else the cases after it
 infixr 5 when◌gives◌else◌
 abbrev pub when◌gives◌else◌ : {X : Type 0} → Option X → (X → Admission) → Admission → Admission
 when Some held gives answer else others = answer held
@@ -172,7 +172,7 @@ answer node now later event = on event.message
     on (message.Certificate certificate) = certificate_answer node now later certificate
     on (message.Coin coin) = coin_answer node now later event.sender coin
 
--- what an event is answered at the history behind which it comes
+-- what an event is answered at the history after which it comes
 abbrev pub admit : Node → History → Event → Admission
 admit node history event = answer node (whole node history) (whole node (history ++ event ∷ [])) event
 
@@ -187,7 +187,7 @@ abbrev pub answers : Node → History → List Event → List Admission
 answers node history [] = []
 answers node history (event ∷ events) = admit node history event ∷ answers node (history_after node history event) events
 
--- events are each new, one after the other, behind a history
+-- events are each new, one after the other, after a history
 abbrev pub each_new : Node → History → List Event → Bool
 each_new node history [] = true
 each_new node history (event ∷ events) = is_new (admit node history event) && each_new node (history ++ event ∷ []) events

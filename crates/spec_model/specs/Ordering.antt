@@ -48,8 +48,8 @@ top_to ledger (suc wave) = if is_directly_committed ledger (suc wave) then Some 
 abbrev pub top : Ledger → Option ℕ
 top ledger = top_to ledger (length ledger.coins)
 
--- a leader behind those of the waves above a base that are committed with it, the oldest first: of the waves up to a given
--- one the newest leader that it reaches, behind those that are committed with that one
+-- a leader after those of the waves above a base that are committed with it, the oldest first: of the waves up to a given
+-- one the newest leader that it reaches, after those that are committed with that one
 abbrev pub newer_to : Ledger → ℕ → ℕ → Certificate → List Certificate
 newer_to ledger base zero last = last ∷ []
 newer_to ledger base (suc wave) last =

@@ -23,7 +23,7 @@ IsKey key = HasBytes 32 key.0
 abbrev key_bytes : Key → List ℕ
 key_bytes key = key.0
 
--- as many keys, with what stands behind them
+-- as many keys, with what stands after them
 keys_once : (keys also : List Key) (rest left : List ℕ) → All IsKey keys → All IsKey also → length keys ≡ length also
     → flat_map key_bytes keys ++ rest ≡ flat_map key_bytes also ++ left → (keys ≡ also) × (rest ≡ left)
 keys_once [] [] rest left each all count same = (refl, same)
@@ -32,12 +32,12 @@ keys_once (key ∷ keys) [] rest left each all count same = absurd (omega (arith
 keys_once (key ∷ keys) (other ∷ also) rest left each all count same =
     let long = (All-head IsKey key keys each).count_is in
     let long' = (All-head IsKey other also all).count_is in
-    let behind = flat_map key_bytes keys ++ rest in
-    let behind' = flat_map key_bytes also ++ left in
-    let text : key.0 ++ behind ≡ other.0 ++ behind' =
+    let after = flat_map key_bytes keys ++ rest in
+    let after' = flat_map key_bytes also ++ left in
+    let text : key.0 ++ after ≡ other.0 ++ after' =
     sym (append_assoc key.0 (flat_map key_bytes keys) rest) ∙ same ∙ append_assoc other.0 (flat_map key_bytes also) left in
-    let first : key.0 ≡ other.0 = sym (take_at key.0 behind 32 long) ∙ ap (λ (l : List ℕ). take 32 l) text ∙ take_at other.0 behind' 32 long' in
-    let next : behind ≡ behind' = sym (drop_at key.0 behind 32 long) ∙ ap (λ (l : List ℕ). drop 32 l) text ∙ drop_at other.0 behind' 32 long' in
+    let first : key.0 ≡ other.0 = sym (take_at key.0 after 32 long) ∙ ap (λ (l : List ℕ). take 32 l) text ∙ take_at other.0 after' 32 long' in
+    let next : after ≡ after' = sym (drop_at key.0 after 32 long) ∙ ap (λ (l : List ℕ). drop 32 l) text ∙ drop_at other.0 after' 32 long' in
     let fewer : length keys ≡ length also = omega (arith, count) in
     let others = keys_once keys also rest left (All-tail IsKey key keys each) (All-tail IsKey other also all) fewer next in
     ((λ i. record { 0 = first i } ∷ others.0 i), others.1)
@@ -84,7 +84,7 @@ record AreAlike (charter also : Charter) (own number : Author) (rest left : List
   workers : charter.workers ≡ also.workers
   batches : charter.batches ≡ also.batches
   keys : charter.keys ≡ also.keys
-  behind : rest ≡ left
+  after : rest ≡ left
 
 -- a number of two bytes that stands at a place
 two_once : (place one other : ℕ) (record_bytes also : List ℕ) → one < 2 ^ 16 → other < 2 ^ 16 → take 2 (drop place record_bytes) ≡ to_be_bytes w16 one
@@ -103,14 +103,14 @@ alike version other charter also own number is is' same =
     ∙ ap (λ (l : List ℕ). from_be_bytes w32 (take 4 (drop 8 l))) same
     ∙ from_be_bytes-to_be_bytes_4 also.batches (omega (arith, is'.sound.batches)) in
     let count = two_once 12 (length charter.keys) (length also.keys) one two (omega (arith, is.sound.size)) (omega (arith, is'.sound.size)) refl refl same in
-    let behind = keys_once charter.keys also.keys (stakes_of version charter.stakes) (stakes_of other also.stakes) is.keys is'.keys count (ap (λ (l : List ℕ). drop 14 l) same) in
+    let after = keys_once charter.keys also.keys (stakes_of version charter.stakes) (stakes_of other also.stakes) is.keys is'.keys count (ap (λ (l : List ℕ). drop 14 l) same) in
     record {
       owns = two_once 2 own.0 number.0 one two is.fits is'.fits refl refl same;
       depth = two_once 4 charter.depth also.depth one two (omega (arith, is.sound.depth)) (omega (arith, is'.sound.depth)) refl refl same;
       workers = two_once 6 charter.workers also.workers one two (omega (arith, is.sound.workers)) (omega (arith, is'.sound.workers)) refl refl same;
       batches = batches;
-      keys = behind.0;
-      behind = behind.1;
+      keys = after.0;
+      after = after.1;
     }
 
 -- with the same stakes they are the same
@@ -133,4 +133,4 @@ one_configuration Second First charter also own number is is' ones ones' same = 
 one_configuration Second Second charter also own number is is' ones ones' same =
     let are = alike Second Second charter also own number is is' same in
     same_all charter also own number (stakes_of Second charter.stakes) (stakes_of Second also.stakes) are
-    (stakes_once charter.stakes also.stakes is.sound.stakes is'.sound.stakes (stakes_count charter also own number is is' are.keys) are.behind)
+    (stakes_once charter.stakes also.stakes is.sound.stakes is'.sound.stakes (stakes_count charter also own number is is' are.keys) are.after)

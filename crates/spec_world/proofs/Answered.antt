@@ -31,7 +31,7 @@ use Rattle.header.specs.declared.admission.Admission.{Admission}
 use Rattle.header.specs.declared.admission.Admission.TheVariants.{New, Known, Refused}
 use Rattle.spec_world.specs.Promise.{by_new, by_known}
 use Rattle.spec_world.proofs.Ballots.{mapped_of, picks}
-use Rattle.spec_world.proofs.Orders.{BeginsBehind, IsPut}
+use Rattle.spec_world.proofs.Orders.{BeginsAfter, IsPut}
 
 -- ---- a new event
 
@@ -40,20 +40,20 @@ start_of (output.Order start digests) = start
 start_of _ = 0
 
 -- where all pieces of the order are those after a place, each begins after it
-pieces_behind : (node : Node) (before : History) (event : Event) (digests : List Digest) (outputs : List Output) → filter is_order outputs ≡ pieces (length (order node before)) digests
-    → (o : Output) → Contains outputs o → BeginsBehind node (before ++ event ∷ []) o
-pieces_behind node before event digests outputs are (output.Order start piece) inside =
+pieces_after : (node : Node) (before : History) (event : Event) (digests : List Digest) (outputs : List Output) → filter is_order outputs ≡ pieces (length (order node before)) digests
+    → (o : Output) → Contains outputs o → BeginsAfter node (before ++ event ∷ []) o
+pieces_after node before event digests outputs are (output.Order start piece) inside =
     let place = length (order node before) in
     let count = (length digests + 15999) / 16000 in
     let picked = subst (λ l. Contains l (output.Order start piece)) are (picks is_order outputs (output.Order start piece) inside refl) in
     let made = mapped_of (piece_at place digests) (range_with_len 0 count) (output.Order start piece) picked in
     let at : place + 16000 * made.0 ≡ start = ap start_of made.2 in
     (before, event, refl, omega (arith, at))
-pieces_behind node before event digests outputs are (output.Batch batch) inside = tt
-pieces_behind node before event digests outputs are (output.Ack to ack) inside = tt
-pieces_behind node before event digests outputs are (output.Header header) inside = tt
-pieces_behind node before event digests outputs are (output.Vote vote) inside = tt
-pieces_behind node before event digests outputs are (output.Certificate certificate) inside = tt
+pieces_after node before event digests outputs are (output.Batch batch) inside = tt
+pieces_after node before event digests outputs are (output.Ack to ack) inside = tt
+pieces_after node before event digests outputs are (output.Header header) inside = tt
+pieces_after node before event digests outputs are (output.Vote vote) inside = tt
+pieces_after node before event digests outputs are (output.Certificate certificate) inside = tt
 
 pub new_put : (node : Node) (history : History) (event : Event) (outputs : List Output) → IsLegal node (history ++ event ∷ []) → admit node history event ≡ New outputs
     → All (IsPut node (history ++ event ∷ [])) outputs
@@ -67,8 +67,8 @@ new_put node history event outputs legal is =
     (λ o inside. record {
       by = by_new history event outputs refl is inside;
       may = All-contains (MayGive node later) outputs o may inside;
-      behind =
-          pieces_behind node history event digests outputs out.pieces o inside;
+      after =
+          pieces_after node history event digests outputs out.pieces o inside;
     })
     outputs (All-contains_itself outputs)
 
@@ -208,7 +208,7 @@ known_by node now later sender (message.Vote vote) = known_vote node now later v
 known_by node now later sender (message.Certificate certificate) = known_certificate node now later certificate
 known_by node now later sender (message.Coin coin) = known_coin node now later sender coin
 
-no_piece : (node : Node) (history : History) (outputs : List Output) → filter is_order outputs ≡ [] → (o : Output) → Contains outputs o → BeginsBehind node history o
+no_piece : (node : Node) (history : History) (outputs : List Output) → filter is_order outputs ≡ [] → (o : Output) → Contains outputs o → BeginsAfter node history o
 no_piece node history outputs none (output.Order start piece) inside =
     absurd (Contains-nothing (output.Order start piece) (subst (λ l. Contains l (output.Order start piece)) none (picks is_order outputs (output.Order start piece) inside refl)))
 no_piece node history outputs none (output.Batch batch) inside = tt
@@ -222,5 +222,5 @@ known_put node history event outputs is =
     let may : All (MayGive node history) outputs = subst (PutsOutGiven node history event) is (outputs_given node history event) in
     let none : filter is_order outputs ≡ [] = subst HasNoOrder is (known_by node (whole node history) (whole node (history ++ event ∷ [])) event.sender event.message) in
     All-weaker (Contains outputs) (IsPut node history)
-    (λ o inside. record { by = by_known event outputs is inside; may = All-contains (MayGive node history) outputs o may inside; behind = no_piece node history outputs none o inside })
+    (λ o inside. record { by = by_known event outputs is inside; may = All-contains (MayGive node history) outputs o may inside; after = no_piece node history outputs none o inside })
     outputs (All-contains_itself outputs)

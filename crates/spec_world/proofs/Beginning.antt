@@ -3,7 +3,7 @@ use Rattle.std.proofs.Common.{ℕ, ◌<◌, ◌≤◌, ◌≡◌, ◌+◌, ◌*�
 use Rattle.std.specs.Prelude.{All}
 use Rattle.std.specs.List.{flat_map}
 use Rattle.std.proofs.lemmas.List.Elements.{All-nil, All-cons, All-head, All-tail}
-use Rattle.diskmodel.proofs.Calls.{possible_firm}
+use Rattle.diskmodel.proofs.Calls.{possible_durable}
 use Rattle.journal.specs.Areas.{Areas, alone, pair, generation_of, tells, chosen, stands_in}
 use Rattle.journal.specs.Configuration.{size_in, has_front, is_configuration, shaped_version}
 use Rattle.journal.specs.Format.{FitsGroup, body_len, body_bytes, sized_body, group_bytes, length_field, body_at, group_of, kept_at, kept, walk, stands}
@@ -195,7 +195,7 @@ module _ (node : Node) (sound : IsNode node) (keys : AreKeys node) where
   nothing_recovered on = record { legal = empty_legal node sound; accepted = begins_same []; settled = begins_same []; whole = inl refl; without_group = λ none. refl }
 
   nothing_left : MayLeave [] [] None []
-  nothing_left = between (possible_firm [] (All-nil (λ n. n < 256)))
+  nothing_left = between (possible_durable [] (All-nil (λ n. n < 256)))
 
   begins_on_one : IsRun node [] (run_on (alone_on (first_bytes node)) [] [])
   unfolding stands_in

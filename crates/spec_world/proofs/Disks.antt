@@ -10,31 +10,31 @@ use Rattle.diskmodel.specs.declared.call.Call.{Call}
 use Rattle.diskmodel.specs.declared.call.Call.TheVariants.{Wrote, Synced}
 use Rattle.diskmodel.specs.declared.call.Span.{Span}
 use Rattle.diskmodel.specs.Disk.{written, IsTorn}
-use Rattle.diskmodel.specs.Outcomes.{State, AreBytes, CanLeave, holds, is_written, after, firmed}
-use Rattle.diskmodel.proofs.Calls.{firm_only, possible_firm, possible_write}
-use Rattle.diskmodel.proofs.Places.{is_written-push, outside_before, outside_behind}
+use Rattle.diskmodel.specs.Outcomes.{State, AreBytes, CanLeave, holds, is_written, after, all_durable}
+use Rattle.diskmodel.proofs.Calls.{durable_only, possible_durable, possible_write}
+use Rattle.diskmodel.proofs.Places.{is_written-push, outside_before, outside_after}
 use Rattle.diskmodel.proofs.Torn.{length-written}
 use Rattle.journal.specs.Format.{FitsGroup, group_bytes, file_with, stands}
 use Rattle.journal.specs.Journal.{EndsClosed, stands_with, IsBeforeOrAfter}
 use Rattle.journal.specs.declared.layout.TheConstants.{OPEN}
-use Rattle.journal.proofs.Stops.{torn_behind, torn_gate, staged_before, written_behind, Added, added}
+use Rattle.journal.proofs.Stops.{torn_after, torn_gate, staged_before, written_after, Added, added}
 use Rattle.spec_model.specs.Histories.{History}
 use Rattle.spec_records.specs.Records.{record_of}
 use Rattle.spec_world.proofs.Bytes.{one_more, joined, longer_bytes}
 use Rattle.spec_world.specs.World.{Phase, not_begun, group_written, group_synced, gate_opened, first_of, call_in, call_for}
 use Rattle.spec_world.specs.Steps.{next_phase, next_durable}
 
--- ---- one write on firm bytes
+-- ---- one write on durable bytes
 
 -- a place outside of the one write isn't written
 unwritten : (at count place : ℕ) → (place < at) ⊎ (at + count ≤ place) → is_written (record { place = at; count = count } ∷ []) place ≡ false
 unwritten at count place off =
     let span : Span = record { place = at; count = count } in
-    is_written-push [] span place ∙ or_from false (holds span place) refl (⊎_elim (outside_before at count place) (outside_behind at count place) off)
+    is_written-push [] span place ∙ or_from false (holds span place) refl (⊎_elim (outside_before at count place) (outside_after at count place) off)
 
--- what a write on firm bytes may leave is torn
-pub torn_on_firm : (file : List ℕ) (at : ℕ) (bytes found : List ℕ) → at ≤ length file → CanLeave (after (firmed file) (Wrote at bytes)) found → IsTorn at (length bytes) file found
-torn_on_firm file at bytes found within left =
+-- what a write on durable bytes may leave is torn
+pub torn_on_durable : (file : List ℕ) (at : ℕ) (bytes found : List ℕ) → at ≤ length file → CanLeave (after (all_durable file) (Wrote at bytes)) found → IsTorn at (length bytes) file found
+torn_on_durable file at bytes found within left =
     let size : length (written file at bytes) ≡ max (length file) (at + length bytes) = length-written file at bytes within in
     let no_shorter : length file ≤ length found = omega (arith, left.no_shorter, size) in
     let no_longer : length found ≤ max (length file) (at + length bytes) = omega (arith, left.no_longer, size) in
@@ -45,7 +45,7 @@ torn_on_firm file at bytes found within left =
           (λ place below.
           let inside : place < at = omega (arith, below, length-take at found) in
           get_or-take at found place 0 inside ∙ same place (omega (arith, inside, within)) (inl inside) ∙ sym (get_or-take at file place 0 inside));
-      behind = ext_get_or 0 (drop (at + length bytes) found) (drop (at + length bytes) file) (simp length-drop (omega (arith, no_shorter, no_longer)))
+      after = ext_get_or 0 (drop (at + length bytes) found) (drop (at + length bytes) file) (simp length-drop (omega (arith, no_shorter, no_longer)))
           (λ place below.
           let inside : at + length bytes + place < length found = omega (arith, below, length-drop (at + length bytes) found) in
           get_or-drop (at + length bytes) found place 0 ∙ same (at + length bytes + place) (omega (arith, inside, no_longer)) (inr (omega arith))
@@ -59,31 +59,31 @@ torn_on_firm file at bytes found within left =
 -- how far a group is written: as in a phase, or to its end
 pub data Stage : Type 0 where
   none : Stage
-  written_behind_gate : Stage
-  synced_behind_gate : Stage
+  written_after_gate : Stage
+  synced_after_gate : Stage
   opened : Stage
   whole : Stage
 
 abbrev pub stage_of : Phase → Stage
 stage_of not_begun = none
-stage_of group_written = written_behind_gate
-stage_of group_synced = synced_behind_gate
+stage_of group_written = written_after_gate
+stage_of group_synced = synced_after_gate
 stage_of gate_opened = opened
 
 -- and after the next call
 abbrev pub stage_after : Phase → Stage
-stage_after not_begun = written_behind_gate
-stage_after group_written = synced_behind_gate
+stage_after not_begun = written_after_gate
+stage_after group_written = synced_after_gate
 stage_after group_synced = opened
 stage_after gate_opened = whole
 
 -- what the calls come to at a stage, where this was the file when the append began
 abbrev pub IsAt : Stage → State → List ℕ → List (List ℕ) → Type 0
-IsAt none s file group = s ≡ firmed file
-IsAt written_behind_gate s file group = s ≡ after (firmed file) (Wrote (length file) (group_bytes group))
-IsAt synced_behind_gate s file group = s ≡ firmed (file ++ group_bytes group)
-IsAt opened s file group = s ≡ after (firmed (file ++ group_bytes group)) (Wrote (length file - 1) (OPEN ∷ []))
-IsAt whole s file group = s ≡ firmed (file_with file group)
+IsAt none s file group = s ≡ all_durable file
+IsAt written_after_gate s file group = s ≡ after (all_durable file) (Wrote (length file) (group_bytes group))
+IsAt synced_after_gate s file group = s ≡ all_durable (file ++ group_bytes group)
+IsAt opened s file group = s ≡ after (all_durable (file ++ group_bytes group)) (Wrote (length file - 1) (OPEN ∷ []))
+IsAt whole s file group = s ≡ all_durable (file_with file group)
 
 -- a group whose append has begun fits
 abbrev pub Fits : Stage → List (List ℕ) → Type 0
@@ -111,18 +111,18 @@ module _ (file : List ℕ) (ends : EndsClosed file) (group : List (List ℕ)) wh
 
   -- what is left stands for the records of the file, or for these with the whole group
   pub leaves : (stage : Stage) (s : State) (found : List ℕ) → Fits stage group → IsAt stage s file group → CanLeave s found → IsBeforeOrAfter file group found
-  leaves none s found fits is left = inl (ap stands (firm_only file found (subst (λ (t : State). CanLeave t found) is left)))
-  leaves written_behind_gate s found fits is left =
-      inl (torn_behind file ends (length (group_bytes group)) found
-      (torn_on_firm file (length file) (group_bytes group) found (omega arith) (subst (λ (t : State). CanLeave t found) is left)))
-  leaves synced_behind_gate s found fits is left =
-      subst (IsBeforeOrAfter file group) (sym (firm_only (file ++ group_bytes group) found (subst (λ (t : State). CanLeave t found) is left))) (staged_before file ends group fits)
+  leaves none s found fits is left = inl (ap stands (durable_only file found (subst (λ (t : State). CanLeave t found) is left)))
+  leaves written_after_gate s found fits is left =
+      inl (torn_after file ends (length (group_bytes group)) found
+      (torn_on_durable file (length file) (group_bytes group) found (omega arith) (subst (λ (t : State). CanLeave t found) is left)))
+  leaves synced_after_gate s found fits is left =
+      subst (IsBeforeOrAfter file group) (sym (durable_only (file ++ group_bytes group) found (subst (λ (t : State). CanLeave t found) is left))) (staged_before file ends group fits)
   leaves opened s found fits is left =
       let within : length file - 1 ≤ length (file ++ group_bytes group) = omega (arith, length-append file (group_bytes group)) in
       torn_gate file ends group fits found
-      (torn_on_firm (file ++ group_bytes group) (length file - 1) (1 ∷ []) found within (subst (λ (t : State). CanLeave t found) is left))
+      (torn_on_durable (file ++ group_bytes group) (length file - 1) (1 ∷ []) found within (subst (λ (t : State). CanLeave t found) is left))
   leaves whole s found fits is left =
-      inr (ap stands (firm_only (file_with file group) found (subst (λ (t : State). CanLeave t found) is left)) ∙ longer_stands fits)
+      inr (ap stands (durable_only (file_with file group) found (subst (λ (t : State). CanLeave t found) is left)) ∙ longer_stands fits)
 
   longer_keeps : (more : List ℕ) → KeepsFront file (file ++ more)
   longer_keeps more = (take-append-le (length file - 1) file more (omega arith), omega (arith, length-append file more))
@@ -134,34 +134,34 @@ module _ (file : List ℕ) (ends : EndsClosed file) (group : List (List ℕ)) wh
       (take_at front (1 ∷ group_bytes group) (length file - 1) size, omega (arith, size, length-append front (1 ∷ group_bytes group)))
 
   pub keeps_front : (stage : Stage) (s : State) (found : List ℕ) → IsAt stage s file group → CanLeave s found → KeepsFront file found
-  keeps_front none s found is left = subst (KeepsFront file) (sym (firm_only file found (subst (λ (t : State). CanLeave t found) is left))) (refl, omega arith)
-  keeps_front written_behind_gate s found is left =
-      let torn = torn_on_firm file (length file) (group_bytes group) found (omega arith) (subst (λ (t : State). CanLeave t found) is left) in
+  keeps_front none s found is left = subst (KeepsFront file) (sym (durable_only file found (subst (λ (t : State). CanLeave t found) is left))) (refl, omega arith)
+  keeps_front written_after_gate s found is left =
+      let torn = torn_on_durable file (length file) (group_bytes group) found (omega arith) (subst (λ (t : State). CanLeave t found) is left) in
       let shorter : (l : List ℕ) → take (length file - 1) (take (length file) l) ≡ take (length file - 1) l = λ l. take-take (length file - 1) (length file) l (omega arith) in
       (sym (shorter found) ∙ ap (take (length file - 1)) torn.before ∙ shorter file, torn.no_shorter)
-  keeps_front synced_behind_gate s found is left =
-      subst (KeepsFront file) (sym (firm_only (file ++ group_bytes group) found (subst (λ (t : State). CanLeave t found) is left))) (longer_keeps (group_bytes group))
+  keeps_front synced_after_gate s found is left =
+      subst (KeepsFront file) (sym (durable_only (file ++ group_bytes group) found (subst (λ (t : State). CanLeave t found) is left))) (longer_keeps (group_bytes group))
   keeps_front opened s found is left =
       let within : length file - 1 ≤ length (file ++ group_bytes group) = omega (arith, length-append file (group_bytes group)) in
-      let torn = torn_on_firm (file ++ group_bytes group) (length file - 1) (1 ∷ []) found within (subst (λ (t : State). CanLeave t found) is left) in
+      let torn = torn_on_durable (file ++ group_bytes group) (length file - 1) (1 ∷ []) found within (subst (λ (t : State). CanLeave t found) is left) in
       let staged = longer_keeps (group_bytes group) in
       (torn.before ∙ staged.0, omega (arith, torn.no_shorter, staged.1))
-  keeps_front whole s found is left = subst (KeepsFront file) (sym (firm_only (file_with file group) found (subst (λ (t : State). CanLeave t found) is left))) whole_keeps
+  keeps_front whole s found is left = subst (KeepsFront file) (sym (durable_only (file_with file group) found (subst (λ (t : State). CanLeave t found) is left))) whole_keeps
 
   -- what a read gives is what a stop may leave
   pub read_possible : (stage : Stage) (s : State) → AreBytes file → AreBytes (group_bytes group) → IsAt stage s file group → CanLeave s s.content
-  read_possible none s are also is = subst (λ (t : State). CanLeave t t.content) (sym is) (possible_firm file are)
-  read_possible written_behind_gate s are also is =
-      subst (λ (t : State). CanLeave t t.content) (sym is) (possible_write (firmed file) (length file) (group_bytes group) (possible_firm file are) also (omega arith))
-  read_possible synced_behind_gate s are also is =
-      subst (λ (t : State). CanLeave t t.content) (sym is) (possible_firm (file ++ group_bytes group) (joined file (group_bytes group) are also))
+  read_possible none s are also is = subst (λ (t : State). CanLeave t t.content) (sym is) (possible_durable file are)
+  read_possible written_after_gate s are also is =
+      subst (λ (t : State). CanLeave t t.content) (sym is) (possible_write (all_durable file) (length file) (group_bytes group) (possible_durable file are) also (omega arith))
+  read_possible synced_after_gate s are also is =
+      subst (λ (t : State). CanLeave t t.content) (sym is) (possible_durable (file ++ group_bytes group) (joined file (group_bytes group) are also))
   read_possible opened s are also is =
       let staged = file ++ group_bytes group in
       let within : length file - 1 ≤ length staged = omega (arith, length-append file (group_bytes group)) in
       subst (λ (t : State). CanLeave t t.content) (sym is)
-      (possible_write (firmed staged) (length file - 1) (1 ∷ []) (possible_firm staged (joined file (group_bytes group) are also)) (one_more 1 [] (omega arith) (All-nil (λ b. b < 256))) within)
+      (possible_write (all_durable staged) (length file - 1) (1 ∷ []) (possible_durable staged (joined file (group_bytes group) are also)) (one_more 1 [] (omega arith) (All-nil (λ b. b < 256))) within)
   read_possible whole s are also is =
-      subst (λ (t : State). CanLeave t t.content) (sym is) (possible_firm (file_with file group) (longer_bytes file group are also))
+      subst (λ (t : State). CanLeave t t.content) (sym is) (possible_durable (file_with file group) (longer_bytes file group are also))
 
   -- the next call leads to the next stage
   pub called : (phase : Phase) (s : State) (call : Call) → FitsGroup group → IsAt (stage_of phase) s file group → call_in phase s.content group ≡ Some call
@@ -169,20 +169,20 @@ module _ (file : List ℕ) (ends : EndsClosed file) (group : List (List ℕ)) wh
   called not_begun s call fits is due =
       ap (after s) (sym (same_Some _ call due)) ∙ ap (λ (t : State). after t (Wrote (length t.content) (group_bytes group))) is
   called group_written s call fits is due =
-      ap (after s) (sym (same_Some _ call due)) ∙ ap (λ (t : State). after t Synced) is ∙ ap firmed (written_behind file ends (group_bytes group))
+      ap (after s) (sym (same_Some _ call due)) ∙ ap (λ (t : State). after t Synced) is ∙ ap all_durable (written_after file ends (group_bytes group))
   called group_synced s call fits is due =
       let place : length (file ++ group_bytes group) - length (group_bytes group) - 1 ≡ length file - 1 = omega (arith, length-append file (group_bytes group)) in
       ap (after s) (sym (same_Some _ call due))
       ∙ ap (λ (t : State). after t (Wrote (length t.content - length (group_bytes group) - 1) (OPEN ∷ []))) is
-      ∙ ap (λ (n : ℕ). after (firmed (file ++ group_bytes group)) (Wrote n (OPEN ∷ []))) place
+      ∙ ap (λ (n : ℕ). after (all_durable (file ++ group_bytes group)) (Wrote n (OPEN ∷ []))) place
   called gate_opened s call fits is due =
-      ap (after s) (sym (same_Some _ call due)) ∙ ap (λ (t : State). after t Synced) is ∙ ap firmed (opened_is fits)
+      ap (after s) (sym (same_Some _ call due)) ∙ ap (λ (t : State). after t Synced) is ∙ ap all_durable (opened_is fits)
 
 -- a group that fits does so at each stage
 pub fits_in : (stage : Stage) (group : List (List ℕ)) → FitsGroup group → Fits stage group
 fits_in none group fits = tt
-fits_in written_behind_gate group fits = fits
-fits_in synced_behind_gate group fits = fits
+fits_in written_after_gate group fits = fits
+fits_in synced_after_gate group fits = fits
 fits_in opened group fits = fits
 fits_in whole group fits = fits
 

@@ -3,7 +3,7 @@ use Rattle.std.proofs.Common.{◌≡◌, ℕ, zero, suc, ◌+◌, ◌-◌, ◌*�
 use Rattle.std.proofs.lemmas.List.{append-nil, drop_all, length-map}
 use Rattle.std.proofs.lemmas.Option.{same_Some, none-some}
 use Rattle.diskmodel.specs.Disk.{written}
-use Rattle.diskmodel.specs.Outcomes.{AreBytes, CanLeave, State, after, firmed, state}
+use Rattle.diskmodel.specs.Outcomes.{AreBytes, CanLeave, State, after, all_durable, state}
 use Rattle.diskmodel.specs.declared.call.Call.{Call}
 use Rattle.diskmodel.specs.declared.call.Call.TheVariants.{Wrote, Cut, Synced}
 use Rattle.diskmodel.proofs.Calls.{after_all-push}
@@ -13,7 +13,7 @@ use Rattle.journal.specs.Areas.{Areas, alone, pair_of, other_side, rewrite_calls
 use Rattle.std.specs.Option.{option_map_or}
 use Rattle.std.specs.Prelude.{◌==◌, ◌<◌, false, slice_get}
 use Rattle.spec_model.specs.Giving.{kept}
-use Rattle.diskmodel.proofs.Calls.{possible_firm}
+use Rattle.diskmodel.proofs.Calls.{possible_durable}
 use Rattle.journal.specs.Journal.{EndsClosed, append_calls}
 use Rattle.journal.specs.declared.layout.TheConstants.{OPEN}
 use Rattle.spec_model.specs.Histories.{History}
@@ -67,7 +67,7 @@ runs_begin_at_states node moves world found state_found sound run may stands_for
 
 spare_read : (node : Node) (history : History) (groups : List History) (durable : ℕ) (phase : Phase) (spare : Spare) (rewriting : Option Rewriting) (rest : List ℕ)
     → IsSpareAt node history groups durable phase (Some spare) rewriting rest → AreBytes rest → CanLeave (state spare.bytes_at_start spare.calls) (state spare.bytes_at_start spare.calls).content
-spare_read node history groups durable phase spare None rest is are = subst (λ (s : State). CanLeave s s.content) (sym is) (possible_firm rest are)
+spare_read node history groups durable phase spare None rest is are = subst (λ (s : State). CanLeave s s.content) (sym is) (possible_durable rest are)
 spare_read node history groups durable phase spare (Some rewriting) rest is are =
     subst (λ (s : State). CanLeave s s.content) (sym is.disk) (spare_possible rest rewriting.bytes rewriting.made (omega (arith, is.few)) are is.checkpoint.are_bytes)
 
@@ -159,11 +159,11 @@ module _ (base : World) (group : History) (rest : List History) (none : base.rew
       )
 
 -- what the disk comes to
-pub append_ends : (base : World) (records : List (List ℕ)) (file : List ℕ) → EndsClosed file → FitsGroup records → state base.bytes_at_start base.calls ≡ firmed file
-    → state base.bytes_at_start (appended_in base records).calls ≡ firmed (file_with file records)
+pub append_ends : (base : World) (records : List (List ℕ)) (file : List ℕ) → EndsClosed file → FitsGroup records → state base.bytes_at_start base.calls ≡ all_durable file
+    → state base.bytes_at_start (appended_in base records).calls ≡ all_durable (file_with file records)
 append_ends base records file ends fits fresh =
     let bytes = base.bytes_at_start in
-    let push : (calls : List Call) (call : Call) → state bytes (calls ++ call ∷ []) ≡ after (state bytes calls) call = λ calls call. after_all-push (firmed bytes) calls call in
+    let push : (calls : List Call) (call : Call) → state bytes (calls ++ call ∷ []) ≡ after (state bytes calls) call = λ calls call. after_all-push (all_durable bytes) calls call in
     let two = wrote_in base records in
     let three = synced_in base records in
     let four = opened_in base records in
@@ -339,8 +339,8 @@ checkpoints_settle node moves world spare bytes sound run none pair checkpoint =
     calls last (spare_call ∷ settle ∷ []) (nine, eighth_call, (last, record { done = omega arith; is = refl {a = last} }, refl {a = last})) in
     let at_eight = all_stand node (take_all bytes ∷ spare_call ∷ spare_call ∷ spare_call ∷ spare_call ∷ spare_call ∷ spare_call ∷ spare_call ∷ []) world eight at (calls eight [] refl) in
     let is = rewriting_at node eight at_eight (record spare { calls = c7 }) refl (record { bytes = bytes; made = 7 }) refl in
-    let whole : state spare.bytes_at_start c8 ≡ firmed (1 ∷ bytes) =
-    after_all-push (firmed spare.bytes_at_start) c7 Synced ∙ made_more at_eight.rest bytes 7 (state spare.bytes_at_start c7) Synced is.disk refl ∙ last_state at_eight.rest bytes in
+    let whole : state spare.bytes_at_start c8 ≡ all_durable (1 ∷ bytes) =
+    after_all-push (all_durable spare.bytes_at_start) c7 Synced ∙ made_more at_eight.rest bytes 7 (state spare.bytes_at_start c7) Synced is.disk refl ∙ last_state at_eight.rest bytes in
     let then = all_stand node (take_all bytes ∷ (spare_calls 8 ++ settle ∷ [])) world last at leads in (
       last,
       leads,
@@ -466,7 +466,7 @@ one_call world next phase step is =
 
 -- what a read gives after it
 content_next : (world next : World) (step : IsCalled world next) → content_in next ≡ (after (state world.bytes_at_start world.calls) step.call).content
-content_next world next step = ap content_in step.is ∙ ap (λ (s : State). s.content) (after_all-push (firmed world.bytes_at_start) world.calls step.call)
+content_next world next step = ap content_in step.is ∙ ap (λ (s : State). s.content) (after_all-push (all_durable world.bytes_at_start) world.calls step.call)
 
 phase_next : (world next : World) (phase : Phase) (step : IsCalled world next) → world.phase ≡ phase → next.phase ≡ next_phase phase
 phase_next world next phase step is = ap (λ (w : World). w.phase) step.is ∙ ap next_phase is

@@ -6,7 +6,7 @@ use Rattle.std.proofs.lemmas.Bool.{cases_Bool, eqb-true, eq-eqb, true≢false}
 use Rattle.std.proofs.lemmas.Option.{none-some}
 use Rattle.std.proofs.lemmas.List.Elements.{All-nil, All-cons, All-append, All-push, All-map, All-weaker, All-contains, All-drop}
 use Rattle.diskmodel.specs.declared.call.Call.{Call}
-use Rattle.diskmodel.specs.Outcomes.{State, state, firmed}
+use Rattle.diskmodel.specs.Outcomes.{State, state, all_durable}
 use Rattle.diskmodel.proofs.Calls.{after_all-push}
 use Rattle.journal.specs.Format.{file_with}
 use Rattle.spec_laws.proofs.Legal.{legal-push}
@@ -245,7 +245,7 @@ module _ (node : Node) (world : World) (at : Stands node world) (step_call : Cal
 
   now : IsAt (stage_after world.phase) (state world.bytes_at_start (world.calls ++ step_call ∷ [])) at.file (group_in world)
   now =
-      subst (λ t. IsAt (stage_after world.phase) t at.file (group_in world)) (sym (after_all-push (firmed world.bytes_at_start) world.calls step_call))
+      subst (λ t. IsAt (stage_after world.phase) t at.file (group_in world)) (sym (after_all-push (all_durable world.bytes_at_start) world.calls step_call))
       (called at.file at.ends_closed (group_in world) world.phase s step_call first.0 at.disk first.1)
 
   some : undurable_in world ≡ [] → ⊥
@@ -275,7 +275,7 @@ module _ (node : Node) (world : World) (at : Stands node world) (step_call : Cal
       → Stands node (record world { calls = world.calls ++ step_call ∷ []; phase = not_begun; durable = world.durable + 1 })
   last_call is_last =
       let group = group_in world in
-      let whole : state world.bytes_at_start (world.calls ++ step_call ∷ []) ≡ firmed (file_with at.file group) =
+      let whole : state world.bytes_at_start (world.calls ++ step_call ∷ []) ≡ all_durable (file_with at.file group) =
       subst (λ (p : Phase). IsAt (stage_after p) (state world.bytes_at_start (world.calls ++ step_call ∷ [])) at.file group) is_last now in
       let grown : world.settled ++ events_of (take (world.durable + 1) world.groups) ≡ with_first world =
       ap (λ l. world.settled ++ l) (take_next world.durable world.groups) ∙ sym (append_assoc world.settled (events_of (take world.durable world.groups)) (first_of (undurable_in world))) in
@@ -352,14 +352,14 @@ pub none_begun : (node : Node) (world : World) → Stands node world → world.g
 none_begun node world at none = at.idle (drop_all world.durable world.groups (omega (arith, ap length none)))
 
 -- the disk of a phase in which no append has begun, with any group
-begun_disk : (phase : Phase) (s : State) (file : List ℕ) (group : List (List ℕ)) → phase ≡ not_begun → s ≡ firmed file → IsAt (stage_of phase) s file group
+begun_disk : (phase : Phase) (s : State) (file : List ℕ) (group : List (List ℕ)) → phase ≡ not_begun → s ≡ all_durable file → IsAt (stage_of phase) s file group
 begun_disk phase s file group idle fresh = subst (λ (p : Phase). IsAt (stage_of p) s file group) (sym idle) fresh
 
--- of two disks the other one is firm where no rewriting is in flight
-firm_rest : (node : Node) (history : History) (groups : List History) (durable : ℕ) (phase : Phase) (spare : Spare) (rewriting : Option Rewriting) (rest : List ℕ)
-    → rewriting ≡ None → IsSpareAt node history groups durable phase (Some spare) rewriting rest → state spare.bytes_at_start spare.calls ≡ firmed rest
-firm_rest node history groups durable phase spare None rest none is = is
-firm_rest node history groups durable phase spare (Some rewriting) rest none is = absurd (none-some rewriting (sym none))
+-- of two disks the other one is is_durable where no rewriting is in flight
+durable_rest : (node : Node) (history : History) (groups : List History) (durable : ℕ) (phase : Phase) (spare : Spare) (rewriting : Option Rewriting) (rest : List ℕ)
+    → rewriting ≡ None → IsSpareAt node history groups durable phase (Some spare) rewriting rest → state spare.bytes_at_start spare.calls ≡ all_durable rest
+durable_rest node history groups durable phase spare None rest none is = is
+durable_rest node history groups durable phase spare (Some rewriting) rest none is = absurd (none-some rewriting (sym none))
 
 module _ (node : Node) (world : World) (at : Stands node world) (spare : Spare) (is_spare : world.spare ≡ Some spare) where
   pub spare_at : IsSpareAt node (world.began ++ (world.settled ++ first_of world.groups)) world.groups world.durable world.phase (Some spare) world.rewriting at.rest
@@ -393,7 +393,7 @@ take_all_stands node world bytes next at step =
     ∙ ap (λ (l : List History). world.settled ++ events_of l) (sym (take_none world.durable) ∙ ap (take world.durable) (sym step.idle)) in
     let taken : world.settled ++ events_of groups ≡ world.accepted = ap (λ l. world.settled ++ l) (append-nil pending) ∙ all in
     let fresh = fresh_disk node world at begun in
-    let firm = firm_rest node _ world.groups world.durable world.phase step.spare world.rewriting at.rest none (spare_at node world at step.spare step.pair) in
+    let is_durable = durable_rest node _ world.groups world.durable world.phase step.spare world.rewriting at.rest none (spare_at node world at step.spare step.pair) in
     subst (Stands node) (sym step.is) (record {
       legal = at.legal;
       taken = subst (λ l. Begins l world.accepted) (sym taken) (begins_same world.accepted);
@@ -407,7 +407,7 @@ take_all_stands node world bytes next at step =
       spare = subst (λ (s : Option Spare). IsSpareAt node (world.began ++ (world.settled ++ pending)) groups world.durable world.phase s (Some (record { bytes = bytes; made = 0 })) at.rest)
           (sym step.pair) (record {
             few = omega arith;
-            disk = firm;
+            disk = is_durable;
             checkpoint = subst (λ l. IsCheckpointOf node (step.spare.generation + 1) (kept node (world.began ++ l)) bytes) (sym all) step.checkpoint;
             none_durable = zero_durable;
             not_begun = begun;
@@ -463,7 +463,7 @@ module _ (node : Node) (world : World) (at : Stands node world) (spare : Spare) 
 
   called_state : state spare.bytes_at_start (spare.calls ++ call ∷ []) ≡ made_state at.rest rewriting.bytes (suc rewriting.made)
   called_state =
-      after_all-push (firmed spare.bytes_at_start) spare.calls call
+      after_all-push (all_durable spare.bytes_at_start) spare.calls call
       ∙ made_more at.rest rewriting.bytes rewriting.made (state spare.bytes_at_start spare.calls) call in_rewriting.disk due
 
   earlier_stands : rewriting.made + 1 < 8 → Stands node (with_spare_call world spare rewriting call)
@@ -506,7 +506,7 @@ module _ (node : Node) (world : World) (at : Stands node world) (spare : Spare) 
       let more = first_of world.groups in
       let settled = world.settled ++ more in
       let eight : suc rewriting.made ≡ 8 = omega (arith, last) in
-      let whole : state spare.bytes_at_start (spare.calls ++ call ∷ []) ≡ firmed (1 ∷ bytes) = called_state ∙ ap (λ (n : ℕ). made_state at.rest bytes n) eight ∙ last_state at.rest bytes in
+      let whole : state spare.bytes_at_start (spare.calls ++ call ∷ []) ≡ all_durable (1 ∷ bytes) = called_state ∙ ap (λ (n : ℕ). made_state at.rest bytes n) eight ∙ last_state at.rest bytes in
       let durable : settled ≡ world.settled ++ events_of (take (world.durable + 1) world.groups) =
       ap (λ l. world.settled ++ l) (first_durable world.durable world.groups is.none_durable) in
       let taken : settled ++ events_of (drop 1 world.groups) ≡ taken_in world =

@@ -53,15 +53,15 @@ shorter_by_one one more before last is some =
 -- ---- what ends a history
 
 -- an order in an output begins after that from before the event that ends its history
-abbrev pub BeginsBehind : Node → History → Output → Type 0
-BeginsBehind node history (output.Order start digests) = (before : History) × (event : Event) × (history ≡ before ++ event ∷ []) × (length (order node before) ≤ start)
-BeginsBehind node history _ = Unit {0}
+abbrev pub BeginsAfter : Node → History → Output → Type 0
+BeginsAfter node history (output.Order start digests) = (before : History) × (event : Event) × (history ≡ before ++ event ∷ []) × (length (order node before) ≤ start)
+BeginsAfter node history _ = Unit {0}
 
 -- an output may be given out at a history, and begins after what was put out of the order before
 pub record IsPut (node : Node) (history : History) (output : Output) : Type 0 where
   pub by : WasPutOut node history output
   pub may : MayGive node history output
-  pub behind : BeginsBehind node history output
+  pub after : BeginsAfter node history output
 
 abbrev pub IsEnded : Node → History → Outgoing → Type 0
 IsEnded node history (put_out output) = IsPut node history output
@@ -104,15 +104,15 @@ of_piece node history start digests legal put =
     let joined = piece_joined all start digests put.may in
     let long : n ≤ length all - start = omega (arith, ap length put.may.stands, length-take n (drop start all), length-drop start all) in
     let size : length (take start all ++ digests) ≡ start + n = omega (arith, length-append (take start all) digests, length-take start all, long, put.may.some) in
-    let before = put.behind.0 in
-    let event = put.behind.1 in
+    let before = put.after.0 in
+    let event = put.after.1 in
     record {
       within = record { rest = drop (start + n) all; parts = sym (take-append-drop (start + n) all) ∙ ap (λ l. l ++ drop (start + n) all) (sym joined) };
       covers = λ one more parts some.
-          let begins = shorter_by_one one more before event (sym put.behind.2 ∙ parts) some in
-          let legal' : IsLegal node before = legal-begins node before (event ∷ []) (subst (IsLegal node) put.behind.2 legal) in
+          let begins = shorter_by_one one more before event (sym put.after.2 ∙ parts) some in
+          let legal' : IsLegal node before = legal-begins node before (event ∷ []) (subst (IsLegal node) put.after.2 legal) in
           let less = order_longer node before one begins.rest legal' begins.parts in
-          omega (arith, less, put.behind.3, size);
+          omega (arith, less, put.after.3, size);
     }
 
 -- each order that was given out is one

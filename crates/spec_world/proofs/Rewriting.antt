@@ -5,16 +5,16 @@ use Rattle.std.proofs.lemmas.List.{append-nil, drop_all, take_at, ext_get_or, ge
 use Rattle.std.proofs.lemmas.List.Elements.{All-nil}
 use Rattle.std.proofs.lemmas.Option.{same_Some, none-some}
 use Rattle.diskmodel.specs.Disk.{written, IsCut}
-use Rattle.diskmodel.specs.Outcomes.{State, AreBytes, CanLeave, after, after_all, firmed}
+use Rattle.diskmodel.specs.Outcomes.{State, AreBytes, CanLeave, after, after_all, all_durable}
 use Rattle.diskmodel.specs.declared.call.Call.{Call}
 use Rattle.diskmodel.specs.declared.call.Call.TheVariants.{Wrote, Cut, Synced}
-use Rattle.diskmodel.proofs.Calls.{after_all-push, firm_only, possible_firm, possible_write, possible_cut}
+use Rattle.diskmodel.proofs.Calls.{after_all-push, durable_only, possible_durable, possible_write, possible_cut}
 use Rattle.journal.specs.Areas.{tells, IsAtRest, IsOlder, IsOlderOrNew, rewrite_calls}
 use Rattle.journal.specs.Journal.{EndsClosed}
 use Rattle.journal.proofs.Stops.{closed}
 use Rattle.journal.proofs.Telling.{tells_long, tells_closed, tells_stays, at_rest_older, torn_close, torn_cut, torn_fill, torn_open}
 use Rattle.spec_world.proofs.Bytes.{one_more}
-use Rattle.spec_world.proofs.Disks.{torn_on_firm, KeepsFront}
+use Rattle.spec_world.proofs.Disks.{torn_on_durable, KeepsFront}
 
 -- ---- the first group stays while others are added
 
@@ -29,9 +29,9 @@ keeps_telling file left told ends is keeps =
     ∙ tells_stays p.front [] tail p.records (omega (arith, p.size, tells_long file told is)) (omega (arith, keeps.1, p.size, length-drop (length file - 1) left)) p.found
     ∙ ap tells (sym p.file_is)
 
--- what a cut of firm bytes may leave
-cut_on_firm : (file : List ℕ) (len : ℕ) (found : List ℕ) → CanLeave (after (firmed file) (Cut len)) found → IsCut len file found
-cut_on_firm file len found left = record {
+-- what a cut of durable bytes may leave
+cut_on_durable : (file : List ℕ) (len : ℕ) (found : List ℕ) → CanLeave (after (all_durable file) (Cut len)) found → IsCut len file found
+cut_on_durable file len found left = record {
   front = ext_get_or 0 (take len found) (take len file) (simp length-take (omega (arith, left.no_shorter, left.no_longer, length-take len file)))
       (λ place below.
       let inside : place < len = omega (arith, below, length-take len found) in
@@ -58,7 +58,7 @@ get_inside (y ∷ xs) (suc n) x is = omega (arith, get_inside xs n x is)
 module _ (file bytes : List ℕ) where
   -- what the first so many calls come to
   abbrev pub made_state : ℕ → State
-  made_state made = after_all (firmed file) (take made (rewrite_calls bytes))
+  made_state made = after_all (all_durable file) (take made (rewrite_calls bytes))
 
   rest : List ℕ
   rest = drop (0 + 1) file
@@ -67,32 +67,32 @@ module _ (file bytes : List ℕ) where
   staged_is = ap (λ (l : List ℕ). 0 ∷ bytes ++ l) (drop_all (1 + length bytes) (0 ∷ []) (omega arith)) ∙ ap (λ (l : List ℕ). 0 ∷ l) (append-nil bytes)
 
   -- the last two calls begin with this
-  staged_state : made_state 6 ≡ firmed (0 ∷ bytes)
-  staged_state = ap firmed staged_is
+  staged_state : made_state 6 ≡ all_durable (0 ∷ bytes)
+  staged_state = ap all_durable staged_is
 
-  pub last_state : made_state 8 ≡ firmed (1 ∷ bytes)
+  pub last_state : made_state 8 ≡ all_durable (1 ∷ bytes)
   last_state = ap (λ (s : State). after (after s (Wrote 0 (1 ∷ []))) Synced) staged_state
 
   -- what is left tells less than this generation, or is the checkpoint
   pub spare_leaves : (generation made : ℕ) (found : List ℕ) → made ≤ 8 → IsAtRest generation file → CanLeave (made_state made) found → IsOlderOrNew generation bytes found
   unfolding rest
   spare_leaves generation zero found few at_rest left =
-      inl (subst (IsOlder generation) (sym (firm_only file found left)) (at_rest_older generation file at_rest))
-  spare_leaves generation (suc zero) found few at_rest left = inl (torn_close generation file found at_rest (torn_on_firm file 0 (0 ∷ []) found (omega arith) left))
+      inl (subst (IsOlder generation) (sym (durable_only file found left)) (at_rest_older generation file at_rest))
+  spare_leaves generation (suc zero) found few at_rest left = inl (torn_close generation file found at_rest (torn_on_durable file 0 (0 ∷ []) found (omega arith) left))
   spare_leaves generation (suc (suc zero)) found few at_rest left =
-      inl (inl (ap tells (firm_only (0 ∷ rest) found left) ∙ tells_closed 0 rest refl))
-  spare_leaves generation (suc (suc (suc zero))) found few at_rest left = inl (torn_cut generation rest found (cut_on_firm (0 ∷ rest) 1 found left))
+      inl (inl (ap tells (durable_only (0 ∷ rest) found left) ∙ tells_closed 0 rest refl))
+  spare_leaves generation (suc (suc (suc zero))) found few at_rest left = inl (torn_cut generation rest found (cut_on_durable (0 ∷ rest) 1 found left))
   spare_leaves generation (suc (suc (suc (suc zero)))) found few at_rest left =
-      inl (inl (ap tells (firm_only (0 ∷ []) found left) ∙ tells_closed 0 [] refl))
+      inl (inl (ap tells (durable_only (0 ∷ []) found left) ∙ tells_closed 0 [] refl))
   spare_leaves generation (suc (suc (suc (suc (suc zero))))) found few at_rest left =
-      inl (torn_fill generation (length bytes) found (torn_on_firm (0 ∷ []) 1 bytes found (omega arith) left))
+      inl (torn_fill generation (length bytes) found (torn_on_durable (0 ∷ []) 1 bytes found (omega arith) left))
   spare_leaves generation (suc (suc (suc (suc (suc (suc zero)))))) found few at_rest left =
-      inl (inl (ap tells (firm_only (0 ∷ bytes) found (subst (λ (s : State). CanLeave s found) staged_state left)) ∙ tells_closed 0 bytes refl))
+      inl (inl (ap tells (durable_only (0 ∷ bytes) found (subst (λ (s : State). CanLeave s found) staged_state left)) ∙ tells_closed 0 bytes refl))
   spare_leaves generation (suc (suc (suc (suc (suc (suc (suc zero))))))) found few at_rest left =
-      torn_open generation bytes found (torn_on_firm (0 ∷ bytes) 0 (1 ∷ []) found (omega arith)
+      torn_open generation bytes found (torn_on_durable (0 ∷ bytes) 0 (1 ∷ []) found (omega arith)
       (subst (λ (s : State). CanLeave (after s (Wrote 0 (1 ∷ []))) found) staged_state left))
   spare_leaves generation (suc (suc (suc (suc (suc (suc (suc (suc zero)))))))) found few at_rest left =
-      inr (1, (λ one. omega arith), firm_only (1 ∷ bytes) found (subst (λ (s : State). CanLeave s found) last_state left))
+      inr (1, (λ one. omega arith), durable_only (1 ∷ bytes) found (subst (λ (s : State). CanLeave s found) last_state left))
   spare_leaves generation (suc (suc (suc (suc (suc (suc (suc (suc (suc made))))))))) found few at_rest left = absurd (omega (arith, few))
 
   -- what a read gives may be left
@@ -106,28 +106,28 @@ module _ (file bytes : List ℕ) where
       shut = one_more 0 [] (omega arith) (All-nil (λ n. n < 256))
 
       first : CanLeave (made_state 1) (made_state 1).content
-      first = possible_write (firmed file) 0 (0 ∷ []) (possible_firm file are) shut (omega arith)
+      first = possible_write (all_durable file) 0 (0 ∷ []) (possible_durable file are) shut (omega arith)
 
       second : CanLeave (made_state 2) (made_state 2).content
-      second = possible_firm (made_state 1).content first.are_bytes
+      second = possible_durable (made_state 1).content first.are_bytes
 
       third : CanLeave (made_state 3) (made_state 3).content
       third = possible_cut (made_state 2) 1 second (omega arith)
 
       fourth : CanLeave (made_state 4) (made_state 4).content
-      fourth = possible_firm (made_state 3).content third.are_bytes
+      fourth = possible_durable (made_state 3).content third.are_bytes
 
       fifth : CanLeave (made_state 5) (made_state 5).content
       fifth = possible_write (made_state 4) 1 bytes fourth also (omega arith)
 
       sixth : CanLeave (made_state 6) (made_state 6).content
-      sixth = possible_firm (made_state 5).content fifth.are_bytes
+      sixth = possible_durable (made_state 5).content fifth.are_bytes
 
       seventh : CanLeave (made_state 7) (made_state 7).content
       seventh = possible_write (made_state 6) 0 (1 ∷ []) sixth (one_more 1 [] (omega arith) (All-nil (λ n. n < 256))) (omega arith)
 
       all_possible : (made : ℕ) → made ≤ 8 → CanLeave (made_state made) (made_state made).content
-      all_possible zero few = possible_firm file are
+      all_possible zero few = possible_durable file are
       all_possible (suc zero) few = first
       all_possible (suc (suc zero)) few = second
       all_possible (suc (suc (suc zero))) few = third
@@ -135,11 +135,11 @@ module _ (file bytes : List ℕ) where
       all_possible (suc (suc (suc (suc (suc zero))))) few = fifth
       all_possible (suc (suc (suc (suc (suc (suc zero)))))) few = sixth
       all_possible (suc (suc (suc (suc (suc (suc (suc zero))))))) few = seventh
-      all_possible (suc (suc (suc (suc (suc (suc (suc (suc zero)))))))) few = possible_firm (made_state 7).content seventh.are_bytes
+      all_possible (suc (suc (suc (suc (suc (suc (suc (suc zero)))))))) few = possible_durable (made_state 7).content seventh.are_bytes
       all_possible (suc (suc (suc (suc (suc (suc (suc (suc (suc made))))))))) few = absurd (omega (arith, few))
 
   -- the calls so far, and one more
   pub made_more : (made : ℕ) (s : State) (call : Call) → s ≡ made_state made → slice_get (rewrite_calls bytes) made ≡ Some call → after s call ≡ made_state (suc made)
   made_more made s call is due =
-      ap (λ (t : State). after t call) is ∙ sym (after_all-push (firmed file) (take made (rewrite_calls bytes)) call)
-      ∙ ap (λ (calls : List Call). after_all (firmed file) calls) (sym (take_one_more (rewrite_calls bytes) made call due))
+      ap (λ (t : State). after t call) is ∙ sym (after_all-push (all_durable file) (take made (rewrite_calls bytes)) call)
+      ∙ ap (λ (calls : List Call). after_all (all_durable file) calls) (sym (take_one_more (rewrite_calls bytes) made call due))

@@ -22,7 +22,7 @@ use Rattle.spec_world.specs.World.{Waiting, put_out, Given, World, events_of}
 use Rattle.spec_world.specs.Runs.{areas_in}
 use Rattle.spec_world.specs.Steps.{Move, accept, take_to, device_call, settle, release, restart, ticketed, with_new, with_known, with_given, IsAnswered, group_to, Leads, IsRun}
 use Rattle.spec_world.specs.Text.{Command, take_in, flush, checkpoint, stop, Desk, desk_on, state_in, settled_in, with_answer, group_of, flushed, after, is_due}
-use Rattle.spec_world.specs.Text.{due, without_due, frames, carried_out, text, desk_behind}
+use Rattle.spec_world.specs.Text.{due, without_due, frames, carried_out, text, desk_after}
 use Rattle.wire.specs.Outputs.{frame_of}
 use Rattle.spec_world.specs.Scripts.{IsAtDesk, WentOut, IsTakenIn, ScriptsAreRuns, ScriptsBegin}
 use Rattle.spec_world.proofs.Ballots.{picked_of}
@@ -310,12 +310,12 @@ command_goes node sound moves world run desk command at taken =
 -- the text of commands goes out
 pub record GoesWith (node : Node) (world : World) (desk : Desk) (commands : List Command) : Type 0 where
   pub outputs : List Waiting
-  pub goes : Goes node world (desk_behind node desk commands) outputs
+  pub goes : Goes node world (desk_after node desk commands) outputs
   pub is_text : frames outputs ≡ text node desk commands
 
 commands_go : (node : Node) (sound : IsNode node) (moves : List Move) (world : World) (run : IsRun node moves world) (desk : Desk) (commands : List Command) → IsAtDesk node world desk
     → All (IsTakenIn node) commands → GoesWith node world desk commands
-unfolding text desk_behind
+unfolding text desk_after
 commands_go node sound moves world run desk [] at taken = record { outputs = []; goes = goes_nowhere node world desk at; is_text = refl }
 commands_go node sound moves world run desk (command ∷ commands) at taken =
     let now = due (after node desk command) in
@@ -325,7 +325,7 @@ commands_go node sound moves world run desk (command ∷ commands) at taken =
     (All-tail (IsTakenIn node) command commands taken) in
     record {
       outputs = now ++ rest.outputs;
-      goes = goes_join node world next (desk_behind node next commands) now rest.outputs first rest.goes;
+      goes = goes_join node world next (desk_after node next commands) now rest.outputs first rest.goes;
       is_text = flat_map-append (λ (one : Waiting). frame_of one.output) now rest.outputs ∙ ap (λ (l : List ℕ). frames now ++ l) rest.is_text;
     }
 

@@ -3,7 +3,7 @@ use Rattle.std.proofs.Common.{◌≡◌, ◌≢◌, ◌⊎◌, ℕ, suc, ◌+◌
 use Rattle.std.specs.Prelude.{All, true, false, is_some, IfSome, slice_get}
 use Rattle.std.proofs.lemmas.List.{append-nil, take_at, drop_at, take-take}
 use Rattle.std.proofs.lemmas.List.Elements.{All-nil, All-cons, All-take, All-drop}
-use Rattle.diskmodel.specs.Outcomes.{State, AreBytes, CanLeave, after, state, firmed}
+use Rattle.diskmodel.specs.Outcomes.{State, AreBytes, CanLeave, after, state, all_durable}
 use Rattle.diskmodel.proofs.Calls.{after_all-push}
 use Rattle.journal.specs.Areas.{Areas, alone, pair_of, other_side, base_of, head_record, moved, tells, stands_at, stands_in, IsAtRest, IsOlder, IsOlderOrNew, rewrite_calls}
 use Rattle.journal.specs.Format.{scan, walk, only_records, stands}
@@ -25,7 +25,7 @@ use Rattle.std.specs.Option.{option_map, option_map_or, option_and_then}
 use Rattle.std.proofs.lemmas.Bool.{cond-false, le-ltb}
 use Rattle.std.proofs.lemmas.Option.{none-some}
 use Rattle.diskmodel.specs.declared.call.Call.{Call}
-use Rattle.diskmodel.proofs.Calls.{firm_only}
+use Rattle.diskmodel.proofs.Calls.{durable_only}
 use Rattle.spec_laws.proofs.Legal.{legal-begins}
 use Rattle.spec_model.specs.Admitting.{IsTaken, IsLegal}
 use Rattle.spec_model.specs.Histories.{History}
@@ -80,11 +80,11 @@ pub record IsRewritingAt (node : Node) (history : History) (groups : List Histor
   pub not_begun : phase ≡ not_begun
   pub some : 1 ≤ length groups
 
--- what the calls of the other disk come to: it is firm, or a rewriting is in flight; of one disk none is
+-- what the calls of the other disk come to: it is is_durable, or a rewriting is in flight; of one disk none is
 abbrev pub IsSpareAt : Node → History → List History → ℕ → Phase → Option Spare → Option Rewriting → List ℕ → Type 0
 IsSpareAt node history groups durable phase None None rest = Unit {0}
 IsSpareAt node history groups durable phase None (Some rewriting) rest = ⊥
-IsSpareAt node history groups durable phase (Some spare) None rest = state spare.bytes_at_start spare.calls ≡ firmed rest
+IsSpareAt node history groups durable phase (Some spare) None rest = state spare.bytes_at_start spare.calls ≡ all_durable rest
 IsSpareAt node history groups durable phase (Some spare) (Some rewriting) rest = IsRewritingAt node history groups durable phase spare rewriting rest
 
 -- the groups that are yet to be appended: those that aren't durable, or, during a rewriting, all but the first
@@ -222,7 +222,7 @@ leaves_appended node world at live none (between outcome) =
 leaves_appended node world at live none (inside call due outcome) =
     let s = state world.bytes_at_start world.calls in
     let first = due_first (undurable_in world) world.phase s.content call (fit_to_write node world at none) due in
-    let now : CanLeave (after s call) live = subst (λ t. CanLeave t live) (after_all-push (firmed world.bytes_at_start) world.calls call) outcome in
+    let now : CanLeave (after s call) live = subst (λ t. CanLeave t live) (after_all-push (all_durable world.bytes_at_start) world.calls call) outcome in
     let is = called at.file at.ends_closed (group_in world) world.phase s call first.0 at.disk first.1 in
     record {
       stand = leaves at.file at.ends_closed (group_in world) (stage_after world.phase) (after s call) live (fits_in (stage_after world.phase) (group_in world) first.0) is now;
@@ -236,13 +236,13 @@ leaves_live node world at live none leave =
     leaves_appended node world at live none (subst (λ (c : Option Call). MayLeave world.bytes_at_start world.calls c live) (next_is world none) leave)
 
 -- the disk is the file where no append has begun
-pub fresh_disk : (node : Node) (world : World) (at : Stands node world) → world.phase ≡ not_begun → state world.bytes_at_start world.calls ≡ firmed at.file
+pub fresh_disk : (node : Node) (world : World) (at : Stands node world) → world.phase ≡ not_begun → state world.bytes_at_start world.calls ≡ all_durable at.file
 fresh_disk node world at is = subst (λ (p : Phase). IsAt (stage_of p) (state world.bytes_at_start world.calls) at.file (group_in world)) is at.disk
 
--- a disk that is firm and has no call due leaves what it has
-pub leaves_firm : (bytes : List ℕ) (calls : List Call) (next : Option Call) (file found : List ℕ) → next ≡ None → state bytes calls ≡ firmed file → MayLeave bytes calls next found → found ≡ file
-leaves_firm bytes calls next file found none is (between outcome) = firm_only file found (subst (λ (s : State). CanLeave s found) is outcome)
-leaves_firm bytes calls next file found none is (inside call due outcome) = absurd (none-some call (sym none ∙ due))
+-- a disk that is is_durable and has no call due leaves what it has
+pub leaves_durable : (bytes : List ℕ) (calls : List Call) (next : Option Call) (file found : List ℕ) → next ≡ None → state bytes calls ≡ all_durable file → MayLeave bytes calls next found → found ≡ file
+leaves_durable bytes calls next file found none is (between outcome) = durable_only file found (subst (λ (s : State). CanLeave s found) is outcome)
+leaves_durable bytes calls next file found none is (inside call due outcome) = absurd (none-some call (sym none ∙ due))
 
 -- a history that what is settled begins, and that begins what was accepted: it is what is durable, or that with the next group
 pub record IsBetween (world : World) (history : History) : Type 0 where
@@ -298,7 +298,7 @@ walked_long : (file : List ℕ) → 2 ≤ length file → scan file ≡ walk 0 0
 unfolding scan
 walked_long file long = cond-false _ _ _ (le-ltb (length file) 2 long)
 
--- an area after what lies behind its closed gate is cut
+-- an area after what lies after its closed gate is cut
 pub record IsCutOff (file bytes : List ℕ) : Type 0 where
   pub ends_closed : EndsClosed bytes
   pub stand : stands bytes ≡ stands file
@@ -459,7 +459,7 @@ leaves_rewritten node history groups durable phase spare rewriting rest at_rest 
     let inside = get_inside (rewrite_calls rewriting.bytes) rewriting.made call due in
     let next = made_more rest rewriting.bytes rewriting.made (state spare.bytes_at_start spare.calls) call is.disk due in
     spare_leaves rest rewriting.bytes spare.generation (suc rewriting.made) other (omega (arith, inside)) at_rest
-    (subst (λ (s : State). CanLeave s other) (after_all-push (firmed spare.bytes_at_start) spare.calls call ∙ next) outcome)
+    (subst (λ (s : State). CanLeave s other) (after_all-push (all_durable spare.bytes_at_start) spare.calls call ∙ next) outcome)
 
 module _ (node : Node) (world : World) (at : Stands node world) (spare : Spare) (is_spare : world.spare ≡ Some spare) (live other : List ℕ)
     (leave : MayLeave world.bytes_at_start world.calls (next_call world) live) (also : MayLeave spare.bytes_at_start spare.calls (next_spare_call world) other) where
@@ -482,16 +482,16 @@ module _ (node : Node) (world : World) (at : Stands node world) (spare : Spare) 
   left_pair : (rewriting : Option Rewriting) → world.rewriting ≡ rewriting
       → IsSpareAt node (world.began ++ (world.settled ++ first_of world.groups)) world.groups world.durable world.phase (Some spare) rewriting at.rest
       → IsLeft node world (pair_of spare.side live other)
-  left_pair None none firm =
+  left_pair None none is_durable =
       let is = leaves_live node world at live none leave in
       let no_call : next_spare_call world ≡ None = ap (λ (r : Option Rewriting). option_and_then (λ one. slice_get (rewrite_calls one.bytes) one.made) r) none in
-      let same : other ≡ at.rest = leaves_firm spare.bytes_at_start spare.calls (next_spare_call world) at.rest other no_call firm also in
+      let same : other ≡ at.rest = leaves_durable spare.bytes_at_start spare.calls (next_spare_call world) at.rest other no_call is_durable also in
       older_left is (keeps_telling at.file live (Some spare.generation) at.ends_closed beside.told is.keeps ∙ beside.told)
       (subst (IsOlder spare.generation) (sym same) (at_rest_older spare.generation at.rest beside.at_rest))
   left_pair (Some rewriting) in_flight is =
       let no_call : next_call world ≡ None = ap (λ (r : Option Rewriting). option_map_or (λ one. None) r (call_for (undurable_in world) world.phase (content_in world))) in_flight in
       let fresh = fresh_disk node world at is.not_begun in
-      let same : live ≡ at.file = leaves_firm world.bytes_at_start world.calls (next_call world) at.file live no_call fresh leave in
+      let same : live ≡ at.file = leaves_durable world.bytes_at_start world.calls (next_call world) at.file live no_call fresh leave in
       let call : next_spare_call world ≡ slice_get (rewrite_calls rewriting.bytes) rewriting.made =
       ap (λ (r : Option Rewriting). option_and_then (λ one. slice_get (rewrite_calls one.bytes) one.made) r) in_flight in
       let left = leaves_rewritten node _ world.groups world.durable world.phase spare rewriting at.rest beside.at_rest is other

@@ -190,7 +190,7 @@ RewritingsMakeCalls = (node : Node) (world next : World) (spare : Spare) (bytes 
     → (count ≤ 8) × (count < 8 → (next.spare ≡ Some (record spare { calls = spare.calls ++ take count (rewrite_calls bytes) })) × (next.calls ≡ world.calls))
     × (count ≡ 8 → HaveChangedPlaces world spare bytes next)
 
--- What a journal's rewriting writes behind the first gate is a checkpoint: of a snapshot whose records are the configuration and those of a
+-- What a journal's rewriting writes after the first gate is a checkpoint: of a snapshot whose records are the configuration and those of a
 -- state, each of which fits a group.
 abbrev pub SnapshotsAreCheckpoints : Type 0
 SnapshotsAreCheckpoints = (node : Node) (generation : ℕ) (kept_data : Checkpoint) → IsNode node → AreKeys node → 1 ≤ generation → generation < 2 ^ 64 → IsWritten node kept_data

@@ -6,7 +6,7 @@ use Rattle.spec_model.specs.Histories.{History}
 use Rattle.spec_model.specs.Nodes.{Node, IsNode}
 use Rattle.spec_world.specs.World.{Opened, not_begun, Waiting, put_out, Given, World, run_on}
 use Rattle.spec_world.specs.Steps.{Move, Leads, IsRun}
-use Rattle.spec_world.specs.Text.{Command, take_in, Desk, desk_on, frames, text, desk_behind}
+use Rattle.spec_world.specs.Text.{Command, take_in, Desk, desk_on, frames, text, desk_after}
 
 -- a world stands where a script's desk does
 pub record IsAtDesk (node : Node) (world : World) (desk : Desk) : Type 0 where
@@ -38,7 +38,7 @@ pub record GivesOutText (node : Node) (moves : List Move) (world : World) (desk 
   pub run : IsRun node (moves ++ more) later
   -- more moves lead from the one world to the other
   pub leads : Leads node world more later
-  pub at_desk : IsAtDesk node later (desk_behind node desk commands)
+  pub at_desk : IsAtDesk node later (desk_after node desk commands)
   pub outputs : List Waiting
   pub went_out : WentOut world later outputs
   pub is_text : frames outputs ≡ text node desk commands

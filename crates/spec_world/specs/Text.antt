@@ -105,6 +105,6 @@ text node desk [] = []
 text node desk (command ∷ commands) = frames (due (after node desk command)) ++ text node (carried_out node desk command) commands
 
 -- the desk after all of them
-unfoldable pub desk_behind : Node → Desk → List Command → Desk
-desk_behind node desk [] = desk
-desk_behind node desk (command ∷ commands) = desk_behind node (carried_out node desk command) commands
+unfoldable pub desk_after : Node → Desk → List Command → Desk
+desk_after node desk [] = desk
+desk_after node desk (command ∷ commands) = desk_after node (carried_out node desk command) commands

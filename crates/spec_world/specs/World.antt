@@ -52,7 +52,7 @@ pub record Given : Type 0 where
   pub outgoing : Outgoing
   pub history : History
 
--- of a node on two disks: the disk that isn't read, with its bytes when this run began, all of them firm, and its calls since; and the
+-- of a node on two disks: the disk that isn't read, with its bytes when this run began, all of them durable, and its calls since; and the
 -- side and the generation of the area that is read
 pub record Spare : Type 0 where
   pub bytes_at_start : List ℕ
@@ -75,7 +75,7 @@ pub record World : Type 0 where
   pub settled : History
   pub groups : List History
   pub durable : ℕ
-  -- the disk that is read: its bytes when this run began, all of them firm, and its calls since
+  -- the disk that is read: its bytes when this run began, all of them durable, and its calls since
   pub bytes_at_start : List ℕ
   pub calls : List Call
   pub phase : Phase
@@ -158,7 +158,7 @@ pub data StandsFor (node : Node) (areas : Areas) (state_held : State) : Type 0 w
   as_journal : Holds node areas state_held → StandsFor node areas state_held
   as_empty : stands_in areas ≡ Ok [] → state_held ≡ fresh node → StandsFor node areas state_held
 
--- Bytes behind an open gate are a checkpoint of this generation at this state: a journal in the second version without events that begins
+-- Bytes after an open gate are a checkpoint of this generation at this state: a journal in the second version without events that begins
 -- as the checkpoint of the state, and ends with its closed gate.
 pub record IsCheckpointOf (node : Node) (generation : ℕ) (state_kept : State) (bytes : List ℕ) : Type 0 where
   pub kept : Checkpoint
@@ -257,7 +257,7 @@ pub record IsOpenedSpare (bytes : List ℕ) (spare : OpenedSpare) : Type 0 where
   pub at_rest : IsAtRest spare.generation spare.bytes
   pub are_bytes : AreBytes spare.bytes
 
--- disks as an opening leaves them, all firm: they are a journal of the node at this state, and the one that is read ends with its closed gate
+-- disks as an opening leaves them, all durable: they are a journal of the node at this state, and the one that is read ends with its closed gate
 pub record IsOpened (node : Node) (opened : Opened) (state_held : State) : Type 0 where
   pub holds : Holds node (areas_of opened) state_held
   pub ends_closed : EndsClosed opened.bytes

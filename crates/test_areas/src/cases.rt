@@ -129,7 +129,7 @@ impl Cases {
         self.areas = Areas::on(self.alloc, disks)?;
         put(
             answer,
-            if disks.are_firm() {
+            if disks.are_durable() {
                 "\n"
             } else {
                 ", not firm\n"

@@ -69,8 +69,8 @@ impl Disks {
     }
 
     /// Whether a stop leaves of both disks what they give, and nothing else.
-    pub fn are_firm(&self) -> bool {
-        is_firm(&self.first) && is_firm(&self.second)
+    pub fn are_durable(&self) -> bool {
+        is_durable(&self.first) && is_durable(&self.second)
     }
 
     /// The disk of this area.
@@ -92,9 +92,9 @@ impl Disks {
 }
 
 // Whether no byte was written since the last sync, and the length is that of the last one.
-fn is_firm(disk: &MemDisk) -> bool {
+fn is_durable(disk: &MemDisk) -> bool {
     let len = disk.bytes().len() as u64;
-    disk.bytes() == disk.firm() && (0..len).all(|place| !disk.is_written(place))
+    disk.bytes() == disk.durable() && (0..len).all(|place| !disk.is_written(place))
 }
 
 fn stops_with(disk: &mut MemDisk, bytes: Vec<u8>) -> bool {
@@ -134,7 +134,7 @@ pub fn outcome(
 ) -> Result<Option<Vec<u8>>, AllocError> {
     let bytes = match fill {
         Fill::Keep if length == disk.bytes().len() => disk.bytes().to_vec(alloc)?,
-        Fill::Lose if length == disk.firm().len() => disk.firm().to_vec(alloc)?,
+        Fill::Lose if length == disk.durable().len() => disk.durable().to_vec(alloc)?,
         Fill::Torn(byte) => torn(alloc, disk, byte, length)?,
         _ => return Ok(None),
     };
@@ -155,12 +155,12 @@ fn left_at(disk: &MemDisk, byte: u8, place: usize) -> u8 {
     if place >= disk.bytes().len() || disk.is_written(place as u64) {
         return byte;
     }
-    disk.firm().get(place).copied().unwrap_or(byte)
+    disk.durable().get(place).copied().unwrap_or(byte)
 }
 
 /// The greatest length that a stop may leave of a disk.
 pub fn longest(disk: &MemDisk) -> usize {
-    disk.bytes().len().max(disk.firm().len())
+    disk.bytes().len().max(disk.durable().len())
 }
 
 /// The longest bytes that a stop leaves of a disk with this fill, if it may.
@@ -171,7 +171,7 @@ pub fn longest_outcome(
 ) -> Result<Option<Vec<u8>>, AllocError> {
     let length = match fill {
         Fill::Keep => disk.bytes().len(),
-        Fill::Lose => disk.firm().len(),
+        Fill::Lose => disk.durable().len(),
         Fill::Torn(_) => longest(disk),
     };
     outcome(alloc, disk, fill, length)

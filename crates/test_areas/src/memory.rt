@@ -20,7 +20,7 @@ pub fn is_steady(alloc: Global) -> Result<bool, AllocError> {
     let areas = begun_areas(alloc, &records)?;
     let left = rewritten_areas(alloc, &areas, &records, Made::Whole)?;
     let right = rewritten_areas(alloc, &areas, &records, Made::Draft)?;
-    let is_opened = opens(alloc, &left)? && opens(alloc, &behind_gate(alloc, &left)?)?;
+    let is_opened = opens(alloc, &left)? && opens(alloc, &after_gate(alloc, &left)?)?;
     Ok(is_opened && opens_one(alloc, &left)? && left.are(&right) && drafts_all(alloc, &areas)?)
 }
 
@@ -93,8 +93,8 @@ fn rewritten_areas(
     }
 }
 
-/// The same with bytes behind the closed gate of the first area, which an opening has to cut.
-fn behind_gate(alloc: Global, areas: &Areas) -> Result<Areas, AllocError> {
+/// The same with bytes after the closed gate of the first area, which an opening has to cut.
+fn after_gate(alloc: Global, areas: &Areas) -> Result<Areas, AllocError> {
     Ok(Areas {
         first: vec![in alloc; 0, 9, 9]?,
         second: areas.second.to_vec(alloc)?,

@@ -126,17 +126,17 @@ pub fn outcomes(alloc: Global, disk: &MemDisk, fill: Fill) -> Result<Vec<Vec<u8>
     let mut outcomes = Vec::new(alloc);
     match fill {
         Fill::Keep => outcomes.push(disk.bytes().to_vec(alloc)?)?,
-        Fill::Lose if !is_firm(disk) => outcomes.push(disk.firm().to_vec(alloc)?)?,
-        Fill::Torn(byte) if !is_firm(disk) => add_torn(alloc, disk, byte, &mut outcomes)?,
+        Fill::Lose if !is_durable(disk) => outcomes.push(disk.durable().to_vec(alloc)?)?,
+        Fill::Torn(byte) if !is_durable(disk) => add_torn(alloc, disk, byte, &mut outcomes)?,
         _ => {}
     }
     Ok(outcomes)
 }
 
 /// Whether all of a disk is synced.
-fn is_firm(disk: &MemDisk) -> bool {
+fn is_durable(disk: &MemDisk) -> bool {
     let length = disk.bytes().len() as u64;
-    disk.bytes() == disk.firm() && (0..length).all(|place| !disk.is_written(place))
+    disk.bytes() == disk.durable() && (0..length).all(|place| !disk.is_written(place))
 }
 
 /// Adds what may be left of each length that is tried, in which this byte stands wherever what was synced may be lost.
@@ -152,7 +152,7 @@ fn add_torn(alloc: Global, disk: &MemDisk, byte: u8, outcomes: &mut Vec<Vec<u8>>
 
 /// The lengths that are tried of what is left of a disk: that of the last sync, the one that a read gives, and half of the greater one.
 fn lengths(alloc: Global, disk: &MemDisk) -> Result<Vec<usize>, AllocError> {
-    let (synced, read) = (disk.firm().len(), disk.bytes().len());
+    let (synced, read) = (disk.durable().len(), disk.bytes().len());
     let mut lengths = Vec::new(alloc);
     add_once(&mut lengths, synced)?;
     add_once(&mut lengths, read)?;
@@ -181,5 +181,5 @@ fn left_at(disk: &MemDisk, byte: u8, place: usize) -> u8 {
     if place >= disk.bytes().len() || disk.is_written(place as u64) {
         return byte;
     }
-    disk.firm().get(place).copied().unwrap_or(byte)
+    disk.durable().get(place).copied().unwrap_or(byte)
 }

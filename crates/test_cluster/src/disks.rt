@@ -120,7 +120,7 @@ impl GrippedDisk {
     fn chosen(&self) -> Result<Option<Vec<u8>>, AllocError> {
         match self.leaving.get() {
             Leaving::Read => Ok(None),
-            Leaving::Synced => Ok(Some(self.disk.firm().to_vec(self.alloc)?)),
+            Leaving::Synced => Ok(Some(self.disk.durable().to_vec(self.alloc)?)),
             Leaving::Torn(byte) => Ok(Some(self.torn(byte)?)),
         }
     }

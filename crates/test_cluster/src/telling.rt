@@ -101,6 +101,6 @@ pub fn tell_outputs(answer: &mut String, outputs: Option<u64>) {
 
 // Adds what this is shown as, between two parts.
 /// Puts a value between two texts.
-pub fn put_shown<T: Display>(answer: &mut String, before: &str, shown: &T, behind: &str) {
-    let _ = write!(answer, "{before}{shown}{behind}");
+pub fn put_shown<T: Display>(answer: &mut String, before: &str, shown: &T, after: &str) {
+    let _ = write!(answer, "{before}{shown}{after}");
 }

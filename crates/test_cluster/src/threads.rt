@@ -123,12 +123,12 @@ where
     R: Threads + Wait + Sync,
 {
     let turns = words.parse().unwrap_or(0);
-    if let Err(error) = tell_behind(rt, alloc, settings, turns, answer) {
+    if let Err(error) = tell_after(rt, alloc, settings, turns, answer) {
         tell_error(answer, error);
     }
 }
 
-fn tell_behind<R>(
+fn tell_after<R>(
     rt: &R,
     alloc: Global,
     settings: &Settings,
@@ -143,7 +143,7 @@ where
     give_own(&mut nodes, Author(1))?;
     give_own(&mut nodes, Author(2))?;
     give_own(&mut nodes, Author(3))?;
-    let mut nodes = run_behind(rt, alloc, nodes, turns)?;
+    let mut nodes = run_after(rt, alloc, nodes, turns)?;
     for node in 0..4 {
         tell_known(&mut nodes, Author(node), answer)?;
     }
@@ -208,7 +208,7 @@ fn is_known(
 }
 
 // Runs four nodes, the others from node 0's second turn on. Each gate is passed in each turn.
-fn run_behind<'a, R>(
+fn run_after<'a, R>(
     rt: &R,
     alloc: Global,
     nodes: Nodes<'a>,

@@ -140,7 +140,7 @@ pub fn laws_hold() {
     spec_cluster::clusters_begin();
     book::flush_is_steps::<HashSign>();
     book::fail_is_a_step::<HashSign>();
-    recovery::told_stands_for();
-    recovery::what_stands_is_told();
-    recovery::worlds_are_told();
+    recovery::decoded_stands_for();
+    recovery::what_stands_is_decoded();
+    recovery::worlds_are_decoded();
 }

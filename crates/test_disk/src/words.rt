@@ -28,11 +28,11 @@ pub fn tell_fault(answer: &mut String, outcome: Result<(), DiskFault>) {
 }
 
 /// Adds a number between two parts.
-pub fn put_count(answer: &mut String, before: &str, count: u64, behind: &str) {
-    let _ = write!(answer, "{before}{count}{behind}");
+pub fn put_count(answer: &mut String, before: &str, count: u64, after: &str) {
+    let _ = write!(answer, "{before}{count}{after}");
 }
 
 /// Adds what this is shown as, between two parts.
-pub fn put_shown<T: Display>(answer: &mut String, before: &str, shown: &T, behind: &str) {
-    let _ = write!(answer, "{before}{shown}{behind}");
+pub fn put_shown<T: Display>(answer: &mut String, before: &str, shown: &T, after: &str) {
+    let _ = write!(answer, "{before}{shown}{after}");
 }

@@ -251,14 +251,14 @@ same_slots slots placed = record {
   childless = λ round author c none held. absurd (none-some c (sym none ∙ held));
 }
 
-coin_behind : (coins : List ℕ) (value : ℕ) → slice_get (coins ++ value ∷ []) (length coins) ≡ Some value
-coin_behind [] value = refl
-coin_behind (coin ∷ coins) value = coin_behind coins value
+coin_after : (coins : List ℕ) (value : ℕ) → slice_get (coins ++ value ∷ []) (length coins) ≡ Some value
+coin_after [] value = refl
+coin_after (coin ∷ coins) value = coin_after coins value
 
 pub coin_last : (coins : List ℕ) (value wave : ℕ) → wave ≡ length coins + 1 → Some value ≡ coin_of (coins ++ value ∷ []) wave
 coin_last coins value wave is =
     let next : suc (length coins) ≡ wave = omega (arith, is) in
-    sym (coin_behind coins value) ∙ ap (coin_of (coins ++ value ∷ [])) next
+    sym (coin_after coins value) ∙ ap (coin_of (coins ++ value ∷ [])) next
 
 -- with a coin no more than its wave is committed
 pub one_coin : (graph : DagView) (coins : List ℕ) (value wave : ℕ) → IsGraph graph → wave ≡ length coins + 1 → IsStep (ledger_in graph coins) (ledger_in graph (coins ++ value ∷ [])) wave

@@ -181,7 +181,7 @@ chain_some ledger last wave c chain some placed is low is_leader all =
       top = is ∙ sym raised ∙ ap (λ l. raised_to last (map slot_of l)) (sym ends.1) ∙ ap (raised_to last) (sym all);
     }
 
--- behind a committed wave the newer leaders are a chain
+-- after a committed wave the newer leaders are a chain
 pub chain_all : (ledger : Ledger) (last : Option ℕ) (chain : List (ℕ × Author)) → 0 < size_in ledger → AreInPlace ledger.slots → IsSure ledger last
     → chain ≡ map slot_of (newer ledger (wave_of last)) → IsChain ledger last chain
 chain_all ledger last chain some placed sure all =

@@ -71,7 +71,7 @@ reached ledger base wave round author earlier placed low is held_earlier reaches
 
 -- ---- one wave after the other
 
--- a leader that was taken, behind those of the waves above it, the newest first
+-- a leader that was taken, after those of the waves above it, the newest first
 pub step_taken : (graph : dag.DagView) (coins : List ℕ) (base left next round : ℕ) (author : Author) (slot : ℕ × Author)
     (taken all : List (ℕ × Author)) → AreInPlace (dag.slots_in graph) → left ≡ suc next → base ≤ next
     → IsLed (ledger_in graph coins) left slot.0 slot.1.0 → dag.reaches_in graph round author.0 slot.0 slot.1.0 ≡ true

@@ -21,7 +21,7 @@ use Rattle.admission.specs.Answers.{IsAnswer, is_new_step}
 use Rattle.admission.specs.declared.step.Step.{Step}
 use Rattle.admission.specs.declared.step.Step.TheVariants as step
 use Rattle.admission.specs.Standing.{Meets, MeetSome, has_parents}
-use Rattle.validator.specs.Standing.{AreAtSound, StandSomewhere, AnswersEvent, GoOnBehind, GoesOn}
+use Rattle.validator.specs.Standing.{AreAtSound, StandSomewhere, AnswersEvent, GoOnAfter, GoesOn}
 use Rattle.admission.specs.declared.tables.Tables.{Tables}
 
 -- an event with this message meets them
@@ -46,20 +46,20 @@ meets_at node state event tables node_is within passed stands =
     record { node_is = node_is; sound = stands.sound; taken = record { message = within; passed = passed }; message = refl; at = stands.at }
 
 -- after a new one the tables are at the state after
-pub behind : SoundStays → (node : Node) (state : State) (event : Event) (before later : Tables) (sign : Digest → Signature) (result : Result Step Refusal)
-    → Meets node state event before event.message → node.sign ≡ sign → AnswersEvent before sign event result → GoOnBehind before later sign event → is_new_step result ≡ true
+pub following : SoundStays → (node : Node) (state : State) (event : Event) (before later : Tables) (sign : Digest → Signature) (result : Result Step Refusal)
+    → Meets node state event before event.message → node.sign ≡ sign → AnswersEvent before sign event result → GoOnAfter before later sign event → is_new_step result ≡ true
     → AreAtSound node later (after node state event)
-behind stays node state event before later sign result meets signs answers goes new =
+following stays node state event before later sign result meets signs answers goes new =
     let there = answered_new (answered node state event) result (answers node state meets signs) new in
     record { sound = stays node state event meets.node_is meets.sound meets.taken there; at = goes node state meets signs there }
 
 -- so they stand somewhere after each
 pub stands : SoundStays → (node : Node) (event : Event) (before later : Tables) (sign : Digest → Signature) (result : Result Step Refusal)
     → ((state : State) → AreAtSound node before state → Meets node state event before event.message) → node.sign ≡ sign → AnswersEvent before sign event result
-    → (is_new_step result ≡ true → GoOnBehind before later sign event) → (is_new_step result ≡ false → later ≡ before) → StandSomewhere node before → StandSomewhere node later
+    → (is_new_step result ≡ true → GoOnAfter before later sign event) → (is_new_step result ≡ false → later ≡ before) → StandSomewhere node before → StandSomewhere node later
 stands stays node event before later sign result meets signs answers goes same somewhere =
     elim (cases_Bool (is_new_step result)) [
-      | inl new ↦ (after node somewhere.0 event, behind stays node somewhere.0 event before later sign result (meets somewhere.0 somewhere.1) signs answers (goes new) new)
+      | inl new ↦ (after node somewhere.0 event, following stays node somewhere.0 event before later sign result (meets somewhere.0 somewhere.1) signs answers (goes new) new)
       | inr old ↦ subst (λ (t : Tables). StandSomewhere node t) (sym (same old)) somewhere
     ]
 

@@ -54,6 +54,6 @@ abbrev pub RefusesEvent : Tables → (Digest → Signature) → Event → Result
 RefusesEvent tables sign event result = (node : Node) (state : State) → Meets node state event tables event.message → node.sign ≡ sign
     → RefusesAs (answered node state event) result
 
-abbrev pub GoOnBehind : Tables → Tables → (Digest → Signature) → Event → Type 0
-GoOnBehind before later sign event = (node : Node) (state : State) → Meets node state event before event.message → node.sign ≡ sign
+abbrev pub GoOnAfter : Tables → Tables → (Digest → Signature) → Event → Type 0
+GoOnAfter before later sign event = (node : Node) (state : State) → Meets node state event before event.message → node.sign ≡ sign
     → IsTrue (is_new (answered node state event)) → AreAt node (after node state event) later

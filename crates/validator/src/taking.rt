@@ -3,7 +3,7 @@
 ghost use Rattle.std.specs.Prelude.{◌≡◌, ◌≢◌, true, false, None, Some};
 ghost use Rattle.admission.specs.Answers.{is_new_step};
 ghost use Rattle.admission.specs.Standing.{MeetSome};
-ghost use Rattle.validator.specs.Standing.{AnswersEvent, RefusesEvent, GoOnBehind};
+ghost use Rattle.validator.specs.Standing.{AnswersEvent, RefusesEvent, GoOnAfter};
 
 use admission::{Refusal, Step, Tables};
 use header::Checked;
@@ -35,7 +35,7 @@ pub(crate) fn take<S: Sign>(
     requires meets { MeetSome tables.old event.message }
     ensures answer { AnswersEvent tables.old (S.scheme.signature_of signer.now) event result }
     ensures refused { RefusesEvent tables.old (S.scheme.signature_of signer.now) event result }
-    ensures at { is_new_step result ≡ true → GoOnBehind tables.old tables.new (S.scheme.signature_of signer.now) event }
+    ensures at { is_new_step result ≡ true → GoOnAfter tables.old tables.new (S.scheme.signature_of signer.now) event }
     ensures same { is_new_step result ≡ false → tables.new ≡ tables.old }
 {
     let sender = event.sender();

@@ -17,9 +17,9 @@ use denote.Ref.{Bor}
 abbrev pub Keyed : List (Digest × Event) → Type 0
 Keyed entries = AllByRecursion IsUnderItsDigest entries
 
--- one that waits still does behind another
-behind : (first : Event) (rest : List Event) (event : Event) → Waits rest event → Waits (first ∷ rest) event
-behind first rest event (k, x, within, at, same) = (suc k, x, omega arith, at, same)
+-- one that waits still does after another
+after : (first : Event) (rest : List Event) (event : Event) → Waits rest event → Waits (first ∷ rest) event
+after first rest event (k, x, within, at, same) = (suc k, x, omega arith, at, same)
 
 -- the entry under the digest is the first, or waits among the others
 found_at : (digest : Digest) (event : Event) (e : Digest × Event) (rest : List Event) (b : Bool) → certificate_digest_in event.message ≡ Some digest → certificate_digest_in e.1.message ≡ Some e.0
@@ -28,7 +28,7 @@ found_at digest event e rest true is under equal later =
     let bytes : digest.0 ≡ e.0.0 = (bytes_eq-Decides digest.0 e.0.0).0 equal in
     let one : digest ≡ e.0 = ap (λ (l : List ℕ). record { 0 = l }) bytes in
     (0, e.1, omega arith, refl, under ∙ ap Some (sym one) ∙ sym is)
-found_at digest event e rest false is under equal later = behind e.1 rest event (later refl)
+found_at digest event e rest false is under equal later = after e.1 rest event (later refl)
 
 -- an entry under the digest waits
 pub found : (digest : Digest) (event : Event) → certificate_digest_in event.message ≡ Some digest → (entries : List (Digest × Event)) → Keyed entries
@@ -48,10 +48,10 @@ absent_at digest event e rest false is under equal apart later (zero, x, within,
     cc
 absent_at digest event e rest false is under equal apart later (suc k, x, within, at, same) = later (k, x, omega arith, at, same)
 
--- what is not found is not found behind the first entry either
-absent_behind : (digest : Digest) (e : Digest × Event) (rest : List (Digest × Event)) → (bytes_eq digest.0 e.0.0 ≡ true → ⊥)
+-- what is not found is not found after the first entry either
+absent_after : (digest : Digest) (e : Digest × Event) (rest : List (Digest × Event)) → (bytes_eq digest.0 e.0.0 ≡ true → ⊥)
     → is_some (lookup (λ (k : Digest). bytes_eq digest.0 k.0) (e ∷ rest)) ≡ false → is_some (lookup (λ (k : Digest). bytes_eq digest.0 k.0) rest) ≡ false
-absent_behind digest e rest apart there = split (bytes_eq digest.0 e.0.0) (lookup (λ (k : Digest). bytes_eq digest.0 k.0) rest) apart there
+absent_after digest e rest apart there = split (bytes_eq digest.0 e.0.0) (lookup (λ (k : Digest). bytes_eq digest.0 k.0) rest) apart there
   where
     split : (b : Bool) (later : Option Event) → (b ≡ true → ⊥) → is_some (cond b (Some e.1) later) ≡ false → is_some later ≡ false
     split true later apart there = absurd (apart refl)
@@ -64,7 +64,7 @@ absent digest event is [] keyed there (k, x, within, at, same) = omega arith
 absent digest event is (e ∷ rest) keyed there waits =
     let b = bytes_eq digest.0 e.0.0 in
     let apart : bytes_eq digest.0 e.0.0 ≡ true → ⊥ = λ equal. let wrong : true ≡ false = rw equal at there in cc in
-    absent_at digest event e (values_of rest) b is keyed.0 refl apart (absent digest event is rest keyed.1 (absent_behind digest e rest apart there)) waits
+    absent_at digest event e (values_of rest) b is keyed.0 refl apart (absent digest event is rest keyed.1 (absent_after digest e rest apart there)) waits
 
 -- what has no certificate digest doesn't wait
 pub no_other_waits : (event : Event) → certificate_digest_in event.message ≡ None → (entries : List (Digest × Event)) → Keyed entries → Waits (values_of entries) event → ⊥
@@ -91,7 +91,7 @@ take_next [] place event at = absurd cc
 take_next (first ∷ rest) zero event at = let same : first ≡ event = cc in ap (λ (e : Event). e ∷ []) same
 take_next (first ∷ rest) (suc place) event at = ap (λ (l : List Event). first ∷ l) (take_next rest place event at)
 
--- what stands at a place, what stands before it and what behind it
+-- what stands at a place, what stands before it and what after it
 pub parted : (events : List Event) (place : ℕ) (event : Event) → slice_get events place ≡ Some event → events ≡ take place events ++ event ∷ drop (suc place) events
 parted [] place event at = absurd cc
 parted (first ∷ rest) zero event at = let same : first ≡ event = cc in ap (λ (e : Event). e ∷ rest) same

@@ -43,7 +43,7 @@ WaitsThere waiters event = Waits (held waiters (round_of event)) event
 abbrev pub HeldWith : (ℕ → List Event) → (ℕ → List Event) → ℕ → List Event → Type 0
 HeldWith old new round events = (other : ℕ) → new other ≡ (if other == round then events else old other)
 
--- one more waits, behind the others of its round
+-- one more waits, after the others of its round
 pub record IsWithOne (old new : WaitersView) (event : Event) : Type 0 where
   pub held_are : HeldWith (held old) (held new) (round_of event) (held old (round_of event) ++ event ∷ [])
   pub count : new.count ≡ suc old.count

@@ -60,7 +60,7 @@ impl Waiter {
         }
     }
 
-    /// Lets a certificate wait, behind the others. Where one of its digest waits already, that one stays alone.
+    /// Lets a certificate wait, after the others. Where one of its digest waits already, that one stays alone.
     pub fn offer(&mut self, checked: Checked) -> Result<(), WaitRefusal>
         ensures not_a_certificate { IsErrOf result WaitRefusal.NotACertificate ↔ (certificate_digest_in checked.message ≡ None) }
         ensures full { IsErrOf result WaitRefusal.Full ↔ ((certificate_digest_in checked.message ≢ None) × (¬ Waits self.old checked) × (length self.old ≡ MAX_WAITING)) }

@@ -62,7 +62,7 @@ impl Waiters {
         }
     }
 
-    /// Lets a certificate wait, behind the others of its round. Where one of its digest waits there already, that one stays alone.
+    /// Lets a certificate wait, after the others of its round. Where one of its digest waits there already, that one stays alone.
     pub fn offer(&mut self, checked: Checked) -> Result<(), WaitRefusal>
         ensures not_a_certificate { IsErrOf result WaitRefusal.NotACertificate ↔ (certificate_digest_in checked.message ≡ None) }
         ensures full { IsErrOf result WaitRefusal.Full ↔ ((certificate_digest_in checked.message ≢ None) × (¬ WaitsThere self.old checked) × (self.old.count ≡ MAX_WAITING)) }

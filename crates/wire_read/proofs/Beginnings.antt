@@ -33,11 +33,11 @@ abbrev Goes : {X : Type 0} → (List ℕ → Read X) → Type 0
 Goes at = (bytes more : List ℕ) → Stays more (at bytes) (at (bytes ++ more))
 
 -- and of one step after another
-behind : {X Y : Type 0} (more : List ℕ) (one other : Read X) (f : X × List ℕ → Read Y) → Stays more one other → ((p : X × List ℕ) → Stays more (f p) (f (p.0, p.1 ++ more)))
+after : {X Y : Type 0} (more : List ℕ) (one other : Read X) (f : X × List ℕ → Read Y) → Stays more one other → ((p : X × List ℕ) → Stays more (f p) (f (p.0, p.1 ++ more)))
     → Stays more (one >>= f) (other >>= f)
-behind more (Ok p) other f stays next = rw stays (next p)
-behind more (Err e) other f (inl short) next = inl short
-behind more (Err e) other f (inr same) next = inr (ap (λ r. r >>= f) same)
+after more (Ok p) other f stays next = rw stays (next p)
+after more (Err e) other f (inl short) next = inl short
+after more (Err e) other f (inr same) next = inr (ap (λ r. r >>= f) same)
 
 -- ---- fields
 
@@ -64,15 +64,15 @@ bytes_go n = field_goes (λ bytes. bytes) n
 
 author_goes : Goes author_at
 unfolding author_at
-author_goes bytes more = behind more (number_at w16 bytes) (number_at w16 (bytes ++ more)) (λ n. Ok (record { 0 = n.0 }, n.1)) (number_goes w16 bytes more) (λ p. refl)
+author_goes bytes more = after more (number_at w16 bytes) (number_at w16 (bytes ++ more)) (λ n. Ok (record { 0 = n.0 }, n.1)) (number_goes w16 bytes more) (λ p. refl)
 
 digest_goes : Goes digest_at
 unfolding digest_at
-digest_goes bytes more = behind more (bytes_at 32 bytes) (bytes_at 32 (bytes ++ more)) (λ d. Ok (record { 0 = d.0 }, d.1)) (bytes_go 32 bytes more) (λ p. refl)
+digest_goes bytes more = after more (bytes_at 32 bytes) (bytes_at 32 (bytes ++ more)) (λ d. Ok (record { 0 = d.0 }, d.1)) (bytes_go 32 bytes more) (λ p. refl)
 
 signature_goes : Goes signature_at
 unfolding signature_at
-signature_goes bytes more = behind more (bytes_at 64 bytes) (bytes_at 64 (bytes ++ more)) (λ s. Ok (record { 0 = s.0 }, s.1)) (bytes_go 64 bytes more) (λ p. refl)
+signature_goes bytes more = after more (bytes_at 64 bytes) (bytes_at 64 (bytes ++ more)) (λ s. Ok (record { 0 = s.0 }, s.1)) (bytes_go 64 bytes more) (λ p. refl)
 
 -- a test of what was read
 tested : {X : Type 0} (more : List ℕ) (bad : Bool) (fault : WireError) (p : X × List ℕ) → Stays more (cond bad (Err fault) (Ok p)) (cond bad (Err fault) (Ok (p.0, p.1 ++ more)))
@@ -86,19 +86,19 @@ passed more false fault one other stays = inr refl
 round_goes : Goes round_at
 unfolding round_at
 round_goes bytes more =
-    behind more (number_at w64 bytes) (number_at w64 (bytes ++ more)) (λ n. if nat_lt MAX_ROUND n.0 then Err BadRound else Ok n) (number_goes w64 bytes more)
+    after more (number_at w64 bytes) (number_at w64 (bytes ++ more)) (λ n. if nat_lt MAX_ROUND n.0 then Err BadRound else Ok n) (number_goes w64 bytes more)
     (λ p. tested more (nat_lt MAX_ROUND p.0) BadRound p)
 
 wave_goes : Goes wave_at
 unfolding wave_at
 wave_goes bytes more =
-    behind more (number_at w64 bytes) (number_at w64 (bytes ++ more)) (λ n. if nat_lt 0 n.0 && nat_le n.0 MAX_WAVE then Ok n else Err BadRound) (number_goes w64 bytes more)
+    after more (number_at w64 bytes) (number_at w64 (bytes ++ more)) (λ n. if nat_lt 0 n.0 && nat_le n.0 MAX_WAVE then Ok n else Err BadRound) (number_goes w64 bytes more)
     (λ p. passed more (nat_lt 0 p.0 && nat_le p.0 MAX_WAVE) BadRound (Ok p) (Ok (p.0, p.1 ++ more)) refl)
 
 count_goes : (w : Width) (limit : ℕ) → Goes (count_at w limit)
 unfolding count_at
 count_goes w limit bytes more =
-    behind more (number_at w bytes) (number_at w (bytes ++ more)) (λ n. if nat_lt limit n.0 then Err TooMany else Ok n) (number_goes w bytes more)
+    after more (number_at w bytes) (number_at w (bytes ++ more)) (λ n. if nat_lt limit n.0 then Err TooMany else Ok n) (number_goes w bytes more)
     (λ p. tested more (nat_lt limit p.0) TooMany p)
 
 -- ---- lists
@@ -107,24 +107,24 @@ more_go : {X : Type 0} (entry_at : List X → List ℕ → Read X) → ((before 
 unfolding more_at
 more_go entry_at goes zero before bytes more = refl
 more_go entry_at goes (suc count) before bytes more =
-    behind more (entry_at before bytes) (entry_at before (bytes ++ more)) (λ entry. more_at entry_at count (before ++ entry.0 ∷ []) entry.1) (goes before bytes more)
+    after more (entry_at before bytes) (entry_at before (bytes ++ more)) (λ entry. more_at entry_at count (before ++ entry.0 ∷ []) entry.1) (goes before bytes more)
     (λ p. more_go entry_at goes count (before ++ p.0 ∷ []) p.1 more)
 
 -- a list after its count
 list_goes : {X : Type 0} (w : Width) (limit : ℕ) (entry_at : List X → List ℕ → Read X) → ((before : List X) → Goes (entry_at before))
     → Goes (λ bytes. count_at w limit bytes >>= λ count. more_at entry_at count.0 [] count.1)
 list_goes w limit entry_at goes bytes more =
-    behind more (count_at w limit bytes) (count_at w limit (bytes ++ more)) (λ count. more_at entry_at count.0 [] count.1) (count_goes w limit bytes more)
+    after more (count_at w limit bytes) (count_at w limit (bytes ++ more)) (λ count. more_at entry_at count.0 [] count.1) (count_goes w limit bytes more)
     (λ p. more_go entry_at goes p.0 [] p.1 more)
 
 batch_reference_goes : (before : List BatchReference) → Goes (batch_reference_at before)
 unfolding batch_reference_at
 batch_reference_goes before bytes more =
-    behind more (digest_at bytes) (digest_at (bytes ++ more))
+    after more (digest_at bytes) (digest_at (bytes ++ more))
     (λ digest. if batch_follows before digest.0 then (number_at w16 digest.1 >>= λ worker. Ok (record { digest = digest.0; worker = worker.0 }, worker.1)) else Err NotCanonical)
     (digest_goes bytes more)
     (λ p. passed more (batch_follows before p.0) NotCanonical _ _
-    (behind more (number_at w16 p.1) (number_at w16 (p.1 ++ more)) (λ worker. Ok (record { digest = p.0; worker = worker.0 }, worker.1)) (number_goes w16 p.1 more) (λ q. refl)))
+    (after more (number_at w16 p.1) (number_at w16 (p.1 ++ more)) (λ worker. Ok (record { digest = p.0; worker = worker.0 }, worker.1)) (number_goes w16 p.1 more) (λ q. refl)))
 
 batches_go : Goes batches_at
 unfolding batches_at
@@ -133,11 +133,11 @@ batches_go = list_goes w16 MAX_BATCHES batch_reference_at batch_reference_goes
 parent_reference_goes : (before : List ParentReference) → Goes (parent_reference_at before)
 unfolding parent_reference_at
 parent_reference_goes before bytes more =
-    behind more (author_at bytes) (author_at (bytes ++ more))
+    after more (author_at bytes) (author_at (bytes ++ more))
     (λ author. if parent_follows before author.0 then (digest_at author.1 >>= λ certificate. Ok (record { author = author.0; certificate = certificate.0 }, certificate.1)) else Err NotCanonical)
     (author_goes bytes more)
     (λ p. passed more (parent_follows before p.0) NotCanonical _ _
-    (behind more (digest_at p.1) (digest_at (p.1 ++ more)) (λ certificate. Ok (record { author = p.0; certificate = certificate.0 }, certificate.1)) (digest_goes p.1 more) (λ q. refl)))
+    (after more (digest_at p.1) (digest_at (p.1 ++ more)) (λ certificate. Ok (record { author = p.0; certificate = certificate.0 }, certificate.1)) (digest_goes p.1 more) (λ q. refl)))
 
 parents_go : Goes parents_at
 unfolding parents_at
@@ -146,11 +146,11 @@ parents_go = list_goes w16 MAX_PARENTS parent_reference_at parent_reference_goes
 vote_entry_goes : (before : List VoteEntry) → Goes (vote_entry_at before)
 unfolding vote_entry_at
 vote_entry_goes before bytes more =
-    behind more (author_at bytes) (author_at (bytes ++ more))
+    after more (author_at bytes) (author_at (bytes ++ more))
     (λ voter. if vote_follows before voter.0 then (signature_at voter.1 >>= λ signature. Ok (record { voter = voter.0; signature = signature.0 }, signature.1)) else Err NotCanonical)
     (author_goes bytes more)
     (λ p. passed more (vote_follows before p.0) NotCanonical _ _
-    (behind more (signature_at p.1) (signature_at (p.1 ++ more)) (λ signature. Ok (record { voter = p.0; signature = signature.0 }, signature.1)) (signature_goes p.1 more) (λ q. refl)))
+    (after more (signature_at p.1) (signature_at (p.1 ++ more)) (λ signature. Ok (record { voter = p.0; signature = signature.0 }, signature.1)) (signature_goes p.1 more) (λ q. refl)))
 
 votes_go : Goes votes_at
 unfolding votes_at
@@ -159,7 +159,7 @@ votes_go = list_goes w16 MAX_VOTES vote_entry_at vote_entry_goes
 transaction_goes : (before : List (List ℕ)) → Goes (transaction_at before)
 unfolding transaction_at
 transaction_goes before bytes more =
-    behind more (number_at w32 bytes) (number_at w32 (bytes ++ more)) (λ len. if not (nat_lt MAX_TRANSACTION_BYTES len.0) && has_room before len.0 then bytes_at len.0 len.1 else Err TooMany)
+    after more (number_at w32 bytes) (number_at w32 (bytes ++ more)) (λ len. if not (nat_lt MAX_TRANSACTION_BYTES len.0) && has_room before len.0 then bytes_at len.0 len.1 else Err TooMany)
     (number_goes w32 bytes more)
     (λ p. passed more (not (nat_lt MAX_TRANSACTION_BYTES p.0) && has_room before p.0) TooMany (bytes_at p.0 p.1) (bytes_at p.0 (p.1 ++ more)) (bytes_go p.0 p.1 more))
 
@@ -172,55 +172,55 @@ transactions_go = list_goes w32 MAX_TRANSACTIONS transaction_at transaction_goes
 batch_goes : Goes batch_at
 unfolding batch_at
 batch_goes bytes more =
-    behind more (author_at bytes) (author_at (bytes ++ more)) _ (author_goes bytes more)
-    (λ author. behind more (number_at w16 author.1) (number_at w16 (author.1 ++ more)) _ (number_goes w16 author.1 more)
-    (λ worker. behind more (transactions_at worker.1) (transactions_at (worker.1 ++ more))
+    after more (author_at bytes) (author_at (bytes ++ more)) _ (author_goes bytes more)
+    (λ author. after more (number_at w16 author.1) (number_at w16 (author.1 ++ more)) _ (number_goes w16 author.1 more)
+    (λ worker. after more (transactions_at worker.1) (transactions_at (worker.1 ++ more))
     (λ transactions. Ok (record { author = author.0; worker = worker.0; transactions = transactions.0 }, transactions.1)) (transactions_go worker.1 more)
     (λ p. refl)))
 
 ack_goes : Goes ack_at
 unfolding ack_at
 ack_goes bytes more =
-    behind more (author_at bytes) (author_at (bytes ++ more)) _ (author_goes bytes more)
-    (λ author. behind more (digest_at author.1) (digest_at (author.1 ++ more)) (λ batch. Ok (record { author = author.0; batch = batch.0 }, batch.1)) (digest_goes author.1 more) (λ p. refl))
+    after more (author_at bytes) (author_at (bytes ++ more)) _ (author_goes bytes more)
+    (λ author. after more (digest_at author.1) (digest_at (author.1 ++ more)) (λ batch. Ok (record { author = author.0; batch = batch.0 }, batch.1)) (digest_goes author.1 more) (λ p. refl))
 
 header_body_goes : Goes header_body_at
 unfolding header_body_at
 header_body_goes bytes more =
-    behind more (author_at bytes) (author_at (bytes ++ more)) _ (author_goes bytes more)
-    (λ author. behind more (round_at author.1) (round_at (author.1 ++ more)) _ (round_goes author.1 more)
-    (λ round. behind more (batches_at round.1) (batches_at (round.1 ++ more)) _ (batches_go round.1 more)
-    (λ batches. behind more (parents_at batches.1) (parents_at (batches.1 ++ more))
+    after more (author_at bytes) (author_at (bytes ++ more)) _ (author_goes bytes more)
+    (λ author. after more (round_at author.1) (round_at (author.1 ++ more)) _ (round_goes author.1 more)
+    (λ round. after more (batches_at round.1) (batches_at (round.1 ++ more)) _ (batches_go round.1 more)
+    (λ batches. after more (parents_at batches.1) (parents_at (batches.1 ++ more))
     (λ parents. Ok (record { author = author.0; round = round.0; batches = batches.0; parents = parents.0 }, parents.1)) (parents_go batches.1 more) (λ p. refl))))
 
 header_goes : Goes header_at
 unfolding header_at
 header_goes bytes more =
-    behind more (header_body_at bytes) (header_body_at (bytes ++ more)) _ (header_body_goes bytes more)
-    (λ body. behind more (signature_at body.1) (signature_at (body.1 ++ more)) (λ signature. Ok (record { body = body.0; signature = signature.0 }, signature.1)) (signature_goes body.1 more)
+    after more (header_body_at bytes) (header_body_at (bytes ++ more)) _ (header_body_goes bytes more)
+    (λ body. after more (signature_at body.1) (signature_at (body.1 ++ more)) (λ signature. Ok (record { body = body.0; signature = signature.0 }, signature.1)) (signature_goes body.1 more)
     (λ p. refl))
 
 vote_goes : Goes vote_at
 unfolding vote_at
 vote_goes bytes more =
-    behind more (digest_at bytes) (digest_at (bytes ++ more)) _ (digest_goes bytes more)
-    (λ header. behind more (round_at header.1) (round_at (header.1 ++ more)) _ (round_goes header.1 more)
-    (λ round. behind more (author_at round.1) (author_at (round.1 ++ more)) _ (author_goes round.1 more)
-    (λ author. behind more (author_at author.1) (author_at (author.1 ++ more)) _ (author_goes author.1 more)
-    (λ voter. behind more (signature_at voter.1) (signature_at (voter.1 ++ more))
+    after more (digest_at bytes) (digest_at (bytes ++ more)) _ (digest_goes bytes more)
+    (λ header. after more (round_at header.1) (round_at (header.1 ++ more)) _ (round_goes header.1 more)
+    (λ round. after more (author_at round.1) (author_at (round.1 ++ more)) _ (author_goes round.1 more)
+    (λ author. after more (author_at author.1) (author_at (author.1 ++ more)) _ (author_goes author.1 more)
+    (λ voter. after more (signature_at voter.1) (signature_at (voter.1 ++ more))
     (λ signature. Ok (record { header = header.0; round = round.0; author = author.0; voter = voter.0; signature = signature.0 }, signature.1)) (signature_goes voter.1 more) (λ p. refl)))))
 
 certificate_goes : Goes certificate_at
 unfolding certificate_at
 certificate_goes bytes more =
-    behind more (header_body_at bytes) (header_body_at (bytes ++ more)) _ (header_body_goes bytes more)
-    (λ header. behind more (votes_at header.1) (votes_at (header.1 ++ more)) (λ votes. Ok (record { header = header.0; votes = votes.0 }, votes.1)) (votes_go header.1 more) (λ p. refl))
+    after more (header_body_at bytes) (header_body_at (bytes ++ more)) _ (header_body_goes bytes more)
+    (λ header. after more (votes_at header.1) (votes_at (header.1 ++ more)) (λ votes. Ok (record { header = header.0; votes = votes.0 }, votes.1)) (votes_go header.1 more) (λ p. refl))
 
 coin_goes : Goes coin_at
 unfolding coin_at
 coin_goes bytes more =
-    behind more (wave_at bytes) (wave_at (bytes ++ more)) _ (wave_goes bytes more)
-    (λ wave. behind more (number_at w64 wave.1) (number_at w64 (wave.1 ++ more)) (λ value. Ok (record { wave = wave.0; value = value.0 }, value.1)) (number_goes w64 wave.1 more) (λ p. refl))
+    after more (wave_at bytes) (wave_at (bytes ++ more)) _ (wave_goes bytes more)
+    (λ wave. after more (number_at w64 wave.1) (number_at w64 (wave.1 ++ more)) (λ value. Ok (record { wave = wave.0; value = value.0 }, value.1)) (number_goes w64 wave.1 more) (λ p. refl))
 
 -- what one of two readers reads, by a test
 either : {X : Type 0} (more : List ℕ) (here : Bool) (one one' other other' : Read X) → Stays more one one' → Stays more other other' → Stays more (cond here one other) (cond here one' other')
@@ -228,7 +228,7 @@ either more true one one' other other' stays stay = stays
 either more false one one' other other' stays stay = stay
 
 wrapped : {X : Type 0} (at : List ℕ → Read X) (wrap : X → Message) → Goes at → Goes (λ bytes. at bytes >>= λ x. Ok (wrap x.0, x.1))
-wrapped at wrap goes bytes more = behind more (at bytes) (at (bytes ++ more)) (λ x. Ok (wrap x.0, x.1)) (goes bytes more) (λ p. refl)
+wrapped at wrap goes bytes more = after more (at bytes) (at (bytes ++ more)) (λ x. Ok (wrap x.0, x.1)) (goes bytes more) (λ p. refl)
 
 tagged_goes : Goes tagged_at
 unfolding tagged_at

@@ -52,13 +52,13 @@ steps (Ok x) f k n text goes = goes
 steps (Err e) f k n text goes = goes
 
 -- what is read after a value: its fault, or what the table tells after it
-abbrev Behind : Option WireError → Next → List ℕ → Result Message WireError → Type 0
-Behind None n rest read = Goes n rest read
-Behind (Some fault) n rest read = read ≡ Err fault
+abbrev After : Option WireError → Next → List ℕ → Result Message WireError → Type 0
+After None n rest read = Goes n rest read
+After (Some fault) n rest read = read ≡ Err fault
 
 passes : (field : Field) (n : Next) (text : List ℕ) (read : Result Message WireError) (said : Option WireError) → n [] ≡ Some field → field.width ≤ length text
     → field.fault (take field.width text) ≡ said
-    → Behind said (past n (take field.width text)) (drop field.width text) read → Goes n text read
+    → After said (past n (take field.width text)) (drop field.width text) read → Goes n text read
 passes field n text read None is long said goes =
     let value = take field.width text in
     let size : length value ≡ field.width = omega (arith, length-take field.width text, long) in
@@ -77,16 +77,16 @@ ends_within : (field : Field) (n : Next) (text : List ℕ) → n [] ≡ Some fie
 ends_within field n text is short = record { fields = []; rest = text; whole = refl; pass = tt; ends = rw (is, short) refl }
 
 field_then : {X : Type 0} (value : List ℕ → X) (field : Field) (n : Next) (text : List ℕ) (k : X × List ℕ → Result Message WireError) → n [] ≡ Some field
-    → ((v rest : List ℕ) → length v ≡ field.width → Behind (field.fault v) (past n v) rest (k (value v, rest)))
+    → ((v rest : List ℕ) → length v ≡ field.width → After (field.fault v) (past n v) rest (k (value v, rest)))
     → Goes n text ((if nat_lt (length text) field.width then Err Short else Ok (value (take field.width text), drop field.width text)) >>= k)
-field_then value field n text k is behind =
+field_then value field n text k is after =
     elim (cases_Bool (nat_lt (length text) field.width)) [
       | inl short ↦ rw short (ends_within field n text is short)
       | inr enough ↦
           let long : field.width ≤ length text = ltb-false _ _ enough in
           let size : length (take field.width text) ≡ field.width = omega (arith, length-take field.width text, long) in
           rw enough (passes field n text (k (value (take field.width text), drop field.width text)) (field.fault (take field.width text)) is long refl
-          (behind (take field.width text) (drop field.width text) size))
+          (after (take field.width text) (drop field.width text) size))
     ]
 
 -- a field of so many bytes
@@ -94,37 +94,37 @@ abbrev sized : ℕ → (List ℕ → Option WireError) → Field
 sized width fault = record { width = width; fault = fault }
 
 number_then : (w : Width) (fault : List ℕ → Option WireError) (n : Next) (text : List ℕ) (k : ℕ × List ℕ → Result Message WireError) → n [] ≡ Some (sized (byte_len w) fault)
-    → ((v rest : List ℕ) → Behind (fault v) (past n v) rest (k (from_be_bytes w v, rest))) → Goes n text (number_at w text >>= k)
-number_then w fault n text k is behind = field_then (from_be_bytes w) (sized (byte_len w) fault) n text k is (λ v rest size. behind v rest)
+    → ((v rest : List ℕ) → After (fault v) (past n v) rest (k (from_be_bytes w v, rest))) → Goes n text (number_at w text >>= k)
+number_then w fault n text k is after = field_then (from_be_bytes w) (sized (byte_len w) fault) n text k is (λ v rest size. after v rest)
 
 author_then : (fault : List ℕ → Option WireError) (n : Next) (text : List ℕ) (k : Author × List ℕ → Result Message WireError) → n [] ≡ Some (sized 2 fault)
-    → ((v rest : List ℕ) → Behind (fault v) (past n v) rest (k (record { 0 = from_be_bytes w16 v }, rest))) → Goes n text (author_at text >>= k)
+    → ((v rest : List ℕ) → After (fault v) (past n v) rest (k (record { 0 = from_be_bytes w16 v }, rest))) → Goes n text (author_at text >>= k)
 unfolding author_at
-author_then fault n text k is behind = steps (number_at w16 text) (λ x. Ok (record { 0 = x.0 }, x.1)) k n text (number_then w16 fault n text (λ x. k (record { 0 = x.0 }, x.1)) is behind)
+author_then fault n text k is after = steps (number_at w16 text) (λ x. Ok (record { 0 = x.0 }, x.1)) k n text (number_then w16 fault n text (λ x. k (record { 0 = x.0 }, x.1)) is after)
 
 digest_then : (fault : List ℕ → Option WireError) (n : Next) (text : List ℕ) (k : Digest × List ℕ → Result Message WireError) → n [] ≡ Some (sized 32 fault)
-    → ((v rest : List ℕ) → Behind (fault v) (past n v) rest (k (record { 0 = v }, rest))) → Goes n text (digest_at text >>= k)
+    → ((v rest : List ℕ) → After (fault v) (past n v) rest (k (record { 0 = v }, rest))) → Goes n text (digest_at text >>= k)
 unfolding digest_at
-digest_then fault n text k is behind =
-    steps (bytes_at 32 text) (λ x. Ok (record { 0 = x.0 }, x.1)) k n text (field_then (λ v. v) (sized 32 fault) n text (λ x. k (record { 0 = x.0 }, x.1)) is (λ v rest size. behind v rest))
+digest_then fault n text k is after =
+    steps (bytes_at 32 text) (λ x. Ok (record { 0 = x.0 }, x.1)) k n text (field_then (λ v. v) (sized 32 fault) n text (λ x. k (record { 0 = x.0 }, x.1)) is (λ v rest size. after v rest))
 
 signature_then : (n : Next) (text : List ℕ) (k : Signature × List ℕ → Result Message WireError) → n [] ≡ Some (bytes 64)
     → ((v rest : List ℕ) → Goes (past n v) rest (k (record { 0 = v }, rest))) → Goes n text (signature_at text >>= k)
 unfolding signature_at
-signature_then n text k is behind =
-    steps (bytes_at 64 text) (λ x. Ok (record { 0 = x.0 }, x.1)) k n text (field_then (λ v. v) (bytes 64) n text (λ x. k (record { 0 = x.0 }, x.1)) is (λ v rest size. behind v rest))
+signature_then n text k is after =
+    steps (bytes_at 64 text) (λ x. Ok (record { 0 = x.0 }, x.1)) k n text (field_then (λ v. v) (bytes 64) n text (λ x. k (record { 0 = x.0 }, x.1)) is (λ v rest size. after v rest))
 
 -- ---- tests
 
 -- a test that has to hold
 held : {X : Type 0} (good holds : Bool) (fault : WireError) (n : Next) (rest : List ℕ) (r : Result X WireError) (k : X → Result Message WireError) → holds ≡ good → Goes n rest (r >>= k)
-    → Behind (if good then None else Some fault) n rest ((if holds then r else Err fault) >>= k)
+    → After (if good then None else Some fault) n rest ((if holds then r else Err fault) >>= k)
 held true holds fault n rest r k same goes = rw same goes
 held false holds fault n rest r k same goes = rw same refl
 
 -- a test for a fault
 clear : {X : Type 0} (good bad : Bool) (fault : WireError) (n : Next) (rest : List ℕ) (r : Result X WireError) (k : X → Result Message WireError) → bad ≡ not good → Goes n rest (r >>= k)
-    → Behind (if good then None else Some fault) n rest ((if bad then Err fault else r) >>= k)
+    → After (if good then None else Some fault) n rest ((if bad then Err fault else r) >>= k)
 clear true bad fault n rest r k same goes = rw same goes
 clear false bad fault n rest r k same goes = rw same refl
 
@@ -339,7 +339,7 @@ ends_there m rest =
 
 -- what is read after a tag
 abbrev IsTagged : ℕ → List ℕ → Type 0
-IsTagged tag text = Behind (if is_in_range 1 6 tag then None else Some BadTag) (next_part (parts_of tag)) text (tagged_at (tag ∷ text) >>= whole)
+IsTagged tag text = After (if is_in_range 1 6 tag then None else Some BadTag) (next_part (parts_of tag)) text (tagged_at (tag ∷ text) >>= whole)
 
 wrapped : {X : Type 0} (r : Read X) (wrap : X → Message) (n : Next) (text : List ℕ) → Goes n text (r >>= λ x. whole (wrap x.0, x.1)) → Goes n text ((r >>= λ x. Ok (wrap x.0, x.1)) >>= whole)
 wrapped r wrap n text goes = steps r (λ x. Ok (wrap x.0, x.1)) whole n text goes

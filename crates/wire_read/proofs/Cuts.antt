@@ -32,9 +32,9 @@ pub record Told (n : Next) (bytes : List ℕ) (said : Option WireError) : Type 0
 
 -- ---- the two ways to say that fields pass
 
-pub all_pass : (n : Next) (fields : List (List ℕ)) → ((before behind : List (List ℕ)) (value : List ℕ) → fields ≡ before ++ value ∷ behind → Passes (n before) value) → AllPass n fields
+pub all_pass : (n : Next) (fields : List (List ℕ)) → ((before after : List (List ℕ)) (value : List ℕ) → fields ≡ before ++ value ∷ after → Passes (n before) value) → AllPass n fields
 all_pass n [] pass = tt
-all_pass n (value ∷ fields) pass = (pass [] fields value refl, all_pass (past n value) fields (λ before behind later e. pass (value ∷ before) behind later (ap (λ (l : List (List ℕ)). value ∷ l) e)))
+all_pass n (value ∷ fields) pass = (pass [] fields value refl, all_pass (past n value) fields (λ before after later e. pass (value ∷ before) after later (ap (λ (l : List (List ℕ)). value ∷ l) e)))
 
 abbrev head_or : List ℕ → List (List ℕ) → List ℕ
 head_or d [] = d
@@ -44,13 +44,13 @@ abbrev tail_of : List (List ℕ) → List (List ℕ)
 tail_of [] = []
 tail_of (x ∷ xs) = xs
 
-pub each_passes : (n : Next) (fields : List (List ℕ)) → AllPass n fields → (before behind : List (List ℕ)) (value : List ℕ) → fields ≡ before ++ value ∷ behind → Passes (n before) value
-each_passes n [] pass [] behind value e = absurd cc
-each_passes n [] pass (b ∷ before) behind value e = absurd cc
-each_passes n (f ∷ fields) pass [] behind value e = subst (λ (v : List ℕ). Passes (n []) v) (ap (λ (l : List (List ℕ)). head_or [] l) e) pass.0
-each_passes n (f ∷ fields) pass (b ∷ before) behind value e =
+pub each_passes : (n : Next) (fields : List (List ℕ)) → AllPass n fields → (before after : List (List ℕ)) (value : List ℕ) → fields ≡ before ++ value ∷ after → Passes (n before) value
+each_passes n [] pass [] after value e = absurd cc
+each_passes n [] pass (b ∷ before) after value e = absurd cc
+each_passes n (f ∷ fields) pass [] after value e = subst (λ (v : List ℕ). Passes (n []) v) (ap (λ (l : List (List ℕ)). head_or [] l) e) pass.0
+each_passes n (f ∷ fields) pass (b ∷ before) after value e =
     let same : f ≡ b = ap (λ (l : List (List ℕ)). head_or [] l) e in
-    subst (λ (v : List ℕ). Passes (n (v ∷ before)) value) same (each_passes (past n f) fields pass.1 before behind value (ap (λ (l : List (List ℕ)). tail_of l) e))
+    subst (λ (v : List ℕ). Passes (n (v ∷ before)) value) same (each_passes (past n f) fields pass.1 before after value (ap (λ (l : List (List ℕ)). tail_of l) e))
 
 -- ---- one fault
 

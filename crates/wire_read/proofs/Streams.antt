@@ -34,9 +34,9 @@ whole_is_not_long body rest is long = omega (arith, long.above, field_is body re
 same_front : (b c x y : List ℕ) → IsFrameBody b → IsFrameBody c → frame b ++ x ≡ frame c ++ y → (b ≡ c) × (x ≡ y)
 same_front b c x y is-b is-c e =
     let len : length b ≡ length c = sym (field_is b x is-b) ∙ ap length_field e ∙ field_is c y is-c in
-    let behind : b ++ x ≡ c ++ y = ap (λ (l : List ℕ). drop 4 l) e in
-    let front : b ≡ c = sym (take_at b x (length b) refl) ∙ ap (λ (l : List ℕ). take (length b) l) behind ∙ take_at c y (length b) (sym len) in
-    let back : x ≡ y = sym (drop_at b x (length b) refl) ∙ ap (λ (l : List ℕ). drop (length b) l) behind ∙ drop_at c y (length b) (sym len) in
+    let following : b ++ x ≡ c ++ y = ap (λ (l : List ℕ). drop 4 l) e in
+    let front : b ≡ c = sym (take_at b x (length b) refl) ∙ ap (λ (l : List ℕ). take (length b) l) following ∙ take_at c y (length b) (sym len) in
+    let back : x ≡ y = sym (drop_at b x (length b) refl) ∙ ap (λ (l : List ℕ). drop (length b) l) following ∙ drop_at c y (length b) (sym len) in
     (front, back)
 
 -- the first frame, and the others after it
@@ -74,16 +74,16 @@ either stream a x p q = not_both a q.bodies x q.rest (recursion_from_All IsFrame
 
 -- ---- one more piece
 
-behind : (stream : List ℕ) (before : List (List ℕ)) (old piece : List ℕ) (bodies : List (List ℕ)) (rest : List ℕ) → stream ≡ stream_of before old → old ++ piece ≡ stream_of bodies rest
+following : (stream : List ℕ) (before : List (List ℕ)) (old piece : List ℕ) (bodies : List (List ℕ)) (rest : List ℕ) → stream ≡ stream_of before old → old ++ piece ≡ stream_of bodies rest
     → stream ++ piece ≡ stream_of (before ++ bodies) rest
-behind stream before old piece bodies rest e f =
+following stream before old piece bodies rest e f =
     ap (λ (l : List ℕ). l ++ piece) e ∙ append_assoc (flat_map frame before) old piece ∙ ap (λ (l : List ℕ). flat_map frame before ++ l) f
     ∙ sym (append_assoc (flat_map frame before) (flat_map frame bodies) rest) ∙ ap (λ (l : List ℕ). l ++ rest) (sym (flat_map-append frame before bodies))
 
 pub joined : (stream : List ℕ) (before : List (List ℕ)) (old piece : List ℕ) (bodies : List (List ℕ)) (rest : List ℕ) → Splits stream before old → Splits (old ++ piece) bodies rest
     → Splits (stream ++ piece) (before ++ bodies) rest
 joined stream before old piece bodies rest p q = record {
-  whole = behind stream before old piece bodies rest p.whole q.whole;
+  whole = following stream before old piece bodies rest p.whole q.whole;
   each = All-append IsFrameBody before bodies p.each q.each;
   partial = q.partial;
 }
@@ -92,7 +92,7 @@ pub broken : (stream : List ℕ) (before : List (List ℕ)) (old piece : List �
 broken stream before old piece p q = record {
   bodies = before ++ q.bodies;
   rest = q.rest;
-  whole = behind stream before old piece q.bodies q.rest p.whole q.whole;
+  whole = following stream before old piece q.bodies q.rest p.whole q.whole;
   each = All-append IsFrameBody before q.bodies p.each q.each;
   long = q.long;
 }
@@ -112,25 +112,25 @@ breaks_yet stream more p = record {
 
 -- ---- a piece in two parts, the first of which goes after what is held
 
-module _ (old front behind first piece : List ℕ) (held : first ≡ old ++ front) (parts : piece ≡ front ++ behind) where
-  pub together : first ++ behind ≡ old ++ piece
-  together = ap (λ (l : List ℕ). l ++ behind) held ∙ append_assoc old front behind ∙ ap (λ (l : List ℕ). old ++ l) (sym parts)
+module _ (old front following first piece : List ℕ) (held : first ≡ old ++ front) (parts : piece ≡ front ++ following) where
+  pub together : first ++ following ≡ old ++ piece
+  together = ap (λ (l : List ℕ). l ++ following) held ∙ append_assoc old front following ∙ ap (λ (l : List ℕ). old ++ l) (sym parts)
 
   pub first_breaks : Breaks first → Breaks (old ++ piece)
-  first_breaks p = subst (λ (l : List ℕ). Breaks l) together (breaks_yet first behind p)
+  first_breaks p = subst (λ (l : List ℕ). Breaks l) together (breaks_yet first following p)
 
   module _ (bodies : List (Vec ℕ Global)) (taken : ℕ) (all : length first ≤ taken) (splits : Splits first (bodies_bytes bodies) (drop taken first)) where
     whole_first : Splits first (bodies_bytes bodies) []
     whole_first = subst (λ (l : List ℕ). Splits first (bodies_bytes bodies) l) (drop_all taken first all) splits
 
-    pub both_split : (more every : List (Vec ℕ Global)) (rest : List ℕ) → every ≡ bodies ++ more → Splits behind (bodies_bytes more) rest → Splits (old ++ piece) (bodies_bytes every) rest
+    pub both_split : (more every : List (Vec ℕ Global)) (rest : List ℕ) → every ≡ bodies ++ more → Splits following (bodies_bytes more) rest → Splits (old ++ piece) (bodies_bytes every) rest
     both_split more every rest is later =
-        let both = joined first (bodies_bytes bodies) [] behind (bodies_bytes more) rest whole_first later in
+        let both = joined first (bodies_bytes bodies) [] following (bodies_bytes more) rest whole_first later in
         let bytes : bodies_bytes bodies ++ bodies_bytes more ≡ bodies_bytes every = sym (ap bodies_bytes is ∙ map-append (λ (b : Vec ℕ Global). b.items) bodies more) in
-        subst (λ (l : List ℕ). Splits l (bodies_bytes every) rest) together (subst (λ (b : List (List ℕ)). Splits (first ++ behind) b rest) bytes both)
+        subst (λ (l : List ℕ). Splits l (bodies_bytes every) rest) together (subst (λ (b : List (List ℕ)). Splits (first ++ following) b rest) bytes both)
 
-    pub second_breaks : Breaks behind → Breaks (old ++ piece)
-    second_breaks p = subst (λ (l : List ℕ). Breaks l) together (broken first (bodies_bytes bodies) [] behind whole_first p)
+    pub second_breaks : Breaks following → Breaks (old ++ piece)
+    second_breaks p = subst (λ (l : List ℕ). Breaks l) together (broken first (bodies_bytes bodies) [] following whole_first p)
 
 -- a whole frame at the front, by its length field
 pub framed : (bytes body : List ℕ) → IsBytes bytes → 4 ≤ length bytes → length_field bytes ≤ length (drop 4 bytes) → body ≡ take (length_field bytes) (drop 4 bytes)

@@ -111,7 +111,7 @@ Passes (Some field) f = (length f ≡ field.width) × (field.fault f ≡ None)
 -- these bytes are fields that pass, each as the field after those before it, and a rest. Such fields need not begin a message: no digest passes after one of all 255
 pub record IsCut (text : List ℕ) (fields : List (List ℕ)) (rest : List ℕ) : Type 0 where
   pub whole : text ≡ concat fields ++ rest
-  pub pass : (before behind : List (List ℕ)) (f : List ℕ) → fields ≡ before ++ f ∷ behind → Passes (next before) f
+  pub pass : (before following : List (List ℕ)) (f : List ℕ) → fields ≡ before ++ f ∷ following → Passes (next before) f
 
 -- the fault of the rest, where this field is next: it ends within the field, or has the fault of the field, if any; or it goes on after the last field
 abbrev pub fault_at : Option Field → List ℕ → Option WireError

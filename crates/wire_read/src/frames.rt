@@ -78,16 +78,16 @@ fn feed_held(alloc: Global, held: &mut Vec<u8>, piece: &[u8]) -> Result<Vec<Vec<
     ensures breaks { IfErr result (λ e. (e ≡ WireError.Memory) ⊎ ((e ≡ WireError.TooMany) × Breaks (held.old.items ++ piece.now))) }
     ensures kept { OnErr result (take (length held.old.items) held.new.items ≡ held.old.items) }
 {
-    let (front, behind) = piece.split_at(begun_len(held, piece));
+    let (front, after) = piece.split_at(begun_len(held, piece));
     held.extend_from_slice(front)?;
     let (mut bodies, taken) = bodies_of(alloc, held)?;
     if taken < held.len() {
-        held.extend_from_slice(behind)?;
+        held.extend_from_slice(after)?;
         return cut_held(alloc, held);
     }
-    let (mut more, taken) = bodies_of(alloc, behind)?;
+    let (mut more, taken) = bodies_of(alloc, after)?;
     bodies.append(&mut more)?;
-    *held = copied(alloc, &behind[taken..])?;
+    *held = copied(alloc, &after[taken..])?;
     Ok(bodies)
 }
 

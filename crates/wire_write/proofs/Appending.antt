@@ -12,8 +12,8 @@ keeps_appends (Some xs) None keeps = absurd keeps
 keeps_appends (Some xs) (Some ys) keeps = keeps ∙ sym (append-nil xs)
 
 -- and the second of them in part
-pub part_behind : (old mid new : Option (List ℕ)) (first second : List ℕ) → Appends old mid first → AppendsLess mid new second → AppendsLess old new (first ++ second)
-part_behind old mid new first second one two = record {
+pub part_after : (old mid new : Option (List ℕ)) (first second : List ℕ) → Appends old mid first → AppendsLess mid new second → AppendsLess old new (first ++ second)
+part_after old mid new first second one two = record {
   part = first ++ two.part;
   begins = record { rest = two.begins.rest; parts = ap (λ (l : List ℕ). first ++ l) two.begins.parts ∙ sym (append_assoc first two.part two.begins.rest) };
   less = omega (arith, length-append first two.part, length-append first second, two.less);

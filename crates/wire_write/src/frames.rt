@@ -63,7 +63,7 @@ fn write_bytes<W: Write>(writer: &mut W, bytes: &[u8]) -> Result<(), WriteError>
             break;
         }
         let count = write_some(writer, rest)?;
-        let left = behind(rest, count);
+        let left = after(rest, count);
         rest = left;
     }
     if !rest.is_empty() {
@@ -72,8 +72,8 @@ fn write_bytes<W: Write>(writer: &mut W, bytes: &[u8]) -> Result<(), WriteError>
     Ok(())
 }
 
-// The bytes behind so many of them.
-fn behind(bytes: &[u8], count: usize) -> &[u8]
+// The bytes after so many of them.
+fn after(bytes: &[u8], count: usize) -> &[u8]
     requires { count ≤ length bytes.now }
     ensures { result.now ≡ drop count bytes.now }
 {

@@ -86,10 +86,10 @@ impl<'a> Schedule<'a> {
 
     /// A node is given one of the dishonest members' last headers.
     pub fn show(&mut self, node: Author) -> Result<Answered, AllocError> {
-        let behind = self.draws.below(NEAR);
+        let after = self.draws.below(NEAR);
         match self
             .headers
-            .near_last(Which::From(self.first_dishonest()), behind)
+            .near_last(Which::From(self.first_dishonest()), after)
         {
             Some(header) => self.give_header_of("show", node, header),
             None => self.go_on(node),
@@ -145,10 +145,10 @@ impl<'a> Schedule<'a> {
     /// The author of one of the honest members' last headers is given a dishonest member's vote for it.
     pub fn vote(&mut self, node: Author) -> Result<Answered, AllocError> {
         let voter = self.draw_dishonest();
-        let behind = self.draws.below(NEAR);
+        let after = self.draws.below(NEAR);
         let found = self
             .headers
-            .near_last(Which::Below(self.first_dishonest()), behind);
+            .near_last(Which::Below(self.first_dishonest()), after);
         match found.and_then(|header| self.vote_of(header, voter)) {
             Some((author, vote)) => self.give("vote", author, voter, Message::Vote(vote), None),
             None => self.go_on(node),
@@ -164,8 +164,8 @@ impl<'a> Schedule<'a> {
     /// A node is given the certificate of one of the last headers that has enough votes.
     pub fn gathered(&mut self, node: Author) -> Result<Answered, AllocError> {
         let sender = self.draw_dishonest();
-        let behind = self.draws.below(NEAR);
-        match self.headers.near_last(Which::Gathered, behind) {
+        let after = self.draws.below(NEAR);
+        match self.headers.near_last(Which::Gathered, after) {
             Some(header) => self.give_gathered(node, sender, header),
             None => self.go_on(node),
         }
@@ -213,8 +213,8 @@ impl<'a> Schedule<'a> {
     /// A node is given what isn't signed: one of the last headers, a vote of an honest member for it, or its certificate.
     pub fn forged(&mut self, node: Author) -> Result<Answered, AllocError> {
         let kind = self.draws.below(3);
-        let behind = self.draws.below(NEAR);
-        let Some(header) = self.headers.near_last(Which::Any, behind) else {
+        let after = self.draws.below(NEAR);
+        let Some(header) = self.headers.near_last(Which::Any, after) else {
             return self.go_on(node);
         };
         match self.forgery(kind, header)? {

@@ -92,9 +92,9 @@ impl Headers {
     }
 
     /// Of the headers of a kind the place of the one that has so many after it, or else of the first.
-    pub fn near_last(&self, which: Which, behind: u64) -> Option<usize> {
+    pub fn near_last(&self, which: Which, after: u64) -> Option<usize> {
         let mut found = None;
-        let mut left = behind;
+        let mut left = after;
         for (place, made) in self.list.iter().enumerate().rev() {
             if is_one(made, which) {
                 found = Some(place);

@@ -30,7 +30,7 @@ const LEAVINGS: [(Leaving, &str); 4] = [
 
 impl<'a> Schedule<'a> {
     // The node that is so many after this one.
-    fn behind(&self, node: Author, more: u16) -> Author {
+    fn after(&self, node: Author, more: u16) -> Author {
         Author(node.0.wrapping_add(more) % self.honest.count())
     }
 
@@ -48,7 +48,7 @@ impl<'a> Schedule<'a> {
 
     fn first_wanting(&self, node: Author) -> Option<Author> {
         for more in 0..self.honest.count() {
-            let other = self.behind(node, more);
+            let other = self.after(node, more);
             if self.known.wants(other) > 0 {
                 return Some(other);
             }
@@ -163,7 +163,7 @@ impl<'a> Schedule<'a> {
 
     fn first_unsettled(&self, node: Author) -> Option<Author> {
         for more in 0..self.honest.count() {
-            let other = self.behind(node, more);
+            let other = self.after(node, more);
             let noted = self.known.of(other);
             if noted.pending > 0 || noted.down {
                 return Some(other);
@@ -174,7 +174,7 @@ impl<'a> Schedule<'a> {
 
     fn first_proposing(&self, node: Author) -> Result<Option<(Author, Header)>, AllocError> {
         for more in 0..self.honest.count() {
-            let other = self.behind(node, more);
+            let other = self.after(node, more);
             if let Ok(Some(header)) = self.cluster.propose(other) {
                 return Ok(Some((other, header)));
             }

@@ -31,7 +31,7 @@ impl Disks {
 fn stop(alloc: Global, disk: &mut MemDisk, left: Left) -> Result<bool, AllocError> {
     let bytes = match left {
         Left::Read => disk.bytes().to_vec(alloc)?,
-        Left::Synced => disk.firm().to_vec(alloc)?,
+        Left::Synced => disk.durable().to_vec(alloc)?,
         Left::Torn { byte, every, len } => torn(alloc, disk, byte, every, len)?,
     };
     let can = disk.can_leave(&bytes);
@@ -55,15 +55,15 @@ fn torn(
 
 /// A byte that has to stay; or this one, where so many divide its place; or what a read gives there, or the last sync.
 fn left_at(disk: &MemDisk, byte: u8, every: u64, place: u64) -> u8 {
-    let (read, firm) = (
+    let (read, durable) = (
         disk.bytes().get(place as usize),
-        disk.firm().get(place as usize),
+        disk.durable().get(place as usize),
     );
     if read.is_some() && !disk.is_written(place) {
-        return firm.copied().unwrap_or(byte);
+        return durable.copied().unwrap_or(byte);
     }
     if every > 0 && place % every == 0 {
         return byte;
     }
-    read.or(firm).copied().unwrap_or(byte)
+    read.or(durable).copied().unwrap_or(byte)
 }

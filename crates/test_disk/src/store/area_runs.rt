@@ -92,8 +92,8 @@ impl<'l, 'a> Run<'l, 'a> {
             match step {
                 Step::Open(kind, count) => {
                     self.tell_call(*kind, *count);
-                    let behind = steps.get(place..).unwrap_or(&[]);
-                    let (left, made) = self.open(disks, behind, answer)?;
+                    let after = steps.get(place..).unwrap_or(&[]);
+                    let (left, made) = self.open(disks, after, answer)?;
                     disks = left;
                     place = place.saturating_add(made);
                 }

@@ -93,7 +93,7 @@ pub fn tell_if(answer: &mut String, holds: bool) {
 
 /// Tells what is left of a file on a disk: all of it, or the bytes.
 pub fn tell_left(text: &mut String, disk: &MemDisk, file: &[u8]) {
-    if disk.firm() != disk.bytes() {
+    if disk.durable() != disk.bytes() {
         put(text, ", not firm");
     } else if disk.bytes() == file {
         put(text, ", as it was");
@@ -111,7 +111,7 @@ fn tell_disk(disk: &mut MemDisk, answer: &mut String) {
     }
     put_bytes(answer, disk.bytes());
     put(answer, " firm");
-    put_bytes(answer, disk.firm());
+    put_bytes(answer, disk.durable());
     put(answer, " written");
     for place in 0..=disk.bytes().len() as u64 {
         if disk.is_written(place) {

@@ -32,7 +32,7 @@ impl Trial<'_> {
     pub fn tell(&self, answer: &mut String) -> Told {
         let disk = self.play(answer)?;
         put(answer, "\n");
-        let longest = disk.bytes().len().max(disk.firm().len());
+        let longest = disk.bytes().len().max(disk.durable().len());
         for fill in 0..FILLS {
             for length in 0..=longest {
                 if length % FILLS == fill || length == longest {
@@ -96,10 +96,10 @@ fn outcome(
     length: usize,
     fill: usize,
 ) -> Result<Vec<u8>, AllocError> {
-    let (read, firm) = (disk.bytes(), disk.firm());
+    let (read, durable) = (disk.bytes(), disk.durable());
     let mut bytes = Vec::new(alloc);
     for place in 0..length {
-        let was = firm.get(place).copied();
+        let was = durable.get(place).copied();
         let is_free = disk.is_written(place as u64);
         let byte = match (was, fill) {
             (Some(byte), _) if !is_free => byte,

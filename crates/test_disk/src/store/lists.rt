@@ -2,7 +2,7 @@
 
 ghost use Rattle.std.specs.Prelude.{◌≡◌, ◌<◌, None, IfOk, IsNone};
 ghost use Rattle.journal.specs.Journal.{spare_of, IsAlive};
-ghost use Rattle.test_disk.specs.Way.{KeepsOnTheWay};
+ghost use Rattle.test_disk.specs.Way.{KeepsInFlight};
 
 use crate::committees::OWN;
 use crate::memory::{disk_with, stop_with, taken};
@@ -95,7 +95,7 @@ impl<'a> Lists<'a> {
 
     /// An event comes in.
     fn accept(&mut self) -> Told
-        ensures { KeepsOnTheWay ⟦<HashSign as Sign>⟧.scheme self.old.book self.new.book }
+        ensures { KeepsInFlight ⟦<HashSign as Sign>⟧.scheme self.old.book self.new.book }
     {
         let number = self.draws.below(SENDERS * KINDS);
         let expected = self.plain.accept(number)?;
@@ -107,7 +107,7 @@ impl<'a> Lists<'a> {
 
     /// An output goes out, if one may.
     fn release(&mut self) -> Told
-        ensures { KeepsOnTheWay ⟦<HashSign as Sign>⟧.scheme self.old.book self.new.book }
+        ensures { KeepsInFlight ⟦<HashSign as Sign>⟧.scheme self.old.book self.new.book }
     {
         let expected = self.plain.release()?;
         let same = is_expected(self.alloc, self.book.release(), expected)?;
@@ -118,7 +118,7 @@ impl<'a> Lists<'a> {
 
     /// What comes in and goes out beside a group's way to the disk.
     fn beside(&mut self) -> Told
-        ensures { KeepsOnTheWay ⟦<HashSign as Sign>⟧.scheme self.old.book self.new.book }
+        ensures { KeepsInFlight ⟦<HashSign as Sign>⟧.scheme self.old.book self.new.book }
     {
         self.accept()?;
         self.release()
@@ -203,7 +203,7 @@ impl<'a> Lists<'a> {
                     let _ = synced.records();
                     before?;
                     after?;
-                    return Ok(Some(Moment::Firm));
+                    return Ok(Some(Moment::Durable));
                 }
                 self.book.settle(synced);
                 self.plain.settle();
@@ -250,7 +250,7 @@ impl<'a> Lists<'a> {
         self.stop_disk(&found)?;
         Ok(match moment {
             Moment::Opened => open,
-            Moment::Firm => true,
+            Moment::Durable => true,
             _ => false,
         })
     }
@@ -259,7 +259,7 @@ impl<'a> Lists<'a> {
     fn outcome(&mut self, leaves: Leaves) -> Result<Vec<u8>, AllocError> {
         match leaves {
             Leaves::Read => self.disk.bytes().to_vec(self.alloc),
-            Leaves::Lost => self.disk.firm().to_vec(self.alloc),
+            Leaves::Lost => self.disk.durable().to_vec(self.alloc),
             Leaves::Torn => torn(self.alloc, &self.disk, &mut self.draws),
         }
     }
@@ -414,13 +414,13 @@ fn arm(disk: &mut MemDisk, failing: Option<Moment>) -> Told {
 /// Any bytes that a stop may leave: of a length between that of the last sync and what is read, any byte in each place
 /// that was written since then or lies past the smaller of both, closed gates more often than others.
 fn torn(alloc: Global, disk: &MemDisk, draws: &mut Draws) -> Result<Vec<u8>, AllocError> {
-    let (firm, read) = (disk.firm(), disk.bytes().len());
-    let (smallest, greatest) = (firm.len().min(read), firm.len().max(read));
+    let (durable, read) = (disk.durable(), disk.bytes().len());
+    let (smallest, greatest) = (durable.len().min(read), durable.len().max(read));
     let more = greatest.saturating_sub(smallest) as u64;
     let len = smallest.saturating_add(draws.below(more.saturating_add(1)) as usize);
     let mut found = Vec::new(alloc);
     for place in 0..len {
-        match firm.get(place) {
+        match durable.get(place) {
             Some(byte) if place < smallest && !disk.is_written(place as u64) => found.push(*byte)?,
             _ if draws.below(2) == 0 => found.push(0)?,
             _ => found.push(draws.below(256) as u8)?,

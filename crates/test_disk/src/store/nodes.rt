@@ -129,8 +129,8 @@ impl Node {
     /// Carries out what the node is told, with a flush or a stop of these words after each command, or else with calls of
     /// a kind that fail, or with writers that take no more than some of the bytes.
     fn drive(&self, words: &[Word], answer: &mut String) -> Told {
-        let behind = lines_of(self.alloc, words)?;
-        let script = self.script(&behind);
+        let after = lines_of(self.alloc, words)?;
+        let script = self.script(&after);
         match words {
             [Word::Call(kind)] => script.tell_failing(*kind, answer),
             [Word::Bytes(text)] => script.tell_rooms(text, answer),
@@ -140,15 +140,15 @@ impl Node {
 
     /// The same by the plain program.
     fn tell_plain(&self, words: &[Word], answer: &mut String) -> Told {
-        let behind = lines_of(self.alloc, words)?;
-        texts::tell(&self.script(&behind), &self.setting.node, answer)
+        let after = lines_of(self.alloc, words)?;
+        texts::tell(&self.script(&after), &self.setting.node, answer)
     }
 
     /// The same on two disks, beside the plain program, or with calls of a kind that fail on each disk. Words after the kind or the
     /// bytes are what is done after each command there too.
     fn drive_pair(&self, words: &[Word], answer: &mut String) -> Told {
-        let behind = lines_of(self.alloc, words)?;
-        let script = self.script(&behind);
+        let after = lines_of(self.alloc, words)?;
+        let script = self.script(&after);
         match words.first() {
             Some(Word::Call(kind)) => script.tell_failing_on_two(*kind, answer),
             Some(Word::Bytes(text)) => script.tell_rooms_on_two(text, answer),
@@ -156,13 +156,13 @@ impl Node {
         }
     }
 
-    fn script<'a>(&'a self, behind: &'a [Line]) -> Script<'a> {
+    fn script<'a>(&'a self, after: &'a [Line]) -> Script<'a> {
         Script {
             alloc: self.alloc,
             config: &self.setting.config,
             file: &self.file,
             lines: &self.lines,
-            behind,
+            after,
         }
     }
 

@@ -3,7 +3,7 @@
 ghost use Rattle.std.specs.Prelude.{◌≡◌, ◌∷◌, [], None};
 ghost use Rattle.journal.specs.Journal.{spare_of, IsAlive};
 ghost use Rattle.validator.specs.Setting.{node_of};
-ghost use Rattle.book.specs.OnTheWay.{AreOnTheWay};
+ghost use Rattle.book.specs.InFlight.{AreInFlight};
 
 use crate::store::words::{bad, put, put_number, put_shown};
 use book::OwnBook;
@@ -113,7 +113,7 @@ fn write_second(
 )
     requires alive { IsAlive ⟦<MemDisk as Disk>⟧.device journal.old }
     requires alone { spare_of journal.old ≡ None }
-    requires way { AreOnTheWay (node_of ⟦<HashSign as Sign>⟧.scheme own.old.validator.setting) own.old (first ∷ []) }
+    requires way { AreInFlight (node_of ⟦<HashSign as Sign>⟧.scheme own.old.validator.setting) own.old (first ∷ []) }
     ensures alone { spare_of journal.new ≡ None }
 {
     let Ok(Some(group)) = own.take() else {
@@ -132,7 +132,7 @@ fn write_second(
 
 /// Settles two groups, of which the first was taken before the second.
 fn settle_two(own: &mut OwnBook<'_, HashSign>, first: Synced, second: Synced)
-    requires { AreOnTheWay (node_of ⟦<HashSign as Sign>⟧.scheme own.old.validator.setting) own.old (first ∷ second ∷ []) }
+    requires { AreInFlight (node_of ⟦<HashSign as Sign>⟧.scheme own.old.validator.setting) own.old (first ∷ second ∷ []) }
 {
     own.settle(first);
     own.settle(second);

@@ -2,7 +2,7 @@
 
 ghost use Rattle.std.specs.Prelude.{◌≡◌, None, IfOk};
 ghost use Rattle.journal.specs.Journal.{spare_of};
-ghost use Rattle.test_disk.specs.Way.{KeepsOnTheWay};
+ghost use Rattle.test_disk.specs.Way.{KeepsInFlight};
 
 use crate::store::events::{message_of, sender_of};
 use crate::store::headers::event;
@@ -33,7 +33,7 @@ pub fn accept(
     alloc: Global,
     number: u64,
 ) -> Result<Option<Result<Receipt, Refusal>>, AllocError>
-    ensures { KeepsOnTheWay ⟦<HashSign as Sign>⟧.scheme own.old own.new }
+    ensures { KeepsInFlight ⟦<HashSign as Sign>⟧.scheme own.old own.new }
 {
     let message = message_of(alloc, number)?;
     match event(own.committee(), sender_of(number), message) {

@@ -64,7 +64,7 @@ pub struct Script<'a> {
     pub file: &'a [u8],
     pub lines: &'a [Line],
     /// What is done after each of the lines.
-    pub behind: &'a [Line],
+    pub after: &'a [Line],
 }
 
 impl Script<'_> {
@@ -226,7 +226,7 @@ impl Script<'_> {
         let mut spaced = Vec::new(self.alloc);
         for line in self.lines {
             spaced.push(line)?;
-            for other in self.behind {
+            for other in self.after {
                 spaced.push(other)?;
             }
         }

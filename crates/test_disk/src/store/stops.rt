@@ -95,7 +95,7 @@ pub fn fails(disk: &mut MemDisk, kind: CallKind) -> bool {
 fn outcomes(alloc: Global, disk: &MemDisk) -> Result<Vec<Vec<u8>>, AllocError> {
     let mut found = Vec::new(alloc);
     let mut fronts = vec![in alloc; Vec::new(alloc)]?;
-    for _ in 0..=disk.bytes().len().max(disk.firm().len()) {
+    for _ in 0..=disk.bytes().len().max(disk.durable().len()) {
         let next = longer(alloc, disk, &fronts)?;
         for front in fronts {
             if disk.can_leave(&front) {
@@ -129,7 +129,7 @@ fn lengthen(alloc: Global, disk: &MemDisk, front: &[u8], found: &mut Vec<Vec<u8>
 
 fn values_at(alloc: Global, disk: &MemDisk, place: usize) -> Result<Vec<u8>, AllocError> {
     let mut values = Vec::new(alloc);
-    add_value(&mut values, disk.firm().get(place))?;
+    add_value(&mut values, disk.durable().get(place))?;
     add_value(&mut values, disk.bytes().get(place))?;
     add_value(&mut values, Some(&OTHER))?;
     Ok(values)

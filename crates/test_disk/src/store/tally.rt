@@ -18,7 +18,7 @@ pub enum Moment {
     /// Its gate was opened, and not synced.
     Opened,
     /// Its gate is synced, and it isn't settled.
-    Firm,
+    Durable,
 }
 
 /// What a stop leaves.

@@ -24,13 +24,13 @@ is_header_digest : (header : Digest) (body : HeaderBody) → header.0 ≡ header
 unfolding wrapped
 is_header_digest header body named = ap wrapped named
 
--- behind a body that passes the votes decide
-behind_body : (charter : Charter) (accepts : Accepts) (certificate : Certificate) (found : Digest) (fault : Option CheckError)
+-- after a body that passes the votes decide
+after_body : (charter : Charter) (accepts : Accepts) (certificate : Certificate) (found : Digest) (fault : Option CheckError)
     → is_member charter certificate.header.author ≡ true → None ≡ first_failing (body_tests charter certificate.header)
     → found ≡ vote_signed (header_digest_of certificate.header) certificate.header.round certificate.header.author
     → fault ≡ first_failing (votes_tests charter accepts found certificate.votes)
     → fault ≡ first_failing (certificate_tests charter accepts certificate)
-behind_body charter accepts certificate found fault member passes digest tested =
+after_body charter accepts certificate found fault member passes digest tested =
     let body = certificate.header in
     let signed = vote_signed (header_digest_of body) body.round body.author in
     rw member (rw digest at tested ∙ sym (first_failing-append (body_tests charter body) (votes_tests charter accepts signed certificate.votes) (sym passes)))
@@ -40,7 +40,7 @@ returns-clause-refused g c =
     let body = c.args.certificate.now.header in
     let member : is_member c.args.committee.now body.author ≡ true = search (rules, c.if-not-is_member.ensures) in
     let digest = is_vote_signed c.certificate_digest-certificate_digest.result c.header_digest-header.result body c.header_digest-header.ensures c.certificate_digest-certificate_digest.ensures in
-    behind_body c.args.committee.now (g.V.Verify.accepts c.args.verifier.now) c.args.certificate.now c.certificate_digest-certificate_digest.result None member c.in_ok-test_body.ensures digest
+    after_body c.args.committee.now (g.V.Verify.accepts c.args.verifier.now) c.args.certificate.now c.certificate_digest-certificate_digest.result None member c.in_ok-test_body.ensures digest
     c.in_ok-test_votes.ensures
 
 pub returns-in_err-test_votes-clause-refused : goal.returns-in_err-test_votes-clause-refused
@@ -48,7 +48,7 @@ returns-in_err-test_votes-clause-refused g c =
     let body = c.args.certificate.now.header in
     let member : is_member c.args.committee.now body.author ≡ true = search (rules, c.if-not-is_member.ensures) in
     let digest = is_vote_signed c.certificate_digest-certificate_digest.result c.header_digest-header.result body c.header_digest-header.ensures c.certificate_digest-certificate_digest.ensures in
-    let tested = behind_body c.args.committee.now (g.V.Verify.accepts c.args.verifier.now) c.args.certificate.now
+    let tested = after_body c.args.committee.now (g.V.Verify.accepts c.args.verifier.now) c.args.certificate.now
     c.certificate_digest-certificate_digest.result _ member c.in_ok-test_body.ensures digest
     c.in_err-test_votes.ensures in
     search (rules, c.from_residual-in_err-test_votes.ensures, tested)

@@ -12,7 +12,7 @@ returns-clause-opened g c =
     let one = c.in_ok-len.ensures in
     let two = c.in_ok-rest_area.ensures in
     are_opened device c.args.side c.args.generation c.args.live.now c.args.other.now c.open_area.new.disk c.rest_area.new.disk c.requires.chosen
-    one.ends_closed one.tells one.same one.content two.rested one.firm two.firm
+    one.ends_closed one.tells one.same one.content two.rested one.durable two.durable
 
 pub returns-clause-records : goal.returns-clause-records
 returns-clause-records g c =
@@ -24,7 +24,7 @@ pub returns-in_err-len-clause-other_moment : goal.returns-in_err-len-clause-othe
 returns-in_err-len-clause-other_moment g c =
     let device = g.D.Disk.device in
     let old = c.args.other.now in
-    (begins device old (IsSameAs (device.content old)) (g.met.D.Disk.only_now old) (λ left now. inl (c.requires.other_firm left now))).moments
+    (begins device old (IsSameAs (device.content old)) (g.met.D.Disk.only_now old) (λ left now. inl (c.requires.other_durable left now))).moments
 
 pub returns-in_err-len-clause-damaged : goal.returns-in_err-len-clause-damaged
 returns-in_err-len-clause-damaged g c place is =

@@ -16,9 +16,9 @@ returns-in_err-write_at-clause-any_moment g c =
     let P : List ℕ → Type 0 = λ left. stands left ≡ stands file in
     let device = g.D.Disk.device in
     let old = c.args.disk.now in
-    let at_start = started device old P (λ left now. ap stands (c.requires.firm left (g.met.D.Disk.only_now old left now))) in
+    let at_start = started device old P (λ left now. ap stands (c.requires.durable left (g.met.D.Disk.only_now old left now))) in
     let short : length file < 2 = omega (arith, c.requires.len, c.if-len-lt2.true) in
-    let torn = from_only (IsTorn 0 1) file (g.D.Disk.device.outcome old) (g.D.Disk.device.outcome c.write_at.new.self) P c.requires.firm
+    let torn = from_only (IsTorn 0 1) file (g.D.Disk.device.outcome old) (g.D.Disk.device.outcome c.write_at.new.self) P c.requires.durable
     c.write_at.ensures.outcomes (torn_short file c.args.gate c.requires.found short) in
     let one = goes_on device old old c.write_at.new.self P (g.D.Disk.device.outcome c.write_at.new.self) at_start c.write_at.ensures.time torn in
     one
@@ -29,9 +29,9 @@ returns-in_err-sync-clause-any_moment g c =
     let P : List ℕ → Type 0 = λ left. stands left ≡ stands file in
     let device = g.D.Disk.device in
     let old = c.args.disk.now in
-    let at_start = started device old P (λ left now. ap stands (c.requires.firm left (g.met.D.Disk.only_now old left now))) in
+    let at_start = started device old P (λ left now. ap stands (c.requires.durable left (g.met.D.Disk.only_now old left now))) in
     let short : length file < 2 = omega (arith, c.requires.len, c.if-len-lt2.true) in
-    let torn = from_only (IsTorn 0 1) file (g.D.Disk.device.outcome old) (g.D.Disk.device.outcome c.write_at.new.self) P c.requires.firm
+    let torn = from_only (IsTorn 0 1) file (g.D.Disk.device.outcome old) (g.D.Disk.device.outcome c.write_at.new.self) P c.requires.durable
     c.write_at.ensures.outcomes (torn_short file c.args.gate c.requires.found short) in
     let one = goes_on device old old c.write_at.new.self P (g.D.Disk.device.outcome c.write_at.new.self) at_start c.write_at.ensures.time torn in
     goes_on device old c.write_at.new.self c.sync.new.self P (g.D.Disk.device.outcome c.sync.new.self) one c.sync.ensures.time (λ left now. torn left (c.sync.ensures.outcomes left now))
@@ -42,9 +42,9 @@ returns-in_ok-sync-clause-any_moment g c =
     let P : List ℕ → Type 0 = λ left. stands left ≡ stands file in
     let device = g.D.Disk.device in
     let old = c.args.disk.now in
-    let at_start = started device old P (λ left now. ap stands (c.requires.firm left (g.met.D.Disk.only_now old left now))) in
+    let at_start = started device old P (λ left now. ap stands (c.requires.durable left (g.met.D.Disk.only_now old left now))) in
     let short : length file < 2 = omega (arith, c.requires.len, c.if-len-lt2.true) in
-    let torn = from_only (IsTorn 0 1) file (g.D.Disk.device.outcome old) (g.D.Disk.device.outcome c.write_at.new.self) P c.requires.firm
+    let torn = from_only (IsTorn 0 1) file (g.D.Disk.device.outcome old) (g.D.Disk.device.outcome c.write_at.new.self) P c.requires.durable
     c.write_at.ensures.outcomes (torn_short file c.args.gate c.requires.found short) in
     let one = goes_on device old old c.write_at.new.self P (g.D.Disk.device.outcome c.write_at.new.self) at_start c.write_at.ensures.time torn in
     goes_on device old c.write_at.new.self c.sync.new.self P (g.D.Disk.device.outcome c.sync.new.self) one c.sync.ensures.time (λ left now. torn left (c.sync.ensures.outcomes left now))
@@ -55,9 +55,9 @@ returns-in_err-cut-clause-any_moment g c =
     let P : List ℕ → Type 0 = λ left. stands left ≡ stands file in
     let device = g.D.Disk.device in
     let old = c.args.disk.now in
-    let at_start = started device old P (λ left now. ap stands (c.requires.firm left (g.met.D.Disk.only_now old left now))) in
+    let at_start = started device old P (λ left now. ap stands (c.requires.durable left (g.met.D.Disk.only_now old left now))) in
     let long : 2 ≤ length file = omega (arith, c.requires.len, c.if-len-lt2.false) in
-    let torn = from_only (IsCut (c.args.gate + 1)) file (g.D.Disk.device.outcome old) (g.D.Disk.device.outcome c.cut.new.self) P c.requires.firm
+    let torn = from_only (IsCut (c.args.gate + 1)) file (g.D.Disk.device.outcome old) (g.D.Disk.device.outcome c.cut.new.self) P c.requires.durable
     c.cut.ensures.outcomes (cut_keeps file c.args.gate c.requires.found long) in
     let one = goes_on device old old c.cut.new.self P (g.D.Disk.device.outcome c.cut.new.self) at_start c.cut.ensures.time torn in
     one
@@ -68,9 +68,9 @@ returns-in_err-sync-2-clause-any_moment g c =
     let P : List ℕ → Type 0 = λ left. stands left ≡ stands file in
     let device = g.D.Disk.device in
     let old = c.args.disk.now in
-    let at_start = started device old P (λ left now. ap stands (c.requires.firm left (g.met.D.Disk.only_now old left now))) in
+    let at_start = started device old P (λ left now. ap stands (c.requires.durable left (g.met.D.Disk.only_now old left now))) in
     let long : 2 ≤ length file = omega (arith, c.requires.len, c.if-len-lt2.false) in
-    let torn = from_only (IsCut (c.args.gate + 1)) file (g.D.Disk.device.outcome old) (g.D.Disk.device.outcome c.cut.new.self) P c.requires.firm
+    let torn = from_only (IsCut (c.args.gate + 1)) file (g.D.Disk.device.outcome old) (g.D.Disk.device.outcome c.cut.new.self) P c.requires.durable
     c.cut.ensures.outcomes (cut_keeps file c.args.gate c.requires.found long) in
     let one = goes_on device old old c.cut.new.self P (g.D.Disk.device.outcome c.cut.new.self) at_start c.cut.ensures.time torn in
     goes_on device old c.cut.new.self c.sync-then-len-gate.new.self P (g.D.Disk.device.outcome c.sync-then-len-gate.new.self) one
@@ -82,9 +82,9 @@ returns-in_ok-sync-2-clause-any_moment g c =
     let P : List ℕ → Type 0 = λ left. stands left ≡ stands file in
     let device = g.D.Disk.device in
     let old = c.args.disk.now in
-    let at_start = started device old P (λ left now. ap stands (c.requires.firm left (g.met.D.Disk.only_now old left now))) in
+    let at_start = started device old P (λ left now. ap stands (c.requires.durable left (g.met.D.Disk.only_now old left now))) in
     let long : 2 ≤ length file = omega (arith, c.requires.len, c.if-len-lt2.false) in
-    let torn = from_only (IsCut (c.args.gate + 1)) file (g.D.Disk.device.outcome old) (g.D.Disk.device.outcome c.cut.new.self) P c.requires.firm
+    let torn = from_only (IsCut (c.args.gate + 1)) file (g.D.Disk.device.outcome old) (g.D.Disk.device.outcome c.cut.new.self) P c.requires.durable
     c.cut.ensures.outcomes (cut_keeps file c.args.gate c.requires.found long) in
     let one = goes_on device old old c.cut.new.self P (g.D.Disk.device.outcome c.cut.new.self) at_start c.cut.ensures.time torn in
     goes_on device old c.cut.new.self c.sync-then-len-gate.new.self P (g.D.Disk.device.outcome c.sync-then-len-gate.new.self) one
@@ -162,7 +162,7 @@ returns-in_err-write_at-clause-telling g c =
     let old = c.args.disk.now in
     let file = device.content old in
     let short : length file < 2 = omega (arith, c.requires.len, c.if-len-lt2.true) in
-    (changes device (IsTorn 0 1) old c.write_at.new.self (λ left. tells left ≡ tells file) (g.met.D.Disk.only_now old) c.requires.firm refl c.write_at.ensures.time c.write_at.ensures.outcomes
+    (changes device (IsTorn 0 1) old c.write_at.new.self (λ left. tells left ≡ tells file) (g.met.D.Disk.only_now old) c.requires.durable refl c.write_at.ensures.time c.write_at.ensures.outcomes
     (λ left torn. torn_tells file left short torn)).moments
 
 pub returns-in_err-sync-clause-telling : goal.returns-in_err-sync-clause-telling
@@ -172,7 +172,7 @@ returns-in_err-sync-clause-telling g c =
     let file = device.content old in
     let P : List ℕ → Type 0 = λ left. tells left ≡ tells file in
     let short : length file < 2 = omega (arith, c.requires.len, c.if-len-lt2.true) in
-    let one = changes device (IsTorn 0 1) old c.write_at.new.self P (g.met.D.Disk.only_now old) c.requires.firm refl c.write_at.ensures.time c.write_at.ensures.outcomes
+    let one = changes device (IsTorn 0 1) old c.write_at.new.self P (g.met.D.Disk.only_now old) c.requires.durable refl c.write_at.ensures.time c.write_at.ensures.outcomes
     (λ left torn. torn_tells file left short torn) in
     (then_same device old c.write_at.new.self c.sync.new.self P one c.sync.ensures.time c.sync.ensures.outcomes).moments
 
@@ -183,7 +183,7 @@ returns-in_ok-sync-clause-telling g c =
     let file = device.content old in
     let P : List ℕ → Type 0 = λ left. tells left ≡ tells file in
     let short : length file < 2 = omega (arith, c.requires.len, c.if-len-lt2.true) in
-    let one = changes device (IsTorn 0 1) old c.write_at.new.self P (g.met.D.Disk.only_now old) c.requires.firm refl c.write_at.ensures.time c.write_at.ensures.outcomes
+    let one = changes device (IsTorn 0 1) old c.write_at.new.self P (g.met.D.Disk.only_now old) c.requires.durable refl c.write_at.ensures.time c.write_at.ensures.outcomes
     (λ left torn. torn_tells file left short torn) in
     (then_same device old c.write_at.new.self c.sync.new.self P one c.sync.ensures.time c.sync.ensures.outcomes).moments
 
@@ -194,7 +194,7 @@ returns-in_err-cut-clause-telling g c =
     let file = device.content old in
     let P : List ℕ → Type 0 = λ left. tells left ≡ tells file in
     let long : 2 ≤ length file = omega (arith, c.requires.len, c.if-len-lt2.false) in
-    (changes device (IsCut (c.args.gate + 1)) old c.cut.new.self P (g.met.D.Disk.only_now old) c.requires.firm refl c.cut.ensures.time c.cut.ensures.outcomes
+    (changes device (IsCut (c.args.gate + 1)) old c.cut.new.self P (g.met.D.Disk.only_now old) c.requires.durable refl c.cut.ensures.time c.cut.ensures.outcomes
     (λ left cut. cut_tells file left c.args.gate c.requires.found long cut)).moments
 
 pub returns-in_err-sync-2-clause-telling : goal.returns-in_err-sync-2-clause-telling
@@ -204,7 +204,7 @@ returns-in_err-sync-2-clause-telling g c =
     let file = device.content old in
     let P : List ℕ → Type 0 = λ left. tells left ≡ tells file in
     let long : 2 ≤ length file = omega (arith, c.requires.len, c.if-len-lt2.false) in
-    let one = changes device (IsCut (c.args.gate + 1)) old c.cut.new.self P (g.met.D.Disk.only_now old) c.requires.firm refl c.cut.ensures.time c.cut.ensures.outcomes
+    let one = changes device (IsCut (c.args.gate + 1)) old c.cut.new.self P (g.met.D.Disk.only_now old) c.requires.durable refl c.cut.ensures.time c.cut.ensures.outcomes
     (λ left cut. cut_tells file left c.args.gate c.requires.found long cut) in
     (then_same device old c.cut.new.self c.sync-then-len-gate.new.self P one c.sync-then-len-gate.ensures.time c.sync-then-len-gate.ensures.outcomes).moments
 
@@ -215,7 +215,7 @@ returns-in_ok-sync-2-clause-telling g c =
     let file = device.content old in
     let P : List ℕ → Type 0 = λ left. tells left ≡ tells file in
     let long : 2 ≤ length file = omega (arith, c.requires.len, c.if-len-lt2.false) in
-    let one = changes device (IsCut (c.args.gate + 1)) old c.cut.new.self P (g.met.D.Disk.only_now old) c.requires.firm refl c.cut.ensures.time c.cut.ensures.outcomes
+    let one = changes device (IsCut (c.args.gate + 1)) old c.cut.new.self P (g.met.D.Disk.only_now old) c.requires.durable refl c.cut.ensures.time c.cut.ensures.outcomes
     (λ left cut. cut_tells file left c.args.gate c.requires.found long cut) in
     (then_same device old c.cut.new.self c.sync-then-len-gate.new.self P one c.sync-then-len-gate.ensures.time c.sync-then-len-gate.ensures.outcomes).moments
 

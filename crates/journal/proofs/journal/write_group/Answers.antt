@@ -5,7 +5,7 @@ use Rattle.journal.specs.Journal.{IsBeforeOrAfter}
 use Rattle.journal.proofs.Parts.{length-group}
 use Rattle.diskmodel.proofs.Clock.{started, goes_on}
 use Rattle.journal.proofs.Moments.{from_only}
-use Rattle.journal.proofs.Stops.{torn_behind, staged_by, torn_gate, added}
+use Rattle.journal.proofs.Stops.{torn_after, staged_by, torn_gate, added}
 use Rattle.journal.proofs.journal.write_group.Goals as goal
 
 pub returns-in_err-write_at-clause-any_moment : goal.returns-in_err-write_at-clause-any_moment
@@ -14,10 +14,10 @@ returns-in_err-write_at-clause-any_moment g c =
     let P : List ℕ → Type 0 = IsBeforeOrAfter file c.args.group.now in
     let device = g.D.Disk.device in
     let old = c.args.disk.now in
-    let at_start = started device old P (λ left now. inl (ap stands (c.requires.firm left (g.met.D.Disk.only_now old left now)))) in
+    let at_start = started device old P (λ left now. inl (ap stands (c.requires.durable left (g.met.D.Disk.only_now old left now)))) in
     let comes : (left : List ℕ) → g.D.Disk.device.outcome c.write_at.new.self left → P left =
-    from_only (IsTorn c.args.len (length c.bytes.result.now)) file (g.D.Disk.device.outcome old) (g.D.Disk.device.outcome c.write_at.new.self) P c.requires.firm c.write_at.ensures.outcomes
-    (λ left torn. inl (torn_behind file c.requires.ends_closed (length c.bytes.result.now) left (subst (λ (n : ℕ). IsTorn n (length c.bytes.result.now) file left) c.requires.len torn))) in
+    from_only (IsTorn c.args.len (length c.bytes.result.now)) file (g.D.Disk.device.outcome old) (g.D.Disk.device.outcome c.write_at.new.self) P c.requires.durable c.write_at.ensures.outcomes
+    (λ left torn. inl (torn_after file c.requires.ends_closed (length c.bytes.result.now) left (subst (λ (n : ℕ). IsTorn n (length c.bytes.result.now) file left) c.requires.len torn))) in
     let one = goes_on device old old c.write_at.new.self P (g.D.Disk.device.outcome c.write_at.new.self) at_start c.write_at.ensures.time comes in
     one
 
@@ -27,10 +27,10 @@ returns-in_err-sync-clause-any_moment g c =
     let P : List ℕ → Type 0 = IsBeforeOrAfter file c.args.group.now in
     let device = g.D.Disk.device in
     let old = c.args.disk.now in
-    let at_start = started device old P (λ left now. inl (ap stands (c.requires.firm left (g.met.D.Disk.only_now old left now)))) in
+    let at_start = started device old P (λ left now. inl (ap stands (c.requires.durable left (g.met.D.Disk.only_now old left now)))) in
     let comes : (left : List ℕ) → g.D.Disk.device.outcome c.write_at.new.self left → P left =
-    from_only (IsTorn c.args.len (length c.bytes.result.now)) file (g.D.Disk.device.outcome old) (g.D.Disk.device.outcome c.write_at.new.self) P c.requires.firm c.write_at.ensures.outcomes
-    (λ left torn. inl (torn_behind file c.requires.ends_closed (length c.bytes.result.now) left (subst (λ (n : ℕ). IsTorn n (length c.bytes.result.now) file left) c.requires.len torn))) in
+    from_only (IsTorn c.args.len (length c.bytes.result.now)) file (g.D.Disk.device.outcome old) (g.D.Disk.device.outcome c.write_at.new.self) P c.requires.durable c.write_at.ensures.outcomes
+    (λ left torn. inl (torn_after file c.requires.ends_closed (length c.bytes.result.now) left (subst (λ (n : ℕ). IsTorn n (length c.bytes.result.now) file left) c.requires.len torn))) in
     let one = goes_on device old old c.write_at.new.self P (g.D.Disk.device.outcome c.write_at.new.self) at_start c.write_at.ensures.time comes in
     let two = goes_on device old c.write_at.new.self c.sync.new.self P (g.D.Disk.device.outcome c.sync.new.self) one c.sync.ensures.time (λ left now. comes left (c.sync.ensures.outcomes left now)) in
     two
@@ -41,10 +41,10 @@ returns-in_err-write_at-2-clause-any_moment g c =
     let P : List ℕ → Type 0 = IsBeforeOrAfter file c.args.group.now in
     let device = g.D.Disk.device in
     let old = c.args.disk.now in
-    let at_start = started device old P (λ left now. inl (ap stands (c.requires.firm left (g.met.D.Disk.only_now old left now)))) in
+    let at_start = started device old P (λ left now. inl (ap stands (c.requires.durable left (g.met.D.Disk.only_now old left now)))) in
     let comes : (left : List ℕ) → g.D.Disk.device.outcome c.write_at.new.self left → P left =
-    from_only (IsTorn c.args.len (length c.bytes.result.now)) file (g.D.Disk.device.outcome old) (g.D.Disk.device.outcome c.write_at.new.self) P c.requires.firm c.write_at.ensures.outcomes
-    (λ left torn. inl (torn_behind file c.requires.ends_closed (length c.bytes.result.now) left (subst (λ (n : ℕ). IsTorn n (length c.bytes.result.now) file left) c.requires.len torn))) in
+    from_only (IsTorn c.args.len (length c.bytes.result.now)) file (g.D.Disk.device.outcome old) (g.D.Disk.device.outcome c.write_at.new.self) P c.requires.durable c.write_at.ensures.outcomes
+    (λ left torn. inl (torn_after file c.requires.ends_closed (length c.bytes.result.now) left (subst (λ (n : ℕ). IsTorn n (length c.bytes.result.now) file left) c.requires.len torn))) in
     let one = goes_on device old old c.write_at.new.self P (g.D.Disk.device.outcome c.write_at.new.self) at_start c.write_at.ensures.time comes in
     let two = goes_on device old c.write_at.new.self c.sync.new.self P (g.D.Disk.device.outcome c.sync.new.self) one c.sync.ensures.time (λ left now. comes left (c.sync.ensures.outcomes left now)) in
     let fits : FitsGroup c.args.group.now = c.bytes.ensures.fits in
@@ -52,11 +52,11 @@ returns-in_err-write_at-2-clause-any_moment g c =
     let staged : g.D.Disk.device.content c.write_at.new.self ≡ file ++ group_bytes c.args.group.now =
     staged_by file c.requires.ends_closed c.args.group.now fits c.args.len c.bytes.result.now _ c.requires.len bytes_are c.in_ok-write_at.ensures.content in
     let gate : c.args.len - 1 ≡ length file - 1 = omega (arith, c.requires.len) in
-    let firm : LeavesOnly (file ++ group_bytes c.args.group.now) (g.D.Disk.device.outcome c.sync.new.self) =
-    subst (λ (l : List ℕ). LeavesOnly l (g.D.Disk.device.outcome c.sync.new.self)) staged c.in_ok-sync.ensures.firm in
+    let durable : LeavesOnly (file ++ group_bytes c.args.group.now) (g.D.Disk.device.outcome c.sync.new.self) =
+    subst (λ (l : List ℕ). LeavesOnly l (g.D.Disk.device.outcome c.sync.new.self)) staged c.in_ok-sync.ensures.durable in
     let opens : (left : List ℕ) → g.D.Disk.device.outcome c.write_at-2.new.self left → P left =
     from_only (IsTorn (c.args.len - 1) 1) (file ++ group_bytes c.args.group.now) (g.D.Disk.device.outcome c.sync.new.self)
-    (g.D.Disk.device.outcome c.write_at-2.new.self) P firm c.write_at-2.ensures.outcomes
+    (g.D.Disk.device.outcome c.write_at-2.new.self) P durable c.write_at-2.ensures.outcomes
     (λ left torn. torn_gate file c.requires.ends_closed c.args.group.now fits left (subst (λ (n : ℕ). IsTorn n 1 (file ++ group_bytes c.args.group.now) left) gate torn)) in
     let three = goes_on device old c.sync.new.self c.write_at-2.new.self P (g.D.Disk.device.outcome c.write_at-2.new.self) two c.write_at-2.ensures.time opens in
     three
@@ -67,10 +67,10 @@ returns-in_err-sync-2-clause-any_moment g c =
     let P : List ℕ → Type 0 = IsBeforeOrAfter file c.args.group.now in
     let device = g.D.Disk.device in
     let old = c.args.disk.now in
-    let at_start = started device old P (λ left now. inl (ap stands (c.requires.firm left (g.met.D.Disk.only_now old left now)))) in
+    let at_start = started device old P (λ left now. inl (ap stands (c.requires.durable left (g.met.D.Disk.only_now old left now)))) in
     let comes : (left : List ℕ) → g.D.Disk.device.outcome c.write_at.new.self left → P left =
-    from_only (IsTorn c.args.len (length c.bytes.result.now)) file (g.D.Disk.device.outcome old) (g.D.Disk.device.outcome c.write_at.new.self) P c.requires.firm c.write_at.ensures.outcomes
-    (λ left torn. inl (torn_behind file c.requires.ends_closed (length c.bytes.result.now) left (subst (λ (n : ℕ). IsTorn n (length c.bytes.result.now) file left) c.requires.len torn))) in
+    from_only (IsTorn c.args.len (length c.bytes.result.now)) file (g.D.Disk.device.outcome old) (g.D.Disk.device.outcome c.write_at.new.self) P c.requires.durable c.write_at.ensures.outcomes
+    (λ left torn. inl (torn_after file c.requires.ends_closed (length c.bytes.result.now) left (subst (λ (n : ℕ). IsTorn n (length c.bytes.result.now) file left) c.requires.len torn))) in
     let one = goes_on device old old c.write_at.new.self P (g.D.Disk.device.outcome c.write_at.new.self) at_start c.write_at.ensures.time comes in
     let two = goes_on device old c.write_at.new.self c.sync.new.self P (g.D.Disk.device.outcome c.sync.new.self) one c.sync.ensures.time (λ left now. comes left (c.sync.ensures.outcomes left now)) in
     let fits : FitsGroup c.args.group.now = c.bytes.ensures.fits in
@@ -78,11 +78,11 @@ returns-in_err-sync-2-clause-any_moment g c =
     let staged : g.D.Disk.device.content c.write_at.new.self ≡ file ++ group_bytes c.args.group.now =
     staged_by file c.requires.ends_closed c.args.group.now fits c.args.len c.bytes.result.now _ c.requires.len bytes_are c.in_ok-write_at.ensures.content in
     let gate : c.args.len - 1 ≡ length file - 1 = omega (arith, c.requires.len) in
-    let firm : LeavesOnly (file ++ group_bytes c.args.group.now) (g.D.Disk.device.outcome c.sync.new.self) =
-    subst (λ (l : List ℕ). LeavesOnly l (g.D.Disk.device.outcome c.sync.new.self)) staged c.in_ok-sync.ensures.firm in
+    let durable : LeavesOnly (file ++ group_bytes c.args.group.now) (g.D.Disk.device.outcome c.sync.new.self) =
+    subst (λ (l : List ℕ). LeavesOnly l (g.D.Disk.device.outcome c.sync.new.self)) staged c.in_ok-sync.ensures.durable in
     let opens : (left : List ℕ) → g.D.Disk.device.outcome c.write_at-2.new.self left → P left =
     from_only (IsTorn (c.args.len - 1) 1) (file ++ group_bytes c.args.group.now) (g.D.Disk.device.outcome c.sync.new.self)
-    (g.D.Disk.device.outcome c.write_at-2.new.self) P firm c.write_at-2.ensures.outcomes
+    (g.D.Disk.device.outcome c.write_at-2.new.self) P durable c.write_at-2.ensures.outcomes
     (λ left torn. torn_gate file c.requires.ends_closed c.args.group.now fits left (subst (λ (n : ℕ). IsTorn n 1 (file ++ group_bytes c.args.group.now) left) gate torn)) in
     let three = goes_on device old c.sync.new.self c.write_at-2.new.self P (g.D.Disk.device.outcome c.write_at-2.new.self) two c.write_at-2.ensures.time opens in
     goes_on device old c.write_at-2.new.self c.sync-2.new.self P (g.D.Disk.device.outcome c.sync-2.new.self) three c.sync-2.ensures.time (λ left now. opens left (c.sync-2.ensures.outcomes left now))
@@ -93,10 +93,10 @@ returns-clause-any_moment g c =
     let P : List ℕ → Type 0 = IsBeforeOrAfter file c.args.group.now in
     let device = g.D.Disk.device in
     let old = c.args.disk.now in
-    let at_start = started device old P (λ left now. inl (ap stands (c.requires.firm left (g.met.D.Disk.only_now old left now)))) in
+    let at_start = started device old P (λ left now. inl (ap stands (c.requires.durable left (g.met.D.Disk.only_now old left now)))) in
     let comes : (left : List ℕ) → g.D.Disk.device.outcome c.write_at.new.self left → P left =
-    from_only (IsTorn c.args.len (length c.bytes.result.now)) file (g.D.Disk.device.outcome old) (g.D.Disk.device.outcome c.write_at.new.self) P c.requires.firm c.write_at.ensures.outcomes
-    (λ left torn. inl (torn_behind file c.requires.ends_closed (length c.bytes.result.now) left (subst (λ (n : ℕ). IsTorn n (length c.bytes.result.now) file left) c.requires.len torn))) in
+    from_only (IsTorn c.args.len (length c.bytes.result.now)) file (g.D.Disk.device.outcome old) (g.D.Disk.device.outcome c.write_at.new.self) P c.requires.durable c.write_at.ensures.outcomes
+    (λ left torn. inl (torn_after file c.requires.ends_closed (length c.bytes.result.now) left (subst (λ (n : ℕ). IsTorn n (length c.bytes.result.now) file left) c.requires.len torn))) in
     let one = goes_on device old old c.write_at.new.self P (g.D.Disk.device.outcome c.write_at.new.self) at_start c.write_at.ensures.time comes in
     let two = goes_on device old c.write_at.new.self c.sync.new.self P (g.D.Disk.device.outcome c.sync.new.self) one c.sync.ensures.time (λ left now. comes left (c.sync.ensures.outcomes left now)) in
     let fits : FitsGroup c.args.group.now = c.bytes.ensures.fits in
@@ -104,11 +104,11 @@ returns-clause-any_moment g c =
     let staged : g.D.Disk.device.content c.write_at.new.self ≡ file ++ group_bytes c.args.group.now =
     staged_by file c.requires.ends_closed c.args.group.now fits c.args.len c.bytes.result.now _ c.requires.len bytes_are c.in_ok-write_at.ensures.content in
     let gate : c.args.len - 1 ≡ length file - 1 = omega (arith, c.requires.len) in
-    let firm : LeavesOnly (file ++ group_bytes c.args.group.now) (g.D.Disk.device.outcome c.sync.new.self) =
-    subst (λ (l : List ℕ). LeavesOnly l (g.D.Disk.device.outcome c.sync.new.self)) staged c.in_ok-sync.ensures.firm in
+    let durable : LeavesOnly (file ++ group_bytes c.args.group.now) (g.D.Disk.device.outcome c.sync.new.self) =
+    subst (λ (l : List ℕ). LeavesOnly l (g.D.Disk.device.outcome c.sync.new.self)) staged c.in_ok-sync.ensures.durable in
     let opens : (left : List ℕ) → g.D.Disk.device.outcome c.write_at-2.new.self left → P left =
     from_only (IsTorn (c.args.len - 1) 1) (file ++ group_bytes c.args.group.now) (g.D.Disk.device.outcome c.sync.new.self)
-    (g.D.Disk.device.outcome c.write_at-2.new.self) P firm c.write_at-2.ensures.outcomes
+    (g.D.Disk.device.outcome c.write_at-2.new.self) P durable c.write_at-2.ensures.outcomes
     (λ left torn. torn_gate file c.requires.ends_closed c.args.group.now fits left (subst (λ (n : ℕ). IsTorn n 1 (file ++ group_bytes c.args.group.now) left) gate torn)) in
     let three = goes_on device old c.sync.new.self c.write_at-2.new.self P (g.D.Disk.device.outcome c.write_at-2.new.self) two c.write_at-2.ensures.time opens in
     goes_on device old c.write_at-2.new.self c.sync-2.new.self P (g.D.Disk.device.outcome c.sync-2.new.self) three c.sync-2.ensures.time (λ left now. opens left (c.sync-2.ensures.outcomes left now))

@@ -26,7 +26,7 @@ returns-in_err-cut-clause-any_moment g c above at_rest =
     let two = c.sync.new.self in
     let three = c.cut.new.self in
     let shut = closed device above old one two (g.met.D.Disk.only_now old) c.requires at_rest c.write_at.ensures.time c.write_at.ensures.outcomes c.sync.ensures.time c.sync.ensures.outcomes in
-    (cuts device above old one two three (drop 1 (device.content old)) shut c.in_ok-write_at.ensures.content c.in_ok-sync.ensures.firm c.cut.ensures.time c.cut.ensures.outcomes).moments
+    (cuts device above old one two three (drop 1 (device.content old)) shut c.in_ok-write_at.ensures.content c.in_ok-sync.ensures.durable c.cut.ensures.time c.cut.ensures.outcomes).moments
 
 pub returns-in_err-sync-2-clause-any_moment : goal.returns-in_err-sync-2-clause-any_moment
 returns-in_err-sync-2-clause-any_moment g c above at_rest =
@@ -36,7 +36,7 @@ returns-in_err-sync-2-clause-any_moment g c above at_rest =
     let two = c.sync.new.self in
     let three = c.cut.new.self in
     let shut = closed device above old one two (g.met.D.Disk.only_now old) c.requires at_rest c.write_at.ensures.time c.write_at.ensures.outcomes c.sync.ensures.time c.sync.ensures.outcomes in
-    let shorter = cuts device above old one two three (drop 1 (device.content old)) shut c.in_ok-write_at.ensures.content c.in_ok-sync.ensures.firm c.cut.ensures.time c.cut.ensures.outcomes in
+    let shorter = cuts device above old one two three (drop 1 (device.content old)) shut c.in_ok-write_at.ensures.content c.in_ok-sync.ensures.durable c.cut.ensures.time c.cut.ensures.outcomes in
     (then_same device old three c.sync-2.new.self (IsOlder above) shorter c.sync-2.ensures.time c.sync-2.ensures.outcomes).moments
 
 pub returns-clause-any_moment : goal.returns-clause-any_moment
@@ -47,5 +47,5 @@ returns-clause-any_moment g c above at_rest =
     let two = c.sync.new.self in
     let three = c.cut.new.self in
     let shut = closed device above old one two (g.met.D.Disk.only_now old) c.requires at_rest c.write_at.ensures.time c.write_at.ensures.outcomes c.sync.ensures.time c.sync.ensures.outcomes in
-    let shorter = cuts device above old one two three (drop 1 (device.content old)) shut c.in_ok-write_at.ensures.content c.in_ok-sync.ensures.firm c.cut.ensures.time c.cut.ensures.outcomes in
+    let shorter = cuts device above old one two three (drop 1 (device.content old)) shut c.in_ok-write_at.ensures.content c.in_ok-sync.ensures.durable c.cut.ensures.time c.cut.ensures.outcomes in
     (then_same device old three c.sync-2.new.self (IsOlder above) shorter c.sync-2.ensures.time c.sync-2.ensures.outcomes).moments

@@ -9,7 +9,7 @@ use Rattle.spec_checkpoint.specs.Meaning.{state_in}
 use Rattle.spec_checkpoint.specs.Reading.{checkpoint_read}
 use Rattle.spec_world.specs.World.{bytes_of}
 use Rattle.validator.specs.Setting.{node_of}
-use Rattle.opening.specs.Told.{read_state, StandsAt}
+use Rattle.opening.specs.Decoded.{read_state, StandsAt}
 use Rattle.opening.proofs.PairTelling.{state_read}
 use Rattle.opening.proofs.Telling.{here}
 use Rattle.journal_account.proofs.States.{load_fails, rows_split}

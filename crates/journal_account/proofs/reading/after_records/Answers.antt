@@ -5,7 +5,7 @@ use Rattle.journal.specs.declared.record.Record.{Record}
 use Rattle.spec_model.specs.States.{State}
 use Rattle.validator.specs.Setting.{node_of}
 use Rattle.validator.specs.Standing.{AreAtSound}
-use Rattle.opening.specs.Told.{read_events, StandsAt}
+use Rattle.opening.specs.Decoded.{read_events, StandsAt}
 use Rattle.journal_account.specs.Accounts.{events_in}
 use Rattle.journal_account.proofs.Accounting.{begin_tells, events_tell, found_as, found_at, read_on}
 use Rattle.journal_account.proofs.reading.after_records.Given as given

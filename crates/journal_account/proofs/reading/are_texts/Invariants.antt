@@ -1,6 +1,6 @@
 use Rattle.std.proofs.Common.{take}
 use Rattle.std.specs.Prelude.{All}
-use Rattle.opening.specs.Told.{IsText}
+use Rattle.opening.specs.Decoded.{IsText}
 use Rattle.journal_account.proofs.reading.are_texts.Given as goal
 
 -- the records so far have bytes

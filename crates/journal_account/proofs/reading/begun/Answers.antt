@@ -5,7 +5,7 @@ use Rattle.journal.specs.declared.error.JournalError.{JournalError}
 use Rattle.journal.specs.declared.record.Record.{Record}
 use Rattle.spec_machine.specs.Machine.{fresh}
 use Rattle.validator.specs.Setting.{node_of}
-use Rattle.opening.specs.Told.{StandsAt, Tells}
+use Rattle.opening.specs.Decoded.{StandsAt, Tells}
 use Rattle.opening.proofs.Telling.{err_weaker, ok_weaker}
 use Rattle.journal_account.specs.Accounts.{base_in}
 use Rattle.journal_account.proofs.Accounting.{base_nil, begun_fails, begun_stands, first_fails}

@@ -5,7 +5,7 @@ use Rattle.node_io.proofs.arguments.own_of.Goals as goal
 pub loop-digit-preserved : goal.loop-digit-preserved
 loop-digit-preserved c =
     let before = c.loop-digit.invariant in
-    let is : c.loop-digit.rest.now ≡ c.in-Some.digit.now ∷ c.in-Some.behind.now = search rules in
+    let is : c.loop-digit.rest.now ≡ c.in-Some.digit.now ∷ c.in-Some.after.now = search rules in
     let given = c.in_ok-number.ensures.some in
     record {
       some = before.some;

@@ -8,7 +8,7 @@ use Rattle.node_io.proofs.input.bodies_before_fault.Goals as goal
 pub loop-byte-preserved : goal.loop-byte-preserved
 loop-byte-preserved c =
     let before = c.loop-byte.invariant in
-    let is : c.loop-byte.rest.now ≡ c.in-Some.byte.now ∷ c.in-Some.behind.now = search rules in
+    let is : c.loop-byte.rest.now ≡ c.in-Some.byte.now ∷ c.in-Some.after.now = search rules in
     let more = c.in-Ok.ensures.ok in (
       before.0 ++ c.in-Some.byte.now ∷ [],
       parts_more _ _ _ _ _ before.1 is,
@@ -18,7 +18,7 @@ loop-byte-preserved c =
 pub returns-in-Err : goal.returns-in-Err
 returns-in-Err c =
     let before = c.loop-byte.invariant in
-    let is : c.loop-byte.rest.now ≡ c.in-Some.byte.now ∷ c.in-Some.behind.now = search rules in
+    let is : c.loop-byte.rest.now ≡ c.in-Some.byte.now ∷ c.in-Some.after.now = search rules in
     let kept : c.add_bodies.new.all.items ≡ c.loop-byte.all.items = c.in-Err.ensures.same in
     let takes_kept : (mid : List ℕ) → Takes c.args.frames.now before.0 (bodies_bytes c.loop-byte.all.items) mid → Takes c.args.frames.now before.0 (bodies_bytes c.add_bodies.new.all.items) mid =
     (λ mid takes. subst (λ all. Takes c.args.frames.now before.0 (bodies_bytes all) mid) (sym kept) takes) in
@@ -31,7 +31,7 @@ returns-in-Err c =
             | inr fault ↦ record {
               taken = before.0;
               byte = c.in-Some.byte.now;
-              behind = c.in-Some.behind.now;
+              after = c.in-Some.after.now;
               parts = before.1 ∙ ap (λ l. before.0 ++ l) is;
               takes = subst (λ mid. Takes c.args.frames.now before.0 (bodies_bytes c.add_bodies.new.all.items) mid) (sym fault.1) (takes_kept c.loop-byte.frames before.2);
               breaks = breaks_more _ _ _ _ _ before.2 fault.2;
@@ -39,7 +39,7 @@ returns-in-Err c =
           ];
       memory = λ _. record {
         taken = before.0;
-        behind = c.loop-byte.rest.now;
+        after = c.loop-byte.rest.now;
         later = c.loop-byte.frames;
         parts = before.1;
         takes = takes_kept c.loop-byte.frames before.2;

@@ -13,8 +13,8 @@ use Rattle.node_seats.specs.declared.view.Marked.{Marked}
 use Rattle.node_shared.specs.Home.{NodeView}
 use Rattle.opening.specs.Laws.{IsReadIn}
 use Rattle.opening.specs.Renewing.{KeepsStatesIn}
-use Rattle.opening.specs.Stages.{IsToldThroughout}
-use Rattle.opening.specs.Told.{told_in, StandsAt}
+use Rattle.opening.specs.Stages.{IsDecodedThroughout}
+use Rattle.opening.specs.Decoded.{decoded_in, StandsAt}
 use Rattle.validator.specs.Setting.{node_of}
 use Rattle.node_run.proofs.Runs.{ended, gives_nothing, gives_only, not_opened, not_run, two_where_due}
 use Rattle.node_run.proofs.Written.{new_contents}
@@ -59,14 +59,14 @@ returns-in-Ok-new-clause-runs g c =
     let leaves = subst
     (λ (settled : List Marked). IfSome left (λ later. AtEachMomentOn device (HoldsMore g.S.Sign.scheme rounds.node settled areas) began later))
     nothing (c.run_threads-store.ensures.any_moment up) in
-    let opening = subst (λ (s : Store g.row.D.Denot). IsToldThroughout node device c.args.store s) (sym store) started.opening.any_moment in
+    let opening = subst (λ (s : Store g.row.D.Denot). IsDecodedThroughout node device c.args.store s) (sym store) started.opening.any_moment in
     let since = c.length_of.ensures ∙ ap (λ (r : RoundsView g.row.S.Denot g.row.D.Denot). length_in device (journal_of r.flusher)) (sym c.new.ensures.same) in
     let rule : record { every = c.every_on-every.result; since = c.length_of.result } ≡ rule_on device c.args.store c.args.every (journal_of rounds.flusher) =
     λ i. record { every = c.every_on-every.ensures i; since = since i } in
     subst (λ (ending : Ending). RunsOver node device c.args.store c.args.every ending left) (sym c.ending.ensures)
     (ended g.S.Sign.scheme device rounds.node node c.args.store began c.args.every (journal_of rounds.flusher) c.run_threads-store.result.0 left
     (ap (λ (s : NodeView g.row.S.Denot). nodes s.setting) shared ∙ ap nodes started.setting)
-    (subst (λ (s : NodeView g.row.S.Denot). StandsAt node (told_in node (areas_in device c.args.store)) s.begun) (sym shared) started.begins)
+    (subst (λ (s : NodeView g.row.S.Denot). StandsAt node (decoded_in node (areas_in device c.args.store)) s.begun) (sym shared) started.begins)
     (ap (faults_in device) store ∙ started.opening.cause.0)
     c.run_threads-store.ensures.told c.run_threads-store.ensures.lost opening leaves
     (subst (λ (f : Flusher g.row.D.Denot). KeepsStatesIn node (areas_in device c.args.store) (areas_of device (journal_of f))) (sym flusher) started.kept)
@@ -84,7 +84,7 @@ returns-clause-runs g c =
     let flusher : rounds.flusher ≡ c.in-Ok.started.2 = ap (λ r. r.flusher) c.new.ensures.same ∙ c.new-rounds.ensures.flusher in
     let store : c.into_store.result ≡ store_of (journal_of c.in-Ok.started.2) = c.into_store.ensures ∙ ap (λ (f : Flusher g.row.D.Denot). store_of (journal_of f)) flusher in
     not_run g.S.Sign.scheme device node c.args.store c.into_store.result c.args.every (ap (faults_in device) store ∙ started.opening.cause.0)
-    (subst (λ (s : Store g.row.D.Denot). IsToldThroughout node device c.args.store s) (sym store) started.opening.any_moment)
+    (subst (λ (s : Store g.row.D.Denot). IsDecodedThroughout node device c.args.store s) (sym store) started.opening.any_moment)
 
 pub returns-in-Err-clause-gives : goal.returns-in-Err-clause-gives
 returns-in-Err-clause-gives g c =
@@ -103,7 +103,7 @@ returns-in-Ok-new-clause-gives g c =
     let up : is_down rounds.flusher ≡ false = ap (λ (f : Flusher g.row.D.Denot). is_down f) flusher ∙ started.up in
     gives_only g.S.Sign.scheme device g.W.Write.contents rounds.node (nodes c.args.config.now) c.args.store rounds.flusher c.args.writer _ _ ran.result.0
     (ap (λ (s : NodeView g.row.S.Denot). nodes s.setting) shared ∙ ap nodes started.setting)
-    (subst (λ (s : NodeView g.row.S.Denot). StandsAt (nodes c.args.config.now) (told_in (nodes c.args.config.now) (areas_in device c.args.store)) s.begun) (sym shared) started.begins)
+    (subst (λ (s : NodeView g.row.S.Denot). StandsAt (nodes c.args.config.now) (decoded_in (nodes c.args.config.now) (areas_in device c.args.store)) s.begun) (sym shared) started.begins)
     (subst (λ (f : Flusher g.row.D.Denot). KeepsStatesIn (nodes c.args.config.now) (areas_in device c.args.store) (areas_of device (journal_of f))) (sym flusher) started.kept)
     (ap (λ (f : Flusher g.row.D.Denot). settled_in f) flusher ∙ started.nothing_settled.0)
     (new_contents g.W.Write.contents desks.writing.sink.writer c.args.writer c.in-Ok-new.ensures.writer.0 c.in-Ok-new.ensures.writer.1) c.ending.ensures (ran.ensures.given up)

@@ -16,7 +16,7 @@ returns-clause-given g c = λ up.
     let same : c.in-Some.others ≡ Some (c.in-Some-others.wrote, c.in-Some-others.read) = search rules in
     let wrote = of_some _ c.in-Some.others _ same c.in-Some.ensures.others in
     let store : c.give_back-store.result.0 ≡ store_of (journal_of c.in-Some.rounds.flusher) = search rules in
-    let covers : Begins c.in-Some-others.wrote.caller.seat.view.firm (settled_in c.in-Some.rounds.flusher) = search rules in
+    let covers : Begins c.in-Some-others.wrote.caller.seat.view.durable (settled_in c.in-Some.rounds.flusher) = search rules in
     let read = c.in-Some-others.read.output in
     let all = c.and-faults.ensures.output ∙ ap (λ (it : Bool). it || c.in-Some.flushed.output) c.and-2.ensures.output in
     is_settled g.S.Sign.scheme g.D.Disk.device c.args.rule c.args.rounds c.in-Some.rounds c.in-Some.flushed c.args.desks.writing.caller.node c.in-Some-others.wrote.caller.seat.view

@@ -17,7 +17,7 @@ loop-init g c =
       tt,
       stays,
       same,
-      begins_same c.args.caller.now.seat.view.firm,
+      begins_same c.args.caller.now.seat.view.durable,
       none_yet (MayGo scheme node c.args.caller.now.seat.view) c.args.sink.now.faults (writer_contents g.W.Write.contents c.args.sink.now.writer),
     )
 

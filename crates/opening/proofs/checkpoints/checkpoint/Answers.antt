@@ -9,8 +9,8 @@ use Rattle.journal.specs.Journal.{disk_of}
 use Rattle.journal.specs.Pairs.{spare_disk, side_in, generation_in, areas_of, areas_with, StandsAsOrAfter}
 use Rattle.validator.specs.Setting.{node_of}
 use Rattle.admission.proofs.OneState.{one_state}
-use Rattle.opening.specs.Told.{told_in}
-use Rattle.opening.proofs.Renewals.{areas_pair, generation_told, rewritten_same, rewritten_newest, rewritten_keeps, left_same, full_at, room_at}
+use Rattle.opening.specs.Decoded.{decoded_in}
+use Rattle.opening.proofs.Renewals.{areas_pair, generation_decoded, rewritten_same, rewritten_newest, rewritten_keeps, left_same, full_at, room_at}
 use Rattle.opening.proofs.checkpoints.checkpoint.Goals as goal
 
 no_error : (records : List (List ℕ)) {E : Type 0} {error : E} → ◌≡◌ {A = Result (List (List ℕ)) E} (Ok records) (Err error) → ⊥
@@ -20,7 +20,7 @@ pub rewrite-requires-clause-begun : goal.rewrite-requires-clause-begun
 rewrite-requires-clause-begun g c =
     let node = node_of g.S.Sign.scheme c.args.validator.now.setting in
     let keys = subst (λ (charter : Charter). All (λ key. HasBytes 32 key.0) charter.keys) c.committee.ensures c.keys_hold.ensures in
-    generation_told g.D.Disk.device node c.args.journal.now c.limits_hold.ensures.node keys c.requires.pair c.requires.alive c.requires.configured
+    generation_decoded g.D.Disk.device node c.args.journal.now c.limits_hold.ensures.node keys c.requires.pair c.requires.alive c.requires.configured
 
 pub returns-in_err-rewrite-clause-any_moment : goal.returns-in_err-rewrite-clause-any_moment
 returns-in_err-rewrite-clause-any_moment g c =
@@ -30,7 +30,7 @@ returns-in_err-rewrite-clause-any_moment g c =
     let keys = subst (λ (charter : Charter). All (λ key. HasBytes 32 key.0) charter.keys) c.committee.ensures c.keys_hold.ensures in
     let p = err_from_is_err_and c.from_residual-in_err-rewrite.result c.from_residual-in_err-rewrite.ensures.1 in
     rw p.1
-    (weaker device (spare_disk journal) (spare_disk c.rewrite.new.self) (λ left. told_in node (areas_with device journal left) ≡ told_in node (areas_of device journal))
+    (weaker device (spare_disk journal) (spare_disk c.rewrite.new.self) (λ left. decoded_in node (areas_with device journal left) ≡ decoded_in node (areas_of device journal))
     (StandsAsOrAfter device journal c.in_ok-snapshot.snapshot) c.in_err-rewrite.ensures.any_moment
     (left_same device node journal c.limits_hold.ensures.node keys c.requires.pair c.requires.alive c.requires.configured one_state c.args.validator.now.tables c.in_ok-snapshot.snapshot
     c.requires.stands c.in_ok-snapshot.ensures))
@@ -84,7 +84,7 @@ returns-clause-any_moment g c =
     let device = g.D.Disk.device in
     let journal = c.args.journal.now in
     let keys = subst (λ (charter : Charter). All (λ key. HasBytes 32 key.0) charter.keys) c.committee.ensures c.keys_hold.ensures in
-    weaker device (spare_disk journal) (disk_of c.rewrite.new.self) (λ left. told_in node (areas_with device journal left) ≡ told_in node (areas_of device journal))
+    weaker device (spare_disk journal) (disk_of c.rewrite.new.self) (λ left. decoded_in node (areas_with device journal left) ≡ decoded_in node (areas_of device journal))
     (StandsAsOrAfter device journal c.in_ok-snapshot.snapshot) c.in_ok-rewrite.ensures.any_moment
     (left_same device node journal c.limits_hold.ensures.node keys c.requires.pair c.requires.alive c.requires.configured one_state c.args.validator.now.tables c.in_ok-snapshot.snapshot
     c.requires.stands c.in_ok-snapshot.ensures)

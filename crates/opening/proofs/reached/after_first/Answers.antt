@@ -1,7 +1,7 @@
 use Rattle.std.proofs.Common.{List, ℕ, sym, ap, ◌∙◌}
 use Rattle.journal.specs.Configuration.{shaped_version}
 use Rattle.validator.specs.Setting.{node_of}
-use Rattle.opening.specs.Told.{is_own}
+use Rattle.opening.specs.Decoded.{is_own}
 use Rattle.opening.proofs.PairReplays.{began_shapeless, began_other}
 use Rattle.opening.proofs.reached.after_first.Goals as goal
 

@@ -6,7 +6,7 @@ use Rattle.spec_checkpoint.specs.Meaning.{state_in}
 use Rattle.spec_checkpoint.specs.Reading.{checkpoint_read}
 use Rattle.validator.specs.Setting.{node_of}
 use Rattle.opening.specs.PairReplayed.{error_at}
-use Rattle.opening.specs.Told.{read_state}
+use Rattle.opening.specs.Decoded.{read_state}
 use Rattle.opening.proofs.PairReplays.{load_fails}
 use Rattle.opening.proofs.PairTelling.{state_read}
 use Rattle.opening.proofs.reached.loaded.Goals as goal

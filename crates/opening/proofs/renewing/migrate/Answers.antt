@@ -4,13 +4,13 @@ use Rattle.journal.specs.Pairs.{areas_of}
 use Rattle.validator.specs.Setting.{ConfigView, node_of}
 use Rattle.opening.specs.Finished.{done, gives_up}
 use Rattle.opening.specs.Renewing.{IsRenewed, IsRewritten}
-use Rattle.opening.specs.Told.{told_in, StandsAt}
+use Rattle.opening.specs.Decoded.{decoded_in, StandsAt}
 use Rattle.opening.proofs.Renewals.{migrated, not_migrated}
 use Rattle.opening.proofs.renewing.migrate.Goals as goal
 
 pub checkpoint-requires-clause-stands : goal.checkpoint-requires-clause-stands
 checkpoint-requires-clause-stands g c =
-    subst (λ (s : ConfigView g.row.S.Denot). StandsAt (node_of g.S.Sign.scheme s) (told_in (node_of g.S.Sign.scheme s) (areas_of g.D.Disk.device c.args.journal.now)) c.args.validator.now.tables)
+    subst (λ (s : ConfigView g.row.S.Denot). StandsAt (node_of g.S.Sign.scheme s) (decoded_in (node_of g.S.Sign.scheme s) (areas_of g.D.Disk.device c.args.journal.now)) c.args.validator.now.tables)
     (sym c.requires.setting) c.requires.stands
 
 pub returns-clause-renewed : goal.returns-clause-renewed

@@ -39,4 +39,4 @@ returns-in-Some-Second-clause-renewed g c =
     let is = sym has.2 ∙ some_is c.args.version c.in-Some-Second.field-0 Second c.in-Some-Second.is (rw c.in-Some-Second.is at c.in-Some-Second.field-0-is) in
     stays_renewed device node journal journal c.requires.pair c.requires.alive g.met.D.Disk.only_now (some_of_version (areas_of device journal) has.0 Second has.1 is)
     (newest_of_version (areas_of device journal) has.0 has.1 is)
-    (λ left may. (beside device journal c.requires.alive c.requires.pair).firm left (g.met.D.Disk.only_now (spare_disk journal) left may))
+    (λ left may. (beside device journal c.requires.alive c.requires.pair).durable left (g.met.D.Disk.only_now (spare_disk journal) left may))

@@ -5,9 +5,9 @@ use Rattle.journal.specs.Journal.{disk_of}
 use Rattle.journal.specs.declared.error.JournalError.TheVariants.{Device}
 use Rattle.journal.specs.declared.version.Version.TheVariants.{Second}
 use Rattle.validator.specs.Setting.{node_of}
-use Rattle.opening.specs.Told.{told}
-use Rattle.opening.proofs.Telling.{told_same, tells_same, stands_same, keeps_same, opening_fails}
-use Rattle.opening.proofs.Opened.{stands_for_at, holds_at, keeps_states, no_refusal, first_told, first_kept, told_on, kept_on}
+use Rattle.opening.specs.Decoded.{decoded}
+use Rattle.opening.proofs.Telling.{decoded_same, tells_same, stands_same, keeps_same, opening_fails}
+use Rattle.opening.proofs.Opened.{stands_for_at, holds_at, keeps_states, no_refusal, first_decoded, first_kept, told_on, kept_on}
 use Rattle.opening.proofs.reopening.reopen.Goals as goal
 
 pub returns-in-Ok-validator_on-clause-stands : goal.returns-in-Ok-validator_on-clause-stands
@@ -15,7 +15,7 @@ returns-in-Ok-validator_on-clause-stands g c =
     let node = node_of g.S.Sign.scheme c.args.config.now in
     let file = g.D.Disk.device.content c.args.disk in
     let mid = g.D.Disk.device.content (disk_of c.in_ok-journal.journal) in
-    stands_same node (told node mid) (told node file) c.in-Ok-validator_on.validator.tables (told_same node mid file c.in_ok-journal.ensures.same) c.in-Ok-validator_on.ensures.stands
+    stands_same node (decoded node mid) (decoded node file) c.in-Ok-validator_on.validator.tables (decoded_same node mid file c.in_ok-journal.ensures.same) c.in-Ok-validator_on.ensures.stands
 
 pub returns-in-Ok-validator_on-clause-stands_for : goal.returns-in-Ok-validator_on-clause-stands_for
 returns-in-Ok-validator_on-clause-stands_for g c =
@@ -26,7 +26,7 @@ returns-in-Ok-validator_on-clause-stands_for g c =
     let taken = c.in_ok-journal.ensures.records in
     stands_for_at c.starts_fresh.ensures node file taken.0 tables c.limits_hold.ensures taken.1
     (c.in-Ok-validator_on.ensures.texts taken.0 (c.in_ok-journal.ensures.same ∙ taken.1))
-    (stands_same node (told node mid) (told node file) tables (told_same node mid file c.in_ok-journal.ensures.same) c.in-Ok-validator_on.ensures.stands)
+    (stands_same node (decoded node mid) (decoded node file) tables (decoded_same node mid file c.in_ok-journal.ensures.same) c.in-Ok-validator_on.ensures.stands)
 
 pub validator_on-requires-clause-config : goal.validator_on-requires-clause-config
 validator_on-requires-clause-config g c = c.in_ok-journal.ensures.records.2.config ∙ c.in-Ok.ensures.config
@@ -43,7 +43,7 @@ returns-in-Ok-validator_on-clause-holds g c =
     let later = g.D.Disk.device.content (disk_of c.validator_on.new.journal) in
     let tables = c.in-Ok-validator_on.validator.tables in
     holds_at c.starts_fresh.ensures node later tables c.limits_hold.ensures
-    (stands_same node (told node mid) (told node later) tables (sym c.in-Ok-validator_on.ensures.same) c.in-Ok-validator_on.ensures.stands)
+    (stands_same node (decoded node mid) (decoded node later) tables (sym c.in-Ok-validator_on.ensures.same) c.in-Ok-validator_on.ensures.stands)
     c.in-Ok-validator_on.ensures.texts_left c.in-Ok-validator_on.ensures.configured
 
 pub returns-in-Ok-validator_on-clause-kept : goal.returns-in-Ok-validator_on-clause-kept
@@ -63,7 +63,7 @@ returns-in-Ok-validator_on-clause-same g c =
     let node = node_of g.S.Sign.scheme c.args.config.now in
     let file = g.D.Disk.device.content c.args.disk in
     let mid = g.D.Disk.device.content (disk_of c.in_ok-journal.journal) in
-    c.in-Ok-validator_on.ensures.same ∙ told_same node mid file c.in_ok-journal.ensures.same
+    c.in-Ok-validator_on.ensures.same ∙ decoded_same node mid file c.in_ok-journal.ensures.same
 
 pub from_residual-requires : goal.from_residual-requires
 from_residual-requires g c κs = λ h. simp in_lives (search rules)
@@ -82,9 +82,9 @@ returns-in_err-journal-clause-opening g c =
       tells = fails;
       never_full = is.never_full;
       cause = is.cause;
-      any_moment = first_told node device c.args.disk failed.disk is.any_moment;
+      any_moment = first_decoded node device c.args.disk failed.disk is.any_moment;
       keeps = first_kept node device c.args.disk failed.disk is.any_moment;
-      never_refused = λ left. let found = c.outcomes_are_told.ensures file left in no_refusal failed.error found.0 (told node file) found.1 fails;
+      never_refused = λ left. let found = c.outcomes_are_decoded.ensures file left in no_refusal failed.error found.0 (decoded node file) found.1 fails;
     })
 
 pub returns-in-Ok-validator_on-clause-opening : goal.returns-in-Ok-validator_on-clause-opening
@@ -115,7 +115,7 @@ returns-in-Err-clause-opening g c =
     let opened = c.in_ok-journal.ensures in
     let now = g.met.D.Disk.content_is_outcome c.args.disk in
     let error = c.in-Err.error in
-    let tells = λ (other : error ≢ Device). tells_same error (told node mid) (told node file) (told_same node mid file opened.same) (c.in-Err.ensures.err other) in
+    let tells = λ (other : error ≢ Device). tells_same error (decoded node mid) (decoded node file) (decoded_same node mid file opened.same) (c.in-Err.ensures.err other) in
     rw c.into_disk.ensures
     (record {
       tells = tells;
@@ -123,5 +123,5 @@ returns-in-Err-clause-opening g c =
       cause = (tt, (λ is. subst (λ (n : ℕ). n < device.faults later) opened.cause.0 (c.in-Err.ensures.cause.1.0 is), λ isnt. c.in-Err.ensures.cause.1.1 isnt ∙ opened.cause.0));
       any_moment = told_on node device c.args.disk middle opened.any_moment later opened.same now c.validator_on.ensures.any_moment;
       keeps = kept_on node device c.args.disk middle opened.any_moment later opened.same now c.validator_on.ensures.keeps;
-      never_refused = λ left. let found = c.outcomes_are_told.ensures file left in no_refusal error found.0 (told node file) found.1 tells;
+      never_refused = λ left. let found = c.outcomes_are_decoded.ensures file left in no_refusal error found.0 (decoded node file) found.1 tells;
     })

@@ -6,10 +6,10 @@ use Rattle.journal.specs.Journal.{disk_of}
 use Rattle.journal.specs.declared.version.Version.TheVariants.{Second}
 use Rattle.validator.specs.Setting.{node_of}
 use Rattle.validator.specs.Setting.{ConfigView}
-use Rattle.opening.specs.Told.{told, read_journal, StandsAt, KeepsOrBegins}
+use Rattle.opening.specs.Decoded.{decoded, read_journal, StandsAt, KeepsOrBegins}
 use Rattle.opening.proofs.Opened.{same_texts}
 use Rattle.diskmodel.proofs.Clock.{started}
-use Rattle.opening.proofs.Telling.{told_same, told_records, tells_is, stands_same}
+use Rattle.opening.proofs.Telling.{decoded_same, decoded_records, tells_is, stands_same}
 use Rattle.opening.proofs.Replays.{none_taken, some_taken, same_records}
 use Rattle.opening.proofs.reopening.validator_on.Goals as goal
 use Rattle.opening.proofs.reopening.validator_on.Goals.{then-is_empty+in_ok-write_configuration, else-is_empty}
@@ -23,7 +23,7 @@ returns-in_err-validator-clause-err g c =
     let p = err_from_is_err_and c.from_residual.result c.from_residual.ensures.1 in
     let read : read_journal node has.0 ≡ Err error =
     subst (λ (s : ConfigView g.row.S.Denot). read_journal (node_of g.S.Sign.scheme s) has.0 ≡ Err error) c.requires.config (c.in_err-validator.ensures.err has.0 has.2) in
-    rw (p.1, p.2) (λ other. tells_is error (told node file) (told_records node file has.0 has.1 ∙ read))
+    rw (p.1, p.2) (λ other. tells_is error (decoded node file) (decoded_records node file has.0 has.1 ∙ read))
 
 pub returns-clause-setting : goal.returns-clause-setting
 returns-clause-setting g c = let has = c.requires.records in c.in_ok-validator.ensures.setting has.0 has.2 ∙ c.requires.config
@@ -34,7 +34,7 @@ returns-clause-stands g c =
     let file = g.D.Disk.device.content (disk_of c.args.journal.now) in
     let has = c.requires.records in
     let tables = c.in_ok-validator.validator.tables in
-    stands_same node (read_journal node has.0) (told node file) tables (sym (told_records node file has.0 has.1))
+    stands_same node (read_journal node has.0) (decoded node file) tables (sym (decoded_records node file has.0 has.1))
     (subst (λ (s : ConfigView g.row.S.Denot). StandsAt (node_of g.S.Sign.scheme s) (read_journal (node_of g.S.Sign.scheme s) has.0) tables) c.requires.config
     (c.in_ok-validator.ensures.stands has.0 has.2))
 
@@ -52,8 +52,8 @@ pub returns-clause-same : goal.returns-clause-same
 returns-clause-same g c =
     let node = node_of g.S.Sign.scheme c.args.config.now in
     elim c.if-is_empty.branch [
-      | then-is_empty+in_ok-write_configuration w ↦ ap (λ j. told node (g.D.Disk.device.content (disk_of j))) w.journal-is ∙ w.in_ok-write_configuration.ensures.same
-      | else-is_empty w ↦ ap (λ j. told node (g.D.Disk.device.content (disk_of j))) w.journal-is
+      | then-is_empty+in_ok-write_configuration w ↦ ap (λ j. decoded node (g.D.Disk.device.content (disk_of j))) w.journal-is ∙ w.in_ok-write_configuration.ensures.same
+      | else-is_empty w ↦ ap (λ j. decoded node (g.D.Disk.device.content (disk_of j))) w.journal-is
     ]
 
 pub returns-clause-any_moment : goal.returns-clause-any_moment
@@ -65,8 +65,8 @@ returns-clause-any_moment g c =
       | then-is_empty+in_ok-write_configuration w ↦ rw w.journal-is w.write_configuration.ensures.any_moment
       | else-is_empty w ↦
           rw w.journal-is
-          (started g.D.Disk.device old (λ left. told node left ≡ told node file)
-          (λ left now. told_same node left file (ap stands (c.requires.alive.firm left (g.met.D.Disk.only_now old left now)))))
+          (started g.D.Disk.device old (λ left. decoded node left ≡ decoded node file)
+          (λ left now. decoded_same node left file (ap stands (c.requires.alive.durable left (g.met.D.Disk.only_now old left now)))))
     ]
 
 pub returns-in_err-validator-clause-keeps : goal.returns-in_err-validator-clause-keeps
@@ -74,7 +74,7 @@ returns-in_err-validator-clause-keeps g c =
     let old = disk_of c.args.journal.now in
     let node = node_of g.S.Sign.scheme c.args.config.now in
     started g.D.Disk.device old (KeepsOrBegins Second node (g.D.Disk.device.content old))
-    (λ left now. inl (c.requires.records.0, c.requires.records.1, ap stands (c.requires.alive.firm left (g.met.D.Disk.only_now old left now)) ∙ c.requires.records.1))
+    (λ left now. inl (c.requires.records.0, c.requires.records.1, ap stands (c.requires.alive.durable left (g.met.D.Disk.only_now old left now)) ∙ c.requires.records.1))
 
 pub returns-clause-keeps : goal.returns-clause-keeps
 returns-clause-keeps g c =
@@ -85,7 +85,7 @@ returns-clause-keeps g c =
       | else-is_empty w ↦
           rw w.journal-is
           (started g.D.Disk.device old (KeepsOrBegins Second node (g.D.Disk.device.content old))
-          (λ left now. inl (c.requires.records.0, c.requires.records.1, ap stands (c.requires.alive.firm left (g.met.D.Disk.only_now old left now)) ∙ c.requires.records.1)))
+          (λ left now. inl (c.requires.records.0, c.requires.records.1, ap stands (c.requires.alive.durable left (g.met.D.Disk.only_now old left now)) ∙ c.requires.records.1)))
     ]
 
 pub returns-clause-texts_left : goal.returns-clause-texts_left

@@ -6,7 +6,7 @@ use Rattle.journal.specs.declared.layout.TheConstants.{MAX_JOURNAL_BYTES}
 use Rattle.journal.specs.Journal.{disk_of, IsBeforeOrAfter, stands_with}
 use Rattle.spec_records.specs.Records.{configuration_of}
 use Rattle.validator.specs.Setting.{node_of}
-use Rattle.opening.specs.Told.{told, KeepsOrBegins}
+use Rattle.opening.specs.Decoded.{decoded, KeepsOrBegins}
 use Rattle.std.specs.Option.{option_map}
 use Rattle.journal.specs.declared.version.Version.{Version}
 use Rattle.journal.specs.Areas.{generation_of}
@@ -14,7 +14,7 @@ use Rattle.journal.specs.Configuration.{shaped_version}
 use Rattle.diskmodel.proofs.Clock.{started, weaker}
 use Rattle.opening.proofs.Empty.{never_full, begins_with}
 use Rattle.opening.proofs.Opened.{one_text}
-use Rattle.opening.proofs.Telling.{told_same, told_before_or_after}
+use Rattle.opening.proofs.Telling.{decoded_same, decoded_before_or_after}
 use Rattle.opening.proofs.reopening.write_configuration.Goals as goal
 
 pub append-requires-clause-first : goal.append-requires-clause-first
@@ -26,8 +26,8 @@ returns-in_err-group-clause-any_moment g c =
     let node = node_of g.S.Sign.scheme c.args.config.now in
     let old = disk_of c.args.journal.now in
     let file = g.D.Disk.device.content old in
-    started g.D.Disk.device old (λ left. told node left ≡ told node file)
-    (λ left now. told_same node left file (ap stands (c.requires.alive.firm left (g.met.D.Disk.only_now old left now))))
+    started g.D.Disk.device old (λ left. decoded node left ≡ decoded node file)
+    (λ left now. decoded_same node left file (ap stands (c.requires.alive.durable left (g.met.D.Disk.only_now old left now))))
 
 pub returns-in_err-append-clause-errors : goal.returns-in_err-append-clause-errors
 returns-in_err-append-clause-errors g c =
@@ -54,8 +54,8 @@ returns-in_err-append-clause-any_moment g c =
     let node = node_of g.S.Sign.scheme c.args.config.now in
     let old = disk_of c.args.journal.now in
     let file = g.D.Disk.device.content old in
-    weaker g.D.Disk.device old (disk_of c.append.new.self) (λ left. told node left ≡ told node file) (IsBeforeOrAfter file c.in_ok-group.group) c.append.ensures.any_moment
-    (λ left is. told_before_or_after c.args.version node file left c.requires.can_tell
+    weaker g.D.Disk.device old (disk_of c.append.new.self) (λ left. decoded node left ≡ decoded node file) (IsBeforeOrAfter file c.in_ok-group.group) c.append.ensures.any_moment
+    (λ left is. decoded_before_or_after c.args.version node file left c.requires.can_tell
     ((λ i. shaped_version (configuration_of c.args.version (sym c.committee.ensures i) (sym c.own.ensures i))) ∙ c.in_ok-group.ensures.shape)
     c.requires.empty (subst (λ group. IsBeforeOrAfter file group left)
     (c.in_ok-group.ensures.group ∙ (λ i. configuration_of c.args.version (c.committee.ensures i) (c.own.ensures i) ∷ [])) is))
@@ -65,8 +65,8 @@ returns-clause-any_moment g c =
     let node = node_of g.S.Sign.scheme c.args.config.now in
     let old = disk_of c.args.journal.now in
     let file = g.D.Disk.device.content old in
-    weaker g.D.Disk.device old (disk_of c.append.new.self) (λ left. told node left ≡ told node file) (IsBeforeOrAfter file c.in_ok-group.group) c.append.ensures.any_moment
-    (λ left is. told_before_or_after c.args.version node file left c.requires.can_tell
+    weaker g.D.Disk.device old (disk_of c.append.new.self) (λ left. decoded node left ≡ decoded node file) (IsBeforeOrAfter file c.in_ok-group.group) c.append.ensures.any_moment
+    (λ left is. decoded_before_or_after c.args.version node file left c.requires.can_tell
     ((λ i. shaped_version (configuration_of c.args.version (sym c.committee.ensures i) (sym c.own.ensures i))) ∙ c.in_ok-group.ensures.shape)
     c.requires.empty (subst (λ group. IsBeforeOrAfter file group left)
     (c.in_ok-group.ensures.group ∙ (λ i. configuration_of c.args.version (c.committee.ensures i) (c.own.ensures i) ∷ [])) is))
@@ -76,7 +76,7 @@ returns-clause-same g c =
     let node = node_of g.S.Sign.scheme c.args.config.now in
     let file = g.D.Disk.device.content (disk_of c.args.journal.now) in
     let later = g.D.Disk.device.content (disk_of c.append.new.self) in
-    told_before_or_after c.args.version node file later c.requires.can_tell
+    decoded_before_or_after c.args.version node file later c.requires.can_tell
     ((λ i. shaped_version (configuration_of c.args.version (sym c.committee.ensures i) (sym c.own.ensures i))) ∙ c.in_ok-group.ensures.shape)
     c.requires.empty
     (subst (λ group. IsBeforeOrAfter file group later)
@@ -97,7 +97,7 @@ returns-in_err-group-clause-keeps g c =
     let old = disk_of c.args.journal.now in
     let node = node_of g.S.Sign.scheme c.args.config.now in
     started g.D.Disk.device old (KeepsOrBegins c.args.version node (g.D.Disk.device.content old))
-    (λ left now. inl ([], c.requires.empty, ap stands (c.requires.alive.firm left (g.met.D.Disk.only_now old left now)) ∙ c.requires.empty))
+    (λ left now. inl ([], c.requires.empty, ap stands (c.requires.alive.durable left (g.met.D.Disk.only_now old left now)) ∙ c.requires.empty))
 
 pub returns-in_err-append-clause-keeps : goal.returns-in_err-append-clause-keeps
 returns-in_err-append-clause-keeps g c =

@@ -2,8 +2,8 @@ use Rattle.std.proofs.Common.{◌∙◌, subst}
 use Rattle.journal.specs.Pairs.{spare_disk, areas_of}
 use Rattle.validator.specs.Setting.{ConfigView, node_of}
 use Rattle.opening.specs.Finished.{at_records}
-use Rattle.opening.specs.Told.{StandsAt, Tells, read_pair, told_in}
-use Rattle.opening.proofs.PairOpening.{told_at, tells_at}
+use Rattle.opening.specs.Decoded.{StandsAt, Tells, read_pair, decoded_in}
+use Rattle.opening.proofs.PairOpening.{decoded_at, tells_at}
 use Rattle.opening.proofs.Renewals.{areas_pair}
 use Rattle.opening.proofs.stores.finish_on.Goals as goal
 
@@ -17,7 +17,7 @@ renew_for-requires-clause-stands g c =
     let journal = c.args.journal in
     let has = c.requires.records in
     let tables = c.in-Ok.validator.tables in
-    told_at node (areas_of device journal) has.0 tables (areas_pair device journal (device.content (spare_disk journal)) c.requires.pair) has.1
+    decoded_at node (areas_of device journal) has.0 tables (areas_pair device journal (device.content (spare_disk journal)) c.requires.pair) has.1
     (subst (λ (s : ConfigView g.row.S.Denot). StandsAt (node_of g.S.Sign.scheme s) (read_pair (node_of g.S.Sign.scheme s) has.0) tables) c.requires.config (c.in-Ok.ensures.stands has.0 has.2))
 
 pub renew_for-requires-clause-version : goal.renew_for-requires-clause-version

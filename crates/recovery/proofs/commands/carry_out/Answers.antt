@@ -11,7 +11,7 @@ use Rattle.spec_world.specs.Text.{Desk, after, due, without_due, frames}
 use Rattle.recovery.specs.Script.{said, IsOf}
 use Rattle.wire_write.specs.Frames.{AppendsLess}
 use Rattle.recovery.proofs.Appending.{part_none, part_less, not_at_disk}
-use Rattle.recovery.proofs.Desks.{behind_breaks, breaks_at, not_device}
+use Rattle.recovery.proofs.Desks.{after_breaks, breaks_at, not_device}
 use Rattle.recovery.proofs.commands.carry_out.Goals as goal
 
 pub write_due-requires : goal.write_due-requires
@@ -48,7 +48,7 @@ returns-in-Err-clause-err g c = λ desk is.
     let command = said c.args.command in
     breaks_at node g.D.Disk.device desk command c.fail.result.error c.in-Err.error c.fail.result.disk (store_of next.journal) c.fail.ensures.error
     (c.fail.ensures.disk ∙ ap store_of c.write_due.ensures.same)
-    (behind_breaks node g.D.Disk.device desk command next.book next.journal (c.in_ok-desk.ensures.ok desk is) c.in-Err.error c.in-Err.ensures.errors)
+    (after_breaks node g.D.Disk.device desk command next.book next.journal (c.in_ok-desk.ensures.ok desk is) c.in-Err.error c.in-Err.ensures.errors)
 
 pub returns-in-Err-clause-writes_part : goal.returns-in-Err-clause-writes_part
 returns-in-Err-clause-writes_part g c = λ desk is.

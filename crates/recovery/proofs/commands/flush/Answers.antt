@@ -1,6 +1,6 @@
 use Rattle.std.proofs.Common.{Err, ap, ◌∙◌}
 use Rattle.std.proofs.lemmas.Result.{on_ok_weaker}
-use Rattle.book.specs.OnTheWay.{IsWithOrWithout}
+use Rattle.book.specs.InFlight.{IsWithOrWithout}
 use Rattle.desk.proofs.Standing.{left_by}
 use Rattle.journal.specs.Journal.{disk_of}
 use Rattle.validator.specs.Setting.{node_of}

@@ -92,7 +92,7 @@ returns-in_err-desk-2-clause-err g c =
     let turn = YieldsList-turn chain done c.loop-command.command-iterator c.loop-command.yielded_by c.next.result c.next.new.self next c.in-Some.is c.next.ensures.steps in
     let front = sym (map-id done) ∙ YieldsList-so_far chain done c.loop-command.command-iterator c.loop-command.yielded_by in
     let so_far = c.loop-command.invariant.so_far in
-    let desk = script.desk_behind node (script.desk_on so_far.state) (script_of done) in
+    let desk = script.desk_after node (script.desk_on so_far.state) (script_of done) in
     let p = err_from_is_err_and c.from_residual-in_err-desk-2.result c.from_residual-in_err-desk-2.ensures.1 in
     rw (p.1, p.2)
     (inr (cut_short node g.D.Disk.device before (script_of done) (said next) c.loop-command.desk.book c.loop-command.desk.journal
@@ -113,7 +113,7 @@ returns-in_err-desk-2-clause-given_out_err g c =
     let turn = YieldsList-turn chain done c.loop-command.command-iterator c.loop-command.yielded_by c.next.result c.next.new.self next c.in-Some.is c.next.ensures.steps in
     let front = sym (map-id done) ∙ YieldsList-so_far chain done c.loop-command.command-iterator c.loop-command.yielded_by in
     let so_far = c.loop-command.invariant.so_far in
-    let desk = script.desk_behind node (script.desk_on so_far.state) (script_of done) in
+    let desk = script.desk_after node (script.desk_on so_far.state) (script_of done) in
     let passed = passes_at c.args.config.now.charter commands (length done) next c.requires.passed turn.0 turn.1 in
     let taken = All-push (IsTakenIn node) (script_of done) (said next) c.loop-command.invariant.taken (taken_in node next passed c.limits_hold.ensures) in
     let p = err_from_is_err_and c.from_residual-in_err-desk-2.result c.from_residual-in_err-desk-2.ensures.1 in
@@ -139,7 +139,7 @@ loop-command-preserved g c =
     let done = c.loop-command.yielded in
     let next = c.in-Some.command in
     let so_far = c.loop-command.invariant.so_far in
-    let desk = script.desk_behind node (script.desk_on so_far.state) (script_of done) in
+    let desk = script.desk_after node (script.desk_on so_far.state) (script_of done) in
     let old = g.W.Write.contents c.args.writer.now in
     let later = c.in_ok-desk-2.desk in
     let commands = c.args.commands.items in

@@ -133,8 +133,8 @@ impl Sum {
         self.add(&seen.floor.to_be_bytes());
         self.add(&(seen.order.len() as u64).to_be_bytes());
         for first in [seen.floor, seen.round.saturating_sub(1)] {
-            for behind in 0..3 {
-                self.add_votes(validator, first.saturating_add(behind));
+            for after in 0..3 {
+                self.add_votes(validator, first.saturating_add(after));
             }
         }
     }

@@ -29,7 +29,7 @@ loop-preserved g c =
     let so_far = c.loop.invariant in (
       so_far.0 ++ take count rest,
       Appends-trans (g.W.Write.contents c.args.writer.now) (g.W.Write.contents c.loop.writer) (g.W.Write.contents c.write_some.new.writer) so_far.0 (take count rest) so_far.1 c.in_ok-count.ensures.ok,
-      more_written c.args.bytes.now so_far.0 rest count so_far.2 ∙ ap (λ (l : List ℕ). (so_far.0 ++ take count rest) ++ l) (sym c.behind-left.ensures),
+      more_written c.args.bytes.now so_far.0 rest count so_far.2 ∙ ap (λ (l : List ℕ). (so_far.0 ++ take count rest) ++ l) (sym c.after-left.ensures),
     )
 
 pub returns-in_err-count-clause-err : goal.returns-in_err-count-clause-err

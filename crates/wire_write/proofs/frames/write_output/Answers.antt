@@ -6,7 +6,7 @@ use Rattle.std.proofs.lemmas.Result.{on_ok_weaker}
 use Rattle.wire.specs.Outputs.{output_bytes}
 use Rattle.wire.specs.Outputs.{frame_of}
 use Rattle.wire_write.specs.Frames.{AppendsLess}
-use Rattle.wire_write.proofs.Appending.{part_front, part_behind, less_none, on_err, on_err_more}
+use Rattle.wire_write.proofs.Appending.{part_front, part_after, less_none, on_err, on_err_more}
 use Rattle.wire_write.proofs.frames.write_output.Goals as goal
 
 pub returns-in_err-body-clause-err : goal.returns-in_err-body-clause-err
@@ -55,5 +55,5 @@ returns-clause-err g c =
     let mid = g.W.Write.contents c.write_bytes.new.writer in
     let new = g.W.Write.contents c.write_bytes-2.new.writer in
     on_err_more c.write_bytes-2.result _ _
-    (λ second. subst (AppendsLess old new) (sym whole) (part_behind old mid new len body c.in_ok-write_bytes.ensures.ok (subst (AppendsLess mid new) c.as_slice.ensures.value second)))
+    (λ second. subst (AppendsLess old new) (sym whole) (part_after old mid new len body c.in_ok-write_bytes.ensures.ok (subst (AppendsLess mid new) c.as_slice.ensures.value second)))
     c.write_bytes-2.ensures.err

@@ -7,10 +7,10 @@ use Rattle.journal.specs.declared.layout.TheConstants.{MAX_JOURNAL_BYTES}
 use Rattle.book.specs.Book.{BookView, Run, Stands, Settles, settled_by, settled_to, SettlesNext}
 use Rattle.spec_model.specs.Nodes.{Node}
 use Rattle.validator.specs.Setting.{ConfigView, node_of}
-use Rattle.book.specs.OnTheWay.{AreOnTheWay, HasRoomFor, IsWithOrWithout}
+use Rattle.book.specs.InFlight.{AreInFlight, HasRoomFor, IsWithOrWithout}
 use Rattle.book.specs.Pending.{IsLongestBeginning}
 use Rattle.book.proofs.Options.{of_some}
-use Rattle.book.proofs.OnTheWay.{way_settles, flushes, goes_down, with_or_without}
+use Rattle.book.proofs.InFlight.{way_settles, flushes, goes_down, with_or_without}
 use Rattle.diskmodel.proofs.Clock.{weaker}
 use Rattle.book.proofs.own.OwnBook.flush.Goals as goal
 
@@ -20,9 +20,9 @@ settle-requires g c =
     let middle : BookView g.row.S.Denot = c.take.new.self in
     let group : List (List ℕ) = c.in-Some.group in
     let node : ConfigView g.row.S.Denot → Node = node_of g.S.Sign.scheme in
-    let way : AreOnTheWay (node before.validator.setting) middle (group ∷ []) =
-    of_some (λ group. (groups : List (List (List ℕ))) → AreOnTheWay (node before.validator.setting) before groups
-    → AreOnTheWay (node before.validator.setting) middle (groups ++ group ∷ [])) _ group c.in-Some.is c.in_ok-group.ensures.way []
+    let way : AreInFlight (node before.validator.setting) middle (group ∷ []) =
+    of_some (λ group. (groups : List (List (List ℕ))) → AreInFlight (node before.validator.setting) before groups
+    → AreInFlight (node before.validator.setting) middle (groups ++ group ∷ [])) _ group c.in-Some.is c.in_ok-group.ensures.way []
     (c.is_settled.ensures.way (search rules)) in
     subst (λ (s : ConfigView g.row.S.Denot). SettlesNext (node s) middle c.in-Ok.synced) (sym c.take.ensures.setting)
     (subst (SettlesNext (node before.validator.setting) middle) (sym c.in-Ok.ensures.synced) (way_settles (node before.validator.setting) middle group [] way))
@@ -33,13 +33,13 @@ returns-in-Ok-clause-way g c =
     let middle : BookView g.row.S.Denot = c.take.new.self in
     let group : List (List ℕ) = c.in-Some.group in
     let node : ConfigView g.row.S.Denot → Node = node_of g.S.Sign.scheme in
-    let way : AreOnTheWay (node before.validator.setting) middle (group ∷ []) =
-    of_some (λ group. (groups : List (List (List ℕ))) → AreOnTheWay (node before.validator.setting) before groups
-    → AreOnTheWay (node before.validator.setting) middle (groups ++ group ∷ [])) _ group c.in-Some.is c.in_ok-group.ensures.way []
+    let way : AreInFlight (node before.validator.setting) middle (group ∷ []) =
+    of_some (λ group. (groups : List (List (List ℕ))) → AreInFlight (node before.validator.setting) before groups
+    → AreInFlight (node before.validator.setting) middle (groups ++ group ∷ [])) _ group c.in-Some.is c.in_ok-group.ensures.way []
     (c.is_settled.ensures.way (search rules)) in
-    subst (λ (s : ConfigView g.row.S.Denot). AreOnTheWay (node s) c.settle.new.self []) c.take.ensures.setting
-    (c.settle.ensures.way [] (subst (λ (s : ConfigView g.row.S.Denot). AreOnTheWay (node s) middle (c.in-Ok.synced ∷ [])) (sym c.take.ensures.setting)
-    (subst (λ (records : List (List ℕ)). AreOnTheWay (node before.validator.setting) middle (records ∷ [])) (sym c.in-Ok.ensures.synced) way)))
+    subst (λ (s : ConfigView g.row.S.Denot). AreInFlight (node s) c.settle.new.self []) c.take.ensures.setting
+    (c.settle.ensures.way [] (subst (λ (s : ConfigView g.row.S.Denot). AreInFlight (node s) middle (c.in-Ok.synced ∷ [])) (sym c.take.ensures.setting)
+    (subst (λ (records : List (List ℕ)). AreInFlight (node before.validator.setting) middle (records ∷ [])) (sym c.in-Ok.ensures.synced) way)))
 
 pub returns-in-Ok-clause-flushed : goal.returns-in-Ok-clause-flushed
 returns-in-Ok-clause-flushed g c some =
@@ -82,15 +82,15 @@ returns-in-Err-Full-clause-full g c is =
     let middle : BookView g.row.S.Denot = c.take.new.self in
     let group : List (List ℕ) = c.in-Some.group in
     let node : ConfigView g.row.S.Denot → Node = node_of g.S.Sign.scheme in
-    let way : AreOnTheWay (node before.validator.setting) middle (group ∷ []) =
-    of_some (λ group. (groups : List (List (List ℕ))) → AreOnTheWay (node before.validator.setting) before groups
-    → AreOnTheWay (node before.validator.setting) middle (groups ++ group ∷ [])) _ group c.in-Some.is c.in_ok-group.ensures.way []
+    let way : AreInFlight (node before.validator.setting) middle (group ∷ []) =
+    of_some (λ group. (groups : List (List (List ℕ))) → AreInFlight (node before.validator.setting) before groups
+    → AreInFlight (node before.validator.setting) middle (groups ++ group ∷ [])) _ group c.in-Some.is c.in_ok-group.ensures.way []
     (c.is_settled.ensures.way (search rules)) in
     let longest = of_some (λ group. IsLongestBeginning before.pending group middle.pending) _ group c.in-Some.is c.in_ok-group.ensures.group in
     let taken = of_some (λ group. middle ≡ record before { pending = middle.pending; taken = before.taken + length group }) _ group c.in-Some.is c.in_ok-group.ensures.taken in
-    let fell : AreOnTheWay (node before.validator.setting) c.fail.new.self (group ∷ []) =
-    subst (λ (s : ConfigView g.row.S.Denot). AreOnTheWay (node s) c.fail.new.self (group ∷ [])) c.take.ensures.setting
-    (c.fail.ensures.way (group ∷ []) (subst (λ (s : ConfigView g.row.S.Denot). AreOnTheWay (node s) middle (group ∷ [])) (sym c.take.ensures.setting) way)) in (
+    let fell : AreInFlight (node before.validator.setting) c.fail.new.self (group ∷ []) =
+    subst (λ (s : ConfigView g.row.S.Denot). AreInFlight (node s) c.fail.new.self (group ∷ [])) c.take.ensures.setting
+    (c.fail.ensures.way (group ∷ []) (subst (λ (s : ConfigView g.row.S.Denot). AreInFlight (node s) middle (group ∷ [])) (sym c.take.ensures.setting) way)) in (
       goes_down (node before.validator.setting) before middle group longest taken c.fail.new.self c.fail.ensures.down fell,
       λ room. omega (arith, room, c.in-Err-Full.ensures.full.0 (ap Err c.in-Err-Full.field-0-is)),
     )
@@ -111,16 +111,16 @@ returns-in-Err g c =
     let middle : BookView g.row.S.Denot = c.take.new.self in
     let group : List (List ℕ) = c.in-Some.group in
     let node : ConfigView g.row.S.Denot → Node = node_of g.S.Sign.scheme in
-    let way : AreOnTheWay (node before.validator.setting) middle (group ∷ []) =
-    of_some (λ group. (groups : List (List (List ℕ))) → AreOnTheWay (node before.validator.setting) before groups
-    → AreOnTheWay (node before.validator.setting) middle (groups ++ group ∷ [])) _ group c.in-Some.is c.in_ok-group.ensures.way []
+    let way : AreInFlight (node before.validator.setting) middle (group ∷ []) =
+    of_some (λ group. (groups : List (List (List ℕ))) → AreInFlight (node before.validator.setting) before groups
+    → AreInFlight (node before.validator.setting) middle (groups ++ group ∷ [])) _ group c.in-Some.is c.in_ok-group.ensures.way []
     (c.is_settled.ensures.way (search rules)) in
     let file = g.D.Disk.device.content (disk_of c.args.journal.now) in
     let longest = of_some (λ group. IsLongestBeginning before.pending group middle.pending) _ group c.in-Some.is c.in_ok-group.ensures.group in
     let taken = of_some (λ group. middle ≡ record before { pending = middle.pending; taken = before.taken + length group }) _ group c.in-Some.is c.in_ok-group.ensures.taken in
-    let fell : AreOnTheWay (node before.validator.setting) c.fail-in-Err.new.self (group ∷ []) =
-    subst (λ (s : ConfigView g.row.S.Denot). AreOnTheWay (node s) c.fail-in-Err.new.self (group ∷ [])) c.take.ensures.setting
-    (c.fail-in-Err.ensures.way (group ∷ []) (subst (λ (s : ConfigView g.row.S.Denot). AreOnTheWay (node s) middle (group ∷ [])) (sym c.take.ensures.setting) way)) in
+    let fell : AreInFlight (node before.validator.setting) c.fail-in-Err.new.self (group ∷ []) =
+    subst (λ (s : ConfigView g.row.S.Denot). AreInFlight (node s) c.fail-in-Err.new.self (group ∷ [])) c.take.ensures.setting
+    (c.fail-in-Err.ensures.way (group ∷ []) (subst (λ (s : ConfigView g.row.S.Denot). AreInFlight (node s) middle (group ∷ [])) (sym c.take.ensures.setting) way)) in
     let room : HasRoomFor group file =
     omega (
       arith,

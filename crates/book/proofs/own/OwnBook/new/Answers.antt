@@ -2,7 +2,7 @@ use Rattle.std.proofs.Common.{inl, sym, subst}
 use Rattle.book.specs.Book.{BookView, run_on}
 use Rattle.validator.specs.Setting.{node_of}
 use Rattle.validator.specs.Standing.{ValidatorView}
-use Rattle.book.specs.OnTheWay.{StandsSomewhere}
+use Rattle.book.specs.InFlight.{StandsSomewhere}
 use Rattle.book.proofs.own.OwnBook.new.Goals as goal
 
 pub invariant_of-result : goal.invariant_of-result

@@ -1,7 +1,7 @@
 use Rattle.std.proofs.Common.{subst, arith}
 use Rattle.spec_records.specs.Records.{record_of}
 use Rattle.book.specs.Pending.{HasRoom, HasNoRoom}
-use Rattle.book.proofs.Packs.{packed_in_last, packed_behind, one_fits}
+use Rattle.book.proofs.Packs.{packed_in_last, packed_after, one_fits}
 use Rattle.book.proofs.pending.Pending.put.Goals as goal
 
 pub invariant_of-self : goal.invariant_of-self
@@ -14,6 +14,6 @@ pub invariant_of-self-else-last_has_room : goal.invariant_of-self-else-last_has_
 invariant_of-self-else-last_has_room c =
     let items = c.self.inside.drafts.items in
     let none = subst (HasNoRoom items) c.requires.len (c.last_has_room.ensures.none c.if-last_has_room.false) in
-    packed_behind c.put_behind.result items c.put_behind.new.drafts.items (record_of c.args.event.now) none
-    (one_fits (record_of c.args.event.now) (omega (arith, c.requires.short, c.requires.len))) c.put_behind.ensures.ok c.put_behind.ensures.err
+    packed_after c.put_after.result items c.put_after.new.drafts.items (record_of c.args.event.now) none
+    (one_fits (record_of c.args.event.now) (omega (arith, c.requires.short, c.requires.len))) c.put_after.ensures.ok c.put_after.ensures.err
     c.self.invariant

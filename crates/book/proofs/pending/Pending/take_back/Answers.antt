@@ -1,7 +1,7 @@
 use Rattle.std.proofs.Common.{◌≡◌, ◌≢◌, List, ℕ, ◌++◌, ◌∷◌, [], ap, sym, ◌∙◌, append-nil, subst}
 use Rattle.std.proofs.lemmas.Bool.{true≢false}
 use Rattle.book.specs.Pending.{ArePacked, all_records}
-use Rattle.book.proofs.Packs.{packed_before, records_behind, back_packed, ends_in_last}
+use Rattle.book.proofs.Packs.{packed_before, records_after, back_packed, ends_in_last}
 use Rattle.book.proofs.pending.Pending.take_back.Goals as goal
 
 pub take_back-requires : goal.take_back-requires
@@ -29,7 +29,7 @@ returns-then-not-is_empty c = λ others last parts.
     let front = c.pop_back.new.self.items in
     let ends = ends_in_last c.self.inside.drafts.items front c.in-Some.last others last c.in-Some.ensures.items c.self.invariant (c.self.view_is ∙ parts) in
     let left : c.take_back.new.self ≡ ends.0 = c.take_back.ensures ends.0 last ends.1 in
-    ap all_records (c.push_back_reserved.ensures.items ∙ ap (λ (l : List (List ℕ)). front ++ l ∷ []) left) ∙ records_behind front ends.0 ∙ sym ends.2
+    ap all_records (c.push_back_reserved.ensures.items ∙ ap (λ (l : List (List ℕ)). front ++ l ∷ []) left) ∙ records_after front ends.0 ∙ sym ends.2
 
 pub returns-else-not-is_empty : goal.returns-else-not-is_empty
 returns-else-not-is_empty c = λ others last parts.

@@ -2,7 +2,7 @@ use Rattle.std.proofs.Common.{List, ℕ, Some, refl, ap, ◌∙◌, subst}
 use Rattle.desk.specs.Desk.{IsOpened}
 use Rattle.journal.specs.Areas.{alone}
 use Rattle.desk.proofs.Worlds.{begins}
-use Rattle.opening.specs.Told.{told}
+use Rattle.opening.specs.Decoded.{decoded}
 use Rattle.opening.proofs.Opened.{no_refusal}
 use Rattle.spec_world.proofs.Beginning.{runs_begin}
 use Rattle.validator.specs.Setting.{node_of}
@@ -25,7 +25,7 @@ returns-in-Ok-clause-begins g c = λ empty.
 pub returns-in-Err-clause-errors : goal.returns-in-Err-clause-errors
 returns-in-Err-clause-errors g c = λ empty.
     let node = node_of g.S.Sign.scheme c.args.config.now in
-    no_refusal c.in-Err.failed.error (fresh node) (told node (g.D.Disk.device.content c.args.disk)) (ap (told node) empty ∙ told_nothing node) c.in-Err.ensures.err.tells
+    no_refusal c.in-Err.failed.error (fresh node) (decoded node (g.D.Disk.device.content c.args.disk)) (ap (decoded node) empty ∙ told_nothing node) c.in-Err.ensures.err.tells
 
 pub returns-in-Ok-clause-runs : goal.returns-in-Ok-clause-runs
 returns-in-Ok-clause-runs g c =

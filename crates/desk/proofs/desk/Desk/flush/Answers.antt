@@ -1,6 +1,6 @@
 use Rattle.std.proofs.Common.{◌≡◌, ◌≢◌, ◌⊎◌, ℕ, ◌+◌, [], ◌∷◌, length, sym, ◌∙◌, subst}
 use Rattle.std.specs.Prelude.{IfOk, IfErr, IsErrOf}
-use Rattle.book.specs.OnTheWay.{FindsNoRoom, FailsWithRoom, IsWithOrWithout}
+use Rattle.book.specs.InFlight.{FindsNoRoom, FailsWithRoom, IsWithOrWithout}
 use Rattle.book.specs.declared.own.error.FlushError.TheVariants.{Full, Device}
 use Rattle.journal.specs.Journal.{disk_of}
 use Rattle.spec_world.specs.Steps.{take_to, device_call, settle}

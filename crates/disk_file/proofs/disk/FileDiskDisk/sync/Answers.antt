@@ -2,7 +2,7 @@ use Rattle.std.proofs.Common.{◌≡◌, List, ℕ, length, take, ap, sym, subst
 use Rattle.std.specs.Prelude.{IfSome}
 use Rattle.diskmodel.specs.declared.call.Call.TheVariants.{Synced}
 use Rattle.disk_file.specs.Stories.{held}
-use Rattle.disk_file.proofs.Steps.{Longer, longer, longer_by, same_calls, sync_sound, sync_held, sync_outcomes, sync_firm}
+use Rattle.disk_file.proofs.Steps.{Longer, longer, longer_by, same_calls, sync_sound, sync_held, sync_outcomes, sync_durable}
 use Rattle.disk_file.proofs.disk.FileDiskDisk.sync.Goals as goal
 
 pub invariant_of-self : goal.invariant_of-self
@@ -18,8 +18,8 @@ invariant_of-self c =
 more_of : (c : goal.After-self-1) → Longer Synced c.args.self.now.tape c.synced.new.self
 more_of c = longer Synced _ _ _ _ (same_calls _ _ _ c.fail_if_down.ensures.calls c.counted.ensures.calls) c.synced.ensures (search rules)
 
-pub returns-clause-firm : goal.returns-clause-firm
-returns-clause-firm c = sync_firm _ _ c.args.self.now.sound (more_of c)
+pub returns-clause-durable : goal.returns-clause-durable
+returns-clause-durable c = sync_durable _ _ c.args.self.now.sound (more_of c)
 
 pub returns-clause-content : goal.returns-clause-content
 returns-clause-content c = sync_held _ _ c.args.self.now.sound (more_of c)

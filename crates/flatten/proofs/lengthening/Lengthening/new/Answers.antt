@@ -7,7 +7,7 @@ use Rattle.tusk.specs.Chain.{ledger_in}
 use Rattle.flatten.specs.Lengthening.{FitsTo}
 use Rattle.flatten.specs.Segments.{leader_held, read_references_by, digests_of, leaders_in, AreLinked, IsMarkedFor}
 use Rattle.flatten.specs.Sets.{is_free}
-use Rattle.flatten.proofs.Leaders.{IsBehind, none_taken, one_taken, all_taken, reads_below, before_at, next_place, at_end, drop_one, dropped_all, no_coin}
+use Rattle.flatten.proofs.Leaders.{IsAfter, none_taken, one_taken, all_taken, reads_below, before_at, next_place, at_end, drop_one, dropped_all, no_coin}
 use Rattle.flatten.proofs.Taking.{bare}
 use Rattle.flatten.proofs.lengthening.Lengthening.new.Goals as goal
 
@@ -37,16 +37,16 @@ loop-place-preserved c = (
       let high = c.index-chain-chain.result.0 in
       let free : ℕ → ℕ → Bool = is_free graph high c.loop-place.ordered.items in
       let free' : ℕ → ℕ → Bool = is_free graph high c.order.new.taken.items in
-      let was : IsBehind graph total most high (before_at previous chain place) (leader ∷ drop (suc place) chain) free c.loop-place.digests.items reads =
-      subst (λ l. IsBehind graph total most high (before_at previous chain place) l free c.loop-place.digests.items reads)
+      let was : IsAfter graph total most high (before_at previous chain place) (leader ∷ drop (suc place) chain) free c.loop-place.digests.items reads =
+      subst (λ l. IsAfter graph total most high (before_at previous chain place) l free c.loop-place.digests.items reads)
       (drop_one chain place leader at) (c.loop-place.invariant.1 previous linked marked) in
       let now = one_taken graph c.limits_hold.ensures total most high (before_at previous chain place) leader (drop (suc place) chain) free free'
       c.loop-place.digests.items c.order.new.digests.items reads c.in_ok-more.more reads' was c.saturating_add-reads.ensures
       (λ d leads. c.in_ok-more.ensures.digests (leader_held graph (before_at previous chain place)) d leads)
       (λ d leads all. c.in_ok-more.ensures.unordered (leader_held graph (before_at previous chain place)) d leads all)
       (λ d leads. c.in_ok-more.ensures.reads (leader_held graph (before_at previous chain place)) d leads) in
-      subst (λ l. IsBehind graph total most high (before_at previous chain (place + 1)) l free' c.order.new.digests.items reads') (ap (λ k. drop k chain) (sym (add-one place)))
-      (subst (λ b. IsBehind graph total most high b (drop (suc place) chain) free' c.order.new.digests.items reads') (sym (next_place previous chain place ∙ at)) now),
+      subst (λ l. IsAfter graph total most high (before_at previous chain (place + 1)) l free' c.order.new.digests.items reads') (ap (λ k. drop k chain) (sym (add-one place)))
+      (subst (λ b. IsAfter graph total most high b (drop (suc place) chain) free' c.order.new.digests.items reads') (sym (next_place previous chain place ∙ at)) now),
 )
 
 -- the last leader, at the last place

@@ -17,7 +17,7 @@ use Rattle.node_shared.specs.declared.flush_seat.FlushSeat.{FlushSeat}
 use Rattle.wire.specs.Lists.{Begins}
 use Rattle.flusher.specs.Rounds.{HoldsEither, IsFlusherOf, KeepsEarlier}
 use Rattle.flusher.specs.declared.flusher.Flusher.{Flusher}
-use Rattle.flusher.proofs.Reading.{spare_firm}
+use Rattle.flusher.proofs.Reading.{spare_durable}
 use Rattle.flusher.proofs.Adding.{still_holds}
 use Rattle.flusher.proofs.Taking.{takes_all, takes_all_as, goes_down, stays_up, tells_room}
 use Rattle.flusher.proofs.flusher.Flusher.checkpoint.Goals as goal
@@ -26,7 +26,7 @@ pub returns-in_err-generation-clause-settles : goal.returns-in_err-generation-cl
 returns-in_err-generation-clause-settles g c =
     let flush = c.take_all.new.flush in
     record {
-      takes = inr (inr (takes_all_as _ _ _ _ _ c.in-Ok.ensures.flush_firm (sym c.in_err-generation.ensures.taken)
+      takes = inr (inr (takes_all_as _ _ _ _ _ c.in-Ok.ensures.flush_durable (sym c.in_err-generation.ensures.taken)
           (takes_all c.args.node.now flush c.in-Ok.ensures.flush c.args.seat.now.view.seen (begins_trans _ _ _ c.in-Ok.ensures.looked.more c.in-Ok.ensures.seen) c.in-Ok.ensures.takes.all.0)));
       memory = search rules;
       settled = search rules;
@@ -41,11 +41,11 @@ returns-clause-settles g c =
     let wrote = c.in_ok-generation.ensures in
     let taken = ap taken_by told.flush ∙ wrote.taken in
     record {
-      takes = inr (inr (takes_all_as _ _ _ _ _ c.in-Ok.ensures.flush_firm (sym taken)
+      takes = inr (inr (takes_all_as _ _ _ _ _ c.in-Ok.ensures.flush_durable (sym taken)
           (takes_all c.args.node.now flush c.in-Ok.ensures.flush c.args.seat.now.view.seen (begins_trans _ _ _ c.in-Ok.ensures.looked.more c.in-Ok.ensures.seen) c.in-Ok.ensures.takes.all.0)));
       memory = search rules;
-      settled = ap (λ (f : FlushSeat). f.seat.view.firm) told.flush ∙ wrote.ok.1 ∙ sym taken;
-      told = told.firm ∙ wrote.ok.1 ∙ sym taken;
+      settled = ap (λ (f : FlushSeat). f.seat.view.durable) told.flush ∙ wrote.ok.1 ∙ sym taken;
+      told = told.durable ∙ wrote.ok.1 ∙ sym taken;
       not_settled = search rules;
     }
 
@@ -63,7 +63,7 @@ returns-clause-told g c =
     record {
       same = same_then c.args.seat.now c.take_all.new.seat later looked.same (subst (λ s. IsSame s later) mid learned.same);
       more = begins_trans c.args.seat.now.view.seen c.take_all.new.seat.view.seen later.view.seen looked.more (subst (λ s. Begins s.view.seen later.view.seen) mid learned.seen);
-      more_firm = subst (λ f. Begins f later.view.firm) looked.firm (subst (λ s. Begins s.view.firm later.view.firm) mid learned.more);
+      more_durable = subst (λ f. Begins f later.view.durable) looked.durable (subst (λ s. Begins s.view.durable later.view.durable) mid learned.more);
       no_change = search rules;
       device = search rules;
       full = search rules;
@@ -79,7 +79,7 @@ returns-in_err-generation-clause-told g c =
     record {
       same = same_then before mid c.rewrite.new.seat looked.same (same_told mid c.rewrite.new.seat c.rewrite.new.self.seat.seat.view is);
       more = subst (λ s. Begins before.view.seen s.view.seen) (sym is) looked.more;
-      more_firm = subst (λ s. Begins before.view.firm s.view.firm) (sym is) (subst (λ l. Begins before.view.firm l) (sym looked.firm) (begins_same before.view.firm));
+      more_durable = subst (λ s. Begins before.view.durable s.view.durable) (sym is) (subst (λ l. Begins before.view.durable l) (sym looked.durable) (begins_same before.view.durable));
       no_change = search rules;
       device = λ _. knows;
       full = λ _. knows;
@@ -92,8 +92,8 @@ returns-in-Err-clause-any_moment g c =
     let journal = c.args.self.now.journal in
     let spare = spare_disk journal in
     inr (started device spare _
-    (λ left now. still_holds g.S.Sign.scheme c.args.node.now c.args.self.now.seat.seat.view.firm (taken_by c.take_all.new.flush) (areas_of device journal) (areas_with device journal left)
-    (ap (areas_with device journal) (spare_firm device journal (had.alive (search rules)) left (g.met.D.Disk.only_now spare left now))) (had.holds (search rules))))
+    (λ left now. still_holds g.S.Sign.scheme c.args.node.now c.args.self.now.seat.seat.view.durable (taken_by c.take_all.new.flush) (areas_of device journal) (areas_with device journal left)
+    (ap (areas_with device journal) (spare_durable device journal (had.alive (search rules)) left (g.met.D.Disk.only_now spare left now))) (had.holds (search rules))))
 
 pub returns-in_err-generation-clause-down : goal.returns-in_err-generation-clause-down
 returns-in_err-generation-clause-down g c =
@@ -123,16 +123,16 @@ returns-clause-any_moment g c =
     let taken = ap taken_by c.tell_settled.ensures.flush ∙ c.in_ok-generation.ensures.taken in
     let leaves = λ (s t : List Marked).
     AtEachMoment device (spare_disk journal) (disk_of c.rewrite.new.self.journal) (λ left. HoldsEither g.S.Sign.scheme c.args.node.now s t (areas_of device journal) (areas_with device journal left)) in
-    inr (subst (λ s. leaves s (taken_by c.tell_settled.new.flush)) c.in-Ok.ensures.flush_firm
-    (subst (leaves c.take_all.new.flush.seat.view.firm) (sym taken) c.in_ok-generation.ensures.any_moment))
+    inr (subst (λ s. leaves s (taken_by c.tell_settled.new.flush)) c.in-Ok.ensures.flush_durable
+    (subst (leaves c.take_all.new.flush.seat.view.durable) (sym taken) c.in_ok-generation.ensures.any_moment))
 
 pub returns-clause-earlier : goal.returns-clause-earlier
 returns-clause-earlier g c =
     let device = g.D.Disk.device in
-    let settled = ap (λ (f : FlushSeat). f.seat.view.firm) c.tell_settled.ensures.flush ∙ c.in_ok-generation.ensures.ok.1 in
+    let settled = ap (λ (f : FlushSeat). f.seat.view.durable) c.tell_settled.ensures.flush ∙ c.in_ok-generation.ensures.ok.1 in
     let keeps = λ (s t : List Marked). KeepsEarlier g.S.Sign.scheme c.args.node.now s t (areas_of device c.args.self.now.journal) (areas_of device c.rewrite.new.self.journal) in
-    subst (λ s. keeps s c.tell_settled.new.flush.seat.view.firm) c.in-Ok.ensures.flush_firm
-    (subst (keeps c.take_all.new.flush.seat.view.firm) (sym settled) c.in_ok-generation.ensures.earlier)
+    subst (λ s. keeps s c.tell_settled.new.flush.seat.view.durable) c.in-Ok.ensures.flush_durable
+    (subst (keeps c.take_all.new.flush.seat.view.durable) (sym settled) c.in_ok-generation.ensures.earlier)
 
 pub returns-in_err-generation-clause-any_moment : goal.returns-in_err-generation-clause-any_moment
 returns-in_err-generation-clause-any_moment g c =
@@ -141,6 +141,6 @@ returns-in_err-generation-clause-any_moment g c =
     let same : c.from_residual.result ≡ c.rewrite.result = search rules in
     let leaves = λ (r : Result ℕ FlushError) (s t : List Marked).
     AtEachMoment device (spare_disk journal) (rewritten_disk r c.rewrite.new.self.journal) (λ left. HoldsEither g.S.Sign.scheme c.args.node.now s t (areas_of device journal) (areas_with device journal left)) in
-    inr (subst (λ r. leaves r c.args.self.now.seat.seat.view.firm (taken_by c.rewrite.new.self.seat)) (sym same)
-    (subst (λ s. leaves c.rewrite.result s (taken_by c.rewrite.new.self.seat)) c.in-Ok.ensures.flush_firm
-    (subst (leaves c.rewrite.result c.take_all.new.flush.seat.view.firm) (sym c.rewrite.ensures.taken) c.rewrite.ensures.any_moment)))
+    inr (subst (λ r. leaves r c.args.self.now.seat.seat.view.durable (taken_by c.rewrite.new.self.seat)) (sym same)
+    (subst (λ s. leaves c.rewrite.result s (taken_by c.rewrite.new.self.seat)) c.in-Ok.ensures.flush_durable
+    (subst (leaves c.rewrite.result c.take_all.new.flush.seat.view.durable) (sym c.rewrite.ensures.taken) c.rewrite.ensures.any_moment)))

@@ -36,7 +36,7 @@ returns-in-Ok-clause-flusher g c =
       rests = λ up. settles.taken ∙ sym settles.settled;
       idle = λ up. settles.idle;
       alive = λ up. c.in-Ok.ensures.alive;
-      holds = λ up. subst (λ (l : List Marked). HoldsAfter g.S.Sign.scheme c.args.node.now l (areas_of g.D.Disk.device c.rewrite.new.self)) (sym settles.firm)
+      holds = λ up. subst (λ (l : List Marked). HoldsAfter g.S.Sign.scheme c.args.node.now l (areas_of g.D.Disk.device c.rewrite.new.self)) (sym settles.durable)
           (taken_there g.S.Sign.scheme g.D.Disk.device c.args.node.now c.args.self.now.seat c.args.self.now.journal c.requires.flush_seat c.requires.holds c.requires.legal
           (areas_of g.D.Disk.device c.rewrite.new.self) keeps);
     }

@@ -24,7 +24,7 @@ returns-in_err-count-in-Some-clause-settles g c =
     let flush = c.take.new.flush in
     let of = c.in-Ok.ensures.flush in
     record {
-      takes = inr (inr (takes_as _ _ _ _ _ c.in-Ok.ensures.flush_firm (sym c.in_err-count-in-Some.ensures.taken)
+      takes = inr (inr (takes_as _ _ _ _ _ c.in-Ok.ensures.flush_durable (sym c.in_err-count-in-Some.ensures.taken)
           (takes_some c.args.node.now flush of c.args.seat.now.view.seen (begins_trans _ _ _ c.in-Ok.ensures.looked.more c.in-Ok.ensures.seen) c.in-Some.group
           (of_some _ _ _ c.in-Some.is c.in-Ok.ensures.takes.group))));
       memory = search rules;
@@ -44,15 +44,15 @@ returns-clause-settles g c =
       | in-Some+in_ok-count-in-Some w ↦
           let self_is = ap (λ f. f.seat) w.self-is in
           let taken = ap taken_by told.flush ∙ ap taken_by self_is ∙ w.in_ok-count-in-Some.ensures.taken in
-          let firm = ap (λ (f : _). f.seat.view.firm) self_is ∙ w.in_ok-count-in-Some.ensures.ok.1 in
+          let durable = ap (λ (f : _). f.seat.view.durable) self_is ∙ w.in_ok-count-in-Some.ensures.ok.1 in
           record {
-            takes = inr (inr (takes_as _ _ _ _ _ c.in-Ok.ensures.flush_firm (sym taken)
+            takes = inr (inr (takes_as _ _ _ _ _ c.in-Ok.ensures.flush_durable (sym taken)
                 (takes_some c.args.node.now flush of c.args.seat.now.view.seen had w.in-Some.group (of_some _ _ _ w.in-Some.is c.in-Ok.ensures.takes.group))));
             memory = search rules;
             size = ap length taken ∙ size_some c.args.node.now flush of w.in-Some.group (of_some _ _ _ w.in-Some.is c.in-Ok.ensures.takes.group)
-                ∙ (λ i. length (c.in-Ok.ensures.flush_firm i) + (sym w.in_ok-count-in-Some.ensures.ok.0 ∙ sym w.count-is) i);
-            settled = ap (λ (f : _). f.seat.view.firm) told.flush ∙ firm ∙ sym taken;
-            told = told.firm ∙ firm ∙ sym taken;
+                ∙ (λ i. length (c.in-Ok.ensures.flush_durable i) + (sym w.in_ok-count-in-Some.ensures.ok.0 ∙ sym w.count-is) i);
+            settled = ap (λ (f : _). f.seat.view.durable) told.flush ∙ durable ∙ sym taken;
+            told = told.durable ∙ durable ∙ sym taken;
             not_settled = search rules;
           }
       | in-None w ↦
@@ -60,14 +60,14 @@ returns-clause-settles g c =
           let none = c.in-Ok.ensures.takes.none (is_none _ w.in-None.is) in
           let rests = none.0 ∙ c.requires.flusher.rests (search rules) ∙ sym c.in-Ok.ensures.flush_settled in
           let taken = ap taken_by told.flush ∙ ap taken_by self_is ∙ rests_at c.args.node.now flush of rests in
-          let firm = ap (λ (f : _). f.seat.view.firm) self_is in
+          let durable = ap (λ (f : _). f.seat.view.durable) self_is in
           record {
-            takes = inr (inr (takes_as _ _ _ _ _ c.in-Ok.ensures.flush_firm (sym (ap taken_by told.flush ∙ ap taken_by self_is))
+            takes = inr (inr (takes_as _ _ _ _ _ c.in-Ok.ensures.flush_durable (sym (ap taken_by told.flush ∙ ap taken_by self_is))
                 (takes_none c.args.node.now flush of c.args.seat.now.view.seen had rests none.1)));
             memory = search rules;
-            size = ap length (taken ∙ c.in-Ok.ensures.flush_firm) ∙ (search rules) ∙ ap (λ n. length c.args.self.now.seat.seat.view.firm + n) (sym w.count-is);
-            settled = ap (λ (f : _). f.seat.view.firm) told.flush ∙ firm ∙ sym taken;
-            told = told.firm ∙ firm ∙ sym taken;
+            size = ap length (taken ∙ c.in-Ok.ensures.flush_durable) ∙ (search rules) ∙ ap (λ n. length c.args.self.now.seat.seat.view.durable + n) (sym w.count-is);
+            settled = ap (λ (f : _). f.seat.view.durable) told.flush ∙ durable ∙ sym taken;
+            told = told.durable ∙ durable ∙ sym taken;
             not_settled = search rules;
           }
     ]
@@ -91,7 +91,7 @@ returns-clause-flusher g c =
             idle = λ up. c.in-Ok.ensures.flush_idle;
             alive = had.alive;
             holds = λ up. subst (λ f. HoldsAfter g.S.Sign.scheme c.args.node.now f (areas_of g.D.Disk.device c.args.self.now.journal))
-                (sym c.in-Ok.ensures.flush_firm) (had.holds up);
+                (sym c.in-Ok.ensures.flush_durable) (had.holds up);
           })
     ] in
     subst (λ f. IsFlusherOf g.S.Sign.scheme g.D.Disk.device c.args.node.now
@@ -109,7 +109,7 @@ returns-clause-told g c =
     record {
       same = same_then c.args.seat.now c.take.new.seat later looked.same (subst (λ s. IsSame s later) mid learned.same);
       more = begins_trans c.args.seat.now.view.seen c.take.new.seat.view.seen later.view.seen looked.more (subst (λ s. Begins s.view.seen later.view.seen) mid learned.seen);
-      more_firm = subst (λ f. Begins f later.view.firm) looked.firm (subst (λ s. Begins s.view.firm later.view.firm) mid learned.more);
+      more_durable = subst (λ f. Begins f later.view.durable) looked.durable (subst (λ s. Begins s.view.durable later.view.durable) mid learned.more);
       no_change = search rules;
       device = search rules;
       full = search rules;
@@ -125,7 +125,7 @@ returns-in_err-count-in-Some-clause-told g c =
     record {
       same = same_then before mid c.add.new.seat looked.same (same_told mid c.add.new.seat c.add.new.self.seat.seat.view is);
       more = subst (λ s. Begins before.view.seen s.view.seen) (sym is) looked.more;
-      more_firm = subst (λ s. Begins before.view.firm s.view.firm) (sym is) (subst (λ l. Begins before.view.firm l) (sym looked.firm) (begins_same before.view.firm));
+      more_durable = subst (λ s. Begins before.view.durable s.view.durable) (sym is) (subst (λ l. Begins before.view.durable l) (sym looked.durable) (begins_same before.view.durable));
       no_change = search rules;
       device = λ _. knows;
       full = λ _. knows;
@@ -136,8 +136,8 @@ returns-in-Err-clause-any_moment g c =
     let had = c.requires.flusher in
     let disk = disk_of c.args.self.now.journal in
     inr (started g.D.Disk.device disk _
-    (λ left now. holds_here g.S.Sign.scheme g.D.Disk.device c.args.node.now c.args.self.now.seat.seat.view.firm (taken_by c.take.new.flush) c.args.self.now.journal (had.holds (search rules)) left
-    ((had.alive (search rules)).firm left (g.met.D.Disk.only_now disk left now))))
+    (λ left now. holds_here g.S.Sign.scheme g.D.Disk.device c.args.node.now c.args.self.now.seat.seat.view.durable (taken_by c.take.new.flush) c.args.self.now.journal (had.holds (search rules)) left
+    ((had.alive (search rules)).durable left (g.met.D.Disk.only_now disk left now))))
 
 pub returns-clause-any_moment : goal.returns-clause-any_moment
 returns-clause-any_moment g c =
@@ -147,7 +147,7 @@ returns-clause-any_moment g c =
     let node = c.args.node.now in
     let journal = c.args.self.now.journal in
     let disk = disk_of journal in
-    let settled = c.args.self.now.seat.seat.view.firm in
+    let settled = c.args.self.now.seat.seat.view.durable in
     let taken = taken_by c.tell_settled.new.flush in
     let leaves = λ (f : Flusher g.row.D.Denot) (s t : List Marked).
     AtEachMoment device disk (disk_of f.journal) (λ left. HoldsEither scheme node s t (areas_of device journal) (areas_at device journal left)) in
@@ -156,30 +156,30 @@ returns-clause-any_moment g c =
           let is : taken ≡ taken_by c.take.new.flush =
           ap taken_by c.tell_settled.ensures.flush ∙ ap (λ (f : Flusher g.row.D.Denot). taken_by f.seat) w.self-is ∙ w.in_ok-count-in-Some.ensures.taken in
           inr (subst (λ (f : Flusher g.row.D.Denot). leaves f settled taken) (sym w.self-is)
-          (subst (λ s. leaves w.add.new.self s taken) c.in-Ok.ensures.flush_firm
-          (subst (λ t. leaves w.add.new.self c.take.new.flush.seat.view.firm t) (sym is) w.in_ok-count-in-Some.ensures.any_moment)))
+          (subst (λ s. leaves w.add.new.self s taken) c.in-Ok.ensures.flush_durable
+          (subst (λ t. leaves w.add.new.self c.take.new.flush.seat.view.durable t) (sym is) w.in_ok-count-in-Some.ensures.any_moment)))
       | in-None w ↦
           inr (subst (λ (f : Flusher g.row.D.Denot). leaves f settled taken) (sym w.self-is)
           (started device disk _
-          (λ left now. holds_here scheme device node settled taken journal (had.holds (search rules)) left ((had.alive (search rules)).firm left (g.met.D.Disk.only_now disk left now)))))
+          (λ left now. holds_here scheme device node settled taken journal (had.holds (search rules)) left ((had.alive (search rules)).durable left (g.met.D.Disk.only_now disk left now)))))
     ]
 
 pub returns-clause-earlier : goal.returns-clause-earlier
 returns-clause-earlier g c =
     let device = g.D.Disk.device in
     let node = c.args.node.now in
-    let settled = c.args.self.now.seat.seat.view.firm in
+    let settled = c.args.self.now.seat.seat.view.durable in
     let keeps = λ (f : Flusher g.row.D.Denot) (s t : List Marked). KeepsEarlier g.S.Sign.scheme node s t (areas_of device c.args.self.now.journal) (areas_of device f.journal) in
-    let told = ap (λ (f : FlushSeat). f.seat.view.firm) c.tell_settled.ensures.flush in
+    let told = ap (λ (f : FlushSeat). f.seat.view.durable) c.tell_settled.ensures.flush in
     elim c.match-found.branch [
       | in-Some+in_ok-count-in-Some w ↦
-          let is = told ∙ ap (λ (f : Flusher g.row.D.Denot). f.seat.seat.view.firm) w.self-is ∙ w.in_ok-count-in-Some.ensures.ok.1 in
-          subst (λ (f : Flusher g.row.D.Denot). keeps f settled c.tell_settled.new.flush.seat.view.firm) (sym w.self-is)
-          (subst (λ s. keeps w.add.new.self s c.tell_settled.new.flush.seat.view.firm) c.in-Ok.ensures.flush_firm
-          (subst (λ t. keeps w.add.new.self c.take.new.flush.seat.view.firm t) (sym is) w.in_ok-count-in-Some.ensures.earlier))
+          let is = told ∙ ap (λ (f : Flusher g.row.D.Denot). f.seat.seat.view.durable) w.self-is ∙ w.in_ok-count-in-Some.ensures.ok.1 in
+          subst (λ (f : Flusher g.row.D.Denot). keeps f settled c.tell_settled.new.flush.seat.view.durable) (sym w.self-is)
+          (subst (λ s. keeps w.add.new.self s c.tell_settled.new.flush.seat.view.durable) c.in-Ok.ensures.flush_durable
+          (subst (λ t. keeps w.add.new.self c.take.new.flush.seat.view.durable t) (sym is) w.in_ok-count-in-Some.ensures.earlier))
       | in-None w ↦
-          let is = told ∙ ap (λ (f : Flusher g.row.D.Denot). f.seat.seat.view.firm) w.self-is ∙ c.in-Ok.ensures.flush_firm in
-          subst (λ (f : Flusher g.row.D.Denot). keeps f settled c.tell_settled.new.flush.seat.view.firm) (sym w.self-is)
+          let is = told ∙ ap (λ (f : Flusher g.row.D.Denot). f.seat.seat.view.durable) w.self-is ∙ c.in-Ok.ensures.flush_durable in
+          subst (λ (f : Flusher g.row.D.Denot). keeps f settled c.tell_settled.new.flush.seat.view.durable) (sym w.self-is)
           (subst (λ t. keeps c.args.self.now settled t) (sym is) (λ base there. there))
     ]
 
@@ -189,8 +189,8 @@ returns-in_err-count-in-Some-clause-any_moment g c =
     let journal = c.args.self.now.journal in
     let leaves = λ (s t : List Marked).
     AtEachMoment device (disk_of journal) (disk_of c.add.new.self.journal) (λ left. HoldsEither g.S.Sign.scheme c.args.node.now s t (areas_of device journal) (areas_at device journal left)) in
-    inr (subst (λ s. leaves s (taken_by c.add.new.self.seat)) c.in-Ok.ensures.flush_firm
-    (subst (leaves c.take.new.flush.seat.view.firm) (sym c.in_err-count-in-Some.ensures.taken) c.in_err-count-in-Some.ensures.any_moment))
+    inr (subst (λ s. leaves s (taken_by c.add.new.self.seat)) c.in-Ok.ensures.flush_durable
+    (subst (leaves c.take.new.flush.seat.view.durable) (sym c.in_err-count-in-Some.ensures.taken) c.in_err-count-in-Some.ensures.any_moment))
 
 pub returns-clause-nothing : goal.returns-clause-nothing
 returns-clause-nothing g c = elim c.match-found.branch [

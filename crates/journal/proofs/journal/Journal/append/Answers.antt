@@ -9,7 +9,7 @@ returns-clause-alive g c =
     record {
       ends_closed = met.ends_closed;
       len = omega (arith, met.len, alive.len, c.written_len-added.ensures);
-      firm = met.firm;
+      durable = met.durable;
       pair = pair_goes_on g.D.Disk.device c.args.self.now.disk c.write_group.new.disk c.args.group met.fits alive.ends_closed met.content c.args.self.now.spare c.requires.first alive.pair;
     }
 

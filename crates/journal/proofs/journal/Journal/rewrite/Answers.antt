@@ -66,8 +66,8 @@ returns-clause-alive g c =
     record {
       ends_closed = subst EndsClosed (sym done.content) (checkpoint_ends (spare.generation + 1) c.args.snapshot found.packs);
       len = omega (arith, ap length done.content, found.value (spare.generation + 1));
-      firm = done.firm;
-      pair = new_pair device c.args.snapshot found.packs found.shaped spare c.rewrite.new.self old.disk c.rewrite.new.live (omega arith) told done.swapped done.content c.requires.alive.firm;
+      durable = done.durable;
+      pair = new_pair device c.args.snapshot found.packs found.shaped spare c.rewrite.new.self old.disk c.rewrite.new.live (omega arith) told done.swapped done.content c.requires.alive.durable;
     }
 
 pub returns-clause-records : goal.returns-clause-records

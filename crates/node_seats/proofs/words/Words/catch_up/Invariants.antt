@@ -9,6 +9,6 @@ invariant-loop g l =
     (goal.iterator-loop g).can_next l.iterator' × (goal.iterator-loop g).is_finite l.iterator'
     × (l.other ≡ l.initial.other)
     × IsSame l.initial.seat l.seat
-    × (l.seat.view.firm ≡ l.initial.seat.view.firm)
+    × (l.seat.view.durable ≡ l.initial.seat.view.durable)
     × Begins l.initial.seat.view.seen l.seat.view.seen
     × IsToldDown l.initial.seat.view.down l.initial.other.view.down l.seat.view.down

@@ -13,14 +13,14 @@ loop-preserved g c =
     let turn = same_then c.loop.seat c.tell.new.to c.read.new.seat (same_told c.loop.seat c.tell.new.to c.loop.other.view told)
     (same_seat c.tell.new.to c.read.new.seat c.read.ensures.of reads.rest) in
     let seen = ap (λ s. s.view.seen) told in
-    let firm = subst (λ l. Begins l c.read.new.seat.view.firm) (ap (λ s. s.view.firm) told) reads.firm in (
+    let durable = subst (λ l. Begins l c.read.new.seat.view.durable) (ap (λ s. s.view.durable) told) reads.durable in (
       tt,
       tt,
       c.tell.ensures.same ∙ until.2,
       same_then c.args.seat.now c.loop.seat c.read.new.seat until.3 turn,
-      begins_trans c.args.seat.now.view.firm c.loop.seat.view.firm c.read.new.seat.view.firm until.4 firm,
+      begins_trans c.args.seat.now.view.durable c.loop.seat.view.durable c.read.new.seat.view.durable until.4 durable,
       begins_trans c.args.seat.now.view.seen c.loop.seat.view.seen c.read.new.seat.view.seen until.5 (subst (λ l. Begins l c.read.new.seat.view.seen) seen reads.seen),
-      still_seen c.args.seat.now.view c.loop.seat.view c.read.new.seat.view until.5 firm until.6
-          (subst (λ l. length c.read.new.seat.view.firm ≤ length l → c.read.new.seat.view.seen ≡ l) seen reads.same),
+      still_seen c.args.seat.now.view c.loop.seat.view c.read.new.seat.view until.5 durable until.6
+          (subst (λ l. length c.read.new.seat.view.durable ≤ length l → c.read.new.seat.view.seen ≡ l) seen reads.same),
       once_told (told_down c.args.seat.now.view.down c.args.other.now.view.down c.loop.seat.view.down c.read.new.seat.view.down until.7 (ap (λ v. v.down) reads.rest ∙ ap (λ s. s.view.down) told ∙ ap (λ o. c.loop.seat.view.down || o.view.down) until.2)),
     )

@@ -9,7 +9,7 @@ invariant-loop g l =
     (goal.iterator-loop g).can_next l.iterator' × (goal.iterator-loop g).is_finite l.iterator'
     × (l.other ≡ l.initial.other)
     × IsSame l.initial.seat l.seat
-    × Begins l.initial.seat.view.firm l.seat.view.firm
+    × Begins l.initial.seat.view.durable l.seat.view.durable
     × Begins l.initial.seat.view.seen l.seat.view.seen
-    × (length l.seat.view.firm ≤ length l.initial.seat.view.seen → l.seat.view.seen ≡ l.initial.seat.view.seen)
+    × (length l.seat.view.durable ≤ length l.initial.seat.view.seen → l.seat.view.seen ≡ l.initial.seat.view.seen)
     × IsToldDown l.initial.seat.view.down l.initial.other.view.down l.seat.view.down

@@ -10,7 +10,7 @@ loop-preserved g c =
       tt,
       tt,
       same_then c.args.seat.now c.loop.seat c.accept.new.seat until.2 (same_seat c.loop.seat c.accept.new.seat c.accept.ensures.of (looked c.loop.seat.view c.accept.new.seat.view looks.rest)),
-      ap (λ v. v.firm) looks.rest ∙ until.3,
+      ap (λ v. v.durable) looks.rest ∙ until.3,
       ap (λ v. v.down) looks.rest ∙ until.4,
       begins_trans c.args.seat.now.view.seen c.loop.seat.view.seen c.accept.new.seat.view.seen until.5 looks.seen,
     )

@@ -80,7 +80,7 @@ returns-then-receipt-clause-brought g c =
     mid.view.seen seen in
     let looked = looked_stays g.S.Sign.scheme c.args.self.now c.args.seat.now c.see_all.new.seat mid first.looked told.stays in
     subst (λ s. Brought g.S.Sign.scheme c.args.self.now c.args.seat.now s) (sym c.catch_up.ensures.other)
-    (brought_new g.S.Sign.scheme c.args.self.now c.args.seat.now mid c.raise.new.seat g.C.Call.event looked raised.same raised.down raised.firm raised.seen raised.mine
+    (brought_new g.S.Sign.scheme c.args.self.now c.args.seat.now mid c.raise.new.seat g.C.Call.event looked raised.same raised.down raised.durable raised.seen raised.mine
     (λ base at. subst (λ (e : Event). IsLegalAfter (node_of g.S.Sign.scheme c.args.self.now.setting) base (events mid.view.seen ++ e ∷ [])) (sym c.requires.call) (legal base at)))
 
 pub returns-else-receipt-clause-home : goal.returns-else-receipt-clause-home

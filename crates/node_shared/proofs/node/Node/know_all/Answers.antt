@@ -9,14 +9,14 @@ use Rattle.node_shared.proofs.node.Node.know_all.Goals as goal
 
 pub returns-clause-learned : goal.returns-clause-learned
 returns-clause-learned g c =
-    let told = c.catch_up_firm.ensures in
-    let later = c.catch_up_firm.new.seat in
+    let told = c.catch_up_durable.ensures in
+    let later = c.catch_up_durable.new.seat in
     record {
       of_node = of_same c.args.self.now c.args.seat.now later c.requires.of told.same;
       same = told.same;
       more = told.more;
       seen = told.seen;
-      within = told.firm_seen;
+      within = told.durable_seen;
       own = told.own c.requires.of.numbered;
-      legal = subst (λ (n : NodeView g.row.S.Denot). (base : State) → IsBase g.S.Sign.scheme n base → IsLegalAfter (node_of g.S.Sign.scheme n.setting) base (events later.view.firm)) c.self.view_is told.judged;
+      legal = subst (λ (n : NodeView g.row.S.Denot). (base : State) → IsBase g.S.Sign.scheme n base → IsLegalAfter (node_of g.S.Sign.scheme n.setting) base (events later.view.durable)) c.self.view_is told.judged;
     }

@@ -17,7 +17,7 @@ loop-preserved g c =
       tied.counts.settled ∙ until.3,
       tied.counts.taken ∙ until.4,
       tied.counts.rewriting ∙ until.5,
-      begins_trans c.args.flush.now.seat.view.firm c.loop.flush.seat.view.firm c.tie.new.flush.seat.view.firm until.6 tied.firm,
+      begins_trans c.args.flush.now.seat.view.durable c.loop.flush.seat.view.durable c.tie.new.flush.seat.view.durable until.6 tied.durable,
       begins_trans c.args.flush.now.seat.view.seen c.loop.flush.seat.view.seen c.tie.new.flush.seat.view.seen until.7 tied.seen,
     )
 

@@ -15,5 +15,5 @@ returns-clause-home g c =
 
 pub returns-clause-settles : goal.returns-clause-settles
 returns-clause-settles g c =
-    settles_taken c.args.self.now c.args.flush.now c.requires.tied.flush_of c.raise_firm.new.seat c.catch_up_firm.new.other c.raise_firm.ensures.same c.raise_firm.ensures.seen
-    c.raise_firm.ensures.firm c.catch_up_firm.ensures.other
+    settles_taken c.args.self.now c.args.flush.now c.requires.tied.flush_of c.raise_durable.new.seat c.catch_up_durable.new.other c.raise_durable.ensures.same c.raise_durable.ensures.seen
+    c.raise_durable.ensures.durable c.catch_up_durable.ensures.other

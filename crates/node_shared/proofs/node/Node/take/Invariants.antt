@@ -11,5 +11,5 @@ invariant-loop g l =
     × (l.flush.settled ≡ l.initial.flush.settled)
     × (l.flush.taken ≡ l.initial.flush.taken)
     × (l.flush.rewriting ≡ l.initial.flush.rewriting)
-    × Begins l.initial.flush.seat.view.firm l.flush.seat.view.firm
+    × Begins l.initial.flush.seat.view.durable l.flush.seat.view.durable
     × Begins l.initial.flush.seat.view.seen l.flush.seat.view.seen

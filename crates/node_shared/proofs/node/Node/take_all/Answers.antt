@@ -5,7 +5,7 @@ use Rattle.wire.specs.Lists.{Begins}
 use Rattle.node_seats.specs.Views.{IsSame}
 use Rattle.node_seats.proofs.Beginnings.{begins_trans}
 use Rattle.node_seats.proofs.Same.{same_then}
-use Rattle.node_shared.proofs.Tied.{firm_same}
+use Rattle.node_shared.proofs.Tied.{durable_same}
 use Rattle.node_shared.proofs.node.Node.take_all.Goals as goal
 
 pub returns-then-tie-clause-flush_same : goal.returns-then-tie-clause-flush_same
@@ -14,14 +14,14 @@ returns-then-tie-clause-flush_same g c =
     (same_then c.args.flush.now.seat c.loop.flush.seat c.tie.new.flush.seat
     (same_then c.args.flush.now.seat c.meet.new.second c.loop.flush.seat c.meet.ensures.second.same c.loop.invariant.3) c.tie.ensures.same)
 
-pub returns-then-tie-clause-flush_firm : goal.returns-then-tie-clause-flush_firm
-returns-then-tie-clause-flush_firm g c =
+pub returns-then-tie-clause-flush_durable : goal.returns-then-tie-clause-flush_durable
+returns-then-tie-clause-flush_durable g c =
     let kept = c.take_all_tied-snapshot.ensures.same in
     let settled = kept.1 ∙ c.tie.ensures.counts.settled ∙ c.loop.invariant.4 in
-    let began = begins_trans c.meet.new.second.view.firm c.loop.flush.seat.view.firm c.tie.new.flush.seat.view.firm c.loop.invariant.7 c.tie.ensures.firm in
-    firm_same c.args.flush.now.seat.view.firm c.take_all_tied-snapshot.new.flush.seat.view.firm c.args.flush.now.settled
-    (subst (λ l. Begins l c.take_all_tied-snapshot.new.flush.seat.view.firm) c.meet.ensures.second.firm
-    (subst (λ s. Begins c.meet.new.second.view.firm s.view.firm) (sym kept.0) began))
+    let began = begins_trans c.meet.new.second.view.durable c.loop.flush.seat.view.durable c.tie.new.flush.seat.view.durable c.loop.invariant.7 c.tie.ensures.durable in
+    durable_same c.args.flush.now.seat.view.durable c.take_all_tied-snapshot.new.flush.seat.view.durable c.args.flush.now.settled
+    (subst (λ l. Begins l c.take_all_tied-snapshot.new.flush.seat.view.durable) c.meet.ensures.second.durable
+    (subst (λ s. Begins c.meet.new.second.view.durable s.view.durable) (sym kept.0) began))
     c.requires.flush.settled (sym settled ∙ c.take_all_tied-snapshot.ensures.flush.settled)
 
 pub returns-then-tie-clause-seen : goal.returns-then-tie-clause-seen
@@ -41,7 +41,7 @@ loop-preserved g c =
       tied.counts.settled ∙ until.4,
       tied.counts.taken ∙ until.5,
       tied.counts.rewriting ∙ until.6,
-      begins_trans c.meet.new.second.view.firm c.loop.flush.seat.view.firm c.tie.new.flush.seat.view.firm until.7 tied.firm,
+      begins_trans c.meet.new.second.view.durable c.loop.flush.seat.view.durable c.tie.new.flush.seat.view.durable until.7 tied.durable,
       begins_trans c.meet.new.second.view.seen c.loop.flush.seat.view.seen c.tie.new.flush.seat.view.seen until.8 tied.seen,
     )
 

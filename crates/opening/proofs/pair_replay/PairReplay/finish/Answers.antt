@@ -2,7 +2,7 @@ use Rattle.std.proofs.Common.{subst}
 use Rattle.validator.specs.Setting.{ConfigView, node_of}
 use Rattle.journal.specs.Format.{FailsAs}
 use Rattle.opening.specs.PairReplayed.{HasReached}
-use Rattle.opening.specs.Told.{StandsAt, read_state}
+use Rattle.opening.specs.Decoded.{StandsAt, read_state}
 use Rattle.opening.specs.declared.reached.Reached.{Reached}
 use Rattle.opening.proofs.PairReplays.{fresh_stands, whole_stands, whole_fails, standing_stands, failed_tells}
 use Rattle.opening.proofs.Telling.{ok_weaker, err_weaker}

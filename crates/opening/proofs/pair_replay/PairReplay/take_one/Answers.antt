@@ -3,7 +3,7 @@ use Rattle.journal.specs.declared.record.Record.{Record}
 use Rattle.std.proofs.lemmas.List.Elements.{All-push}
 use Rattle.journal.specs.Configuration.{shaped_version}
 use Rattle.opening.specs.PairReplayed.{version_in, HasReached}
-use Rattle.opening.specs.Told.{IsText}
+use Rattle.opening.specs.Decoded.{IsText}
 use Rattle.opening.specs.declared.reached.Reached.{Reached}
 use Rattle.opening.proofs.PairReplays.{version_stays, reached_some}
 use Rattle.opening.proofs.pair_replay.PairReplay.take_one.Goals as goal

@@ -15,7 +15,7 @@ use Rattle.admission.specs.declared.tables.Tables.{Tables}
 use Rattle.validator.specs.Setting.{node_of}
 use Rattle.validator.specs.Standing.{AreAtSound, GoesOn}
 use Rattle.validator.proofs.NeverDown.{never_down, comes_up}
-use Rattle.validator.proofs.Meeting.{meets_at, behind, stands, answered_new, goes_on}
+use Rattle.validator.proofs.Meeting.{meets_at, following, stands, answered_new, goes_on}
 use Rattle.validator.proofs.validator.Validator.step.Goals as goal
 
 pub returns-clause-answer : goal.returns-clause-answer
@@ -59,7 +59,7 @@ returns-clause-at g c = λ new.
     λ state is. meets_at node state event tables c.limits_hold.ensures within passed is in
     subst (λ v. (state : State) → AreAtSound (node_of g.S.Sign.scheme v.setting) v.tables state
     → AreAtSound (node_of g.S.Sign.scheme v.setting) c.take.new.tables (after (node_of g.S.Sign.scheme v.setting) state event)) c.self.view_is
-    (λ state is. behind c.sound_stays.ensures node state event tables c.take.new.tables sign c.take.result (meets state is) signs c.take.ensures.answer (c.take.ensures.at new) new)
+    (λ state is. following c.sound_stays.ensures node state event tables c.take.new.tables sign c.take.result (meets state is) signs c.take.ensures.answer (c.take.ensures.at new) new)
 
 pub returns-clause-same : goal.returns-clause-same
 returns-clause-same g c = λ old. ap (λ (t : Tables). record { setting = c.self.inside.config.now; tables = t }) (c.take.ensures.same old) ∙ c.self.view_is
@@ -124,7 +124,7 @@ returns-clause-longer g c = λ new.
     (λ history legal is.
     goes_on c.state_answers.ensures c.state_follows.ensures c.sound_stays.ensures c.order_grows.ensures node history event c.take.new.tables legal (record { message = within; passed = passed })
     (answered_new (answered node (kept node history) event) c.take.result (c.take.ensures.answer node (kept node history) (meets (kept node history) is) signs) new)
-    (behind c.sound_stays.ensures node (kept node history) event tables c.take.new.tables sign c.take.result (meets (kept node history) is) signs c.take.ensures.answer (c.take.ensures.at new) new))
+    (following c.sound_stays.ensures node (kept node history) event tables c.take.new.tables sign c.take.result (meets (kept node history) is) signs c.take.ensures.answer (c.take.ensures.at new) new))
 
 pub returns-clause-never_down : goal.returns-clause-never_down
 returns-clause-never_down g c =

@@ -1,0 +1,69 @@
+//! Why a frame is refused, as it is told.
+
+ghost use Rattle.std.specs.Prelude.{◌≡◌};
+ghost use Rattle.node_io.specs.Tellings.{of_make};
+ghost use Rattle.node_io.specs.declared.rejection.Rejection.TheVariants.{Unread, Unchecked, Refused};
+ghost use Rattle.wire.specs.declared.error.WireError.TheVariants.{Memory};
+
+use batchmaker::MakeError;
+use header::{CheckError, Refusal};
+use std::alloc::AllocError;
+use thiserror::Error;
+use wire::WireError;
+
+/// Why what a frame brought is refused. Printed as the kind of the refusal, its number and its name.
+#[derive(Clone, Copy, Debug, PartialEq, Eq, Error)]
+pub enum Rejection {
+    /// It can't be read.
+    #[error("unread {0}")]
+    Unread(WireError),
+    /// It fails a check.
+    #[error("unchecked {0}")]
+    Unchecked(CheckError),
+    /// The node refuses it.
+    #[error("refused {0}")]
+    Refused(Refusal),
+}
+
+impl From<WireError> for Rejection {
+    ghost from_gives = { λ error told. told ≡ Unread error };
+
+    fn from(error: WireError) -> Rejection {
+        Rejection::Unread(error)
+    }
+}
+
+impl From<CheckError> for Rejection {
+    ghost from_gives = { λ error told. told ≡ Unchecked error };
+
+    fn from(error: CheckError) -> Rejection {
+        Rejection::Unchecked(error)
+    }
+}
+
+impl From<Refusal> for Rejection {
+    ghost from_gives = { λ refusal told. told ≡ Refused refusal };
+
+    fn from(refusal: Refusal) -> Rejection {
+        Rejection::Refused(refusal)
+    }
+}
+
+impl From<AllocError> for Rejection {
+    ghost from_gives = { λ _ told. told ≡ Unread Memory };
+
+    fn from(_: AllocError) -> Rejection {
+        Rejection::Unread(WireError::Memory)
+    }
+}
+
+impl From<MakeError> for Rejection {
+    ghost from_gives = { λ error told. told ≡ of_make error };
+
+    fn from(error: MakeError) -> Rejection {
+        match error {
+            MakeError::Memory => Rejection::Unread(WireError::Memory),
+            MakeError::TooBig => Rejection::Unread(WireError::TooMany),
+        }
+    }
+}

@@ -1,0 +1,5 @@
+use Rattle.opening.proofs.Laws.{decoded_stands_for}
+use Rattle.opening.proofs.standing.decoded_stands_for.Goals as goal
+
+pub returns : goal.returns
+returns c = decoded_stands_for c.starts_fresh.ensures c.groups_stand.ensures.only

@@ -1,5 +1,0 @@
-use Rattle.opening.proofs.Laws.{told_stands_for}
-use Rattle.opening.proofs.standing.told_stands_for.Goals as goal
-
-pub returns : goal.returns
-returns c = told_stands_for c.starts_fresh.ensures c.groups_stand.ensures.only

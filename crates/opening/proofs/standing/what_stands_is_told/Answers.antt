@@ -1,5 +1,0 @@
-use Rattle.opening.proofs.Laws.{what_stands_is_told}
-use Rattle.opening.proofs.standing.what_stands_is_told.Goals as goal
-
-pub returns : goal.returns
-returns c = what_stands_is_told
