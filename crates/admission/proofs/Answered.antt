@@ -7,6 +7,7 @@ use Rattle.spec_model.specs.States.{State}
 use Rattle.spec_model.specs.Words.{Certificate, Coin, Digest, Event, Header, Signature, Vote}
 use Rattle.spec_machine.specs.Machine.{answered, grown}
 use Rattle.dag.specs.Graph.{slots_in}
+use Rattle.admission.specs.Headers.{IsHeaders}
 use Rattle.admission.specs.HeaderLaws.{VotesAgree}
 use Rattle.admission.proofs.Answering.{answered_as}
 use Rattle.admission.specs.Decisions.{told, header_decision, vote_decision, certificate_decision, coin_decision, new_header_outputs, known_header_outputs, known_outputs}
@@ -19,11 +20,11 @@ pub header_answered : (node : Node) (state : State) (event : Event) (tables : Ta
 header_answered node state event tables sign header meets signs =
     answered_as node state event (message.Header header) meets.message ∙ header_told node state tables sign header meets.sound meets.at signs
 
-pub vote_answered : VotesAgree → (node : Node) (state : State) (event : Event) (tables : Tables) (vote : Vote) → Meets node state event tables (message.Vote vote)
+pub vote_answered : VotesAgree → (node : Node) (state : State) (event : Event) (tables : Tables) (vote : Vote) → IsHeaders tables.headers → Meets node state event tables (message.Vote vote)
     → answered node state event
     ≡ told (vote_outputs node state (grown node state (message.Vote vote)) vote.round) (known_outputs (slots_in tables.sequencer.graph vote.round tables.own.0)) (vote_decision tables vote)
-vote_answered agree node state event tables vote meets =
-    answered_as node state event (message.Vote vote) meets.message ∙ vote_told agree node state (grown node state (message.Vote vote)) tables vote meets.sound meets.at
+vote_answered agree node state event tables vote holds meets =
+    answered_as node state event (message.Vote vote) meets.message ∙ vote_told agree node state (grown node state (message.Vote vote)) tables vote meets.sound meets.at holds
 
 pub certificate_answered : (node : Node) (state : State) (event : Event) (tables : Tables) (c : Certificate) → Meets node state event tables (message.Certificate c)
     → answered node state event ≡ told (order_outputs state (grown node state (message.Certificate c))) [] (certificate_decision tables c)

@@ -6,6 +6,7 @@ use Rattle.std.specs.Option.{option_map_or}
 use Rattle.std.proofs.lemmas.Bool.{cases_Bool, eq-eqb, true≢false}
 use Rattle.committee.specs.Charter.{Charter, weight, quorum_of}
 use Rattle.wire.specs.declared.output.Output.TheVariants as output
+use Rattle.certify.specs.Assembled.{AssemblyView}
 use Rattle.spec_laws.proofs.Lists.{given_or_none}
 use Rattle.spec_laws.proofs.Votes.{slot_is}
 use Rattle.spec_model.specs.Admitting.{when◌gives◌else◌, is_own, header_outputs, vote_outputs, order_outputs, known_header_answer, header_answer}
@@ -14,7 +15,7 @@ use Rattle.spec_model.specs.Holdings.{is_low, is_full, all_held}
 use Rattle.spec_model.specs.Nodes.{Node}
 use Rattle.spec_model.specs.Slots.{Slots, same_digest, header_digest, certificate_digest}
 use Rattle.spec_model.specs.States.{State, floor_in}
-use Rattle.spec_model.specs.Words.{Author, Certificate, Coin, Digest, Header, Output, Signature, Vote}
+use Rattle.spec_model.specs.Words.{Author, Certificate, Coin, Digest, Header, HeaderBody, Output, Signature, Vote}
 use Rattle.header.specs.declared.admission.Admission.{Admission}
 use Rattle.header.specs.declared.admission.Admission.TheVariants as admission
 use Rattle.header.specs.declared.refusal.Refusal.{Refusal}
@@ -26,11 +27,12 @@ use Rattle.dag.specs.Graph.{slots_in}
 use Rattle.dag.specs.declared.answers.Added.TheVariants as added
 use Rattle.dag.specs.declared.refusal.DagRefusal.TheVariants as refusal
 use Rattle.votebook.specs.Votes.{voted_in}
-use Rattle.admission.specs.Headers.{header_in}
+use Rattle.admission.specs.Headers.{assembly_at, header_in, is_complete_in, IsHeaders}
 use Rattle.admission.specs.HeaderLaws.{VotesAgree}
 use Rattle.admission.proofs.Answering.{may_name_all_alike}
+use Rattle.admission.proofs.VoteComing.{completed_by}
 use Rattle.admission.specs.Decisions.{told, is_own_of, voted_by, voted_decision, header_decision, vote_by, new_header_outputs, known_header_outputs}
-use Rattle.admission.specs.Decisions.{certified_decision, vote_decision, known_outputs, as_decision, certificate_decision, taken_decision}
+use Rattle.admission.specs.Decisions.{certified_decision, open_decision, is_on_own, vote_decision, known_outputs, as_decision, certificate_decision, taken_decision}
 use Rattle.admission.specs.Decisions.{coin_decision}
 use Rattle.admission.specs.Standing.{AreAt}
 use Rattle.admission.specs.declared.tables.answer.Answer.{Answer}
@@ -189,11 +191,48 @@ vote_cases vote new true true held slot voted = refl
 vote_cases vote new true false None slot voted = refl
 vote_cases vote new true false (Some header) slot voted = on_case vote new slot voted (same_digest (header_digest header.body) vote.header)
 
-pub vote_told : VotesAgree → (node : Node) (state later : State) (tables : Tables) (vote : Vote) → IsSound node state → AreAt node state tables
+-- what the certificate decides that is held for the vote's round
+abbrev slot_decision : Tables → Vote → Result Answer Refusal
+slot_decision tables vote = option_map_or (λ c. certified_decision c vote) (slots_in tables.sequencer.graph vote.round tables.own.0) (open_decision tables vote)
+
+-- that of a complete header is its own, so a vote on the header is known
+complete_known : (node : Node) (state : State) (tables : Tables) (vote : Vote) → IsSound node state → AreAt node state tables → IsHeaders tables.headers
+    → is_on_own tables vote ≡ true → is_complete_in tables.headers vote.round ≡ true → slot_decision tables vote ≡ Ok Known
+complete_known node state tables vote sound at holds on complete =
+    let ended : Option AssemblyView → Bool = λ o. option_map_or (λ a. a.complete) o false in
+    let named : Option AssemblyView → Bool =
+    λ o. option_map_or (λ digest. same_digest digest vote.header) (option_map (λ header. header_digest header.body) (option_map (λ a. a.header) o)) false in
+    elim (given_or_none (assembly_at tables.headers vote.round)) [
+      | inr none ↦ absurd (true≢false (sym complete ∙ ap ended none))
+      | inl found ↦
+          let assembled = found.0 in
+          let is : assembled.complete ≡ true = sym (ap ended found.1) ∙ complete in
+          let header : state.own_headers vote.round ≡ Some assembled.header = sym (at.headers.held vote.round) ∙ ap (option_map (λ (a : AssemblyView). a.header)) found.1 in
+          let done = completed_by node state tables.headers vote.round assembled sound at.headers (holds.entries vote.round assembled found.1) found.1 header is in
+          let slot : slots_in tables.sequencer.graph vote.round tables.own.0 ≡ Some done.certificate =
+          ap (λ (own : Author). slots_in tables.sequencer.graph vote.round own.0) at.own ∙ ap (λ (slots : Slots). slots vote.round node.own.0) at.sequence.slots ∙ done.held in
+          let same : same_digest (header_digest done.certificate.header) vote.header ≡ true =
+          ap (λ (body : HeaderBody). same_digest (header_digest body) vote.header) done.of ∙ sym (ap named found.1) ∙ on in
+          ap (λ (o : Option Certificate). option_map_or (λ c. certified_decision c vote) o (open_decision tables vote)) slot
+          ∙ ap (λ b. if b then Ok Known else Err CertConflict) same
+    ]
+
+-- so the test for a complete header changes no answer
+complete_cases : (own low on complete : Bool) (slot : Result Answer Refusal) → (on ≡ true → complete ≡ true → slot ≡ Ok Known)
+    → (if not own then Err NotOurs else if low then Err TooOld else if not on then Err NotOurs else slot)
+    ≡ (if not own then Err NotOurs else if low then Err TooOld else if not on then Err NotOurs else if complete then Ok Known else slot)
+complete_cases false low on complete slot is = refl
+complete_cases true true on complete slot is = refl
+complete_cases true false false complete slot is = refl
+complete_cases true false true false slot is = refl
+complete_cases true false true true slot is = is refl refl
+
+pub vote_told : VotesAgree → (node : Node) (state later : State) (tables : Tables) (vote : Vote) → IsSound node state → AreAt node state tables → IsHeaders tables.headers
     → vote_answer node state later vote
     ≡ told (vote_outputs node state later vote.round) (known_outputs (slots_in tables.sequencer.graph vote.round tables.own.0)) (vote_decision tables vote)
-vote_told agree node state later tables vote sound at =
+vote_told agree node state later tables vote sound at holds =
     let new = vote_outputs node state later vote.round in
+    let known = known_outputs (slots_in tables.sequencer.graph vote.round tables.own.0) in
     let on : Author → Slots → ℕ → Option Header → Bool → Admission =
     λ own slots floor held voted. told new (known_outputs (slots vote.round own.0)) (if not (vote.author.0 == own.0) then Err NotOurs else if is_low floor vote.round then Err TooOld
     else if not (option_map_or (λ digest. same_digest digest vote.header) (option_map (λ header. header_digest header.body) held) false) then Err NotOurs
@@ -207,6 +246,8 @@ vote_told agree node state later tables vote sound at =
     (is_some (state.counted vote.round vote.voter.0))) (sym (at.headers.held vote.round))
     ∙ ap (λ (voted : Bool). on tables.own (slots_in tables.sequencer.graph) tables.sequencer.graph.floor (header_in tables.headers vote.round) voted)
     (sym ((agree node state tables.headers sound at.headers).voted vote.round vote.voter.0))
+    ∙ ap (told new known) (complete_cases (is_own_of tables vote.author) (is_low tables.sequencer.graph.floor vote.round) (is_on_own tables vote)
+    (is_complete_in tables.headers vote.round) (slot_decision tables vote) (complete_known node state tables vote sound at holds))
 
 -- ---- certificates
 

@@ -1,14 +1,15 @@
 -- What a table has at a round, by the entries of its tree.
-use Rattle.std.proofs.Common.{◌≡◌, ℕ, ◌<◌, true, cond, List, [], ◌∷◌, length, Option, Some, None, refl, sym, ap, ◌∙◌, subst, inl, inr, arith}
-use Rattle.std.specs.Prelude.{◌==◌, IsSome, filter, find, map, nat_le, nat_lt, option_map, if◌then◌else◌}
+use Rattle.std.proofs.Common.{◌≡◌, ℕ, ◌<◌, ◌≤◌, Bool, true, false, cond, List, [], ◌∷◌, length, Option, Some, None, refl, sym, ap, ◌∙◌, subst, inl, inr, arith}
+use Rattle.std.specs.Prelude.{◌==◌, IsSome, find, map, nat_le, option_map, if◌then◌else◌}
+use Rattle.std.specs.Cmp.{nat_cmp_is}
+use Rattle.std.specs.declared.cmp.Ordering.TheVariants.{Greater}
 use Rattle.std.specs.BTreeMap.{BTreeMap, WritesThrough, get_by, is_at}
 use Rattle.std.specs.List.Sorted.{IsStrictlySortedBy}
 use Rattle.std.specs.Map.{lookup}
 use Rattle.std.specs.Option.{option_map_or}
-use Rattle.std.specs.Ordering.{nat_cmp}
-use Rattle.std.proofs.lemmas.Bool.{cases_Bool, cases_lt, eqb-true}
+use Rattle.std.specs.Ordering.{nat_cmp, is_gt}
+use Rattle.std.proofs.lemmas.Bool.{cases_Bool, eqb-true, leb-true}
 use Rattle.std.proofs.lemmas.Grind.{common_steps}
-use Rattle.std.proofs.lemmas.Map.Entries.{lookup-filter-keys}
 use Rattle.std.proofs.lemmas.Option.{none-some}
 use Rattle.wire.specs.declared.header.Vote.{Vote}
 use Rattle.committee.specs.Charter.{Charter, IsCharter}
@@ -50,28 +51,35 @@ updated old new key held more charter own = record {
       ∙ ap (cond (other == key) held) (found old other);
 }
 
-above : (last round : ℕ) (o : Option AssemblyView) → cond (nat_lt last round) o None ≡ (if nat_le round last then None else o)
-above last round o =
-    elim (cases_lt last round) [
-      | inl less ↦ grind (arith, less, common_steps)
-      | inr not ↦ grind (arith, not, common_steps)
-    ]
+-- where no key is below one that is above a round, the round and those before it have nothing
+pub none_low : (entries : List (ℕ × AssemblyView)) (first last : ℕ) → last < first → ((round : ℕ) → IsSome (lookup (is_at (nat_cmp round)) entries) → is_gt (nat_cmp first round) ≡ false)
+    → (round : ℕ) → nat_le round last ≡ true → lookup (is_at (nat_cmp round)) entries ≡ None
+none_low entries first last high least round low = by_found (lookup (is_at (nat_cmp round)) entries) refl
+  where
+    by_found : (o : Option AssemblyView) → lookup (is_at (nat_cmp round)) entries ≡ o → lookup (is_at (nat_cmp round)) entries ≡ None
+    by_found None is = is
+    by_found (Some assembled) is =
+        let greater : Greater ≡ nat_cmp first round = nat_cmp_is first round Greater (omega (arith, high, leb-true _ _ low)) in
+        let bad : true ≡ false = ap is_gt greater ∙ least round (subst IsSome (sym is) refl) in absurd cc
 
-key_is : (round key last : ℕ) → is_at (nat_cmp round) key ≡ true → nat_lt last key ≡ nat_lt last round
-key_is round key last at = ap (nat_lt last) (eqb-true key round (sym (is_at-same round key) ∙ at))
+-- and so has each where nothing is left
+pub none_left : (last : ℕ) (entries : List (ℕ × AssemblyView)) → length entries ≤ 0 → (round : ℕ) → nat_le round last ≡ true → lookup (is_at (nat_cmp round)) entries ≡ None
+none_left last [] none round low = refl
+none_left last (e ∷ es) none round low = absurd (omega (arith, none))
 
--- entries without those of the keys up to one
-pub dropped : (old new : List (ℕ × AssemblyView)) (last : ℕ) → new ≡ filter (λ e. nat_lt last e.0) old
-    → (charter : Charter) (own : ℕ) → IsForgotten (record { charter = charter; own = own; rounds = old }) (record { charter = charter; own = own; rounds = new }) last
-dropped old new last is charter own = record {
-  charter = refl;
-  own = refl;
-  rounds = λ other.
-      sym (found new other) ∙ ap (lookup (is_at (nat_cmp other))) is
-      ∙ lookup-filter-keys (is_at (nat_cmp other)) (nat_lt last) (nat_lt last other) (λ key at. key_is other key last at) old
-      ∙ ap (λ o. cond (nat_lt last other) o None) (found old other)
-      ∙ above last other (option_map (λ entry. entry.1) (find (λ entry. entry.0 == other) old));
+-- a table that has what there was after a round, and nothing up to it
+pub forgotten : (old new : AssembliesView) (last : ℕ) → new.charter ≡ old.charter → new.own ≡ old.own
+    → ((round : ℕ) → nat_le round last ≡ false → lookup (is_at (nat_cmp round)) new.rounds ≡ lookup (is_at (nat_cmp round)) old.rounds)
+    → ((round : ℕ) → nat_le round last ≡ true → lookup (is_at (nat_cmp round)) new.rounds ≡ None) → IsForgotten old new last
+forgotten old new last charter own later low = record {
+  charter = charter;
+  own = own;
+  rounds = λ round. sym (found new.rounds round) ∙ by_round round (nat_le round last) refl;
 }
+  where
+    by_round : (round : ℕ) (is : Bool) → nat_le round last ≡ is → lookup (is_at (nat_cmp round)) new.rounds ≡ (if nat_le round last then None else assembly_at old round)
+    by_round round true is = low round is ∙ sym (ap (λ b. if b then None else assembly_at old round) is)
+    by_round round false is = later round is ∙ found old.rounds round ∙ sym (ap (λ b. if b then None else assembly_at old round) is)
 
 -- ---- what holds of each table
 

@@ -1,12 +1,12 @@
 -- Tables have what one sound state has, and of no other.
-use Rattle.std.proofs.Common.{◌≡◌, ℕ, ◌≤◌, arith, Option, Some, inl, inr, refl, ap, sym, ◌∙◌, subst}
+use Rattle.std.proofs.Common.{◌≡◌, ℕ, ◌≤◌, arith, Option, inl, inr, ap, sym, ◌∙◌}
 use Rattle.std.proofs.Math.Path.{fun_ext}
 use Rattle.std.specs.Prelude.{option_map}
 use Rattle.std.proofs.lemmas.Bool.{cases_eq}
 use Rattle.spec_model.specs.Nodes.{Node}
 use Rattle.spec_model.specs.Slots.{header_digest}
 use Rattle.spec_model.specs.States.{State}
-use Rattle.spec_model.specs.Words.{Author, Certificate, Digest, Header}
+use Rattle.spec_model.specs.Words.{Author, Digest, Header}
 use Rattle.spec_machine.specs.Sound.{IsSound}
 use Rattle.spec_machine.proofs.Grown.{same_state}
 use Rattle.admission.specs.Standing.{AreAt, OneState}

@@ -46,7 +46,8 @@ found_at (one ∷ held) distinct (suc i) d within =
     let later = get_or held i d in
     let apart : bytes_eq (digest_of later.batch).0 (digest_of one.batch).0 ≡ false = elim (cases_Bool (bytes_eq (digest_of later.batch).0 (digest_of one.batch).0)) [
       | inr apart ↦ apart
-      | inl same ↦ absurd (distinct 0 (suc i) d (omega arith) within (ap (λ (bytes : List ℕ). let digest : Digest = record { 0 = bytes } in digest) (sym ((bytes_eq-Decides (digest_of later.batch).0 (digest_of one.batch).0).0 same))))
+      | inl same ↦ absurd (distinct 0 (suc i) d (omega arith) within (ap (λ (bytes : List ℕ). let digest : Digest = record { 0 = bytes } in digest)
+          (sym ((bytes_eq-Decides (digest_of later.batch).0 (digest_of one.batch).0).0 same))))
     ] in
     rw apart (found_at held (λ i' j' d' less inside. distinct (suc i') (suc j') d' (omega (arith, less)) (omega (arith, inside))) i d (omega (arith, within)))
 

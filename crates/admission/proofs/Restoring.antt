@@ -78,7 +78,8 @@ one_brought charter own all done next old new are turn same with = record {
             let missed : find test (last ∷ []) ≡ None = let miss : (next.header.body.round == round) ≡ false = unequal round next.header.body.round apart in rw miss refl in
             ap (λ b. if b then held else assembly_at old round) apart
             ∙ same.rounds round
-            ∙ sym (whole ∙ ap (λ o. option_map (λ (entry : ℕ × AssemblyView). entry.1) (option_or (find test entries) o)) missed ∙ ap (option_map (λ (entry : ℕ × AssemblyView). entry.1)) (or_none (find test entries)))
+            ∙ sym (whole ∙ ap (λ o. option_map (λ (entry : ℕ × AssemblyView). entry.1) (option_or (find test entries) o)) missed
+            ∙ ap (option_map (λ (entry : ℕ × AssemblyView). entry.1)) (or_none (find test entries)))
       ];
 }
   where

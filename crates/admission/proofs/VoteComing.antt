@@ -25,7 +25,7 @@ use Rattle.spec_model.specs.Nodes.{Node, size_of}
 use Rattle.spec_model.specs.States.{State}
 use Rattle.spec_model.specs.Words.{Author, Certificate, Event, Header, Message, Vote}
 use Rattle.spec_machine.specs.Machine.{counted_with, certificate_of, vote_at, grown}
-use Rattle.spec_machine.specs.Sound.{IsSound, counts}
+use Rattle.spec_machine.specs.Sound.{IsSound, IsCompleted, counts}
 use Rattle.admission.specs.Headers.{AssembliesView, assembly_at, vote_in, answer_in, counted_in, IsEntry, IsHeaders, IsWith, IsAt}
 use Rattle.spec_machine.specs.Laws.{FloorsAgree, Comes}
 use Rattle.admission.specs.HeaderLaws.{added_by, VoteComesTo}
@@ -60,6 +60,14 @@ counts_is : (node : Node) (state : State) (before : AssembliesView) (round voter
 counts_is node state before round voter assembled at held =
     ap is_some (sym (at.counted round voter) ∙ ap (option_and_then (λ (a : AssemblyView). vote_in a voter)) held) ∙ voted_is assembled voter
 
+-- votes that are complete were completed by one of them
+pub completed_by : (node : Node) (state : State) (before : AssembliesView) (round : ℕ) (assembled : AssemblyView) → IsSound node state → IsAt node state before → IsEntry before round assembled
+    → assembly_at before round ≡ Some assembled → state.own_headers round ≡ Some assembled.header → assembled.complete ≡ true → IsCompleted node state round assembled.header
+completed_by node state before round assembled sound at entry held header is =
+    let enough = subst (λ (c : Charter). quorum_of c ≤ votes_weight c assembled.places) (entry.charter ∙ at.charter) (entry.assembly.enough is) in
+    let same = weight-same node.charter (counts state round) (has_voted assembled.places) (λ voter within. counts_is node state before round voter assembled at held) in
+    sound.votes.complete round assembled.header header (omega (arith, enough, same))
+
 -- votes whose slot is free aren't complete
 incomplete : (node : Node) (state : State) (before : AssembliesView) (round : ℕ) (assembled : AssemblyView) → IsSound node state → IsAt node state before → IsEntry before round assembled
     → assembly_at before round ≡ Some assembled → state.own_headers round ≡ Some assembled.header → state.slots round node.own.0 ≡ None → assembled.complete ≡ false
@@ -67,9 +75,7 @@ incomplete node state before round assembled sound at entry held header free =
     elim (cases_Bool assembled.complete) [
       | inr is ↦ is
       | inl is ↦
-          let enough = subst (λ (c : Charter). quorum_of c ≤ votes_weight c assembled.places) (entry.charter ∙ at.charter) (entry.assembly.enough is) in
-          let same = weight-same node.charter (counts state round) (has_voted assembled.places) (λ voter within. counts_is node state before round voter assembled at held) in
-          let completed = sound.votes.complete round assembled.header header (omega (arith, enough, same)) in
+          let completed = completed_by node state before round assembled sound at entry held header is in
           absurd (none-some completed.certificate (sym free ∙ completed.held))
     ]
 

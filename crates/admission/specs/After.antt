@@ -1,4 +1,4 @@
--- What stays of a validator's tables after an event.
+-- What an event leaves unchanged in a validator's tables.
 use Rattle.std.specs.Prelude.{◌≡◌, false, true, None}
 use Rattle.spec_model.specs.Histories.{as_coin}
 use Rattle.spec_model.specs.Nodes.{Node}
@@ -17,13 +17,13 @@ use Rattle.admission.specs.Votes.{HasVotes, is_peers_header}
 use Rattle.admission.specs.Standing.{AreAt}
 use Rattle.admission.specs.declared.tables.Tables.{Tables}
 
--- at a sound state nothing of a low round is kept, so nothing is forgotten to its floor
+-- at a sound state nothing of a low round is held, so dropping the rounds up to its floor changes nothing
 pub record NothingIsLow (node : Node) (state : State) (tables : Tables) : Type 0 where
   pub votes : ForgetsTo (floor_in node state) tables.votes tables.votes
   pub headers : IsForgotten tables.headers tables.headers (floor_in node state)
 
--- after an event that adds neither a certificate nor a coin, the floor, the certificates, the coins and the order are as before; so
--- are batches, votes and own headers, but for what the event is
+-- an event that adds neither a certificate nor a coin leaves the floor, the certificates, the coins and the order unchanged; batches, votes
+-- and own headers change only where the event is one of that kind
 pub record IsBeside (node : Node) (state : State) (event : Event) (tables : Tables) : Type 0 where
   pub floor : floor_in node (after node state event) ≡ floor_in node state
   pub sequence : sequence.IsAt node (after node state event) tables.sequencer
@@ -31,7 +31,7 @@ pub record IsBeside (node : Node) (state : State) (event : Event) (tables : Tabl
   pub votes : is_peers_header node event.message ≡ false → HasVotes node (after node state event) tables.votes
   pub headers : is_other node event.message ≡ true → headers.IsAt node (after node state event) tables.headers
 
--- of an event that is new at a sound state: what it leaves as it was, and what comes of the tables' parts after it
+-- for any event that is new at a sound state: what it leaves unchanged, and what happens to each part of the tables
 pub record OthersStay : Type 0 where
   pub beside : (node : Node) (state : State) (event : Event) (tables : Tables) → Comes node state event → AreAt node state tables
       → certificate_of node state event.message ≡ None → as_coin event.message ≡ None → IsBeside node state event tables

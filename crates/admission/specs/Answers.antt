@@ -1,4 +1,4 @@
--- When what comes of an event is what admission answers.
+-- When the result of handling an event is admission's answer.
 use Rattle.std.specs.Prelude.{◌≡◌, ◌⊎◌, Bool, true, false, Result, Ok, Err}
 use Rattle.header.specs.declared.admission.Admission.{Admission}
 use Rattle.header.specs.declared.admission.Admission.TheVariants as admission
@@ -7,13 +7,13 @@ use Rattle.header.specs.declared.refusal.Refusal.TheVariants.{Memory}
 use Rattle.admission.specs.declared.step.Step.{Step}
 use Rattle.admission.specs.declared.step.Step.TheVariants.{New, Known}
 
--- what comes of an event is its answer; only that memory was refused is no answer of admission
+-- the result of handling an event is this answer; a failed allocation is no answer of admission
 abbrev pub IsAnswer : Admission → Result Step Refusal → Type 0
 IsAnswer answer (Ok (New outputs)) = answer ≡ admission.New outputs.items
 IsAnswer answer (Ok (Known outputs)) = answer ≡ admission.Known outputs.items
 IsAnswer answer (Err refusal) = (refusal ≡ Memory) ⊎ (answer ≡ admission.Refused refusal)
 
--- where admission refuses, so does what comes of the event, by the same refusal
+-- where admission refuses the event, the result is the same refusal
 abbrev pub RefusesAs : Admission → Result Step Refusal → Type 0
 RefusesAs answer result = (refusal : Refusal) → answer ≡ admission.Refused refusal → result ≡ Err refusal
 

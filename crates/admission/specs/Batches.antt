@@ -1,4 +1,4 @@
--- When a store of batches has what a state has of batches, and what it then answers.
+-- When a store of batches agrees with a state, and what it then answers.
 use Rattle.std.specs.Prelude.{◌≡◌, ℕ, IsTrue, ◌==◌, ◌&&◌, ◌||◌, not, Bool, true, false, map, Result}
 use Rattle.wire.specs.declared.message.Message.TheVariants as message
 use Rattle.spec_model.specs.Admitting.{is_new, is_own}
@@ -22,44 +22,44 @@ pub record HasBatches (node : Node) (state : State) (stock : BatchStoreView) : T
   pub acked : (digest : Digest) (member : ℕ) → has_acked stock digest member ≡ state.acked digest member
   pub named : (digest : Digest) → was_named stock digest ≡ state.named digest
 
--- a store's refusal, as admission says it
+-- the refusal of admission for a refusal of the store
 abbrev pub as_refusal : StoreRefusal → Refusal
 as_refusal store.Memory = refusal.Memory
 as_refusal store.DigestClash = refusal.DigestClash
 as_refusal store.Full = refusal.StoreFull
 as_refusal store.NotOurs = refusal.NotOurs
 
--- what comes of a message is what each state that the store has the batches of answers an event with it
+-- the result for a message is the answer to any event with it, at each state whose batches the store has
 abbrev pub AnswersFrom : BatchStoreView → Message → Result Step Refusal → Type 0
 AnswersFrom stock came result = (node : Node) (state : State) (event : Event) → event.message ≡ came → HasBatches node state stock
     → IsAnswer (answered node state event) result
 
--- where such a state refuses the event, so does what comes of the message, by the same refusal, whatever memory there is
+-- where such a state refuses the event, the result is the same refusal, however much memory there is
 abbrev pub RefusesFrom : BatchStoreView → Message → Result Step Refusal → Type 0
 RefusesFrom stock came result = (node : Node) (state : State) (event : Event) → event.message ≡ came → HasBatches node state stock
     → RefusesAs (answered node state event) result
 
--- this is whether such a state finds the event new
+-- the flag says whether the event is new at any state whose batches are in this store
 abbrev pub IsNewFrom : BatchStoreView → Message → Bool → Type 0
 IsNewFrom stock came result = (node : Node) (state : State) (event : Event) → event.message ≡ came → HasBatches node state stock
     → result ≡ is_new (answered node state event)
 
--- the later store has the batches of the state after an event with the message, where the earlier one had those of the state
+-- if the earlier store has the batches of a state, the later one has those of the state after an event with this message
 abbrev pub GoesOn : BatchStoreView → BatchStoreView → Message → Type 0
 GoesOn before later came = (node : Node) (state : State) (event : Event) → event.message ≡ came → HasBatches node state before
     → HasBatches node (after node state event) later
 
--- so it does where a header is the node's own, and new
+-- if the earlier store has the batches of a state, the later one has those of the state after a new own header
 abbrev pub GoesOnWithOwn : BatchStoreView → BatchStoreView → Header → Type 0
 GoesOnWithOwn before later header = (node : Node) (state : State) (event : Event) → event.message ≡ message.Header header
     → is_own node header.body.author ≡ true → IsTrue (is_new (answered node state event)) → HasBatches node state before
     → HasBatches node (after node state event) later
 
--- by a store, a header of this author may name a batch: it is held with that worker, and for an own header it is available
+-- by this store, a header of this author may name a batch: it is held with that worker, and for an own header it is also available
 abbrev pub may_name_by : BatchStoreView → Author → BatchReference → Bool
 may_name_by stock author named = has_with stock named.digest named.worker && (not (author.0 == stock.own) || is_available stock named.digest)
 
--- a message changes what is held of batches: it is one, an acknowledgement, or an own header
+-- a message changes what is held of batches: it is a batch, an acknowledgement, or an own header
 abbrev pub changes_batches : Node → Message → Bool
 changes_batches node (message.Batch batch) = true
 changes_batches node (message.BatchAck ack) = true

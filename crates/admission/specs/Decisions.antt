@@ -1,4 +1,4 @@
--- What tables decide of a message: of the tests in their order the first that applies.
+-- What the tables decide about a message: the first test that applies decides.
 use Rattle.std.specs.Prelude.{ℕ, ◌+◌, ◌-◌, ◌*◌, ◌==◌, not, nat_le, Bool, false, true, List, [], ◌∷◌, length, Option, Result, Ok, Err, slice_get, if◌then◌else◌}
 use Rattle.std.specs.List.{list_all}
 use Rattle.std.specs.Option.{option_map_or}
@@ -19,24 +19,24 @@ use Rattle.dag.specs.declared.answers.Added.TheVariants as added
 use Rattle.dag.specs.declared.refusal.DagRefusal.{DagRefusal}
 use Rattle.dag.specs.declared.refusal.DagRefusal.TheVariants as dag
 use Rattle.votebook.specs.Votes.{voted_in}
-use Rattle.admission.specs.Headers.{digest_in, header_in, has_voted_in}
+use Rattle.admission.specs.Headers.{digest_in, header_in, has_voted_in, is_complete_in}
 use Rattle.admission.specs.Batches.{may_name_by}
 use Rattle.admission.specs.declared.tables.Tables.{Tables}
 use Rattle.admission.specs.declared.tables.answer.Answer.{Answer}
 use Rattle.admission.specs.declared.tables.answer.Answer.TheVariants.{New, Known}
 
--- what admission answers by what is decided, if a new event puts the first list out and a known one the second
+-- the answer of admission for a decision: a new event has the first outputs, a known one the second
 abbrev pub told : List Output → List Output → Result Answer Refusal → Admission
 told new known (Ok New) = admission.New new
 told new known (Ok Known) = admission.Known known
 told new known (Err refusal) = admission.Refused refusal
 
--- what is decided is that a parent is missing
+-- the decision is that a parent is missing
 abbrev pub lacks_parents : Result Answer Refusal → Bool
 lacks_parents (Err MissingParents) = true
 lacks_parents _ = false
 
--- what is decided is that the message will be accepted
+-- the decision is that the message is new
 abbrev pub is_new_decision : Result Answer Refusal → Bool
 is_new_decision (Ok New) = true
 is_new_decision (Ok Known) = false
@@ -48,17 +48,17 @@ is_own_of tables author = author.0 == tables.own.0
 
 -- ---- headers
 
--- the digest that has the vote of an author and round: for the validator itself that of its own header
+-- the digest that the validator voted for in a slot; in its own slots that of its own header
 abbrev pub voted_by : Tables → Author → ℕ → Option Digest
 voted_by tables author round = if is_own_of tables author then digest_in tables.headers round else voted_in tables.votes author round
 
--- where the header's author and round have the vote for this digest
+-- the decision where the validator has already voted in the header's slot, for this digest
 abbrev pub voted_decision : Tables → Digest → Header → Result Answer Refusal
 voted_decision tables voted header =
     if same_digest voted (header_digest header.body) then Ok Known
     else Err (if is_own_of tables header.body.author then AlreadyProposed else Equivocation)
 
--- where they have none
+-- the decision where the validator hasn't voted in the header's slot
 abbrev pub free_decision : Tables → Header → Result Answer Refusal
 free_decision tables header =
     if not (all_held (slots_in tables.sequencer.graph) tables.sequencer.graph.floor header.body) then Err MissingParents
@@ -70,7 +70,7 @@ header_decision tables header =
     if is_low tables.sequencer.graph.floor header.body.round then Err TooOld
     else option_map_or (λ voted. voted_decision tables voted header) (voted_by tables header.body.author header.body.round) (free_decision tables header)
 
--- the vote of a member for a header: it signs the certificate's digest
+-- a member's vote for a header: its signature is of the certificate's digest
 abbrev pub vote_by : Author → (Digest → Signature) → HeaderBody → Vote
 vote_by own sign body = record {
   header = header_digest body;
@@ -80,12 +80,12 @@ vote_by own sign body = record {
   signature = sign (certificate_digest body);
 }
 
--- what a new header puts out: itself, if it is an own one, and else the vote for it
+-- the outputs of a new header: an own header itself, or the vote for another member's
 abbrev pub new_header_outputs : Tables → (Digest → Signature) → Header → List Output
 new_header_outputs tables sign header =
     (if is_own_of tables header.body.author then output.Header header else output.Vote (vote_by tables.own sign header.body)) ∷ []
 
--- what a known one puts out: for an own one that which is held
+-- the outputs of a known header: the own header that is held, or the vote again
 abbrev pub known_header_outputs : Tables → (Digest → Signature) → Header → List Output
 known_header_outputs tables sign header =
     if is_own_of tables header.body.author then option_map_or (λ held. output.Header held ∷ []) (header_in tables.headers header.body.round) []
@@ -93,11 +93,11 @@ known_header_outputs tables sign header =
 
 -- ---- votes
 
--- where the vote's round holds this own certificate
+-- the decision where an own certificate of the vote's round is held
 abbrev pub certified_decision : Certificate → Vote → Result Answer Refusal
 certified_decision held vote = if same_digest (header_digest held.header) vote.header then Ok Known else Err CertConflict
 
--- where it holds none
+-- the decision where none is held
 abbrev pub open_decision : Tables → Vote → Result Answer Refusal
 open_decision tables vote = if has_voted_in tables.headers vote.round vote.voter.0 then Ok Known else Ok New
 
@@ -110,15 +110,16 @@ vote_decision tables vote =
     if not (is_own_of tables vote.author) then Err NotOurs
     else if is_low tables.sequencer.graph.floor vote.round then Err TooOld
     else if not (is_on_own tables vote) then Err NotOurs
+    else if is_complete_in tables.headers vote.round then Ok Known
     else option_map_or (λ held. certified_decision held vote) (slots_in tables.sequencer.graph vote.round tables.own.0) (open_decision tables vote)
 
--- what a known vote puts out: the own certificate of its round, if it is held
+-- the outputs of a known vote: the own certificate of its round, if it is held
 abbrev pub known_outputs : Option Certificate → List Output
 known_outputs held = option_map_or (λ c. output.Certificate c ∷ []) held []
 
 -- ---- certificates
 
--- a DAG's refusal, as admission says it
+-- the refusal of admission for a refusal of the DAG
 abbrev pub as_refusal : DagRefusal → Refusal
 as_refusal dag.Memory = Memory
 as_refusal dag.TooOld = TooOld
@@ -126,7 +127,7 @@ as_refusal dag.CertConflict = CertConflict
 as_refusal dag.DigestClash = DigestClash
 as_refusal dag.MissingParents = MissingParents
 
--- a DAG's answer, as admission says it
+-- the decision for an answer of the DAG
 abbrev pub as_decision : Result Added DagRefusal → Result Answer Refusal
 as_decision (Ok added.New) = Ok New
 as_decision (Ok added.Known) = Ok Known
@@ -137,15 +138,15 @@ certificate_decision tables certificate = as_decision (answer tables.sequencer.g
 
 -- ---- coins
 
--- where the wave has this value
+-- the decision where the wave has this value already
 abbrev pub taken_decision : ℕ → Coin → Result Answer Refusal
 taken_decision taken coin = if taken == coin.value then Ok Known else Err CoinConflict
 
--- those who have certificates of a round are a quorum
+-- the authors who have certificates of a round weigh a quorum
 abbrev pub is_full_in : Tables → ℕ → Bool
 is_full_in tables round = nat_le (quorum_of tables.sequencer.graph.charter) (stake_in tables.sequencer.graph round)
 
--- where it has none
+-- the decision where the wave has no value yet
 abbrev pub next_decision : Tables → Coin → Result Answer Refusal
 next_decision tables coin =
     if not (coin.wave == length tables.sequencer.coins + 1) then Err CoinOutOfTurn

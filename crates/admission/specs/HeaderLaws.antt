@@ -1,4 +1,4 @@
--- What ties a table of own headers to a node's state.
+-- How a table of own headers agrees with a node's state.
 use Rattle.std.specs.Prelude.{◌≡◌, ℕ, Bool, true, false, not, Option, Some, None, is_some}
 use Rattle.wire.specs.declared.message.Message.TheVariants as message
 use Rattle.certify.specs.Assembled.{is_on, started}
@@ -16,11 +16,11 @@ use Rattle.admission.specs.Headers.{AssembliesView, empty, assembly_at, digest_i
 
 -- ---- tables at states
 
--- a table with no header is at the fresh state
+-- an empty table agrees with the fresh state
 abbrev pub StartsFresh : Type 0
 StartsFresh = (node : Node) → IsAt node (fresh node) (empty node.charter node.own.0)
 
--- a table at a sound state has for each own header the digest that has the node's vote, and tells whose votes count
+-- a table that agrees with a sound state has, for each own header, the digest that the node voted for, and the same counted votes
 pub record VotesAgreeAt (node : Node) (state : State) (headers : AssembliesView) : Type 0 where
   pub digests : (round : ℕ) → digest_in headers round ≡ state.votes round node.own.0
   pub voted : (round voter : ℕ) → has_voted_in headers round voter ≡ is_some (state.counted round voter)
@@ -30,13 +30,13 @@ VotesAgree = (node : Node) (state : State) (headers : AssembliesView) → IsSoun
 
 -- ---- after an event
 
--- a table is that at the state after an event once the rounds up to its floor are forgotten
+-- once the rounds up to the floor are dropped, a table agrees with the state after an event
 abbrev pub IsTableAfter : Node → State → Event → AssembliesView → Type 0
 IsTableAfter node state event headers =
     (later : AssembliesView) → IsForgotten headers later (floor_in node (after node state event)) → IsAt node (after node state event) later
 
--- a new own header: it and the node's own vote on it may be held, since its round has none, and with both the table is that after
--- the event
+-- a new own header: it is the validator's, with the validator's own vote on it, and its round has none yet. With both added the table is
+-- that after the event
 pub record HeaderComesTo (node : Node) (state : State) (event : Event) (header : Header) (before : AssembliesView) : Type 0 where
   pub author : header.body.author.0 ≡ before.own
   pub on : is_on header.body (own_vote node header.body) ≡ true
@@ -49,13 +49,13 @@ abbrev pub HeaderComes : Type 0
 HeaderComes = (node : Node) (state : State) (event : Event) (header : Header) (before : AssembliesView) → Comes node state event → IsAt node state before
     → event.message ≡ message.Header header → is_own node header.body.author ≡ true → HeaderComesTo node state event header before
 
--- what a new vote is answered, by the certificate that it completes, if any
+-- the answer to a new vote, by the certificate that it completes, if any
 abbrev pub added_by : Option Certificate → Added
 added_by None = Counted
 added_by (Some certificate) = Complete certificate
 
--- a new vote: it is counted, and completes a certificate exactly where the node's state has that with it;
--- with the vote the table is that after the event
+-- a new vote: it is counted, and completes exactly the certificate that it completes in the node's state; with the vote added the table is
+-- that after the event
 pub record VoteComesTo (node : Node) (state : State) (event : Event) (vote : Vote) (before : AssembliesView) : Type 0 where
   pub answer : answer_in before vote ≡ added_by (certificate_of node state event.message)
   pub counted : answer_in before vote ≡ Counted → certificate_of node state event.message ≡ None
@@ -73,7 +73,7 @@ is_other node (message.Vote vote) = false
 is_other node (message.Header header) = not (is_own node header.body.author)
 is_other node _ = true
 
--- with any other event the table stays, but for the rounds up to the floor
+-- any other event leaves the table unchanged, except that the rounds up to the floor are dropped
 abbrev pub OthersCome : Type 0
 OthersCome = (node : Node) (state : State) (event : Event) (before : AssembliesView) → Comes node state event → IsAt node state before
     → is_other node event.message ≡ true → IsTableAfter node state event before

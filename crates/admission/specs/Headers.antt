@@ -1,4 +1,4 @@
--- A validator's own headers of the rounds that aren't low, each with the votes that count on it.
+-- A validator's own headers of the rounds that aren't low, each with the counted votes on it.
 use Rattle.std.specs.Prelude.{◌≡◌, ℕ, ◌<◌, ◌==◌, Bool, false, List, [], map, find, length, Option, Some, None, option_map, option_and_then, slice_index_or, nat_le, if◌then◌else◌}
 use Rattle.std.specs.List.Sorted.{IsStrictlySortedBy}
 use Rattle.std.specs.Option.{option_map_or}
@@ -15,13 +15,13 @@ use Rattle.spec_model.specs.Nodes.{Node}
 use Rattle.spec_model.specs.Slots.{header_digest}
 use Rattle.spec_model.specs.States.{State}
 
--- a table: the committee, the validator's number, and the rounds that have an own header, each with its header and the votes
+-- a table: the committee, the validator's number, and for each round with an own header that header and the votes on it
 pub record AssembliesView : Type 0 where
   pub charter : Charter
   pub own : ℕ
   pub rounds : List (ℕ × AssemblyView)
 
--- one with no header
+-- a table without headers
 abbrev pub empty : Charter → ℕ → AssembliesView
 empty charter own = record { charter = charter; own = own; rounds = [] }
 
@@ -31,15 +31,15 @@ empty charter own = record { charter = charter; own = own; rounds = [] }
 abbrev pub assembly_at : AssembliesView → ℕ → Option AssemblyView
 assembly_at headers round = option_map (λ entry. entry.1) (find (λ entry. entry.0 == round) headers.rounds)
 
--- the header of a round
+-- the own header of a round
 abbrev pub header_in : AssembliesView → ℕ → Option Header
 header_in headers round = option_map (λ assembled. assembled.header) (assembly_at headers round)
 
--- its digest
+-- the digest of the own header of a round
 abbrev pub digest_in : AssembliesView → ℕ → Option Digest
 digest_in headers round = option_map (λ header. header_digest header.body) (header_in headers round)
 
--- the vote of a member, if it is counted: it is on the header, by the member, with the signature that is kept
+-- the counted vote of a member on this header, with the signature that is kept
 abbrev pub vote_in : AssemblyView → ℕ → Option Vote
 vote_in assembled voter = option_map (λ signature. record {
   header = header_digest assembled.header.body;
@@ -49,24 +49,28 @@ vote_in assembled voter = option_map (λ signature. record {
   signature = signature;
 }) (slice_index_or assembled.places voter None)
 
--- the vote of a member on the header of a round, if it is counted
+-- the counted vote of a member on the header of a round
 abbrev pub vote_from : AssembliesView → ℕ → ℕ → Option Vote
 vote_from headers round voter = option_and_then (λ assembled. vote_in assembled voter) (assembly_at headers round)
 
--- the vote of a member on the header of a round is counted
+-- a member's vote on the header of a round is counted
 abbrev pub has_voted_in : AssembliesView → ℕ → ℕ → Bool
 has_voted_in headers round voter = option_map_or (λ assembled. has_voted assembled.places voter) (assembly_at headers round) false
 
+-- the votes on the header of a round have made its certificate
+abbrev pub is_complete_in : AssembliesView → ℕ → Bool
+is_complete_in headers round = option_map_or (λ assembled. assembled.complete) (assembly_at headers round) false
+
 -- ---- what holds of each table
 
--- what is held for a round: an own header of that round, with votes of this committee
+-- what a table has for a round: an own header of that round, with votes of members of this committee
 pub record IsEntry (headers : AssembliesView) (round : ℕ) (assembled : AssemblyView) : Type 0 where
   pub charter : assembled.charter ≡ headers.charter
   pub place : assembled.header.body.round ≡ round
   pub author : assembled.header.body.author.0 ≡ headers.own
   pub assembly : IsAssembled assembled
 
--- the committee is one, the validator is a member, and the rounds rise
+-- a table is well formed: its committee is sound, the validator is a member, and the rounds are in ascending order
 pub record IsHeaders (headers : AssembliesView) : Type 0 where
   pub charter : IsCharter headers.charter
   pub member : headers.own < length headers.charter.keys
@@ -75,21 +79,21 @@ pub record IsHeaders (headers : AssembliesView) : Type 0 where
 
 -- ---- how a table changes
 
--- what a vote is answered: what the votes on the header of its round answer, and that it isn't ours where there is none
+-- the answer to a vote: what the assembly of its round's header answers, or NotOurs where there is no header
 abbrev pub answer_in : AssembliesView → Vote → Added
 answer_in headers vote = option_map_or (λ assembled. answer assembled vote) (assembly_at headers vote.round) NotOurs
 
--- what the vote's round has after an answer
+-- the assembly of the vote's round after this answer
 abbrev pub counted_in : Added → AssembliesView → Vote → Option AssemblyView
 counted_in added headers vote = option_map (λ assembled. after added assembled vote) (assembly_at headers vote.round)
 
--- a table has this for a round, and for each other one what it had
+-- a table changed only in one round, which now has this
 pub record IsWith (old new : AssembliesView) (round : ℕ) (held : Option AssemblyView) : Type 0 where
   pub charter : new.charter ≡ old.charter
   pub own : new.own ≡ old.own
   pub rounds : (other : ℕ) → assembly_at new other ≡ (if other == round then held else assembly_at old other)
 
--- a table has nothing for the rounds up to one, and for each later one what it had
+-- a table without the rounds up to this one, and otherwise unchanged
 pub record IsForgotten (old new : AssembliesView) (round : ℕ) : Type 0 where
   pub charter : new.charter ≡ old.charter
   pub own : new.own ≡ old.own
@@ -97,7 +101,7 @@ pub record IsForgotten (old new : AssembliesView) (round : ℕ) : Type 0 where
 
 -- ---- a node's state
 
--- a table has the own headers of a state, with the votes that count on them
+-- a table agrees with a state: it has the state's own headers, with the counted votes on them
 pub record IsAt (node : Node) (state : State) (headers : AssembliesView) : Type 0 where
   pub charter : headers.charter ≡ node.charter
   pub own : headers.own ≡ node.own.0

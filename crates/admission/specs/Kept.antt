@@ -1,4 +1,4 @@
--- What a validator's tables are restored from, and of which state it is.
+-- The parts from which a validator's tables are restored, and the state that they hold then.
 use Rattle.std.specs.Prelude.{◌≡◌, ℕ, ◌<◌, IsTrue, List, All, AllPairs, map, length}
 use Rattle.std.specs.FinMap as finmap
 use Rattle.std.specs.List.Sorted.{IsStrictlySortedBy}
@@ -21,27 +21,27 @@ use Rattle.admission.specs.declared.kept.VotedHeader.{VotedHeader}
 
 -- ---- own headers
 
--- what is held of an own header: its round, and the votes on it
+-- the entry of an own header in the table: its round, and its assembly with the votes on it
 abbrev pub entry_of : Charter → VotedHeader → ℕ × AssemblyView
 entry_of charter voted = (voted.header.body.round, restored charter voted.header voted.vote voted.votes.items)
 
--- the table of own headers
+-- the table of these own headers
 abbrev pub table_of : Charter → ℕ → List VotedHeader → AssembliesView
 table_of charter own voted = record { charter = charter; own = own; rounds = map (entry_of charter) voted }
 
--- a header is a member's own, with its vote, and the other votes are members'
+-- a header is this member's own, with the member's vote on it, and the other votes are of members
 pub record IsVotedBy (charter : Charter) (own : ℕ) (header : Header) (vote : Vote) (votes : List VoteEntry) : Type 0 where
   pub author : header.body.author.0 ≡ own
   pub voter : vote.voter.0 ≡ own
   pub on : IsTrue (is_on header.body vote)
   pub members : All (λ entry. entry.voter.0 < length charter.keys) votes
 
--- headers are a member's own, of rounds that rise
+-- these are own headers of a member, sorted by round
 pub record AreVotedBy (charter : Charter) (own : ℕ) (voted : List VotedHeader) : Type 0 where
   pub rising : AllPairs (λ one other. one.header.body.round < other.header.body.round) voted
   pub each : All (λ one. IsVotedBy charter own one.header one.vote one.votes.items) voted
 
--- a table has, for each round, what another one has
+-- a table has the same as another one in each round
 pub record IsSameTable (one other : AssembliesView) : Type 0 where
   pub charter : one.charter ≡ other.charter
   pub own : one.own ≡ other.own
@@ -60,8 +60,8 @@ parts_of charter kept = record {
   order = kept.order.items;
 }
 
--- what is kept is what a node's sound state has: its batches, the votes for others, rising, the own headers with the votes on them,
--- rising, and the certificates, rising, with the coins and the order
+-- what is kept is what a node's sound state has: its batches; the votes for others, sorted by slot; the own headers with the votes on them,
+-- sorted by round; the certificates, sorted by slot; the coins and the order
 pub record IsKeptOf (node : Node) (state : State) (kept : Kept) : Type 0 where
   pub node_is : IsNode node
   pub sound : IsSound node state
@@ -73,7 +73,7 @@ pub record IsKeptOf (node : Node) (state : State) (kept : Kept) : Type 0 where
   pub headers : headers.IsAt node state (table_of node.charter node.own.0 kept.headers.items)
   pub parts : ArePartsOf node state (parts_of node.charter kept)
 
--- there is such a state of a member of a committee
+-- these tables were kept from some sound state of this member of the committee
 abbrev pub IsKept : Charter → Author → Kept → Type 0
 IsKept charter own kept =
     (node : Node) × (state : State) × (node.charter ≡ charter) × (node.own ≡ own) × IsKeptOf node state kept

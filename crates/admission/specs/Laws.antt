@@ -1,4 +1,4 @@
--- What ties the tables of batches and votes to states.
+-- How the tables of batches and of votes agree with states.
 use Rattle.std.specs.Prelude.{◌≡◌, ℕ, ◌==◌, false, true, []}
 use Rattle.std.specs.FinMap as map
 use Rattle.std.specs.Option.{option_map_or}
@@ -17,7 +17,7 @@ use Rattle.admission.specs.Votes.{HasVotes, with_vote, is_peers_header}
 
 -- ---- batches
 
--- each look-up in a store says what the state says
+-- each look-up in the store gives what the state has
 pub record ReadsAlike (node : Node) (state : State) (stock : BatchStoreView) : Type 0 where
   pub same_batch : (digest : Digest) → batch_in stock digest ≡ states.batch_in state digest
   pub same_own : (digest : Digest) → has_own stock digest ≡ has_own_batch node state digest
@@ -28,24 +28,24 @@ pub record ReadsAlike (node : Node) (state : State) (stock : BatchStoreView) : T
 abbrev pub BatchesRead : Type 0
 BatchesRead = (node : Node) (state : State) (stock : BatchStoreView) → HasBatches node state stock → ReadsAlike node state stock
 
--- a store lists the batches that the state may propose
+-- a store lists the batches that the state allows a header to name
 abbrev pub NameableAgrees : Type 0
 NameableAgrees = (node : Node) (state : State) (stock : BatchStoreView) → IsStock stock → HasBatches node state stock → nameable stock ≡ proposing.nameable node state
 
--- a message that changes nothing of batches leaves the store at the state after the event
+-- a message that doesn't change batches leaves a store that agrees with the state after the event
 abbrev pub BatchesStay : Type 0
 BatchesStay = (node : Node) (state : State) (event : Event) (stock : BatchStoreView) → HasBatches node state stock → changes_batches node event.message ≡ false
     → HasBatches node (after node state event) stock
 
 -- ---- votes
 
--- where a new event is no header of another member, the book without what fell low has the votes of the state after it
+-- if a new event is no other member's header, the book of votes without the low rounds agrees with the state after it
 abbrev pub VotesStay : Type 0
 VotesStay = (node : Node) (state : State) (event : Event) (votes later : Votes) → Comes node state event → HasVotes node state votes
     → is_peers_header node event.message ≡ false → ForgetsTo (floor_in node (after node state event)) votes later
     → HasVotes node (after node state event) later
 
--- where it is one, the book with the vote for it, without what fell low, has them
+-- if a new event is another member's header, the book with the vote for it, without the low rounds, agrees with the state after it
 abbrev pub VoteIsKept : Type 0
 VoteIsKept = (node : Node) (state : State) (event : Event) (header : Header) (votes later : Votes) → Comes node state event → HasVotes node state votes
     → event.message ≡ message.Header header → is_peers_header node event.message ≡ true
@@ -54,7 +54,7 @@ VoteIsKept = (node : Node) (state : State) (event : Event) (header : Header) (vo
 
 -- ---- the beginning
 
--- a store without batches and a book without votes have what the fresh state has
+-- an empty store and an empty book of votes agree with the fresh state
 pub record HasNothing (node : Node) : Type 0 where
   pub batches : HasBatches node (fresh node) (record { charter = node.charter; own = node.own.0; held = [] })
   pub votes : HasVotes node (fresh node) map.empty

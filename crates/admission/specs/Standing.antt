@@ -1,4 +1,4 @@
--- When a validator's tables have what a state has.
+-- When a validator's tables hold a state.
 use Rattle.std.specs.Prelude.{◌≡◌, IsTrue, Bool, true, false, Result}
 use Rattle.std.specs.Global.{Vec}
 use Rattle.wire.specs.declared.message.Message.TheVariants as message
@@ -18,8 +18,8 @@ use Rattle.admission.specs.Batches.{HasBatches}
 use Rattle.admission.specs.Votes.{HasVotes}
 use Rattle.admission.specs.declared.tables.Tables.{Tables}
 
--- tables have what a node's state has: its batches, the votes for the headers of others, the own headers with the votes on them, and
--- the certificates with the coins and the order
+-- the tables hold a node's state: its batches, the votes for others' headers, the own headers with the votes on them, the certificates, the
+-- coins and the order
 pub record AreAt (node : Node) (state : State) (tables : Tables) : Type 0 where
   pub own : tables.own ≡ node.own
   pub batches : HasBatches node state tables.batches
@@ -27,7 +27,7 @@ pub record AreAt (node : Node) (state : State) (tables : Tables) : Type 0 where
   pub headers : headers.IsAt node state tables.headers
   pub sequence : sequence.IsAt node state tables.sequencer
 
--- an event with this message, which a node takes, meets tables that have what a sound state of it has
+-- an event with this message, which the node can take, comes to tables that hold a sound state of the node
 pub record Meets (node : Node) (state : State) (event : Event) (tables : Tables) (came : Message) : Type 0 where
   pub node_is : IsNode node
   pub sound : IsSound node state
@@ -35,59 +35,59 @@ pub record Meets (node : Node) (state : State) (event : Event) (tables : Tables)
   pub message : event.message ≡ came
   pub at : AreAt node state tables
 
--- there are such a node, state and event
+-- there are a node, a state and an event for which these tables and this message are so
 abbrev pub MeetSome : Tables → Message → Type 0
 MeetSome tables came = (node : Node) × (state : State) × (event : Event) × Meets node state event tables came
 
--- there are such, and the event is new there
+-- an event with this message, which the node can take and which is new, comes to tables that hold a sound state of the node
 abbrev pub MeetNew : Tables → Message → Type 0
 MeetNew tables came =
     (node : Node) × (state : State) × (event : Event) × Meets node state event tables came × IsTrue (is_new (answered node state event))
 
--- under which premise something is said of a node and an event
+-- a premise about a node and an event, under which a fact is stated
 abbrev pub Premise : Type 1
 Premise = Node → Event → Type 0 → Type 0
 
--- under none
+-- no premise
 abbrev pub always : Premise
 always node event fact = fact
 
--- that the event is from this sender
+-- the premise that the event is from this sender
 abbrev pub from_sender : Author → Premise
 from_sender sender node event fact = event.sender ≡ sender → fact
 
--- that the node gives these signatures
+-- the premise that the node gives these signatures
 abbrev pub with_signatures : (Digest → Signature) → Premise
 with_signatures sign node event fact = node.sign ≡ sign → fact
 
--- a fact holds of each such node, state and event, under a premise
+-- a fact holds for each node, state and event that meet the tables so, under a premise
 abbrev pub ForEach : Premise → Tables → Message → (Node → State → Event → Type 0) → Type 0
 ForEach premise tables came fact =
     (node : Node) (state : State) (event : Event) → Meets node state event tables came → premise node event (fact node state event)
 
--- what comes of a message is what the state answers the event
+-- the result for a message is the state's answer to the event
 abbrev pub Answers : Premise → Tables → Message → Result Step Refusal → Type 0
 Answers premise tables came result = ForEach premise tables came (λ node state event. IsAnswer (answered node state event) result)
 
--- where the state refuses the event, so does what comes of the message, by the same refusal, whatever memory there is
+-- where the state refuses the event, the result is the same refusal, however much memory there is
 abbrev pub Refuses : Premise → Tables → Message → Result Step Refusal → Type 0
 Refuses premise tables came result = ForEach premise tables came (λ node state event. RefusesAs (answered node state event) result)
 
--- where the event is new, this is what it puts out
+-- where the event is new, these are its outputs
 abbrev pub PutsOut : Tables → Message → Vec Output → Type 0
 PutsOut tables came outputs =
     ForEach always tables came (λ node state event. IsTrue (is_new (answered node state event)) → answered node state event ≡ New outputs.items)
 
--- and the later tables have what the state after it has
+-- if the event is new, the later tables hold the state after it
 abbrev pub GoOn : Premise → Tables → Tables → Message → Type 0
 GoOn premise before later came =
     ForEach premise before came (λ node state event. IsTrue (is_new (answered node state event)) → AreAt node (after node state event) later)
 
--- this is whether the event is ready
+-- the flag says whether the event is ready
 abbrev pub IsReady : Tables → Message → Bool → Type 0
 IsReady tables came result = ForEach always tables came (λ node state event. result ≡ is_ready node state event)
 
--- this is whether the event is new
+-- the flag says whether the event is new
 abbrev pub IsNew : Premise → Tables → Message → Bool → Type 0
 IsNew premise tables came result = ForEach premise tables came (λ node state event. result ≡ is_new (answered node state event))
 
@@ -99,11 +99,11 @@ has_parents (message.Header header) = true
 has_parents (message.Certificate certificate) = true
 has_parents _ = false
 
--- what has no parents lacks none
+-- a message without parents never lacks one
 abbrev pub OthersAreReady : Type 0
 OthersAreReady = (node : Node) (state : State) (event : Event) → has_parents event.message ≡ false → is_ready node state event ≡ true
 
--- tables have what one sound state has, and of no other
+-- tables hold at most one sound state of a node
 abbrev pub OneState : Type 0
 OneState = (node : Node) (tables : Tables) (one other : State) → IsSound node one → AreAt node one tables → IsSound node other → AreAt node other tables
     → one ≡ other

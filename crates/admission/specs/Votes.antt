@@ -1,4 +1,4 @@
--- When a book of votes has what a state has of votes for others.
+-- When a book of votes agrees with the votes for others that a state has.
 use Rattle.std.specs.Prelude.{◌≡◌, ◌≢◌, ℕ, not, Bool, false, None}
 use Rattle.std.specs.FinMap as map
 use Rattle.wire.specs.declared.message.Message.TheVariants as message
@@ -10,7 +10,8 @@ use Rattle.spec_model.specs.Words.{Author, HeaderBody, Message}
 use Rattle.votebook.specs.Slot.{slot_of}
 use Rattle.votebook.specs.Votes.{Votes, voted_in}
 
--- a book has the votes of a node's state for all others; for the node itself it has none, since its own headers are its votes
+-- a book has the votes of a node's state in all slots of others; in the node's own slots it has none, since its own headers stand for its
+-- votes
 pub record HasVotes (node : Node) (state : State) (votes : Votes) : Type 0 where
   pub others : (author : Author) (round : ℕ) → author.0 ≢ node.own.0 → voted_in votes author round ≡ state.votes round author.0
   pub own : (author : Author) (round : ℕ) → author.0 ≡ node.own.0 → voted_in votes author round ≡ None

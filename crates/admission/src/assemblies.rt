@@ -5,7 +5,7 @@ mod facts;
 ghost use Rattle.std.specs.Prelude.{◌≡◌, ◌<◌, length, map, slice_get, Some, None, IsTrue, IfOk, OnOk, OnErr, option_copied};
 ghost use Rattle.certify.specs.Answer.{completion_of};
 ghost use Rattle.certify.specs.Assembled.{is_on, started, restored};
-ghost use Rattle.admission.specs.Headers.{empty, assembly_at, header_in, digest_in, has_voted_in, IsHeaders, answer_in, counted_in, IsWith, IsForgotten};
+ghost use Rattle.admission.specs.Headers.{empty, assembly_at, header_in, digest_in, has_voted_in, is_complete_in, IsHeaders, answer_in, counted_in, IsWith, IsForgotten};
 ghost use Rattle.admission.specs.Kept.{IsVotedBy, AreVotedBy, IsSameTable, table_of};
 
 use crate::kept::VotedHeader;
@@ -145,6 +145,16 @@ impl<'a> Assemblies<'a> {
         }
     }
 
+    /// Whether the votes on the own header of a round have made its certificate. False where the round has no own header.
+    pub(crate) fn is_complete(&self, round: Round) -> bool
+        ensures { result ≡ is_complete_in self.now round }
+    {
+        match self.rounds.get(&round.number()) {
+            Some(assembly) => assembly.is_complete(),
+            None => false,
+        }
+    }
+
     /// Holds an own header with the own vote on it, for a round that has none. `AllocError` where an allocation failed:
     /// nothing has changed then.
     pub fn hold(&mut self, alloc: Global, header: Header, vote: Vote) -> Result<(), AllocError>
@@ -191,7 +201,12 @@ impl<'a> Assemblies<'a> {
         ensures { IsForgotten self.old self.new round }
     {
         let last = round.number();
-        self.rounds.retain(|round, _| *round > last);
+        while let Some((first, _)) = self.rounds.first_key_value() {
+            if *first > last {
+                return;
+            }
+            self.rounds.pop_first();
+        }
     }
 
     /// What holds of each table: its rounds rise, and each has an own header of that round, with votes of the committee. The

@@ -13,11 +13,11 @@ use Rattle.committee.specs.Charter.{Charter, IsCharter, numbers, weight, quorum_
 use Rattle.committee.specs.Sets.{has}
 use Rattle.committee.specs.declared.sets.MemberSet.{MemberSet}
 
--- of each member the signature of its vote, if that is counted
+-- for each member the signature of its vote, if that is counted
 abbrev pub Places : Type 0
 Places = List (Option Signature)
 
--- an assembly: the committee, the header, the votes that are counted, and whether they have made a certificate
+-- an assembly: the committee, the header, the counted votes, and whether they are a certificate already
 pub record AssemblyView : Type 0 where
   pub charter : Charter
   pub header : Header
@@ -35,11 +35,11 @@ is_on body vote =
 abbrev pub has_voted : Places → ℕ → Bool
 has_voted places member = is_some (slice_index_or places member None)
 
--- the places with one vote more
+-- the places after one more vote
 abbrev pub with_vote : Places → Vote → Places
 with_vote places vote = slice_set places vote.voter.0 (Some vote.signature)
 
--- the places with one vote more, and with these votes, as a certificate has them
+-- the places after one more vote, and after several, each given as the entry of a certificate
 abbrev pub with_entry : Places → VoteEntry → Places
 with_entry places entry = slice_set places entry.voter.0 (Some entry.signature)
 
@@ -50,17 +50,17 @@ with_entries places votes = fold with_entry places votes
 abbrev pub entry_of : Places → ℕ → Option VoteEntry
 entry_of places member = option_map (λ signature. record { voter = record { 0 = member }; signature = signature }) (slice_index_or places member None)
 
--- the votes that are counted, rising by voter
+-- the counted votes, sorted by voter
 abbrev pub votes_in : Places → List VoteEntry
 votes_in places = filter_map (entry_of places) (numbers (length places))
 
--- what the members weigh whose votes are counted
+-- the weight of the members whose votes are counted
 abbrev pub votes_weight : Charter → Places → ℕ
 votes_weight charter places = weight charter (has_voted places)
 
 -- ---- assemblies
 
--- one with no vote but the own one
+-- an assembly that has only the validator's own vote
 abbrev pub started : Charter → Header → Vote → AssemblyView
 started charter header own = record {
   charter = charter;
@@ -69,21 +69,21 @@ started charter header own = record {
   complete = false;
 }
 
--- one with the own vote and these votes; it is complete where they weigh a quorum
+-- an assembly with the validator's own vote and these votes; it is complete where they weigh a quorum
 abbrev pub restored : Charter → Header → Vote → List VoteEntry → AssemblyView
 restored charter header own votes =
     let places = with_entries (started charter header own).places votes in
     record { charter = charter; header = header; places = places; complete = nat_le (quorum_of charter) (votes_weight charter places) }
 
--- what holds of each assembly: its committee is one, with a place for each member, and it is complete exactly where the
--- votes weigh a quorum
+-- the invariant of every assembly: its committee is sound, there is a place for each member, and it is complete exactly where the votes
+-- weigh a quorum
 pub record IsAssembled (assembled : AssemblyView) : Type 0 where
   pub committee : IsCharter assembled.charter
   pub size : length assembled.places ≡ length assembled.charter.keys
   pub below : assembled.complete ≡ false → votes_weight assembled.charter assembled.places < quorum_of assembled.charter
   pub enough : assembled.complete ≡ true → quorum_of assembled.charter ≤ votes_weight assembled.charter assembled.places
 
--- what is kept beside an assembly: its header's digest, and the set of those who have voted
+-- what is kept with an assembly: its header's digest, and the set of the members whose votes are counted
 pub record IsKept (assembled : AssemblyView) (digest : Digest) (voters : MemberSet) : Type 0 where
   pub assembly : IsAssembled assembled
   pub digested : digest.0 ≡ header_digest_of assembled.header.body

@@ -1,5 +1,5 @@
 -- Which answer a committee file has whose elements and limits were read.
-use Rattle.std.proofs.Common.{◌≡◌, ℕ, ◌+◌, ◌*◌, ◌/◌, ◌≤◌, Bool, true, false, List, length, nat_le, Some, Ok, Err}
+use Rattle.std.proofs.Common.{◌≡◌, ℕ, ◌+◌, ◌*◌, ◌/◌, ◌≤◌, Bool, true, false, List, length, nat_le, Some, Ok, Err, ap, ◌∙◌, arith}
 use Rattle.std.proofs.lemmas.Bool.{and_parts, leb-true}
 use Rattle.std.specs.List.{list_any, filter_map}
 use Rattle.std.specs.Prelude.{◌&&◌, ◌||◌, ◌==◌, ◌%◌, sum, if◌then◌else◌}
@@ -8,6 +8,7 @@ use Rattle.committee.specs.declared.error.CommitteeError.TheVariants.{BadSize, R
 use Rattle.committee.specs.Answer.{has_bad_size, answer}
 use Rattle.committee.specs.File.{members_in, has_stakes, is_size, depth_in, workers_in, batches_in, stakes_in}
 use Rattle.committee.specs.Keys.{key_of, is_no_key, repeats}
+use Rattle.committee.proofs.StakeLemmas.{file-stakes, sum-bounds}
 
 -- what a test of the size says
 pub size-bounds : (staked : Bool) (n : ℕ) → is_size staked n ≡ true → (4 ≤ n) × (n ≤ 31)
@@ -15,6 +16,16 @@ size-bounds staked n h =
     let parts = and_parts (nat_le 4 n && nat_le n 31) (staked || (n % 3 == 1)) h in
     let bounds = and_parts (nat_le 4 n) (nat_le n 31) parts.0 in
     (leb-true 4 n bounds.0, leb-true n 31 bounds.1)
+
+-- the total of the stakes of a file whose size is a committee's
+pub total-bounds : (file : Members) (members total : ℕ) (stakes list : List ℕ) → is_size (has_stakes file) members ≡ true → stakes_in members file ≡ Some stakes
+    → list ≡ stakes → total ≡ sum list → (4 ≤ total) × (total ≤ 31000000)
+total-bounds file members total stakes list size staked same is =
+    let few = size-bounds (has_stakes file) members size in
+    let are = file-stakes members file stakes staked in
+    let within = sum-bounds stakes are.each in
+    let sums : total ≡ sum stakes = is ∙ ap sum same in
+    (omega (arith, few.0, are.count, within.0, sums), omega (arith, few.1, are.count, within.1, sums))
 
 -- a file without a fault but for a stake that may be a quorum
 pub answer-read : (file : Members) (list : List Data) (stakes : List ℕ) (depth workers batches : ℕ)

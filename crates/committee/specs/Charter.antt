@@ -6,8 +6,8 @@ use Rattle.committee.specs.declared.limits.TheConstants.{MIN_DEPTH, MAX_DEPTH, M
 use Rattle.committee.specs.declared.members.TheConstants.{MIN_MEMBERS, MAX_MEMBERS}
 use Rattle.committee.specs.declared.stakes.TheConstants.{MIN_STAKE, MAX_STAKE}
 
--- a committee: the keys of its members in the order of their numbers, the stakes of those, the depth in rounds, how
--- many workers each member has, and how many batches a member holds at most
+-- a committee: the members' keys in the order of their numbers, the members' stakes, the depth in rounds, how many workers each member has,
+-- and the greatest number of batches that a member holds
 pub record Charter : Type 0 where
   pub keys : List Key
   pub stakes : List ℕ
@@ -17,15 +17,15 @@ pub record Charter : Type 0 where
 
 -- ---- what members weigh
 
--- the numbers of so many members, from 0 on
+-- the numbers of this many members, from 0 on
 abbrev pub numbers : ℕ → List ℕ
 numbers size = range_with_len 0 size
 
--- the stake of the member of a number
+-- the stake of the member with this number
 abbrev pub stake_of : Charter → ℕ → ℕ
 stake_of charter member = get_or charter.stakes member 0
 
--- the weight of the members of whom something holds: the sum of their stakes
+-- the weight of the members for whom something holds: the sum of their stakes
 abbrev pub weight : Charter → (ℕ → Bool) → ℕ
 weight charter holds = sum_by (λ member. cond (holds member) (stake_of charter member) 0) (numbers (length charter.keys))
 
@@ -33,22 +33,22 @@ weight charter holds = sum_by (λ member. cond (holds member) (stake_of charter 
 abbrev pub total_of : Charter → ℕ
 total_of charter = sum charter.stakes
 
--- what the members who aren't honest may weigh together: less than a third of the total
+-- the greatest weight that members who aren't honest may have together: less than a third of the total
 abbrev pub tolerated_of : Charter → ℕ
 tolerated_of charter = (total_of charter - 1) / 3
 
--- what a quorum weighs at least: more than two thirds of the total
+-- the least weight of a quorum: more than two thirds of the total
 abbrev pub quorum_of : Charter → ℕ
 quorum_of charter = 2 * total_of charter / 3 + 1
 
--- what support weighs at least: a third of the total or more, and more than is tolerated, so an honest member is among them
+-- the least weight of enough supporters: at least a third of the total, and more than is tolerated, so that one of them is honest
 abbrev pub support_of : Charter → ℕ
 support_of charter = (total_of charter + 2) / 3
 
--- ---- what holds of each committee
+-- ---- the invariant of every committee
 
--- its number of members, that no key stands there twice, that each member has a stake within the limits and none is a
--- quorum alone, and its other limits
+-- a committee is sound: its number of members is allowed, no key occurs twice, each member has a stake within the limits, no member alone
+-- is a quorum, and its other limits are within their bounds
 pub record IsCharter (charter : Charter) : Type 0 where
   pub size : (MIN_MEMBERS ≤ length charter.keys) × (length charter.keys ≤ MAX_MEMBERS)
   pub distinct : AllPairs (λ one other. one ≢ other) charter.keys

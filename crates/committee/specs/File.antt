@@ -1,4 +1,4 @@
--- What a committee file says.
+-- What a committee file contains.
 use Rattle.std.specs.Prelude.{codes, pos, negsuc, ℕ, ◌%◌, length, replicate, Bool, ◌==◌, ◌&&◌, ◌||◌, not, nat_le, ℤ, List, [], ◌∷◌, Option, Some}
 use Rattle.std.specs.Prelude.{None, is_some, is_none, option_map, option_and_then, if◌then◌else◌}
 use Rattle.std.specs.List.{list_any, filter_map}
@@ -13,25 +13,24 @@ abbrev pub elements : Items → List Data
 elements no_items = []
 elements (item element rest) = element ∷ elements rest
 
--- the elements of the list of members, where there is such a list
+-- the elements of the list of members, if there is such a list
 abbrev pub members_in : Members → Option (List Data)
 members_in file = option_map elements (option_and_then as_array (get_member (codes "members") file))
 
--- the file says what the members' stakes are
+-- the file gives the members' stakes
 abbrev pub has_stakes : Members → Bool
 has_stakes file = is_some (get_member (codes "stakes") file)
 
--- a committee has 4 to 31 members, and where the file doesn't say their stakes 3 f + 1 of them
+-- a committee has 4 to 31 members; where the file gives no stakes, their number is 3 f + 1
 abbrev pub is_size : Bool → ℕ → Bool
 is_size staked n = (nat_le MIN_MEMBERS n && nat_le n MAX_MEMBERS) && (staked || (n % 3 == 1))
 
--- the number itself, where it is a whole one within these bounds
+-- the number, if it is a whole one within these bounds
 abbrev pub number_within : ℕ → ℕ → ℤ → Option ℕ
 number_within least greatest (pos n) = if nat_le least n && nat_le n greatest then Some n else None
 number_within least greatest (negsuc n) = None
 
--- a limit: what the file says, where that is a whole number within the bounds, and the default where it says
--- nothing
+-- a limit: the number in the file, if it is a whole one within the bounds; the default where the file has none
 abbrev pub limit : ℕ → ℕ → ℕ → Option Data → Option ℕ
 limit least greatest default None = Some default
 limit least greatest default (Some value) = option_and_then (number_within least greatest) (as_integer value)
@@ -48,7 +47,7 @@ workers_in file = limit MIN_WORKERS MAX_WORKERS DEFAULT_WORKERS (get_member (cod
 abbrev pub batches_in : Members → Option ℕ
 batches_in file = limit MIN_HELD_BATCHES MAX_HELD_BATCHES DEFAULT_HELD_BATCHES (get_member (codes "batches") file)
 
--- the stake that an element of the list of stakes is: a whole number from 1 to 1000000
+-- the stake in an element of the list of stakes: a whole number from 1 to 1000000
 abbrev pub stake_in : Data → Option ℕ
 stake_in element = option_and_then (number_within MIN_STAKE MAX_STAKE) (as_integer element)
 
@@ -56,13 +55,12 @@ stake_in element = option_and_then (number_within MIN_STAKE MAX_STAKE) (as_integ
 abbrev pub is_no_stake : Data → Bool
 is_no_stake element = is_none (stake_in element)
 
--- the stakes of so many members that a list says, where it has one for each
+-- the stakes of this many members in a list, if it has one for each
 abbrev pub stakes_among : ℕ → List Data → Option (List ℕ)
 stakes_among size list =
     if (length list == size) && not (list_any is_no_stake list) then Some (filter_map stake_in list) else None
 
--- the stakes of so many members: what the file says, where that is a list of such numbers, and 1 of each where it says
--- nothing
+-- the stakes of this many members: those in the file, if it has a list of such numbers; 1 each where it has none
 abbrev pub stakes_in : ℕ → Members → Option (List ℕ)
 stakes_in size file =
     option_map_or (λ value. option_and_then (λ items. stakes_among size (elements items)) (as_array value)) (get_member (codes "stakes") file)

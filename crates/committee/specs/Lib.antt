@@ -4,3 +4,4 @@ pub mod Sets
 pub mod Keys
 pub mod File
 pub mod Answer
+pub mod Kept

@@ -16,7 +16,9 @@ use crate::keys::{keys_of, repeats};
 use crate::limits::{batches_in, depth_in, workers_in};
 use crate::members::{is_size, members_in};
 use crate::sets::MemberSet;
-use crate::stakes::{has_stakes, one_is_quorum, quorum_of, stakes_in, total_of};
+use crate::stakes::{
+    has_stakes, one_is_quorum, quorum_of, stakes_in, support_of, tolerated_of, total_of,
+};
 use std::alloc::Global;
 use std::marker::Model;
 use toml::Table;
@@ -31,6 +33,11 @@ pub struct Committee {
     depth: u64,
     workers: u16,
     batches: u32,
+    // The sizes that follow from the stakes, computed once.
+    total: u64,
+    tolerated: u64,
+    quorum: u64,
+    support: u64,
 }
 
 impl Drop for Committee {
@@ -41,18 +48,25 @@ impl Drop for Committee {
             depth: _,
             workers: _,
             batches: _,
+            total: _,
+            tolerated: _,
+            quorum: _,
+            support: _,
         } = self;
     }
 }
 
 impl Model for Committee {
-    ghost use Rattle.committee.specs.Charter.{Charter, IsCharter};
+    ghost use Rattle.committee.specs.Charter.{Charter};
+    ghost use Rattle.committee.specs.Kept.{IsKept};
 
     ghost Value = { Charter };
 
     ghost view = { λ c. record { keys = c.keys.items; stakes = c.stakes.items; depth = c.depth; workers = c.workers; batches = c.batches } };
 
-    ghost invariant = { λ c. IsCharter (record { keys = c.keys.items; stakes = c.stakes.items; depth = c.depth; workers = c.workers; batches = c.batches }) };
+    ghost invariant = { λ c.
+        IsKept (record { keys = c.keys.items; stakes = c.stakes.items; depth = c.depth; workers = c.workers; batches = c.batches })
+        c.total c.tolerated c.quorum c.support };
 }
 
 impl Committee {
@@ -109,28 +123,28 @@ impl Committee {
         ensures least { MIN_MEMBERS ≤ result }
         ensures greatest { result ≤ MAX_TOTAL }
     {
-        total_of(&self.stakes)
+        self.total
     }
 
     /// What the members who aren't honest may weigh together: less than a third of the total.
     pub fn tolerated(&self) -> u64
         ensures { result ≡ tolerated_of self.now }
     {
-        (self.total() - 1) / 3
+        self.tolerated
     }
 
     /// What a quorum weighs at least: more than two thirds of the total.
     pub fn quorum(&self) -> u64
         ensures { result ≡ quorum_of self.now }
     {
-        quorum_of(self.total())
+        self.quorum
     }
 
     /// What support weighs at least, so that an honest member is among it: at least a third of the total.
     pub fn support(&self) -> u64
         ensures { result ≡ support_of self.now }
     {
-        (self.total() + 2) / 3
+        self.support
     }
 
     /// What the members in a set weigh: the sum of their stakes.
@@ -216,7 +230,9 @@ fn committee_in(alloc: Global, table: &Table) -> Result<Committee, CommitteeErro
         return Err(CommitteeError::BadLimit);
     };
     let stakes = stakes_in(alloc, elements.len(), table)?;
-    if one_is_quorum(&stakes) {
+    let total = total_of(&stakes);
+    let quorum = quorum_of(total);
+    if one_is_quorum(&stakes, quorum) {
         return Err(CommitteeError::BadStake);
     }
     Ok(Committee {
@@ -225,5 +241,9 @@ fn committee_in(alloc: Global, table: &Table) -> Result<Committee, CommitteeErro
         depth,
         workers: workers as u16,
         batches: batches as u32,
+        total,
+        tolerated: tolerated_of(total),
+        quorum,
+        support: support_of(total),
     })
 }

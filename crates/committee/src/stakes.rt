@@ -1,6 +1,6 @@
 //! The stakes of a committee's members, and the sizes that follow from their total.
 
-ghost use Rattle.std.specs.Prelude.{◌≡◌, ◌≢◌, ◌+◌, ◌*◌, ◌/◌, ◌≤◌, map, sum, replicate, None, Some, IfOk, IfErr, nat_le};
+ghost use Rattle.std.specs.Prelude.{◌≡◌, ◌≢◌, ◌+◌, ◌-◌, ◌*◌, ◌/◌, ◌≤◌, map, sum, replicate, None, Some, IfOk, IfErr, nat_le};
 ghost use Rattle.std.specs.List.{list_any};
 ghost use Rattle.toml.specs.View.{view, table_view};
 ghost use Rattle.committee.specs.File.{has_stakes, stake_in, stakes_among, stakes_in};
@@ -111,11 +111,25 @@ pub(crate) fn quorum_of(total: u64) -> u64
     2 * total / 3 + 1
 }
 
-/// Whether one member's stake is a quorum.
-pub(crate) fn one_is_quorum(stakes: &[u64]) -> bool
-    requires { sum stakes.now ≤ MAX_TOTAL }
-    ensures { result ≡ list_any (λ stake. nat_le (2 * sum stakes.now / 3 + 1) stake) stakes.now }
+/// The greatest weight that members who aren't honest may have together, of this total: less than a third.
+pub(crate) fn tolerated_of(total: u64) -> u64
+    requires { 1 ≤ total }
+    ensures { result ≡ (total - 1) / 3 }
 {
-    let quorum = quorum_of(total_of(stakes));
+    (total - 1) / 3
+}
+
+/// The least weight of support, of this total: a third or more.
+pub(crate) fn support_of(total: u64) -> u64
+    requires { total ≤ MAX_TOTAL }
+    ensures { result ≡ (total + 2) / 3 }
+{
+    (total + 2) / 3
+}
+
+/// Whether one member's stake is a quorum, whose least weight this is.
+pub(crate) fn one_is_quorum(stakes: &[u64], quorum: u64) -> bool
+    ensures { result ≡ list_any (λ stake. nat_le quorum stake) stakes.now }
+{
     stakes.iter().any(|stake| quorum <= *stake)
 }

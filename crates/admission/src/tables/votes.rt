@@ -65,6 +65,10 @@ impl<'a> Tables<'a> {
         if !self.is_on_own(vote) {
             return Err(Refusal::NotOurs);
         }
+        // The slot then holds the certificate that these votes made: a late vote needs no digest of it.
+        if self.headers.is_complete(vote.round) {
+            return Ok(Answer::Known);
+        }
         match self.sequencer.dag().get(vote.round, self.own) {
             Some(held) => certified_decision(held, vote),
             None => self.open_decision(vote),
@@ -160,6 +164,7 @@ impl<'a> Tables<'a> {
         ensures same { is_new_step result ≡ false → self.new ≡ self.old }
     {
         votes_agree();
+        self.headers.limits_hold();
         match self.vote_decision(&vote) {
             Ok(Answer::New) => new_step(self.new_vote(alloc, vote)),
             Ok(Answer::Known) => known_step(self.known_vote(alloc, &vote)),
@@ -172,6 +177,7 @@ impl<'a> Tables<'a> {
         ensures { IsNew always self.now (message.Vote vote.now) result }
     {
         votes_agree();
+        self.headers.limits_hold();
         is_new(&self.vote_decision(vote))
     }
 }

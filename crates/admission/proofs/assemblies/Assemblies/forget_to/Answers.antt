@@ -1,22 +1,31 @@
-use Rattle.std.proofs.Common.{rules, ltb}
-use Rattle.std.proofs.lemmas.Map.Made.{filter_same_pairs}
-use Rattle.admission.proofs.Looking.{dropped, holds_without}
+use Rattle.std.proofs.Common.{rules, ap}
+use Rattle.admission.proofs.Looking.{forgotten, none_low, none_left, holds_without}
 use Rattle.admission.proofs.assemblies.Assemblies.forget_to.Goals as goal
 
-pub invariant_of-self : goal.invariant_of-self
-invariant_of-self c =
-    let inside = c.self.inside in
-    let old = inside.rounds.entries in
-    let new = c.retain.new.self.entries in
-    let last = c.number-last.result in
-    let kept = filter_same_pairs _ (λ e. ltb last e.0) _ (λ k v b w f' t. search rules) old new c.retain.ensures.filtered in
-    holds_without _ _ last c.self.invariant (dropped old new last kept inside.committee.now inside.own.0) c.retain.ensures.ordered
+pub returns-then-first-last : goal.returns-then-first-last
+returns-then-first-last c =
+    let left = c.loop-first.self-inside.rounds.entries in
+    let holds = c.loop-first.invariant in
+    let low = none_low left c.in-Some.first.now c.number-last.result c.if-first-last.true c.in-Some.ensures.least in
+    rw (← c.self.view_is, ← c.number-last.ensures.value) (forgotten _ _ _ holds.charter (ap (λ o. o.0) holds.own) holds.later low)
 
 pub returns : goal.returns
 returns c =
-    let inside = c.self.inside in
-    let old = inside.rounds.entries in
-    let new = c.retain.new.self.entries in
-    let last = c.number-last.result in
-    let kept = filter_same_pairs _ (λ e. ltb last e.0) _ (λ k v b w f' t. search rules) old new c.retain.ensures.filtered in
-    rw (← c.self.view_is, ← c.number-last.ensures.value) (dropped old new last kept inside.committee.now inside.own.0)
+    let left = c.loop-first.self-inside.rounds.entries in
+    let holds = c.loop-first.invariant in
+    let low = none_left c.number-last.result left (search rules) in
+    rw (← c.self.view_is, ← c.number-last.ensures.value) (forgotten _ _ _ holds.charter (ap (λ o. o.0) holds.own) holds.later low)
+
+pub invariant_of-self : goal.invariant_of-self
+invariant_of-self c =
+    let left = c.loop-first.self-inside.rounds.entries in
+    let holds = c.loop-first.invariant in
+    let low = none_low left c.in-Some.first.now c.number-last.result c.if-first-last.true c.in-Some.ensures.least in
+    holds_without _ _ c.number-last.result c.self.invariant (forgotten _ _ _ holds.charter (ap (λ o. o.0) holds.own) holds.later low) holds.rise
+
+pub invariant_of-self-in_default : goal.invariant_of-self-in_default
+invariant_of-self-in_default c =
+    let left = c.loop-first.self-inside.rounds.entries in
+    let holds = c.loop-first.invariant in
+    let low = none_left c.number-last.result left (search rules) in
+    holds_without _ _ c.number-last.result c.self.invariant (forgotten _ _ _ holds.charter (ap (λ o. o.0) holds.own) holds.later low) holds.rise

@@ -2,7 +2,6 @@ use Rattle.std.proofs.Common.{ℕ, ◌++◌, ◌∷◌, List, [], ap, sym, subst
 use Rattle.wire.specs.declared.message.Message.TheVariants as message
 use Rattle.wire.specs.declared.output.Output.TheVariants as output
 use Rattle.spec_model.specs.Admitting.{order_outputs, vote_outputs}
-use Rattle.spec_model.specs.Slots.{certificate_digest}
 use Rattle.spec_model.specs.Words.{Certificate, Output}
 use Rattle.header.specs.declared.admission.Admission.TheVariants as admission
 use Rattle.spec_machine.specs.Machine.{grown}
@@ -47,7 +46,7 @@ returns-clause-outputs c = λ node state event meets new.
     let completes = is.complete certificate (sym c.requires.added) in
     let puts = c.in_ok-hold_certificate.ensures.outputs node state event (comes_to node state event tables comes meets.at) completes in
     new_is_told _ (vote_outputs node state (grown node state (message.Vote vote)) vote.round) (known_outputs (slots_in tables.sequencer.graph vote.round tables.own.0)) (vote_decision tables vote)
-    (vote_answered c.votes_agree.ensures node state event tables vote meets) new
+    (vote_answered c.votes_agree.ensures node state event tables vote c.limits_hold.ensures meets) new
     ∙ ap admission.New (outputs_with node state event vote tables.headers certificate meets.message is completes
     ∙ sym (c.into_vec.ensures ∙ puts
     ∙ ap (λ (l : List Output). l ++ order_outputs state (grown node state event.message)) (c.in_ok-push.ensures.ok

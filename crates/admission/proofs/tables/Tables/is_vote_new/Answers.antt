@@ -15,4 +15,4 @@ returns c = λ node state event meets.
     c.is_new.ensures ∙ ap is_new_decision c.vote_decision.ensures
     ∙ newness_is_told _ (vote_outputs node state (grown node state (message.Vote vote)) vote.round)
     (known_outputs (slots_in tables.sequencer.graph vote.round tables.own.0)) (vote_decision tables vote)
-    (vote_answered c.votes_agree.ensures node state event tables vote meets)
+    (vote_answered c.votes_agree.ensures node state event tables vote c.limits_hold.ensures meets)

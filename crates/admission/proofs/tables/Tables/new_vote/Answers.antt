@@ -21,7 +21,7 @@ returns-in-Counted-clause-outputs c = λ node state event meets new.
     let none = is.counted (sym c.in_ok-certificate.ensures ∙ c.in-Counted.is) in
     let beside = c.others_stay.ensures.beside node state event tables comes meets.at none (ap as_coin meets.message) in
     new_is_told _ (vote_outputs node state (grown node state (message.Vote vote)) vote.round) (known_outputs (slots_in tables.sequencer.graph vote.round tables.own.0)) (vote_decision tables vote)
-    (vote_answered c.votes_agree.ensures node state event tables vote meets) new
+    (vote_answered c.votes_agree.ensures node state event tables vote c.limits_hold.ensures meets) new
     ∙ ap admission.New (outputs_without node state event vote tables.headers meets.message is none (sym beside.sequence.order ∙ meets.at.sequence.order) ∙ sym c.new.ensures.items)
 
 pub unreachable-requires : goal.unreachable-requires

@@ -26,20 +26,20 @@ returns-in-Err-clause-answer c = λ node state event meets.
     let tables = c.args.self.now in
     let vote = c.args.vote in
     refused_answer _ (new_by node state vote) (known_by tables vote) (vote_decision tables vote) c.in-Err.refusal
-    (vote_answered c.votes_agree.ensures node state event tables vote meets) (sym c.in-Err.ensures)
+    (vote_answered c.votes_agree.ensures node state event tables vote c.limits_hold.ensures meets) (sym c.in-Err.ensures)
 
 pub returns-in-Err-clause-refused : goal.returns-in-Err-clause-refused
 returns-in-Err-clause-refused c = λ node state event meets.
     let tables = c.args.self.now in
     let vote = c.args.vote in
     refused_refuses _ (new_by node state vote) (known_by tables vote) (vote_decision tables vote) c.in-Err.refusal
-    (vote_answered c.votes_agree.ensures node state event tables vote meets) (sym c.in-Err.ensures)
+    (vote_answered c.votes_agree.ensures node state event tables vote c.limits_hold.ensures meets) (sym c.in-Err.ensures)
 
 pub returns-in-Ok-Known-clause-answer : goal.returns-in-Ok-Known-clause-answer
 returns-in-Ok-Known-clause-answer c = λ node state event meets.
     let tables = c.args.self.now in
     let vote = c.args.vote in
-    known_answer _ (known_by tables vote) c.known_vote.result c.known_step.result (vote_answered c.votes_agree.ensures node state event tables vote meets
+    known_answer _ (known_by tables vote) c.known_vote.result c.known_step.result (vote_answered c.votes_agree.ensures node state event tables vote c.limits_hold.ensures meets
     ∙ ap (told (new_by node state vote) (known_by tables vote)) (sym c.in-Ok-Known.ensures ∙ ap (λ a. Ok a) c.in-Ok-Known.field-0-is))
     c.known_step.ensures.ok c.known_step.ensures.err c.known_vote.ensures
 
@@ -47,7 +47,7 @@ pub returns-in-Ok-Known-clause-refused : goal.returns-in-Ok-Known-clause-refused
 returns-in-Ok-Known-clause-refused c = λ node state event meets.
     let tables = c.args.self.now in
     let vote = c.args.vote in
-    known_refuses _ (known_by tables vote) _ (vote_answered c.votes_agree.ensures node state event tables vote meets
+    known_refuses _ (known_by tables vote) _ (vote_answered c.votes_agree.ensures node state event tables vote c.limits_hold.ensures meets
     ∙ ap (told (new_by node state vote) (known_by tables vote)) (sym c.in-Ok-Known.ensures ∙ ap (λ a. Ok a) c.in-Ok-Known.field-0-is))
 
 pub new_vote-requires : goal.new_vote-requires
@@ -58,7 +58,7 @@ new_vote-requires c =
     let state = c.requires.meets.1 in
     let event = c.requires.meets.2 in
     let meets = c.requires.meets.3 in
-    let is = vote_answered c.votes_agree.ensures node state event tables vote meets
+    let is = vote_answered c.votes_agree.ensures node state event tables vote c.limits_hold.ensures meets
     ∙ ap (told (new_by node state vote) (known_by tables vote)) (sym c.in-Ok-New.ensures ∙ ap (λ a. Ok a) c.in-Ok-New.field-0-is) in
     record { meets = (node, state, event, meets, ap is_new is) }
 
@@ -66,7 +66,7 @@ pub returns-in-Ok-New-clause-answer : goal.returns-in-Ok-New-clause-answer
 returns-in-Ok-New-clause-answer c = λ node state event meets.
     let tables = c.args.self.now in
     let vote = c.args.vote in
-    let is = vote_answered c.votes_agree.ensures node state event tables vote meets
+    let is = vote_answered c.votes_agree.ensures node state event tables vote c.limits_hold.ensures meets
     ∙ ap (told (new_by node state vote) (known_by tables vote)) (sym c.in-Ok-New.ensures ∙ ap (λ a. Ok a) c.in-Ok-New.field-0-is) in
     put_out tables (message.Vote vote) c.new_vote.result c.new_step.result node state event c.new_step.ensures.ok c.new_step.ensures.err c.new_vote.ensures.outputs meets (ap is_new is)
 
@@ -74,7 +74,7 @@ pub returns-in-Ok-New-clause-refused : goal.returns-in-Ok-New-clause-refused
 returns-in-Ok-New-clause-refused c = λ node state event meets.
     let tables = c.args.self.now in
     let vote = c.args.vote in
-    new_refuses _ (new_by node state vote) c.new_step.result (vote_answered c.votes_agree.ensures node state event tables vote meets
+    new_refuses _ (new_by node state vote) c.new_step.result (vote_answered c.votes_agree.ensures node state event tables vote c.limits_hold.ensures meets
     ∙ ap (told (new_by node state vote) (known_by tables vote)) (sym c.in-Ok-New.ensures ∙ ap (λ a. Ok a) c.in-Ok-New.field-0-is))
 
 pub returns-in-Ok-New-clause-at : goal.returns-in-Ok-New-clause-at

@@ -26,7 +26,8 @@ invariant_of-result c =
     let own = c.args.own in
     let size = length charter.keys in
     restored-kept charter c.args.header c.put_votes.new.places.items own.header c.put_votes.new.voters _ c.limits_hold.ensures
-    (ap length (stand c) ∙ length-with_entries (started charter c.args.header own).places c.args.votes.items ∙ length-set (replicate size None) own.voter.0 (Some own.signature) ∙ length-replicate size None)
+    (ap length (stand c) ∙ length-with_entries (started charter c.args.header own).places c.args.votes.items
+    ∙ length-set (replicate size None) own.voter.0 (Some own.signature) ∙ length-replicate size None)
     (on-digest c.args.header.body own c.requires.ours) c.put_votes.ensures.voters (made c)
 
 pub returns : goal.returns

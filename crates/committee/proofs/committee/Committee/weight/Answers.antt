@@ -19,7 +19,7 @@ overflow_add-weight c =
     let stakes : c.deref-stake-items.result.now ≡ c.args.self.now.stakes = c.deref-stake-items.ensures.value ∙ ap (λ (charter : Charter). charter.stakes) c.self.view_is in
     let within : c.loop-i.i < length c.args.self.now.stakes = omega (arith, ap length stakes) in
     let room = weight_below-room c.args.self.now.stakes (has c.args.members.now) c.loop-i.i within in
-    let bound = (total-bounds c.args.self.now (rw (← c.self.view_is) c.self.invariant)).1 in
+    let bound = (total-bounds c.args.self.now (rw (← c.self.view_is) c.self.invariant.committee)).1 in
     omega (arith, room, c.loop-i.invariant, bound, ap (λ list. get_or list c.loop-i.i 0) stakes)
 
 pub loop-i-preserved : goal.loop-i-preserved
@@ -42,7 +42,7 @@ whole charter p weight n is before low high =
 pub returns-clause-value : goal.returns-clause-value
 returns-clause-value c =
     let stakes : c.deref-stake-items.result.now ≡ c.args.self.now.stakes = c.deref-stake-items.ensures.value ∙ ap (λ (charter : Charter). charter.stakes) c.self.view_is in
-    whole c.args.self.now (has c.args.members.now) c.loop-i.weight c.loop-i.i (rw (← c.self.view_is) c.self.invariant) c.loop-i.invariant
+    whole c.args.self.now (has c.args.members.now) c.loop-i.weight c.loop-i.i (rw (← c.self.view_is) c.self.invariant.committee) c.loop-i.invariant
     (omega (arith, ap length stakes)) (omega (arith, ap length stakes))
 
 pub returns-clause-most : goal.returns-clause-most

@@ -1,0 +1,11 @@
+-- What is kept beside a committee.
+use Rattle.std.specs.Prelude.{◌≡◌, ℕ}
+use Rattle.committee.specs.Charter.{Charter, IsCharter, total_of, tolerated_of, quorum_of, support_of}
+
+-- the keys and stakes are a committee, and these are the sizes that follow from its stakes
+pub record IsKept (charter : Charter) (total tolerated quorum support : ℕ) : Type 0 where
+  pub committee : IsCharter charter
+  pub total_is : total ≡ total_of charter
+  pub tolerated_is : tolerated ≡ tolerated_of charter
+  pub quorum_is : quorum ≡ quorum_of charter
+  pub support_is : support ≡ support_of charter
