@@ -1,5 +1,5 @@
 -- That a step keeps the rule.
-use Rattle.std.proofs.Common.{◌≡◌, ◌≢◌, ⊎_elim, Bool, ℕ, zero, suc, ◌≤◌, ◌<◌, true, List, [], ◌∷◌, length, take, set, refl, sym, ◌∙◌, subst, arith}
+use Rattle.std.proofs.Common.{◌≡◌, ◌≢◌, ⊎_elim, Bool, ℕ, zero, suc, ◌≤◌, ◌<◌, true, false, List, [], ◌∷◌, length, take, set, refl, sym, ◌∙◌, subst, arith}
 use Rattle.std.proofs.lemmas.List.{length-set}
 use mathlib.Core.Option.{some, some-ne-none}
 use lib.ListN.{get_elem?}
@@ -22,8 +22,9 @@ not_here xs i x past at = let inside = there xs i x at in omega (arith, past, in
 
 -- what a seat knows stays so where the lists grow and nothing of its own is added
 pub fits_longer : (accepted settled longer more_settled : List Marked) (was down : Bool) (number : ℕ) (view : View) → Fits accepted settled was number view
-    → Begins accepted longer → Begins settled more_settled → (was ≡ true → down ≡ true) → events_by number longer ≡ events_by number accepted → Fits longer more_settled down number view
-fits_longer accepted settled longer more_settled was down number view fits more durable stays same = record {
+    → Begins accepted longer → Begins settled more_settled → (was ≡ true → down ≡ true) → (number ≡ 0 → was ≡ false → down ≡ false)
+    → events_by number longer ≡ events_by number accepted → Fits longer more_settled down number view
+fits_longer accepted settled longer more_settled was down number view fits more durable stays up same = record {
   number_is = fits.number_is;
   seen = begins_trans view.seen accepted longer fits.seen more;
   durable = begins_trans view.durable settled more_settled fits.durable durable;
@@ -33,12 +34,14 @@ fits_longer accepted settled longer more_settled was down number view fits more 
   mine = same ∙ fits.mine;
   own = fits.own;
   down_is = λ is. stays (fits.down_is is);
+  right = λ able. let has = fits.right able in (has.0, up has.0 has.1);
 }
 
 module _ (Legal : History → Type 0) (words : List ℕ) (views : List View) where
   module _ (kept : IsKept Legal words views) (id : ℕ) (before later : View) (at : get_elem? views id ≡ some before)
       (accepted settled : List Marked) (down : Bool)
       (more : Begins kept.accepted accepted) (more_settled : Begins kept.settled settled) (begins : Begins settled accepted) (stays : kept.down ≡ true → down ≡ true)
+      (up : id ≢ 0 → kept.down ≡ false → down ≡ false)
       (legal : (count : ℕ) → Legal (events (take count accepted)))
       (others : (number : ℕ) → number ≢ id → events_by number accepted ≡ events_by number kept.accepted)
       (mine : later.live ≡ true → Fits accepted settled down id later)
@@ -62,6 +65,7 @@ module _ (Legal : History → Type 0) (words : List ℕ) (views : List View) whe
             subst (λ (v : View). Fits accepted settled down number v) t.1
             (subst (λ (n : ℕ). Fits accepted settled down n later) (sym t.0) (mine (subst (λ (v : View). v.live ≡ true) (sym t.1) live))))
             (λ (t : (number ≢ id) × (get_elem? views number ≡ some view)).
-            fits_longer kept.accepted kept.settled accepted settled kept.down down number view (kept.fits number view t.1 live) more more_settled stays (others number t.0))
+            fits_longer kept.accepted kept.settled accepted settled kept.down down number view (kept.fits number view t.1 live) more more_settled stays
+            (λ first. up (λ (is : id ≡ 0). t.0 (first ∙ sym is))) (others number t.0))
             (at_set views id number later view here);
       }

@@ -73,7 +73,7 @@ module _ {S : Type 0} (Legal : History → Type 0) where
       pub stays : IsKept Legal state.words (set state.views id later)
       stays = subst (λ (ws : List ℕ). IsKept Legal ws (set state.views id later)) (sym kept.words_are)
           (step_keeps Legal state.words state.views kept id before later at kept.accepted kept.settled kept.down (begins_same kept.accepted)
-          (begins_same kept.settled) kept.begins (λ is. is) kept.legal (λ number apart. refl) mine)
+          (begins_same kept.settled) kept.begins (λ is. is) (λ apart is. is) kept.legal (λ number apart. refl) mine)
 
   first_count : (state : State S View) (kept : IsKept Legal state.words state.views) → length kept.accepted ≡ slice_index state.words 0
   first_count state kept = sym (ap (λ (ws : List ℕ). slice_index ws 0) kept.words_are)
@@ -112,6 +112,7 @@ module _ {S : Type 0} (Legal : History → Type 0) where
             mine = fits.mine;
             own = fits.mine;
             down_is = fits.down_is;
+            right = fits.right;
           }),
           record {
             rest = refl;
@@ -142,6 +143,7 @@ module _ {S : Type 0} (Legal : History → Type 0) where
             mine = fits.mine;
             own = own;
             down_is = fits.down_is;
+            right = fits.right;
           }),
           record {
             rest = refl;
@@ -187,22 +189,23 @@ module _ {S : Type 0} (Legal : History → Type 0) where
           mine = fits.mine;
           own = fits.own;
           down_is = λ is. is;
+          right = fits.right;
         }) in (
           w,
           keeps,
           tt,
           (subst (λ (ws : List ℕ). IsKept Legal ws (set state.views id w)) (sym (same_words state.words _ _ _ 2 kept.words_are)) after),
-          (record { rest = refl; stays = fits.down_is; count_is = third_is state kept }, refl),
+          (record { rest = refl; stays = fits.down_is; right = λ able. (fits.right able).1; count_is = third_is state kept }, refl),
         )
 
-    -- and raised
-    pub downs : me.0.live ≡ true → Allows Rule slots id me 2 (λ _. 1) (λ _ later. later ≡ (with_down me.0, me.1))
-    downs live state holds sizes at word =
+    -- and raised, which uses up the right to do so
+    pub downs : me.0.live ≡ true → me.0.may_fail ≡ true → Allows Rule slots id me 2 (λ _. 1) (λ _ later. later ≡ (with_down me.0, me.1))
+    downs live able state holds sizes at word =
         let kept = holds in
         let fits = kept.fits id me.0 at live in
         let w : View = with_down me.0 in
         let after = step_keeps Legal state.words state.views kept id me.0 w at kept.accepted kept.settled true
-        (begins_same kept.accepted) (begins_same kept.settled) kept.begins (λ _. refl) kept.legal (λ number apart. refl)
+        (begins_same kept.accepted) (begins_same kept.settled) kept.begins (λ _. refl) (λ apart is. absurd (apart (fits.right able).0)) kept.legal (λ number apart. refl)
         (λ _. record {
           number_is = fits.number_is;
           seen = fits.seen;
@@ -213,6 +216,7 @@ module _ {S : Type 0} (Legal : History → Type 0) where
           mine = fits.mine;
           own = fits.own;
           down_is = λ _. refl;
+          right = λ bad. absurd cc;
         }) in
         let words : slice_set state.words 2 1 ≡ length kept.accepted ∷ length kept.settled ∷ 1 ∷ [] = ap (λ (ws : List ℕ). slice_set ws 2 1) kept.words_are in
         (w, keeps, tt, (subst (λ (ws : List ℕ). IsKept Legal ws (set state.views id w)) (sym words) after), refl)
@@ -232,6 +236,7 @@ module _ {S : Type 0} (Legal : History → Type 0) where
           mine = fits.mine;
           own = fits.own;
           down_is = fits.down_is;
+          right = fits.right;
         }) in
         (w, keeps, tt, (subst (λ (ws : List ℕ). IsKept Legal ws (set state.views id w)) (sym (same_words state.words _ _ _ 0 kept.words_are)) after), (refl, fits.own))
 
@@ -280,7 +285,7 @@ module _ {S : Type 0} (Legal : History → Type 0) where
                   subst Legal is (legal size)
             ] in
             let after = step_keeps Legal state.words state.views kept id me.0 w at more kept.settled kept.down grown
-            (begins_same kept.settled) (begins_more kept.settled kept.accepted (mark me.0.number event ∷ []) kept.begins) (λ is. is) through
+            (begins_same kept.settled) (begins_more kept.settled kept.accepted (mark me.0.number event ∷ []) kept.begins) (λ is. is) (λ apart is. is) through
             (λ number apart. by_other number me.0.number event kept.accepted (λ is. apart (is ∙ mine)))
             (λ _. record {
               number_is = fits.number_is;
@@ -293,6 +298,7 @@ module _ {S : Type 0} (Legal : History → Type 0) where
                   (by_same id event kept.accepted ∙ ap (λ (h : History). h ++ event ∷ []) fits.mine);
               own = subst (λ (n : ℕ). events_by id (me.0.seen ++ mark n event ∷ []) ≡ me.0.mine ++ event ∷ []) (sym mine) (by_same id event me.0.seen ∙ ap (λ (h : History). h ++ event ∷ []) fits.own);
               down_is = fits.down_is;
+              right = fits.right;
             }) in
             let words : slice_set state.words 0 (old + 1) ≡ length more ∷ length kept.settled ∷ flag kept.down ∷ [] =
             ap (λ (ws : List ℕ). slice_set ws 0 (old + 1)) kept.words_are ∙ ap (λ (n : ℕ). n ∷ length kept.settled ∷ flag kept.down ∷ [])
@@ -335,7 +341,7 @@ module _ {S : Type 0} (Legal : History → Type 0) where
             let grown : Begins kept.settled durable = subst (λ (l : List Marked). Begins l durable) all (begins_take me.0.durable me.0.seen new fits.durable_seen (omega (arith, size, more))) in
             let within : Begins durable kept.accepted = begins_trans durable me.0.seen kept.accepted (take_begins new me.0.seen) fits.seen in
             let after = step_keeps Legal state.words state.views kept id me.0 w at kept.accepted durable kept.down
-            (begins_same kept.accepted) grown within (λ is. is) kept.legal (λ number apart. refl)
+            (begins_same kept.accepted) grown within (λ is. is) (λ apart is. is) kept.legal (λ number apart. refl)
             (λ _. record {
               number_is = fits.number_is;
               seen = fits.seen;
@@ -346,6 +352,7 @@ module _ {S : Type 0} (Legal : History → Type 0) where
               mine = fits.mine;
               own = fits.own;
               down_is = fits.down_is;
+              right = fits.right;
             }) in
             let words : slice_set state.words 1 new ≡ length kept.accepted ∷ length durable ∷ flag kept.down ∷ [] =
             ap (λ (ws : List ℕ). slice_set ws 1 new) kept.words_are ∙ ap (λ (n : ℕ). length kept.accepted ∷ n ∷ flag kept.down ∷ []) (sym long) in
@@ -373,6 +380,7 @@ module _ {S : Type 0} (Legal : History → Type 0) where
         mine = kept.nobody number past;
         own = by_nobody number view.seen kept.accepted fits.seen (kept.nobody number past);
         down_is = fits.down_is;
+        right = λ bad. absurd cc;
       }
 
       more : IsKept Legal state.words (state.views ++ newcomer view ∷ [])
@@ -417,6 +425,7 @@ module _ {S : Type 0} (Legal : History → Type 0) where
         mine = fits.mine;
         own = fits.own;
         down_is = either_is view.down from.down kept.down fits.down_is theirs.down_is;
+        right = fits.right;
       })
 
       between : State S View
@@ -457,6 +466,7 @@ begins_kept Legal legal = record {
       mine = refl;
       own = refl;
       down_is = λ bad. absurd cc;
+      right = λ _. (refl, refl);
     }
 
     nothing_taken : (count : ℕ) → Legal (events (take count []))

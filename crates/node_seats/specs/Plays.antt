@@ -1,4 +1,4 @@
--- What each kind of step tells the seat that makes it.
+-- What a seat knows after each kind of step on the words.
 use Rattle.std.specs.Prelude.{◌≡◌, ◌≢◌, ◌≤◌, ℕ, true, false, [], ◌∷◌, ◌++◌, length, take}
 use Rattle.spec_model.specs.Histories.{History}
 use Rattle.wire.specs.Lists.{Begins}
@@ -6,7 +6,7 @@ use Rattle.spec_model.specs.Words.{Event}
 use Rattle.node_seats.specs.declared.view.View.{View}
 use Rattle.node_seats.specs.Views.{events, mark, flag, HasOwn}
 
--- the seat has now seen all that was accepted, which are so many events; nothing else that it knows has changed
+-- the seat has now seen all `count` accepted events; nothing else that it knows has changed
 pub record Looks (Judged : History → Type 0) (before : View) (count : ℕ) (later : View) : Type 0 where
   pub rest : later ≡ record before { seen = later.seen }
   pub seen : Begins before.seen later.seen
@@ -15,7 +15,7 @@ pub record Looks (Judged : History → Type 0) (before : View) (count : ℕ) (la
   pub own : later.numbered ≡ true → HasOwn later
   pub judged : Judged (events later.seen)
 
--- the seat knows now all that is settled, which are so many events, and has seen these
+-- the seat now knows all `count` settled events, and has seen them
 pub record Reads (Judged : History → Type 0) (before : View) (count : ℕ) (later : View) : Type 0 where
   pub rest : later ≡ record before { seen = later.seen; durable = later.durable }
   pub durable : Begins before.durable later.durable
@@ -27,31 +27,32 @@ pub record Reads (Judged : History → Type 0) (before : View) (count : ℕ) (la
   pub own : later.numbered ≡ true → HasOwn later
   pub judged : Judged (events later.durable)
 
--- the event is accepted after all that the seat has seen
+-- the event is accepted, right after all that the seat has seen
 abbrev pub with_event : View → Event → View
 with_event view event = record view { seen = view.seen ++ mark view.number event ∷ []; mine = view.mine ++ event ∷ [] }
 
--- where the first word was this number, the event is accepted, after exactly what the seat had seen; else the seat has looked
+-- if the first word was still `old`, the event is accepted, right after exactly what the seat had seen; otherwise the seat has only looked
 pub record Accepts (old : ℕ) (event : Event) (before : View) (count : ℕ) (later : View) : Type 0 where
   pub won : count ≡ old → (length before.seen ≡ old) × (later ≡ with_event before event)
   pub lost : count ≢ old → Looks (λ list. Unit {0}) before count later
 
--- so many of the events that the seat has seen are settled
+-- the first `count` events that the seat has seen are settled
 abbrev pub with_durable : View → ℕ → View
 with_durable view count = record view { durable = take count view.seen }
 
--- where the second word was this number, so many of the events that the seat has seen are settled, which before were exactly those
--- that it knew as settled; else the seat has read
+-- if the second word was still `old`, the first `new` events that the seat has seen are settled, where before exactly those were that it
+-- knew as settled; otherwise the seat has only read
 pub record Settles (old new : ℕ) (before : View) (count : ℕ) (later : View) : Type 0 where
   pub won : count ≡ old → (length before.durable ≡ old) × (later ≡ with_durable before new)
   pub lost : count ≢ old → Reads (λ list. Unit {0}) before count later
 
--- the seat knows now whether the node is down, which it stays
+-- the seat now knows whether the node is down: one that is down stays so, and one that the seat has the right to take down isn't yet
 pub record ReadsDown (before : View) (count : ℕ) (later : View) : Type 0 where
   pub rest : later ≡ record before { down = later.down }
   pub stays : before.down ≡ true → later.down ≡ true
+  pub right : before.may_fail ≡ true → later.down ≡ false
   pub count_is : flag later.down ≡ count
 
--- the node is down, and the right to take it down is spent
+-- the node is down, and the seat has used its right to take it down
 abbrev pub with_down : View → View
 with_down view = record view { down = true; may_fail = false }

@@ -1,5 +1,5 @@
--- What holds of the words and of what all seats know, between any two steps.
-use Rattle.std.specs.Prelude.{◌≡◌, ◌≤◌, ℕ, Bool, true, List, [], ◌∷◌, length, take}
+-- The invariant of the words and of what all seats know, which holds between any two steps.
+use Rattle.std.specs.Prelude.{◌≡◌, ◌≤◌, ℕ, Bool, true, false, List, [], ◌∷◌, length, take}
 use mathlib.Core.Option.{some}
 use lib.ListN.{get_elem?}
 use Rattle.spec_model.specs.Histories.{History}
@@ -8,8 +8,9 @@ use Rattle.node_seats.specs.declared.view.Marked.{Marked}
 use Rattle.node_seats.specs.declared.view.View.{View}
 use Rattle.node_seats.specs.Views.{events, events_by, flag}
 
--- What a seat of this number knows is so: beginnings of what was accepted and of what is settled, exactly the
--- events that it brought, all of which it has seen, and that the node is down.
+-- What a seat with this number knows is true: it has seen a prefix of the accepted events and knows a prefix of the settled ones, its own
+-- events are exactly those that it brought, it has seen all of these, and if it knows that the node is down, it is. Only the first seat can
+-- have the right to take the node down, and as long as it has it, the node isn't down.
 pub record Fits (accepted settled : List Marked) (down : Bool) (number : ℕ) (view : View) : Type 0 where
   pub number_is : view.numbered ≡ true → view.number ≡ number
   pub seen : Begins view.seen accepted
@@ -20,9 +21,11 @@ pub record Fits (accepted settled : List Marked) (down : Bool) (number : ℕ) (v
   pub mine : events_by number accepted ≡ view.mine
   pub own : events_by number view.seen ≡ view.mine
   pub down_is : view.down ≡ true → down ≡ true
+  pub right : view.may_fail ≡ true → (number ≡ 0) × (down ≡ false)
 
--- the first word is how many events were accepted, the second how many of these, from the front, are settled, and the third is 1
--- where the node is down, else 0; all of them are legal, no seat that isn't there brought one, and what each seat knows is so
+-- The first word is the number of accepted events, the second the number of settled ones, which are a prefix of these, and the third is 1
+-- if the node is down and 0 otherwise. All accepted events are legal, none is by a seat that doesn't exist, and what each live seat knows
+-- is true.
 pub record IsKept (Legal : History → Type 0) (words : List ℕ) (views : List View) : Type 0 where
   pub accepted : List Marked
   pub settled : List Marked

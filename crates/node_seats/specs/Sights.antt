@@ -3,13 +3,13 @@ use Rattle.std.specs.Prelude.{ℕ}
 use Rattle.atomic_table.specs.Seated.{TableId}
 use Rattle.node_seats.specs.declared.view.View.{View}
 
--- whose words they are, the seat's number there, and what it knows
+-- at which words a seat is, its number there, and what it knows
 pub record SeatView : Type 0 where
   pub table : TableId
   pub id : ℕ
   pub view : View
 
--- which words they are, and what they were made with
+-- the identity of some words, and the key with which they were made
 pub record WordsView (K : Type 0) : Type 0 where
   pub table : TableId
   pub key : K

@@ -1,4 +1,4 @@
--- Events with the numbers of the seats that brought them, and what seats know of them.
+-- Events, each with the number of the seat that brought it, and what seats know of them.
 use Rattle.std.specs.Prelude.{◌≡◌, ℕ, Bool, true, false, ◌==◌, ◌||◌, if◌then◌else◌, List, [], map}
 use Rattle.std.specs.List.{filter}
 use Rattle.spec_model.specs.Histories.{History}
@@ -16,19 +16,19 @@ mark number event = record { by = number; event = event }
 abbrev pub events : List Marked → History
 events marked = map (λ one. one.event) marked
 
--- those that the seat of this number brought
+-- the events that the seat of this number brought, in their order
 abbrev pub events_by : ℕ → List Marked → History
 events_by number marked = map (λ one. one.event) (filter (λ one. one.by == number) marked)
 
--- its own events are those of what it has seen that are marked with its number
+-- a seat's own events are those that it has seen with its number
 abbrev pub HasOwn : View → Type 0
 HasOwn view = events_by view.number view.seen ≡ view.mine
 
--- the word of whether the node is down
+-- the word that says whether the node is down
 abbrev pub flag : Bool → ℕ
 flag down = if down then 1 else 0
 
--- the first seat of a node, which alone has the right to take it down
+-- what the first seat of a node knows; it alone has the right to take the node down
 abbrev pub first_view : View
 first_view = record {
   live = true;
@@ -43,7 +43,7 @@ first_view = record {
   told_durable = [];
 }
 
--- a seat that knows what this one does, has brought nothing and can't take the node down; it doesn't know its number yet
+-- a seat made from this one: it knows what this one does, has brought no event, can't take the node down, and has no number yet
 abbrev pub newcomer : View → View
 newcomer view = record {
   live = view.live;
@@ -58,11 +58,11 @@ newcomer view = record {
   told_durable = [];
 }
 
--- a seat that was told what another one knows
+-- what a seat knows once another one has shared what it knows
 abbrev pub informed : View → View → View
 informed view other = record view { down = view.down || other.down; told = other.seen; told_durable = other.durable }
 
--- one that another seat took in
+-- a seat that was merged into another one
 abbrev pub spent : View
 spent = record {
   live = false;
@@ -77,14 +77,14 @@ spent = record {
   told_durable = [];
 }
 
--- an event, for where none is meant
+-- any event, as a default value
 abbrev pub no_event : Event
 no_event = record { sender = record { 0 = 0 }; message = message.Coin (record { wave = 0; value = 0 }) }
 
 -- ---- what a step leaves of a seat
 
--- It is the same seat, at the same words, with the events that it brought. It knows that the node is down if it did, and has the right to
--- take it down if it had.
+-- The seat is the same one, at the same words, with the same own events. If it knew that the node is down it still does, and it has kept
+-- its right to take the node down, or has none as before.
 pub record IsSame (before later : SeatView) : Type 0 where
   pub table : later.table ≡ before.table
   pub id : later.id ≡ before.id

@@ -1,5 +1,5 @@
-//! What each thread at a node knows of the events that are accepted and settled, and of whether the node is down: words of
-//! that, and a seat for each thread, under a rule that ties the words to the lists and the lists to the seats.
+//! What each thread at a node knows of the events that are accepted and settled, and of whether the node is down. There are words that
+//! count this, and a seat for each thread; a rule ties the words to lists of events, and these to what the seats know.
 #![tactic(auto)]
 
 mod plays;

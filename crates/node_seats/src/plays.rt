@@ -1,24 +1,24 @@
-//! The kinds of step on the words, and what each tells the seat that makes it.
+//! The kinds of step on the words, and what the seat that makes a step knows after it.
 
 use crate::view::View;
 use atomic_table::{Join, Play, Split};
 use std::marker::{Brand, PhantomData};
 
-/// The event that is accepted. Each call of `Words::accept` picks it.
+/// The event that a step accepts. Each call of `Words::accept` chooses it.
 pub trait Call {
     ghost use Rattle.spec_model.specs.Words.{Event};
 
     ghost event: { Event };
 }
 
-/// What holds of each legal list of events. Each call that looks or reads picks it.
+/// What is known of each legal list of events. Each call that looks or reads chooses it.
 pub trait Judge {
     ghost use Rattle.spec_model.specs.Histories.{History};
 
     ghost judged: { History → Type 0 };
 }
 
-/// A seat is told its number.
+/// A seat learns its number.
 pub struct Numbers;
 
 impl Play<(), View> for Numbers {
@@ -28,7 +28,7 @@ impl Play<(), View> for Numbers {
     ghost then = { λ step before found later. (later ≡ (record before.0 { numbered = true; number = later.0.number }, before.1)) × HasOwn later.0 };
 }
 
-/// A seat sees all that was accepted.
+/// A seat sees all accepted events.
 pub struct Looked<J> {
     judge: PhantomData<J>,
 }
@@ -40,7 +40,7 @@ impl<J: Judge> Play<(), View> for Looked<J> {
     ghost then = { λ step before found later. Looks J.judged before.0 found later.0 × (later.1 ≡ before.1) };
 }
 
-/// A seat knows all that is settled.
+/// A seat knows all settled events.
 pub struct Read<J> {
     judge: PhantomData<J>,
 }
@@ -52,7 +52,7 @@ impl<J: Judge> Play<(), View> for Read<J> {
     ghost then = { λ step before found later. Reads J.judged before.0 found later.0 × (later.1 ≡ before.1) };
 }
 
-/// A seat knows whether the node is down.
+/// A seat learns whether the node is down.
 pub struct DownRead;
 
 impl Play<(), View> for DownRead {
@@ -72,7 +72,7 @@ impl Play<(), View> for Downed {
     ghost then = { λ step before found later. later ≡ (with_down before.0, before.1) };
 }
 
-/// An event is accepted, if no other was that the seat hasn't seen.
+/// An event is accepted, unless another one was that the seat hasn't seen.
 pub struct Accepted<C> {
     call: PhantomData<C>,
 }
@@ -94,7 +94,7 @@ impl Play<(), View> for Settled {
     ghost then = { λ step before found later. Settles step.first step.second before.0 found later.0 × (later.1 ≡ before.1) };
 }
 
-/// One seat tells another what it knows: a newcomer is split from it, and taken in by the other.
+/// One seat shares what it knows with another: a new seat is split from it and then merged into the other.
 pub struct Tells;
 
 impl Split<View> for Tells {
@@ -123,7 +123,7 @@ impl Judge for Brand {
     ghost judged = { λ events. Unit {0} };
 }
 
-/// Where nothing is to be said of the events.
+/// Nothing is asked of the events.
 pub struct Anything;
 
 impl Judge for Anything {

@@ -1,17 +1,18 @@
-//! The rule on the words.
+//! The invariant of the words.
 
 use crate::view::View;
 use atomic_table::TableRule;
 use std::marker::PhantomData;
 
-/// Which lists of events are legal, by what the words were made with.
+/// Which lists of events are legal, given the key with which the words were made.
 pub trait Law<K> {
     ghost use Rattle.spec_model.specs.Histories.{History};
 
     ghost legal: { K → History → Type 0 };
 }
 
-/// The words count what was accepted and what of it is settled, all of it is legal, and what each seat knows is so.
+/// The invariant: the words count the accepted events and the settled ones among them, all of them are legal, and what each seat knows is
+/// true.
 pub struct Kept<L> {
     law: PhantomData<L>,
 }

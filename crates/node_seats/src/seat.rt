@@ -3,7 +3,7 @@
 use crate::view::View;
 use std::marker::Model;
 
-/// What a thread steps with: which words are meant, its number there, and what it knows. It has no bytes.
+/// What a thread makes steps with: the identity of the words, its number there, and what it knows. It takes no bytes.
 pub struct Seat {
     pub(crate) place: atomic_table::Seat<(), View>,
 }

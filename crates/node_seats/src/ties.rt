@@ -12,7 +12,7 @@ use crate::words::Words;
 use std::sync::Wait;
 
 impl<K, L: Law<K>> Words<K, L> {
-    /// Looks until the seat has seen exactly what another has, which are so many events.
+    /// Looks until the seat has seen exactly what another seat has seen, which is `count` events.
     pub fn catch_up<J: Judge, R: Wait>(&self, rt: &R, seat: &mut Seat, other: &mut Seat, count: u64)
         requires seat { (seat.old.table ≡ self.now.table) × (seat.old.view.live ≡ true) }
         requires other { (other.old.table ≡ self.now.table) × (other.old.view.live ≡ true) }
@@ -36,7 +36,7 @@ impl<K, L: Law<K>> Words<K, L> {
         unreachable!()
     }
 
-    /// Reads until the seat knows exactly what another does as settled, which are so many events.
+    /// Reads until the seat knows exactly the same events as settled as another seat, which is `count` events.
     pub fn catch_up_durable<J: Judge, R: Wait>(
         &self,
         rt: &R,
@@ -68,8 +68,7 @@ impl<K, L: Law<K>> Words<K, L> {
         unreachable!()
     }
 
-    /// Reads until no more events are settled than the seat knows, which are so many. What another one knows as settled is then
-    /// among them.
+    /// Reads until the seat knows all settled events, which are `count`. What another seat knows as settled is then among them.
     pub fn cover<R: Wait>(&self, rt: &R, seat: &mut Seat, other: &mut Seat, count: u64)
         requires seat { (seat.old.table ≡ self.now.table) × (seat.old.view.live ≡ true) }
         requires other { (other.old.table ≡ self.now.table) × (other.old.view.live ≡ true) }
@@ -91,7 +90,7 @@ impl<K, L: Law<K>> Words<K, L> {
         unreachable!()
     }
 
-    /// Tries until the event is accepted after what the seat has seen.
+    /// Tries until the event is accepted, right after what the seat has seen by then.
     pub fn raise<C: Call, R: Wait>(&self, rt: &R, seat: &mut Seat, from: u64)
         requires of { seat.old.table ≡ self.now.table }
         requires live { (seat.old.view.live ≡ true) × (seat.old.view.numbered ≡ true) }
@@ -112,7 +111,7 @@ impl<K, L: Law<K>> Words<K, L> {
         unreachable!()
     }
 
-    /// Tries until so many of the events that the seat has seen are settled, where those that it knows as settled are.
+    /// Tries until `to` of the events that the seat has seen are settled, starting from `from`, the number that it knows as settled.
     pub fn raise_durable<R: Wait>(&self, rt: &R, seat: &mut Seat, from: u64, to: u64)
         requires of { seat.old.table ≡ self.now.table }
         requires live { seat.old.view.live ≡ true }
@@ -132,8 +131,7 @@ impl<K, L: Law<K>> Words<K, L> {
         unreachable!()
     }
 
-    /// Two looks, after which the second seat has seen all that the first has. The answer is how many events these are that the
-    /// second has seen.
+    /// Two looks. After them the second seat has seen all that the first has. Gives the number of events that the second seat has seen.
     pub fn meet<J: Judge>(&self, first: &mut Seat, second: &mut Seat) -> u64
         requires first { (first.old.table ≡ self.now.table) × (first.old.view.live ≡ true) }
         requires second { (second.old.table ≡ self.now.table) × (second.old.view.live ≡ true) }

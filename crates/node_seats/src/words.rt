@@ -1,6 +1,6 @@
 //! The words.
 
-ghost use Rattle.std.specs.Prelude.{◌≡◌, ◌+◌, ◌≤◌, ◌<◌, ◌^◌, ◌++◌, ◌∷◌, [], true, length, IfOk};
+ghost use Rattle.std.specs.Prelude.{◌≡◌, ◌+◌, ◌≤◌, ◌<◌, ◌^◌, ◌++◌, ◌∷◌, [], true, false, length, IfOk};
 ghost use Rattle.spec_model.specs.Histories.{History};
 ghost use Rattle.node_seats.specs.Views.{events, HasOwn, first_view, newcomer, informed};
 ghost use Rattle.node_seats.specs.Plays.{Looks, Reads, ReadsDown, Accepts, Settles, with_down};
@@ -16,15 +16,15 @@ use atomic_table::Table;
 use std::alloc::{AllocError, Global};
 use std::marker::Model;
 
-// The words: how many events were accepted, how many of these are settled, and 1 where the node is down, else 0.
+// The places of the words: the number of accepted events, the number of settled ones, and 1 where the node is down, otherwise 0.
 const ACCEPTED: usize = 0;
 
 const SYNCED: usize = 1;
 
 const DOWN: usize = 2;
 
-/// How many events were accepted, and how many of these are settled, since a node began, and whether it is down. Each seat at
-/// them knows beginnings of the two lists, which no word of memory has.
+/// How many events were accepted since a node began, how many of these are settled, and whether the node is down. Each seat at the words
+/// knows prefixes of the two lists of events, which are in no memory themselves.
 pub struct Words<K, L: Law<K>> {
     table: Table<(), View, K, Kept<L>, Global>,
 }
@@ -47,7 +47,7 @@ impl<K, L: Law<K>> Model for Words<K, L> {
 }
 
 impl<K, L: Law<K>> Words<K, L> {
-    /// The words at 0, and the first seat at them, which alone may take the node down. `AllocError` where an allocation failed.
+    /// The words at 0, and the first seat at them, which alone may take the node down. On `AllocError` an allocation failed.
     pub fn new(alloc: Global, about: &K) -> Result<(Words<K, L>, Seat), AllocError>
         requires legal { L.legal about.now [] }
         ensures key { IfOk result (λ made. made.0.key ≡ about.now) }
@@ -58,7 +58,7 @@ impl<K, L: Law<K>> Words<K, L> {
         Ok((Words { table }, Seat { place }))
     }
 
-    /// Another seat, which has seen what this one has and has brought no event.
+    /// One more seat, which has seen what this one has and has brought no event.
     pub fn split(&self, seat: &mut Seat) -> Seat
         requires of { seat.old.table ≡ self.now.table }
         requires live { seat.old.view.live ≡ true }
@@ -72,7 +72,7 @@ impl<K, L: Law<K>> Words<K, L> {
         Seat { place }
     }
 
-    /// Tells a seat what another one knows. Of the events it takes that in at its next look.
+    /// Shares what one seat knows with another one, which takes the events in at its next look.
     pub fn tell(&self, from: &mut Seat, to: &mut Seat)
         requires from { (from.old.table ≡ self.now.table) × (from.old.view.live ≡ true) }
         requires to { (to.old.table ≡ self.now.table) × (to.old.view.live ≡ true) }
@@ -83,7 +83,7 @@ impl<K, L: Law<K>> Words<K, L> {
         self.table.shared.join_seat::<Tells>(&mut to.place, place);
     }
 
-    /// How many events were accepted. The seat has then seen all of these.
+    /// The number of accepted events, all of which the seat has then seen.
     pub fn look<J: Judge>(&self, seat: &mut Seat) -> u64
         requires of { seat.old.table ≡ self.now.table }
         requires live { seat.old.view.live ≡ true }
@@ -96,7 +96,7 @@ impl<K, L: Law<K>> Words<K, L> {
             .load::<Looked<J>>(&mut seat.place, ACCEPTED)
     }
 
-    /// How many events are settled. The seat then knows these as settled, and has seen them.
+    /// The number of settled events, which the seat then knows as settled and has seen.
     pub fn read<J: Judge>(&self, seat: &mut Seat) -> u64
         requires of { seat.old.table ≡ self.now.table }
         requires live { seat.old.view.live ≡ true }
@@ -107,17 +107,18 @@ impl<K, L: Law<K>> Words<K, L> {
         self.table.shared.load::<Read<J>>(&mut seat.place, SYNCED)
     }
 
-    /// Whether the node is down, which the seat then knows.
+    /// Whether the node is down, which the seat then knows. It isn't, as long as the seat has the right to take it down.
     pub fn read_down(&self, seat: &mut Seat) -> bool
         requires of { seat.old.table ≡ self.now.table }
         requires live { seat.old.view.live ≡ true }
         ensures down { seat.new ≡ record seat.old { view = record seat.old.view { down = result } } }
         ensures stays { seat.old.view.down ≡ true → result ≡ true }
+        ensures right { seat.old.view.may_fail ≡ true → result ≡ false }
     {
         self.table.shared.load::<DownRead>(&mut seat.place, DOWN) == 1
     }
 
-    /// Takes the node down, which the seat then knows, and spends its right to that.
+    /// Takes the node down, which the seat then knows. This uses up the seat's right to do so.
     pub fn raise_down(&self, seat: &mut Seat)
         requires of { seat.old.table ≡ self.now.table }
         requires live { seat.old.view.live ≡ true }
@@ -127,8 +128,8 @@ impl<K, L: Law<K>> Words<K, L> {
         self.table.shared.store::<Downed>(&mut seat.place, DOWN, 1);
     }
 
-    /// Where so many events were accepted, the call's event is accepted after them, and the answer is that number. Else
-    /// it is how many were accepted, and the seat has seen these.
+    /// If exactly `from` events were accepted so far, accepts the call's event after them, and gives `from`. Otherwise gives the number of
+    /// accepted events, which the seat has then seen.
     pub fn accept<C: Call>(&self, seat: &mut Seat, from: u64) -> u64
         requires of { seat.old.table ≡ self.now.table }
         requires live { (seat.old.view.live ≡ true) × (seat.old.view.numbered ≡ true) }
@@ -143,8 +144,8 @@ impl<K, L: Law<K>> Words<K, L> {
             .compare_exchange::<Accepted<C>>(&mut seat.place, ACCEPTED, from, from + 1)
     }
 
-    /// Where so many events are settled, those up to the other number are settled too, and the answer is the first number.
-    /// Else it is how many are settled, and the seat knows these as settled.
+    /// If exactly `from` events are settled so far, settles the next ones up to `to`, and gives `from`. Otherwise gives the number of
+    /// settled events, which the seat then knows as settled.
     pub fn settle(&self, seat: &mut Seat, from: u64, to: u64) -> u64
         requires of { seat.old.table ≡ self.now.table }
         requires live { seat.old.view.live ≡ true }

@@ -19,5 +19,6 @@ loop-preserved g c =
       ap (λ v. v.durable) looks.rest ∙ ap (λ s. s.view.durable) told ∙ until.4,
       begins_trans c.args.seat.now.view.seen c.loop.seat.view.seen c.look.new.seat.view.seen until.5
           (subst (λ l. Begins l c.look.new.seat.view.seen) (ap (λ s. s.view.seen) told) looks.seen),
-      once_told (told_down c.args.seat.now.view.down c.args.other.now.view.down c.loop.seat.view.down c.look.new.seat.view.down until.6 (ap (λ v. v.down) looks.rest ∙ ap (λ s. s.view.down) told ∙ ap (λ o. c.loop.seat.view.down || o.view.down) until.2)),
+      once_told (told_down c.args.seat.now.view.down c.args.other.now.view.down c.loop.seat.view.down c.look.new.seat.view.down until.6
+          (ap (λ v. v.down) looks.rest ∙ ap (λ s. s.view.down) told ∙ ap (λ o. c.loop.seat.view.down || o.view.down) until.2)),
     )

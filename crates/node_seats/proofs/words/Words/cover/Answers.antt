@@ -22,5 +22,6 @@ loop-preserved g c =
       begins_trans c.args.seat.now.view.seen c.loop.seat.view.seen c.read.new.seat.view.seen until.5 (subst (λ l. Begins l c.read.new.seat.view.seen) seen reads.seen),
       still_seen c.args.seat.now.view c.loop.seat.view c.read.new.seat.view until.5 durable until.6
           (subst (λ l. length c.read.new.seat.view.durable ≤ length l → c.read.new.seat.view.seen ≡ l) seen reads.same),
-      once_told (told_down c.args.seat.now.view.down c.args.other.now.view.down c.loop.seat.view.down c.read.new.seat.view.down until.7 (ap (λ v. v.down) reads.rest ∙ ap (λ s. s.view.down) told ∙ ap (λ o. c.loop.seat.view.down || o.view.down) until.2)),
+      once_told (told_down c.args.seat.now.view.down c.args.other.now.view.down c.loop.seat.view.down c.read.new.seat.view.down until.7
+          (ap (λ v. v.down) reads.rest ∙ ap (λ s. s.view.down) told ∙ ap (λ o. c.loop.seat.view.down || o.view.down) until.2)),
     )
