@@ -126,7 +126,8 @@ module _ {D : Type 0} (device : Device D) where
   read_beside (Some spare) live left pair told =
       both_older spare.side spare.generation left (device.content spare.disk) told (at_rest_older spare.generation (device.content spare.disk) pair.at_rest)
 
-  told_too : (spare : Option (Spare D)) (file left : List ℕ) → tells left ≡ tells file → IfSome spare (λ s. tells file ≡ Some (Some s.generation)) → IfSome spare (λ s. tells left ≡ Some (Some s.generation))
+  told_too : (spare : Option (Spare D)) (file left : List ℕ) → tells left ≡ tells file → IfSome spare (λ s. tells file ≡ Some (Some s.generation))
+      → IfSome spare (λ s. tells left ≡ Some (Some s.generation))
   told_too None file left same told = tt
   told_too (Some spare) file left same told = same ∙ told
 
@@ -144,7 +145,8 @@ module _ {D : Type 0} (device : Device D) where
 
     some_records : 1 ≤ length alive.ends_closed.records
     some_records =
-        let same = ok_is held.journal.records (map (moved_by (base_of (side_in journal))) alive.ends_closed.records) (sym held.journal.stands_for ∙ reads_file ∙ at_side (side_in journal) file alive.ends_closed.records alive.ends_closed.stands_for) in
+        let same = ok_is held.journal.records (map (moved_by (base_of (side_in journal))) alive.ends_closed.records)
+        (sym held.journal.stands_for ∙ reads_file ∙ at_side (side_in journal) file alive.ends_closed.records alive.ends_closed.stands_for) in
         omega (arith, some_record node (areas_of device journal) state_held held, ap length same, length-map alive.ends_closed.records (moved_by (base_of (side_in journal))))
 
     -- what stands for the same or for more in later groups is read from it

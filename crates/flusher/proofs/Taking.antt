@@ -157,7 +157,8 @@ stays_up before later count up still = record {
 }
 
 -- what a checkpoint that was taken tells of the room for it
-pub tells_room : {S D : Type 0} (scheme : Scheme S) (node : NodeView S) (before later : Flusher D) (result : Result ℕ FlushError) (records : List (List ℕ)) (taken : List Marked) → taken_in later ≡ taken
+pub tells_room : {S D : Type 0} (scheme : Scheme S) (node : NodeView S) (before later : Flusher D) (result : Result ℕ FlushError) (records : List (List ℕ))
+    (taken : List Marked) → taken_in later ≡ taken
     → IsCheckpointAfter scheme node taken records → IsErrOf result Full ↔ HasNoRoomFor (journal_of before) records
     → (IsErrOf result Full → journal_of later ≡ journal_of before) → TellsRoomToRewrite scheme node before later result
 tells_room scheme node before later result records taken is checkpoint full same = record {

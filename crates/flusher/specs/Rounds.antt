@@ -1,13 +1,14 @@
 -- A flusher, and what its rounds and checkpoints do.
-use Rattle.std.specs.Prelude.{◌≡◌, ◌⊎◌, ◌↔◌, ℕ, ◌+◌, ◌<◌, false, not, Bool, List, length, map, drop, Result, IsErrOf, IsTrue, IfOk, OnOk, OnErr}
+use Rattle.std.specs.Prelude.{◌≡◌, ◌⊎◌, ◌↔◌, ℕ, ◌+◌, ◌<◌, false, not, Bool, List, ◌∷◌, length, map, drop, Result, IsErrOf, IsTrue, IfOk, OnOk, OnErr}
 use Rattle.std.specs.Option.{option_map_or}
 use Rattle.diskmodel.specs.Disk.{Device}
 use Rattle.journal.specs.Areas.{Areas, alone, pair_of}
-use Rattle.journal.specs.Format.{group_bytes}
+use Rattle.journal.specs.Format.{file_with, group_bytes}
 use Rattle.journal.specs.Journal.{disk_of, spare_of, IsAlive}
 use Rattle.journal.specs.declared.journal.Journal.{Journal}
-use Rattle.journal.specs.declared.layout.TheConstants.{MAX_JOURNAL_BYTES}
-use Rattle.journal.specs.Pairs.{areas_of}
+use Rattle.journal.specs.declared.layout.TheConstants.{MAX_JOURNAL_BYTES, OPEN}
+use Rattle.journal.specs.Pairs.{areas_of, generation_in}
+use Rattle.journal.specs.Snapshot.{bytes_for}
 use Rattle.spec_machine.specs.After.{after_all, IsLegalAfter}
 use Rattle.spec_model.specs.States.{State}
 use Rattle.wire.specs.Lists.{Begins}
@@ -35,18 +36,18 @@ journal_of flusher = flusher.journal
 abbrev pub seat_of : {D : Type 0} → Flusher D → FlushSeat
 seat_of flusher = flusher.seat
 
--- whether a round of it took the node down
+-- a round or a checkpoint of this flusher took the node down
 abbrev pub is_down : {D : Type 0} → Flusher D → Bool
 is_down flusher = flusher.down
 
--- what is settled, and what is taken
+-- the events that are settled, and those that are taken
 abbrev pub settled_in : {D : Type 0} → Flusher D → List Marked
 settled_in flusher = (seat_of flusher).seat.view.durable
 
 abbrev pub taken_in : {D : Type 0} → Flusher D → List Marked
 taken_in flusher = taken_by (seat_of flusher)
 
--- areas are the node's journal at the state after these events, from a base of the node on; all of them are legal there
+-- areas are the node's journal at the state after these events, which are legal, from some base of the node
 pub record HoldsAfter {S : Type 0} (scheme : Scheme S) (node : NodeView S) (marked : List Marked) (areas : Areas) : Type 0 where
   pub base : State
   pub is_base : IsBase scheme node base
@@ -57,19 +58,19 @@ pub record HoldsAfter {S : Type 0} (scheme : Scheme S) (node : NodeView S) (mark
 abbrev pub areas_at : {D : Type 0} → Device D → Journal D → List ℕ → Areas
 areas_at device journal left = option_map_or (λ spare. pair_of spare.side left (device.content spare.disk)) (spare_of journal) (alone left)
 
--- where areas were the node's journal with what was settled after some state, they have more of the node's events after that state now
+-- each state after which the earlier areas held the settled events is one after which the areas now hold `more`
 abbrev pub KeepsEarlier : {S : Type 0} → Scheme S → NodeView S → List Marked → List Marked → Areas → Areas → Type 0
 KeepsEarlier scheme node settled more before left =
     let member = node_of scheme node.setting in
     (base : State) → Holds member before (after_all member base (events settled)) → Holds member left (after_all member base (events more))
 
--- areas are the node's journal with these events, after the same state as before
+-- areas are the node's journal with these events, after the same earlier state as before
 pub record LeavesAfter {S : Type 0} (scheme : Scheme S) (node : NodeView S) (settled more : List Marked) (before left : Areas) : Type 0 where
   pub holds : HoldsAfter scheme node more left
   pub earlier : KeepsEarlier scheme node settled more before left
 
--- A flusher is a node's: its seat is, and unless it took the node down it has the right to that, has taken no more than is settled, no
--- checkpoint is in flight, and its journal can be added to and has exactly that.
+-- A flusher belongs to a node, as its seat does. Unless it took the node down it has the right to do that, everything taken is settled, no
+-- checkpoint is in flight, and its journal can be appended to and holds exactly the settled events.
 pub record IsFlusherOf {S D : Type 0} (scheme : Scheme S) (device : Device D) (node : NodeView S) (flusher : Flusher D) : Type 0 where
   pub seat : IsFlushOf node (seat_of flusher)
   pub right : (seat_of flusher).seat.view.may_fail ≡ not (is_down flusher)
@@ -80,11 +81,11 @@ pub record IsFlusherOf {S D : Type 0} (scheme : Scheme S) (device : Device D) (n
 
 -- ---- what a round takes
 
--- the records of what comes after so much of a list
+-- the records of the events in `all` that follow the settled ones
 abbrev pub records_after : List Marked → List Marked → List (List ℕ)
 records_after settled all = map record_of (drop (length settled) (events all))
 
--- the rest of what was accepted has a longest beginning that fits a group, and that is taken
+-- of the accepted events that aren't settled, the longest prefix that fits a group is taken
 pub record IsGroupOf (settled all taken : List Marked) : Type 0 where
   pub group : List (List ℕ)
   pub rest : List (List ℕ)
@@ -92,8 +93,8 @@ pub record IsGroupOf (settled all taken : List Marked) : Type 0 where
   pub is : group ≡ records_after settled taken
   pub size : length taken ≡ length settled + length group
 
--- Of what was accepted, with all of this that a seat had seen, a round takes what is settled and the longest beginning of the rest that
--- fits a group, or just what is settled, where that is all.
+-- A round takes what is settled and then the longest prefix of the other accepted events that fits a group. Among the accepted events are
+-- all that the seat had seen. It takes only what is settled where nothing else is accepted.
 pub record TakesLongest (seen settled taken : List Marked) : Type 0 where
   pub all : List Marked
   pub had_seen : Begins seen all
@@ -103,26 +104,26 @@ pub record TakesLongest (seen settled taken : List Marked) : Type 0 where
 
 -- ---- what a checkpoint takes
 
--- all that was accepted, which what a seat had seen and what is settled begin
+-- a checkpoint takes all accepted events, among them what the seat had seen and what is settled
 pub record TakesAll (seen settled taken : List Marked) : Type 0 where
   pub had_seen : Begins seen taken
   pub begins : Begins settled taken
 
--- ---- what both leave
+-- ---- what both leave on the disks
 
 -- areas are the node's journal with what was settled before the call, or with what the call took
 abbrev pub HoldsEither : {S : Type 0} → Scheme S → NodeView S → List Marked → List Marked → Areas → Areas → Type 0
 HoldsEither scheme node settled taken before left = LeavesAfter scheme node settled settled before left ⊎ LeavesAfter scheme node settled taken before left
 
--- the group has no room after a journal of these bytes
+-- the group that was taken has no room after a journal with these bytes
 pub record HasNoRoom (content : List ℕ) (settled taken : List Marked) : Type 0 where
   pub some : length settled < length taken
   pub too_long : MAX_JOURNAL_BYTES < length content + length (group_bytes (records_after settled taken))
 
--- ---- what it answers
+-- ---- what both report
 
--- Of a round or a checkpoint: it answers Down exactly where the flusher is down, and changes nothing then. One that answers Device or Full
--- takes it down.
+-- Of a round or a checkpoint: it reports Down exactly where the flusher is down already, and then changes nothing. Device or Full takes the
+-- flusher down.
 pub record GoesDown {D : Type 0} (before later : Flusher D) (result : Result ℕ FlushError) : Type 0 where
   pub down : IsErrOf result Down ↔ IsTrue (is_down before)
   pub same : IsErrOf result Down → later ≡ before
@@ -130,8 +131,8 @@ pub record GoesDown {D : Type 0} (before later : Flusher D) (result : Result ℕ
   pub full : IsErrOf result Full → IsTrue (is_down later)
   pub nothing_else : IsTrue (is_down later) → IsErrOf result errors.Device ⊎ IsErrOf result Full ⊎ IsErrOf result Down
 
--- Of the seat that it is made with: it is the same one, has seen and knows as settled what it did and perhaps more, and where the call
--- takes the node down it knows of that.
+-- Of the seat with which the call is made: it is the same seat, it has seen and knows as settled what it did and perhaps more, and if the
+-- call takes the node down, it knows that.
 pub record IsToldOf (before later : SeatView) (result : Result ℕ FlushError) : Type 0 where
   pub same : IsSame before later
   pub more : Begins before.view.seen later.view.seen
@@ -140,7 +141,7 @@ pub record IsToldOf (before later : SeatView) (result : Result ℕ FlushError) :
   pub device : IsErrOf result errors.Device → IsTrue later.view.down
   pub full : IsErrOf result Full → IsTrue later.view.down
 
--- Of what had seen: it takes a group, and settles all that is taken, which the seat then knows. For want of memory it takes nothing; a
+-- Of a round: it takes a group, settles all that is taken, and the seat then knows that. Where an allocation fails it takes nothing, and a
 -- round that fails settles nothing.
 pub record TakesAndSettles {D : Type 0} (seat later_seat : SeatView) (before later : Flusher D) (result : Result ℕ FlushError) : Type 0 where
   pub takes : IsErrOf result Down ⊎ IsErrOf result Memory ⊎ TakesLongest seat.view.seen (settled_in before) (taken_in later)
@@ -150,8 +151,8 @@ pub record TakesAndSettles {D : Type 0} (seat later_seat : SeatView) (before lat
   pub told : OnOk result (later_seat.view.durable ≡ taken_in later)
   pub not_settled : OnErr result (settled_in later ≡ settled_in before)
 
--- Of a checkpoint: it takes all of what had been accepted, and settles that, which the seat then knows. Where memory is refused it takes
--- nothing; one that fails settles nothing.
+-- Of a checkpoint: it takes all accepted events, settles them, and the seat then knows that. Where an allocation fails it takes nothing,
+-- and a checkpoint that fails settles nothing.
 pub record TakesAllAndSettles {D : Type 0} (seat later_seat : SeatView) (before later : Flusher D) (result : Result ℕ FlushError) : Type 0 where
   pub takes : IsErrOf result Down ⊎ IsErrOf result Memory ⊎ TakesAll seat.view.seen (settled_in before) (taken_in later)
   pub memory : IsErrOf result Memory → (journal_of later ≡ journal_of before) × (taken_in later ≡ settled_in before)
@@ -159,22 +160,35 @@ pub record TakesAllAndSettles {D : Type 0} (seat later_seat : SeatView) (before 
   pub told : OnOk result (later_seat.view.durable ≡ taken_in later)
   pub not_settled : OnErr result (settled_in later ≡ settled_in before)
 
--- Of a checkpoint that was taken: these records are one of all that it took. It answers Full exactly where the journal has no room for it,
--- and leaves the journal then.
+-- Of a checkpoint that was taken: these records are a checkpoint of all that it took. It reports Full exactly where the journal has no room
+-- for them, and then leaves the journal as it was.
 pub record TellsRoomToRewrite {S D : Type 0} (scheme : Scheme S) (node : NodeView S) (before later : Flusher D) (result : Result ℕ FlushError) : Type 0 where
   pub records : List (List ℕ)
   pub checkpoint : IsCheckpointAfter scheme node (taken_in later) records
   pub full : IsErrOf result Full ↔ HasNoRoomFor (journal_of before) records
   pub same : IsErrOf result Full → journal_of later ≡ journal_of before
 
--- a round answers Full exactly where the journal has no room for what it took, and leaves the journal then
+-- a round reports Full exactly where the journal has no room for what it took, and then leaves the journal as it was
 pub record TellsRoom {D : Type 0} (device : Device D) (before later : Flusher D) (result : Result ℕ FlushError) : Type 0 where
   pub full : is_down before ≡ false → IsErrOf result Full ↔ HasNoRoom (device.content (disk_of (journal_of before))) (settled_in before) (taken_in later)
   pub same : IsErrOf result Full → journal_of later ≡ journal_of before
 
--- Of another call: what is settled and taken, the journal and whether it is down are as they were.
+-- Of any other call: what is settled and taken, the journal, and whether it is down, are as before.
 pub record StaysAsIs {D : Type 0} (before later : Flusher D) : Type 0 where
   pub settled : settled_in later ≡ settled_in before
   pub taken : taken_in later ≡ taken_in before
   pub journal : journal_of later ≡ journal_of before
   pub down : is_down later ≡ is_down before
+
+-- ---- what the area that is read then has
+
+-- the records of what was settled were added to the area that is read, as one group
+abbrev pub AddsSettled : {D : Type 0} → Device D → Flusher D → Flusher D → Type 0
+AddsSettled device before later =
+    device.content (disk_of (journal_of later)) ≡ file_with (device.content (disk_of (journal_of before))) (records_after (settled_in before) (settled_in later))
+
+-- the area that is read has a checkpoint of all that is settled, and nothing after it
+pub record IsAtCheckpoint {S D : Type 0} (scheme : Scheme S) (device : Device D) (node : NodeView S) (flusher : Flusher D) : Type 0 where
+  pub records : List (List ℕ)
+  pub checkpoint : IsCheckpointAfter scheme node (settled_in flusher) records
+  pub content : device.content (disk_of (journal_of flusher)) ≡ OPEN ∷ bytes_for (generation_in (journal_of flusher)) records

@@ -1,16 +1,18 @@
 //! A flusher that rewrites the journal to a checkpoint.
 
-ghost use Rattle.std.specs.Prelude.{◌≡◌, ◌⊎◌, ◌↔◌, true, false, IfOk, IfErr, IsErrOf, IsSome, OnOk, OnErr};
+ghost use Rattle.std.specs.Prelude.{◌≡◌, ◌⊎◌, ◌↔◌, ◌∷◌, true, false, IfOk, IfErr, IsErrOf, IsSome, OnOk, OnErr};
 ghost use Rattle.book.specs.Checkpoints.{HasNoRoomFor};
 ghost use Rattle.diskmodel.specs.Disk.{AtEachMoment, TellsFault};
 ghost use Rattle.journal.specs.Journal.{disk_of, spare_of, IsAlive};
 ghost use Rattle.journal.specs.Pairs.{HaveChangedPlaces, HaveKeptPlaces, areas_of, areas_with, generation_in, spare_disk, rewritten_disk, untouched_disk};
+ghost use Rattle.journal.specs.Snapshot.{bytes_for};
+ghost use Rattle.journal.specs.declared.layout.TheConstants.{OPEN};
 ghost use Rattle.spec_machine.specs.After.{IsLegalAfter};
 ghost use Rattle.spec_model.specs.States.{State};
 ghost use Rattle.validator.specs.Setting.{node_of};
 ghost use Rattle.node_seats.specs.Views.{events, informed};
 ghost use Rattle.node_shared.specs.Home.{IsBase, IsOf, IsFlushOf, IsCheckpointAfter};
-ghost use Rattle.flusher.specs.Rounds.{journal_of, seat_of, is_down, settled_in, taken_in, IsFlusherOf, HoldsAfter, HoldsEither, KeepsEarlier, GoesDown, IsToldOf, TakesAllAndSettles, TellsRoomToRewrite};
+ghost use Rattle.flusher.specs.Rounds.{journal_of, seat_of, is_down, settled_in, taken_in, IsFlusherOf, HoldsAfter, HoldsEither, KeepsEarlier, GoesDown, IsToldOf, TakesAllAndSettles, TellsRoomToRewrite, IsAtCheckpoint};
 
 use crate::flusher::Flusher;
 use book::FlushError;
@@ -21,13 +23,13 @@ use sigface::Sign;
 use std::sync::Wait;
 
 impl<D: Disk> Flusher<D> {
-    /// Takes all that the node accepted for a checkpoint, rewrites the journal to it, and settles it. The other disk of the journal's two is
-    /// written, and read from then on. The lock is held for the take and for the settle, so that threads submit while the disk is
-    /// written; what they bring waits for the next round. What the seat had seen is there to be taken; after the checkpoint the seat
-    /// knows what is settled, and where the checkpoint took the node down, that it is. Answers the journal's new generation.
+    /// Takes all that the node accepted for a checkpoint, rewrites the journal to it, and settles it. The journal's spare disk is written,
+    /// and is read from then on. The lock is held for the take and for the settle only, so threads can submit events while the disk is
+    /// written; these wait for the next round. What the seat had seen is among what is taken. After the checkpoint the seat knows what is
+    /// settled, and that the node is down if the checkpoint took it down. Gives the journal's new generation.
     ///
     /// # Errors
-    /// Each of them, as told there. One that comes after the take, `Full` or `Device`, takes the node down.
+    /// Each of `FlushError`, as described there. An error after the take, `Full` or `Device`, takes the node down.
     pub fn checkpoint<'a, S: Sign, R: Wait>(
         &mut self,
         rt: &R,
@@ -43,16 +45,18 @@ impl<D: Disk> Flusher<D> {
         ensures told { IsToldOf seat.old seat.new result }
         ensures settles { TakesAllAndSettles seat.old seat.new self.old self.new result }
         ensures answer { IfOk result (λ generation. generation ≡ generation_in (journal_of self.new)) }
-        // The disks have changed places where it succeeded, and only then.
+        // What it took is all that the area which is read then has.
+        ensures writes { OnOk result (IsAtCheckpoint S.scheme D.device node.now self.new) }
+        // The disks have changed places exactly where the checkpoint succeeded.
         ensures swapped { OnOk result (HaveChangedPlaces (journal_of self.old) (journal_of self.new)) }
         ensures keeps { OnErr result (HaveKeptPlaces (journal_of self.old) (journal_of self.new)) }
         ensures room { IsErrOf result FlushError.Down ⊎ IsErrOf result FlushError.Memory ⊎ TellsRoomToRewrite S.scheme node.now self.old self.new result }
-        // It answers Device exactly where the disk that it writes has failed. The other one is the same, whatever the answer.
+        // The error is Device exactly where the disk that is written has failed. The other disk is untouched, whatever the result.
         ensures cause { TellsFault FlushError.Device (D.device.faults (spare_disk (journal_of self.old))) (D.device.faults (rewritten_disk result (journal_of self.new))) result }
         ensures untouched { untouched_disk result (journal_of self.new) ≡ disk_of (journal_of self.old) }
 
-        // At each moment a stop leaves an area with which both hold what was settled, or all that the checkpoint took. What came before
-        // stays as it was.
+        // With what a stop at any moment leaves of the spare area, the journal has what was settled, or all that the checkpoint took.
+        // Whatever it had before that stays as it was.
         ensures any_moment { IsErrOf result FlushError.Down ⊎ AtEachMoment D.device (spare_disk (journal_of self.old)) (rewritten_disk result (journal_of self.new)) (λ left. HoldsEither S.scheme node.now (settled_in self.old) (taken_in self.new) (areas_of D.device (journal_of self.old)) (areas_with D.device (journal_of self.old) left)) }
         ensures earlier { OnOk result (KeepsEarlier S.scheme node.now (settled_in self.old) (settled_in self.new) (areas_of D.device (journal_of self.old)) (areas_of D.device (journal_of self.new))) }
     {
@@ -68,7 +72,7 @@ impl<D: Disk> Flusher<D> {
         Ok(generation)
     }
 
-    // Rewrites the journal to the checkpoint that was taken, and settles it. Where it can't, the node goes down, which the seat then knows.
+    // Rewrites the journal to the checkpoint that was taken, and settles it. If that fails, the node goes down, which the seat then knows.
     fn rewrite<'a, S: Sign, R: Wait>(
         &mut self,
         rt: &R,
@@ -92,6 +96,7 @@ impl<D: Disk> Flusher<D> {
         ensures earlier { OnOk result (KeepsEarlier S.scheme node.now (settled_in self.old) (taken_in self.old) (areas_of D.device (journal_of self.old)) (areas_of D.device (journal_of self.new))) }
         ensures ok { IfOk result (λ generation. (generation ≡ generation_in (journal_of self.new)) × (settled_in self.new ≡ taken_in self.old) × (is_down self.new ≡ false)) }
         ensures err { OnErr result ((settled_in self.new ≡ settled_in self.old) × (is_down self.new ≡ true)) }
+        ensures content { OnOk result (D.device.content (disk_of (journal_of self.new)) ≡ OPEN ∷ bytes_for (generation_in (journal_of self.new)) snapshot) }
         ensures swapped { OnOk result (HaveChangedPlaces (journal_of self.old) (journal_of self.new)) }
         ensures keeps { OnErr result (HaveKeptPlaces (journal_of self.old) (journal_of self.new)) }
         ensures seat { OnOk result (seat.new ≡ seat.old) }

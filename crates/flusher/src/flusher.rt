@@ -2,7 +2,7 @@
 
 ghost use Rattle.std.specs.Prelude.{◌≡◌, ◌⊎◌, ◌↔◌, ◌+◌, ◌<◌, true, false, length, IfOk, IfErr, IfSome, IsErrOf, IsNone, IsTrue, OnOk, OnErr};
 ghost use Rattle.diskmodel.specs.Disk.{AtEachMoment, TellsFault};
-ghost use Rattle.journal.specs.Format.{group_bytes};
+ghost use Rattle.journal.specs.Format.{file_with, group_bytes};
 ghost use Rattle.journal.specs.Journal.{disk_of, spare_of, IsAlive};
 ghost use Rattle.journal.specs.Pairs.{areas_of};
 ghost use Rattle.journal.specs.declared.layout.TheConstants.{MAX_JOURNAL_BYTES};
@@ -12,7 +12,7 @@ ghost use Rattle.spec_model.specs.States.{State};
 ghost use Rattle.validator.specs.Setting.{node_of};
 ghost use Rattle.node_seats.specs.Views.{events, informed};
 ghost use Rattle.node_shared.specs.Home.{IsBase, IsOf, IsFlushOf, group_of};
-ghost use Rattle.flusher.specs.Rounds.{journal_of, seat_of, is_down, settled_in, taken_in, areas_at, IsFlusherOf, HoldsAfter, HoldsEither, KeepsEarlier, GoesDown, IsToldOf, TakesAndSettles, TellsRoom, StaysAsIs};
+ghost use Rattle.flusher.specs.Rounds.{journal_of, seat_of, is_down, settled_in, taken_in, areas_at, IsFlusherOf, HoldsAfter, HoldsEither, KeepsEarlier, GoesDown, IsToldOf, TakesAndSettles, TellsRoom, StaysAsIs, AddsSettled};
 
 use book::FlushError;
 use diskmodel::Disk;
@@ -21,7 +21,7 @@ use node_shared::{FlushSeat, Node, Seat};
 use sigface::Sign;
 use std::sync::Wait;
 
-/// The journal of a node's disk, and the seat with which groups are taken for it and settled.
+/// The journal on a node's disks, and the seat with which groups are taken for it and settled.
 pub struct Flusher<D: Disk> {
     pub(crate) journal: Journal<D>,
     pub(crate) seat: FlushSeat,
@@ -40,7 +40,7 @@ impl<D: Disk + Drop> Drop for Flusher<D> {
 }
 
 impl<D: Disk> Flusher<D> {
-    /// A flusher over a live journal, of the records at which the node began, and the node's flush seat.
+    /// A flusher from the node's flush seat and a live journal, which has the records with which the node began.
     pub fn new(journal: Journal<D>, seat: FlushSeat) -> Flusher<D>
         ensures journal { journal_of result ≡ journal }
         ensures seat { seat_of result ≡ seat }
@@ -65,7 +65,7 @@ impl<D: Disk> Flusher<D> {
         journal
     }
 
-    /// How long the area of the journal that is read is, in bytes. None where a round or a checkpoint took the node down.
+    /// The length of the area of the journal that is read, in bytes. None where a round or a checkpoint took the node down.
     pub fn len<'a, S: Sign>(&self, node: &Node<'a, S>) -> Option<u64>
         requires flusher { IsFlusherOf S.scheme D.device node.now self.now }
         ensures down { IsNone result ↔ IsTrue (is_down self.now) }
@@ -77,13 +77,13 @@ impl<D: Disk> Flusher<D> {
         }
     }
 
-    /// Takes a group of what the node accepted, adds it to the journal and settles it. The lock is held for the take and for the
-    /// settle, not while the disk is written. What the seat had seen is there to be taken; after the round the seat knows what is
-    /// settled, and where the round took the node down, that it is. The answer is how many records the group has; 0 where all was
-    /// settled.
+    /// Takes a group of what the node accepted, appends it to the journal and settles it. The lock is held for the take and for the settle
+    /// only, not while the disk is written. What the seat had seen is among what can be taken. After the round the seat knows what is
+    /// settled, and that the node is down if the round took it down. Gives the number of the group's records; 0 where all were settled
+    /// already.
     ///
     /// # Errors
-    /// Each of them, as told there.
+    /// Each of `FlushError`, as described there.
     pub fn round<'a, S: Sign, R: Wait>(
         &mut self,
         rt: &R,
@@ -99,13 +99,15 @@ impl<D: Disk> Flusher<D> {
         ensures settles { TakesAndSettles seat.old seat.new self.old self.new result }
         ensures room { TellsRoom D.device self.old self.new result }
         ensures cause { TellsFault FlushError.Device (D.device.faults (disk_of (journal_of self.old))) (D.device.faults (disk_of (journal_of self.new))) result }
-        // One that brings nothing leaves the journal.
+        // A round with nothing to take leaves the journal unchanged.
         ensures nothing { IfOk result (λ count. count ≡ 0 → journal_of self.new ≡ journal_of self.old) }
-        // Of two disks it writes to one alone.
+        // Else it adds one group to the area that is read: the records of what it settled.
+        ensures adds { IfOk result (λ count. 0 < count → AddsSettled D.device self.old self.new) }
+        // The spare disk, if there is one, is untouched.
         ensures spare { spare_of (journal_of self.new) ≡ spare_of (journal_of self.old) }
 
-        // At each moment a stop leaves what was settled, or that with the group; and once it is settled that is so for good. What came
-        // before stays as it was.
+        // What a stop at any moment leaves has what was settled, with or without the group. Once the group is settled, it always has it.
+        // Whatever the journal had before that stays as it was.
         ensures any_moment { IsErrOf result FlushError.Down ⊎ AtEachMoment D.device (disk_of (journal_of self.old)) (disk_of (journal_of self.new)) (λ left. HoldsEither S.scheme node.now (settled_in self.old) (taken_in self.new) (areas_of D.device (journal_of self.old)) (areas_at D.device (journal_of self.old) left)) }
         ensures earlier { OnOk result (KeepsEarlier S.scheme node.now (settled_in self.old) (settled_in self.new) (areas_of D.device (journal_of self.old)) (areas_of D.device (journal_of self.new))) }
     {
@@ -124,7 +126,7 @@ impl<D: Disk> Flusher<D> {
         Ok(count)
     }
 
-    /// A caller's seat is then known to know as settled no more than is settled here. It writes nothing.
+    /// After this it is certain that all that a caller's seat knows as settled is settled here too. Nothing is written.
     pub fn cover<'a, S: Sign, R: Wait>(&mut self, rt: &R, node: &Node<'a, S>, seat: &mut Seat)
         requires flusher { IsFlusherOf S.scheme D.device node.now self.old }
         requires of { IsOf node.now seat.old }
@@ -136,7 +138,7 @@ impl<D: Disk> Flusher<D> {
         node.cover(rt, &mut self.seat, seat);
     }
 
-    // Adds the group that was taken to the journal, and settles it. Where it can't, the node goes down, which the seat then knows.
+    // Appends the group that was taken to the journal, and settles it. If that fails, the node goes down, which the seat then knows.
     fn add<'a, S: Sign, R: Wait>(
         &mut self,
         rt: &R,
@@ -155,6 +157,7 @@ impl<D: Disk> Flusher<D> {
         requires of { IsOf node.now seat.old }
         ensures flusher { IsFlusherOf S.scheme D.device node.now self.new }
         ensures taken { taken_in self.new ≡ taken_in self.old }
+        ensures content { OnOk result (D.device.content (disk_of (journal_of self.new)) ≡ file_with (D.device.content (disk_of (journal_of self.old))) group) }
         ensures any_moment { AtEachMoment D.device (disk_of (journal_of self.old)) (disk_of (journal_of self.new)) (λ left. HoldsEither S.scheme node.now (settled_in self.old) (taken_in self.old) (areas_of D.device (journal_of self.old)) (areas_at D.device (journal_of self.old) left)) }
         ensures earlier { OnOk result (KeepsEarlier S.scheme node.now (settled_in self.old) (taken_in self.old) (areas_of D.device (journal_of self.old)) (areas_of D.device (journal_of self.new))) }
         ensures some { IfOk result (λ count. 0 < count) }

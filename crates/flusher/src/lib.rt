@@ -1,4 +1,4 @@
-//! Who brings what a node accepted to its disk, beside the threads that use it.
+//! The flusher, which writes what a node accepted to its disk while other threads use the node.
 #![tactic(auto)]
 
 mod checkpointing;

@@ -43,7 +43,8 @@ holds_first scheme node areas is_node held =
 -- a flusher over that journal, whose seat has seen nothing
 pub flusher_first : {S D : Type 0} (scheme : Scheme S) (device : Device D) (node : NodeView S) (flusher : Flusher D) (journal : Journal D) (seat : FlushSeat) (setting : ConfigView S) (tables : Tables)
     → node.setting ≡ setting → node.begun ≡ tables → journal_of flusher ≡ journal → seat_of flusher ≡ seat → IsFlushOf node seat → HasNothing seat.seat → seat.taken ≡ 0 → seat.rewriting ≡ false
-    → seat.seat.view.may_fail ≡ true → is_down flusher ≡ false → IsNode (node_of scheme setting) → IsAlive device journal → HoldsIn (node_of scheme setting) (areas_of device journal) tables → IsFlusherOf scheme device node flusher
+    → seat.seat.view.may_fail ≡ true → is_down flusher ≡ false → IsNode (node_of scheme setting) → IsAlive device journal
+    → HoldsIn (node_of scheme setting) (areas_of device journal) tables → IsFlusherOf scheme device node flusher
 flusher_first {S} {D} scheme device node flusher journal seat setting tables setting_is begun_is journal_is seat_is of nothing taken idle right up is_node alive held =
     let areas = areas_of device journal in
     let here : HoldsIn (node_of scheme node.setting) areas node.begun = subst (λ (t : Tables). HoldsIn (node_of scheme node.setting) areas t) (sym begun_is)

@@ -60,7 +60,8 @@ module _ {S D : Type 0} (scheme : Scheme S) (device : Device D) (only : Only dev
       → OnOk result (KeepsEarlier scheme node (settled_in before) (settled_in later) (areas_of device (journal_of before)) (areas_of device (journal_of later)))
       → Flushes scheme device node before later result
   round_flushes seat later_seat settles cause same at earlier = record {
-    takes = begins_taken {X = TakesLongest seat.view.seen (settled_in before) (taken_in later)} (settled_in before) (taken_in later) result (λ takes. takes.begins) (λ memory. (settles.memory memory).1) settles.takes;
+    takes = begins_taken {X = TakesLongest seat.view.seen (settled_in before) (taken_in later)} (settled_in before) (taken_in later) result (λ takes. takes.begins)
+        (λ memory. (settles.memory memory).1) settles.takes;
     settled = settles.settled;
     not_settled = settles.not_settled;
     memory = settles.memory;
@@ -78,7 +79,8 @@ module _ {S D : Type 0} (scheme : Scheme S) (device : Device D) (only : Only dev
       → OnOk result (KeepsEarlier scheme node (settled_in before) (settled_in later) (areas_of device (journal_of before)) (areas_of device (journal_of later)))
       → Flushes scheme device node before later result
   checkpoint_flushes seat later_seat settles some cause changed kept untouched at earlier = record {
-    takes = begins_taken {X = TakesAll seat.view.seen (settled_in before) (taken_in later)} (settled_in before) (taken_in later) result (λ takes. takes.begins) (λ memory. (settles.memory memory).1) settles.takes;
+    takes = begins_taken {X = TakesAll seat.view.seen (settled_in before) (taken_in later)} (settled_in before) (taken_in later) result (λ takes. takes.begins)
+        (λ memory. (settles.memory memory).1) settles.takes;
     settled = settles.settled;
     not_settled = settles.not_settled;
     memory = settles.memory;

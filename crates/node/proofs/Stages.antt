@@ -182,15 +182,18 @@ module _ {D : Type 0} (device : Device D) where
   pub fault_of_live : {T E : Type 0} (error : E) (old new : Journal D) (result : Result T E) → spare_of new ≡ spare_of old
       → TellsFault error (device.faults (disk_of old)) (device.faults (disk_of new)) result → TellsFault error (faults_in device (store_of old)) (faults_in device (store_of new)) result
   fault_of_live {T} {E} error old new result same tells =
-      subst (λ (s : Option (Spare D)). TellsFault error (faults_in device (store_of old)) (faults_in device (option_map_or (λ spare. two (by_area spare.side (disk_of new) spare.disk)) s (One (disk_of new)))) result)
+      subst (λ (s : Option (Spare D)). TellsFault error (faults_in device (store_of old))
+      (faults_in device (option_map_or (λ spare. two (by_area spare.side (disk_of new) spare.disk)) s (One (disk_of new)))) result)
       (sym same) (fault_by error (disk_of old) (disk_of new) (spare_of old) result tells)
 
   -- or exactly where the other one has
   pub fault_of_spare : {T E : Type 0} (error : E) (result : Result T E) (old new : Journal D) → IsSome (spare_of old) → OnOk result (HaveChangedPlaces old new)
       → OnErr result (HaveKeptPlaces old new) → untouched_disk result new ≡ disk_of old
-      → TellsFault error (device.faults (spare_disk old)) (device.faults (rewritten_disk result new)) result → TellsFault error (faults_in device (store_of old)) (faults_in device (store_of new)) result
+      → TellsFault error (device.faults (spare_disk old)) (device.faults (rewritten_disk result new)) result
+      → TellsFault error (faults_in device (store_of old)) (faults_in device (store_of new)) result
   fault_of_spare error result old new some changed kept untouched tells =
-      fault_sum error (device.faults (disk_of old)) (device.faults (spare_disk old)) (device.faults (rewritten_disk result new)) (faults_in device (store_of old)) (faults_in device (store_of new)) result
+      fault_sum error (device.faults (disk_of old)) (device.faults (spare_disk old)) (device.faults (rewritten_disk result new)) (faults_in device (store_of old))
+      (faults_in device (store_of new)) result
       (ap (faults_in device) (store_is old some) ∙ faults_two (side_in old) (disk_of old) (spare_disk old))
       (ap (faults_in device) (store_then result old new changed kept untouched) ∙ faults_two (side_in old) (disk_of old) (rewritten_disk result new)) tells
 

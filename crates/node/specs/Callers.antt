@@ -1,4 +1,4 @@
--- What threads call a node with.
+-- The views of what threads use to call a node.
 use Rattle.std.specs.Prelude.{◌≡◌}
 use Rattle.node_seats.specs.Sights.{SeatView}
 use Rattle.validator.specs.Setting.{ConfigView}
@@ -11,12 +11,12 @@ pub record CallerView (S : Type 0) : Type 0 where
   pub node : NodeView S
   pub seat : SeatView
 
--- its seat is one of the node's, which is set up as the configuration says
+-- a caller's seat belongs to the caller's node, which has the caller's configuration
 pub record IsCalling {S : Type 0} (caller : CallerView S) : Type 0 where
   pub of_node : IsOf caller.node caller.seat
   pub setting : caller.node.setting ≡ caller.setting
 
--- after a call it is at the same node
+-- after a call the caller has the same configuration and is at the same node
 pub record StaysWith {S : Type 0} (before later : CallerView S) : Type 0 where
   pub setting : later.setting ≡ before.setting
   pub node : later.node ≡ before.node

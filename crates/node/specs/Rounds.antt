@@ -1,4 +1,4 @@
--- What a round or a checkpoint does, over all disks of the journal.
+-- What a round or a checkpoint does, stated for a journal on one disk or on two.
 use Rattle.std.specs.Prelude.{◌≡◌, ◌⊎◌, ◌↔◌, ℕ, Result, IsErrOf, IsSome, OnOk, OnErr}
 use Rattle.flusher.specs.declared.FlushError.{FlushError}
 use Rattle.flusher.specs.declared.FlushError.TheVariants.{Memory, Device, Down}
@@ -13,18 +13,19 @@ use Rattle.sigface.specs.Scheme.{Scheme}
 use Rattle.wire.specs.Lists.{Begins}
 use Rattle.node.specs.Disks.{AtEachMomentOn}
 
--- A round or a checkpoint of a node takes what is settled, and perhaps more after it, and settles what it took; one that fails settles nothing.
+-- A round or a checkpoint takes what is settled, and perhaps more events after it, and settles what it took; one that fails settles
+-- nothing.
 pub record Flushes {S D : Type 0} (scheme : Scheme S) (device : Disks D) (node : NodeView S) (before later : Flusher D) (result : Result ℕ FlushError) : Type 0 where
   pub takes : IsErrOf result Down ⊎ Begins (settled_in before) (taken_in later)
   pub settled : OnOk result (settled_in later ≡ taken_in later)
   pub not_settled : OnErr result (settled_in later ≡ settled_in before)
-  -- where memory is refused it takes nothing
+  -- where an allocation fails, the call takes nothing
   pub memory : IsErrOf result Memory → (journal_of later ≡ journal_of before) × (taken_in later ≡ settled_in before)
-  -- a stop at any moment of it leaves what was settled, or what it took, and what came before stays as it was
+  -- a stop at any moment of the call leaves what was settled, or what was taken; whatever the journal had before that stays as it was
   pub any_moment : IsErrOf result Down
       ⊎ AtEachMomentOn device (HoldsEither scheme node (settled_in before) (taken_in later) (areas_of device (journal_of before))) (store_of (journal_of before)) (store_of (journal_of later))
   pub earlier : OnOk result (KeepsEarlier scheme node (settled_in before) (settled_in later) (areas_of device (journal_of before)) (areas_of device (journal_of later)))
-  -- it answers Device exactly where one of the disks has failed
+  -- the error is Device exactly where one of the disks has failed
   pub cause : TellsFault Device (faults_in device (store_of (journal_of before))) (faults_in device (store_of (journal_of later))) result
-  -- the journal stays on as many disks
+  -- the journal stays on the same number of disks
   pub disks : IsSome (spare_of (journal_of later)) ↔ IsSome (spare_of (journal_of before))

@@ -1,4 +1,4 @@
--- What opening a node on one disk or on two answers and leaves.
+-- What opening a node on one disk or on two reports and leaves.
 use Rattle.std.specs.Prelude.{◌≡◌, ◌≢◌, Result, IfErr}
 use Rattle.diskmodel.specs.Disk.{Device as Disks}
 use Rattle.journal.specs.Journal.{disk_after}
@@ -13,18 +13,18 @@ use Rattle.opening.specs.Stages.{IsDecodedThroughout}
 use Rattle.opening.specs.Decoded.{decoded_in, Tells}
 use Rattle.spec_model.specs.Nodes.{Node}
 
--- What an opening of a node's journal answers and leaves, and then a call that may lack memory, whatever it gives. The disks are in what it
--- gives, or handed back with the error.
+-- What opening a node's journal, followed by a call that may lack memory, reports and leaves, whatever value it makes. That value holds the
+-- disks, or an error hands them back.
 pub record IsStartingOn {T D : Type 0} (node : Node) (device : Disks D) (disks_in : T → Store D) (store : Store D) (result : Result T (Failed JournalError (Store D))) : Type 0 where
-  -- each error but those of memory, of the disks and of a lack of room is what the areas are read as
+  -- each error but a failed allocation, a failed disk or a lack of room is the one that the areas decode to
   pub tells : IfErr result (λ failed. failed.error ≢ Device → failed.error ≢ Full → Tells failed.error (decoded_in node (areas_in device store)))
   pub full : IfErr result (λ failed. failed.error ≡ Full → IsFullIn node device store)
-  -- it answers Device exactly where a disk has failed
+  -- the error is Device exactly where a disk has failed
   pub cause : TellsFaultsBack (faults_in device) disks_in Device store result
-  -- a stop at any moment leaves what is read as one outcome from before it is
+  -- what a stop at any moment leaves decodes to what some outcome from before the opening decodes to
   pub any_moment : IsDecodedThroughout node device store (disk_after disks_in result)
   pub keeps : KeepsAlone node device store (disk_after disks_in result)
-  -- what a stop leaves in a world of the node is never refused
+  -- what a stop leaves in a world of the node can always be opened, unless a disk, an allocation or the room fails
   pub never_refused : IfErr result (λ failed. IsLeftIn node (areas_in device store) → IsNoRefusalOfBoth failed.error)
-  -- Only a failure of a disk or of the memory leaves other records than there were.
+  -- After an error the records are as before, unless a disk or an allocation failed.
   pub unchanged : IfErr result (λ failed. failed.error ≢ Device → failed.error ≢ Memory → IsUnchanged device store failed.disk)

@@ -1,4 +1,4 @@
-//! What a thread calls a node with.
+//! What a thread uses to call a node.
 
 ghost use Rattle.std.specs.Prelude.{◌≡◌, ◌⊎◌, ◌↔◌, None, drop, length, IsNone, IsOk, IsTrue, IsErrOf, IfOk, IfErr, IfSome};
 ghost use Rattle.header.specs.Checks.{fault_of, accepts_all};
@@ -20,7 +20,7 @@ use std::sync::Wait;
 use validator::Config;
 use wire::{Author, Digest, Header, Output, Round};
 
-/// A node with its configuration, which contracts see, and a seat of it. Each call is the node's of its name, with this seat.
+/// A node with its configuration, which contracts see, and a seat of it. Each method is the node's of the same name, made with this seat.
 pub struct Caller<'n, 'a, S: Sign> {
     node: &'n Node<'a, S>,
     config: &'a Config<S>,
@@ -67,14 +67,14 @@ impl<'n, 'a, S: Sign> Caller<'n, 'a, S> {
     pub fn config(&self) -> &'a Config<S>
         ensures config { result.now ≡ self.now.setting }
         ensures node { self.now.node.setting ≡ self.now.setting }
-        // There is a base of the node, of which the other calls speak.
+        // There is a base of the node, on which the contracts of the other calls rest.
         ensures base { StandSomewhere (node_of S.scheme self.now.node.setting) self.now.node.begun }
     {
         self.node.limits_hold();
         self.config
     }
 
-    /// A caller more, which has seen what this one has and has made no call. It takes no memory.
+    /// One more caller, which has seen what this one has and has brought no event. The call allocates no memory.
     pub fn split(&mut self) -> Result<Caller<'n, 'a, S>, AllocError>
         ensures ok { IsOk result }
         ensures same { self.new ≡ self.old }
@@ -85,8 +85,8 @@ impl<'n, 'a, S: Sign> Caller<'n, 'a, S> {
         Ok(Caller::new(self.node, self.config, seat))
     }
 
-    /// Takes an event that passed the checks under the node's committee, after all that was accepted. The caller has then seen all of
-    /// that, and a new event is one of its own. It answers Down exactly where the caller then knows that the node is down.
+    /// Submits an event that passed the checks under the node's committee, after all accepted events. The caller has then seen all of
+    /// these, and a new event becomes one of its own. The error is Down exactly where the caller then knows that the node is down.
     pub fn submit<R: Wait>(&mut self, rt: &R, event: Checked) -> Result<Receipt, Refusal>
         requires passed { fault_of self.old.setting.charter accepts_all event ≡ None }
         ensures stays { StaysWith self.old self.new }
@@ -97,7 +97,7 @@ impl<'n, 'a, S: Sign> Caller<'n, 'a, S> {
         self.node.submit(rt, &mut self.seat, event)
     }
 
-    /// The next output that may go out; none where the node is down.
+    /// The next output that may leave; None where the node is down.
     pub fn collect<R: Wait>(&mut self, rt: &R) -> Option<Output>
         ensures stays { StaysWith self.old self.new }
         ensures learned { Learned S.scheme self.old.node self.old.seat self.new.seat }
@@ -107,7 +107,7 @@ impl<'n, 'a, S: Sign> Caller<'n, 'a, S> {
         self.node.collect(rt, &mut self.seat)
     }
 
-    /// The settled order from a place on.
+    /// The order after the settled events, from this place on.
     pub fn order<R: Wait>(&mut self, rt: &R, from: u64) -> Result<Vec<Digest>, Refusal>
         ensures stays { StaysWith self.old self.new }
         ensures learned { Learned S.scheme self.old.node self.old.seat self.new.seat }
@@ -119,7 +119,7 @@ impl<'n, 'a, S: Sign> Caller<'n, 'a, S> {
         self.node.order(rt, &mut self.seat, from)
     }
 
-    /// The header that has the vote of an author and round, unless that is low.
+    /// The digest of the header that the node voted for in a slot, unless the round is low.
     pub fn peek_voted<R: Wait>(&mut self, rt: &R, author: Author, round: Round) -> Option<Digest>
         ensures stays { StaysWith self.old self.new }
         ensures looked { Looked S.scheme self.old.node self.old.seat self.new.seat }
@@ -128,7 +128,7 @@ impl<'n, 'a, S: Sign> Caller<'n, 'a, S> {
         self.node.peek_voted(rt, &mut self.seat, author, round)
     }
 
-    /// The round after all that was accepted.
+    /// The node's round after all accepted events.
     pub fn round_now<R: Wait>(&mut self, rt: &R) -> u64
         ensures stays { StaysWith self.old self.new }
         ensures looked { Looked S.scheme self.old.node self.old.seat self.new.seat }
@@ -137,7 +137,7 @@ impl<'n, 'a, S: Sign> Caller<'n, 'a, S> {
         self.node.round_now(rt, &mut self.seat)
     }
 
-    /// Whether the parents of a certificate, which passed the checks under the node's committee, are held.
+    /// Whether the parents of an event, which passed the checks under the node's committee, are held.
     pub fn ready<R: Wait>(&mut self, rt: &R, event: &Checked) -> bool
         requires passed { fault_of self.old.setting.charter accepts_all event.now ≡ None }
         ensures stays { StaysWith self.old self.new }
@@ -157,7 +157,7 @@ impl<'n, 'a, S: Sign> Caller<'n, 'a, S> {
         self.node.propose(rt, &mut self.seat)
     }
 
-    /// How many events were accepted since the node began, all of which the caller has then seen. It waits for nobody.
+    /// How many events were accepted since the node began; the caller has then seen them. The call never waits.
     pub fn accepted(&mut self) -> u64
         ensures stays { StaysWith self.old self.new }
         ensures looked { Looked S.scheme self.old.node self.old.seat self.new.seat }
@@ -166,7 +166,7 @@ impl<'n, 'a, S: Sign> Caller<'n, 'a, S> {
         self.node.accepted(&mut self.seat)
     }
 
-    /// Whether the node is down, which the caller then knows. It waits for nobody.
+    /// Whether the node is down, which the caller then knows. The call never waits.
     pub fn is_down(&mut self) -> bool
         ensures stays { StaysWith self.old self.new }
         ensures learned { Learned S.scheme self.old.node self.old.seat self.new.seat }
@@ -175,7 +175,7 @@ impl<'n, 'a, S: Sign> Caller<'n, 'a, S> {
         self.node.is_down(&mut self.seat)
     }
 
-    /// How many of these are settled, which the caller then knows. It waits for nobody.
+    /// How many events are settled, which the caller then knows. The call never waits.
     pub fn synced(&mut self) -> u64
         ensures stays { StaysWith self.old self.new }
         ensures learned { Learned S.scheme self.old.node self.old.seat self.new.seat }

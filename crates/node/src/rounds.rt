@@ -1,14 +1,14 @@
-//! What a thread flushes a node with.
+//! What the flushing thread uses to call a node.
 
-ghost use Rattle.std.specs.Prelude.{◌≡◌, ◌⊎◌, ◌↔◌, length, IsOk, IfOk, IfSome, IsNone, IsSome, IsTrue, IsErrOf, OnOk, OnErr};
+ghost use Rattle.std.specs.Prelude.{◌≡◌, ◌⊎◌, ◌↔◌, ◌<◌, false, length, IsOk, IfOk, IfSome, IsNone, IsSome, IsTrue, IsErrOf, OnOk, OnErr};
 ghost use Rattle.diskmodel.specs.Disk.{AtEachMoment, TellsFault};
-ghost use Rattle.journal.specs.Journal.{disk_of, spare_of};
+ghost use Rattle.journal.specs.Journal.{disk_of, spare_of, IsAlive};
 ghost use Rattle.journal.specs.Pairs.{HaveChangedPlaces, HaveKeptPlaces, areas_of, areas_with, generation_in, spare_disk, store_of, rewritten_disk, untouched_disk};
 ghost use Rattle.wire.specs.Lists.{Begins};
 ghost use Rattle.validator.specs.Setting.{node_of};
 ghost use Rattle.node_shared.specs.Calls.{IsBeside};
 ghost use Rattle.node_shared.specs.Home.{IsOf};
-ghost use Rattle.flusher.specs.Rounds.{journal_of, is_down, settled_in, taken_in, areas_at, IsFlusherOf, HoldsEither, KeepsEarlier, GoesDown, IsToldOf, TakesAndSettles, TakesAllAndSettles, TellsRoom, TellsRoomToRewrite, StaysAsIs};
+ghost use Rattle.flusher.specs.Rounds.{journal_of, is_down, settled_in, taken_in, areas_at, IsFlusherOf, HoldsEither, KeepsEarlier, GoesDown, IsToldOf, TakesAndSettles, TakesAllAndSettles, TellsRoom, TellsRoomToRewrite, StaysAsIs, AddsSettled, IsAtCheckpoint};
 ghost use Rattle.node.specs.Rounds.{Flushes};
 
 use crate::caller::Caller;
@@ -22,7 +22,7 @@ use std::marker::Model;
 use std::sync::Wait;
 use validator::Config;
 
-/// A node's flusher, with the seat that it calls the node with. Contracts see all three.
+/// A node's flusher, with the node and the seat with which the flusher calls it. Contracts see all three.
 pub struct Rounds<'n, 'a, S: Sign, D: Disk> {
     node: &'n Node<'a, S>,
     seat: Seat,
@@ -72,7 +72,7 @@ impl<'n, 'a, S: Sign, D: Disk> Rounds<'n, 'a, S, D> {
         }
     }
 
-    /// A caller of the node, whose configuration this is, which has seen what the flusher's seat has. It takes no memory.
+    /// A caller of the node, which has this configuration. The caller has seen what the flusher's seat has. The call allocates no memory.
     pub fn caller(&mut self, config: &'a Config<S>) -> Result<Caller<'n, 'a, S>, AllocError>
         requires setting { self.old.node.setting ≡ config.now }
         ensures ok { IsOk result }
@@ -85,7 +85,7 @@ impl<'n, 'a, S: Sign, D: Disk> Rounds<'n, 'a, S, D> {
         Ok(Caller::new(self.node, config, seat))
     }
 
-    /// One round, as the flusher's. Answers how many records were brought to the disk, 0 where all had been.
+    /// One round of the flusher. Gives the number of records that were written and settled; 0 where all were settled already.
     pub fn round<R: Wait>(&mut self, rt: &R) -> Result<u64, FlushError>
         ensures node { self.new.node ≡ self.old.node }
         ensures down { GoesDown self.old.flusher self.new.flusher result }
@@ -93,17 +93,19 @@ impl<'n, 'a, S: Sign, D: Disk> Rounds<'n, 'a, S, D> {
         ensures settles { TakesAndSettles self.old.seat self.new.seat self.old.flusher self.new.flusher result }
         ensures room { TellsRoom D.device self.old.flusher self.new.flusher result }
         ensures cause { TellsFault FlushError.Device (D.device.faults (disk_of (journal_of self.old.flusher))) (D.device.faults (disk_of (journal_of self.new.flusher))) result }
+        ensures alive { is_down self.old.flusher ≡ false → IsAlive D.device (journal_of self.old.flusher) }
         ensures nothing { IfOk result (λ count. count ≡ 0 → journal_of self.new.flusher ≡ journal_of self.old.flusher) }
+        ensures adds { IfOk result (λ count. 0 < count → AddsSettled D.device self.old.flusher self.new.flusher) }
         ensures spare { spare_of (journal_of self.new.flusher) ≡ spare_of (journal_of self.old.flusher) }
         ensures any_moment { IsErrOf result FlushError.Down ⊎ AtEachMoment D.device (disk_of (journal_of self.old.flusher)) (disk_of (journal_of self.new.flusher)) (λ left. HoldsEither S.scheme self.old.node (settled_in self.old.flusher) (taken_in self.new.flusher) (areas_of D.device (journal_of self.old.flusher)) (areas_at D.device (journal_of self.old.flusher) left)) }
         ensures earlier { OnOk result (KeepsEarlier S.scheme self.old.node (settled_in self.old.flusher) (settled_in self.new.flusher) (areas_of D.device (journal_of self.old.flusher)) (areas_of D.device (journal_of self.new.flusher))) }
-        // The same over all disks of the journal.
+        // What the clauses above say, stated for all disks of the journal.
         ensures flushes { Flushes S.scheme D.device self.old.node self.old.flusher self.new.flusher result }
     {
         self.flusher.round(rt, self.node, &mut self.seat)
     }
 
-    /// A checkpoint, as the flusher's. Answers the journal's new generation.
+    /// One checkpoint of the flusher. Gives the journal's new generation.
     pub fn checkpoint<R: Wait>(&mut self, rt: &R) -> Result<u64, FlushError>
         requires pair { IsSome (spare_of (journal_of self.old.flusher)) }
         ensures node { self.new.node ≡ self.old.node }
@@ -111,6 +113,8 @@ impl<'n, 'a, S: Sign, D: Disk> Rounds<'n, 'a, S, D> {
         ensures told { IsToldOf self.old.seat self.new.seat result }
         ensures settles { TakesAllAndSettles self.old.seat self.new.seat self.old.flusher self.new.flusher result }
         ensures answer { IfOk result (λ generation. generation ≡ generation_in (journal_of self.new.flusher)) }
+        ensures alive { is_down self.old.flusher ≡ false → IsAlive D.device (journal_of self.old.flusher) }
+        ensures writes { OnOk result (IsAtCheckpoint S.scheme D.device self.old.node self.new.flusher) }
         ensures swapped { OnOk result (HaveChangedPlaces (journal_of self.old.flusher) (journal_of self.new.flusher)) }
         ensures keeps { OnErr result (HaveKeptPlaces (journal_of self.old.flusher) (journal_of self.new.flusher)) }
         ensures room { IsErrOf result FlushError.Down ⊎ IsErrOf result FlushError.Memory ⊎ TellsRoomToRewrite S.scheme self.old.node self.old.flusher self.new.flusher result }
@@ -118,13 +122,13 @@ impl<'n, 'a, S: Sign, D: Disk> Rounds<'n, 'a, S, D> {
         ensures untouched { untouched_disk result (journal_of self.new.flusher) ≡ disk_of (journal_of self.old.flusher) }
         ensures any_moment { IsErrOf result FlushError.Down ⊎ AtEachMoment D.device (spare_disk (journal_of self.old.flusher)) (rewritten_disk result (journal_of self.new.flusher)) (λ left. HoldsEither S.scheme self.old.node (settled_in self.old.flusher) (taken_in self.new.flusher) (areas_of D.device (journal_of self.old.flusher)) (areas_with D.device (journal_of self.old.flusher) left)) }
         ensures earlier { OnOk result (KeepsEarlier S.scheme self.old.node (settled_in self.old.flusher) (settled_in self.new.flusher) (areas_of D.device (journal_of self.old.flusher)) (areas_of D.device (journal_of self.new.flusher))) }
-        // The same over all disks of the journal.
+        // What the clauses above say, stated for all disks of the journal.
         ensures flushes { Flushes S.scheme D.device self.old.node self.old.flusher self.new.flusher result }
     {
         self.flusher.checkpoint(rt, self.node, &mut self.seat)
     }
 
-    /// How long the area of the journal that is read is, in bytes. None where a round or a checkpoint took the node down.
+    /// The length of the area of the journal that is read, in bytes. None where a round or a checkpoint took the node down.
     pub fn len(&self) -> Option<u64>
         ensures down { IsNone result ↔ IsTrue (is_down self.now.flusher) }
         ensures len { IfSome result (λ len. len ≡ length (D.device.content (disk_of (journal_of self.now.flusher)))) }
@@ -132,7 +136,8 @@ impl<'n, 'a, S: Sign, D: Disk> Rounds<'n, 'a, S, D> {
         self.flusher.len(self.node)
     }
 
-    /// A caller is then known to know as settled no more than is settled here, so that what it collected is in what a stop leaves.
+    /// After this it is certain that all that a caller knows as settled is settled here too, so what it collected is part of what a stop
+    /// leaves.
     pub fn cover<R: Wait>(&mut self, rt: &R, caller: &mut Caller<'n, 'a, S>)
         requires node { caller.old.node ≡ self.old.node }
         ensures node { self.new.node ≡ self.old.node }
@@ -144,7 +149,7 @@ impl<'n, 'a, S: Sign, D: Disk> Rounds<'n, 'a, S, D> {
         self.flusher.cover(rt, self.node, &mut caller.seat);
     }
 
-    /// Gives back what the journal was opened on.
+    /// Gives the disks back on which the journal was opened.
     pub fn into_store(self) -> Store<D>
         ensures { result ≡ store_of (journal_of self.entry.flusher) }
     {

@@ -65,7 +65,7 @@ module _ {S : Type 0} (scheme : Scheme S) (node : NodeView S) (fault : Option Ch
 
   pub brings_waiting : (now : CallerView S) (certificate : Event) (result : Result Bool Rejection) → OnlyLooks later.seat now.seat → told
       ≡ Ok (Waits certificate) → result ≢ Ok true → OnOk result (Enters certificate old new) → OnErr result (new ≡ old)
-      → IfErr result (CantWait certificate old)
+      → IfErr result (CantWait certificate old now.seat.view.down)
       → Brings scheme node fault event before now old new result
   brings_waiting now certificate (Ok found) looks is never enters same why = record {
     told = told;

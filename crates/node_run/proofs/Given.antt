@@ -1,6 +1,6 @@
 -- What the threads of a node wrote, and the disks that they leave.
-use Rattle.std.proofs.Common.{◌≡◌, Bool, false, List, Option, Some, None, ℕ, refl, ap, sym, subst, ◌∙◌}
-use Rattle.std.proofs.lemmas.Bool.{or_parts}
+use Rattle.std.proofs.Common.{true, ◌≡◌, Bool, false, List, Option, Some, None, ℕ, refl, ap, sym, subst, ◌∙◌}
+use Rattle.std.proofs.lemmas.Bool.{or_parts, or_right}
 use Rattle.std.specs.Prelude.{◌||◌, All, IfSome}
 use Rattle.diskmodel.specs.Disk.{Device}
 use Rattle.flusher.specs.Rounds.{journal_of, is_down, settled_in}
@@ -19,9 +19,9 @@ use Rattle.node_seats.specs.declared.view.View.{View}
 use Rattle.node_shared.specs.Home.{NodeView}
 use Rattle.sigface.specs.Scheme.{Scheme}
 use Rattle.wire.specs.Lists.{Begins}
-use Rattle.node_run.proofs.Pending.{none_of_both}
+use Rattle.node_run.proofs.Pending.{by_rule_weaker, none_of_both}
 use Rattle.node_run.proofs.Written.{written_weaker}
-use Rattle.node_run.specs.Rewriting.{point_of}
+use Rattle.node_run.specs.Rewriting.{point_of, HasCheckpoint}
 use Rattle.node_run.specs.Runs.{AreSettled, ComesByRule, HasFlushed, IsFullUp}
 use Rattle.node_run.specs.Writing.{HasWritten, MayGo}
 use Rattle.node_run.specs.declared.rule.Rule.{Rule}
@@ -31,7 +31,8 @@ second_fine : (one other third : Bool) → ((one || other) || third) ≡ false �
 second_fine one other third fine = (or_parts one other (or_parts (one || other) third fine).0).1
 
 -- What was written is on the disks, where the one that wrote knew no more as settled than the rounds had settled on it.
-pub is_settled : {S D : Type 0} (scheme : Scheme S) (device : Device D) (rule : Rule) (first later : RoundsView S D) (tells : Faults) (node : NodeView S) (view : View) (left : Store D) (one other third all : Bool)
+pub is_settled : {S D : Type 0} (scheme : Scheme S) (device : Device D) (rule : Rule) (first later : RoundsView S D) (tells : Faults) (node : NodeView S) (view : View)
+    (left : Store D) (one other third all : Bool)
     (old new : Option (List ℕ)) → HasFlushed scheme device rule first later tells → is_down first.flusher ≡ false → node ≡ first.node
     → left ≡ store_of (journal_of later.flusher) → Begins view.durable (settled_in later.flusher) → all ≡ ((one || other) || third)
     → HasWritten (All (MayGo scheme node view)) (other ≡ false) old new → HasWritten (AreSettled scheme device first.node first.flusher left) (all ≡ false) old new
@@ -49,13 +50,18 @@ is_settled {S} {D} scheme device rule first later tells node view left one other
 -- What was brought to the disks was brought by the rule, where nothing is told.
 pub comes_by_rule : {S D : Type 0} (scheme : Scheme S) (device : Device D) (rule : Rule) (first later : RoundsView S D) (others tells all : Faults) (left : Store D)
     → HasFlushed scheme device rule first later tells → is_down first.flusher ≡ false → left ≡ store_of (journal_of later.flusher)
-    → all.journal ≡ first_of others.journal tells.journal → all.memory ≡ (others.memory || tells.memory) → all.journal ≡ None → all.memory ≡ false
-    → ComesByRule device rule (point_of first.flusher) left
-comes_by_rule scheme device rule first later others tells all left flushed up is_left journal_is memory_is none fine =
+    → all.journal ≡ first_of others.journal tells.journal → all.memory ≡ (others.memory || tells.memory) → all.journal ≡ None
+    → ComesByRule device (HasCheckpoint scheme device first.node) rule all.memory (point_of first.flusher) left
+comes_by_rule scheme device rule first later others tells all left flushed up is_left journal_is memory_is none =
     let both = none_of_both others.journal tells.journal (sym journal_is ∙ none) in
-    let memory = or_parts others.memory tells.memory (sym memory_is ∙ fine) in
-    let by = flushed.by_rule up both.1 memory.1 in
-    record { last = point_of later.flusher; last_rule = by.0; by_rule = by.1; is_left = is_left }
+    let by = flushed.by_rule up both.1 in
+    let raised : tells.memory ≡ true → all.memory ≡ true = λ is. memory_is ∙ or_right others.memory tells.memory is in
+    record {
+      last = point_of later.flusher;
+      last_rule = by.0;
+      by_rule = by_rule_weaker device (HasCheckpoint scheme device first.node) (HasCheckpoint scheme device first.node) rule by.0 tells.memory all.memory (point_of first.flusher) (point_of later.flusher) (λ point made. made) raised by.1;
+      is_left = is_left;
+    }
 
 -- two threads that tell no fault of the journal, and a third one: what it tells is told
 pub third_alone : (one other third both all : Option JournalError) → one ≡ None → other ≡ None → both ≡ first_of one other → all ≡ first_of both third → all ≡ third

@@ -5,10 +5,10 @@ use Rattle.std.specs.Prelude.{◌⊎◌, IfOk, IsErrOf, IsSome, IsTrue, OnErr, O
 use Rattle.book.specs.declared.own.error.FlushError.{FlushError}
 use Rattle.book.specs.declared.own.error.FlushError.TheVariants as flush
 use Rattle.diskmodel.specs.Disk.{Device, TellsFault}
-use Rattle.flusher.specs.Rounds.{journal_of, is_down, settled_in, taken_in, GoesDown, HasNoRoom, IsGroupOf, IsToldOf, KeepsEarlier, TakesAndSettles, TakesLongest, TellsRoom}
+use Rattle.flusher.specs.Rounds.{journal_of, is_down, settled_in, taken_in, AddsSettled, GoesDown, HasNoRoom, IsAtCheckpoint, IsGroupOf, IsToldOf, KeepsEarlier, TakesAndSettles, TakesLongest, TellsRoom}
 use Rattle.flusher.specs.declared.flusher.Flusher.{Flusher}
 use Rattle.journal.specs.Areas.{other_side}
-use Rattle.journal.specs.Journal.{disk_of, spare_of}
+use Rattle.journal.specs.Journal.{disk_of, spare_of, IsAlive}
 use Rattle.journal.specs.Pairs.{areas_of, side_in, store_of, HaveChangedPlaces}
 use Rattle.journal.specs.Stores.{faults_in}
 use Rattle.journal.specs.declared.journal.Journal.{Journal}
@@ -20,11 +20,11 @@ use Rattle.node.specs.Rounds.{Flushes}
 use Rattle.node.proofs.Stages.{Counts}
 use Rattle.node_seats.proofs.Beginnings.{begins_same, begins_trans}
 use Rattle.node_seats.specs.declared.view.Marked.{Marked}
-use Rattle.node_shared.specs.Home.{NodeView}
+use Rattle.node_shared.specs.Home.{IsCheckpointAfter, NodeView}
 use Rattle.sigface.specs.Scheme.{Scheme}
 use Rattle.wire.specs.Lists.{Begins}
 use Rattle.node_run.specs.Flushing.{IsOver, FlushesOnce}
-use Rattle.node_run.specs.Rewriting.{length_in, point_of, IsDue, BringsGroup, HasNoRoomToAdd, HasNoRoomToRewrite, IsCountOf, RewritesWhereDue, Step, counted_from, ByTheRule, without_number}
+use Rattle.node_run.specs.Rewriting.{length_in, point_of, IsDue, BringsGroup, HasNoRoomToAdd, HasNoRoomToRewrite, IsCountOf, HasCheckpoint, RewritesWhereDue, Point, Step, none_due, made, skipped, counted_from, ByTheRule, without_number}
 use Rattle.node_run.specs.declared.rule.Rule.{Rule}
 use Rattle.node_run.proofs.Flushed.{nothing_left, settles_none, never_ok, stays_up}
 use Rattle.node_run.proofs.Moments.{begins_taken, ok_is_up, keeps_on, round_on, ends_on, fails_on, SoFar, Leaves}
@@ -89,7 +89,7 @@ full_is_up : {D : Type 0} (before later : Flusher D) (round : Result ℕ FlushEr
 full_is_up before later round goes full = false_or_true (is_down before) (λ down. let bad : flush.Full ≡ flush.Down = ap error_in (sym full ∙ goes.down.1 down) in cc)
 
 -- one for which memory was refused leaves the node up
-memory_is_up : {D : Type 0} (before later : Flusher D) → GoesDown before later (Err flush.Memory) → is_down later ≡ false
+pub memory_is_up : {D : Type 0} (before later : Flusher D) → GoesDown before later (Err flush.Memory) → is_down later ≡ false
 memory_is_up before later goes = false_or_true (is_down later) (λ down. by (goes.nothing_else down))
   where
     by : IsErrOf {T = ℕ} (Err flush.Memory) flush.Device ⊎ IsErrOf {T = ℕ} (Err flush.Memory) flush.Full ⊎ IsErrOf {T = ℕ} (Err flush.Memory) flush.Down → ⊥
@@ -146,6 +146,18 @@ pub other_spare : {D : Type 0} (old new : Journal D) → HaveChangedPlaces old n
 other_spare {D} old new changed same =
     not_other (side_in old) (sym (ap (λ (s : Option (Spare D)). option_map_or (λ (one : Spare D). one.side) s First) same) ∙ changed.side)
 
+-- what isn't 0 is above it
+positive : (n : ℕ) → (n ≡ 0 → ⊥) → 0 < n
+positive zero some = absurd (some refl)
+positive (suc n) some = omega arith
+
+-- a round or a checkpoint that fails for another reason than want of memory leaves the node down
+fails_down : {D : Type 0} (before later : Flusher D) (error : FlushError) → (error ≡ flush.Memory → ⊥) → GoesDown before later (Err error) → is_down later ≡ false → ⊥
+fails_down before later flush.Memory other goes up = other refl
+fails_down before later flush.Device other goes up = let bad : true ≡ false = sym (goes.device refl) ∙ up in cc
+fails_down before later flush.Full other goes up = let bad : true ≡ false = sym (goes.full refl) ∙ up in cc
+fails_down before later flush.Down other goes up = let bad : true ≡ false = sym (goes.down.0 refl) ∙ ap (λ (f : Flusher _). is_down f) (sym (goes.same refl)) ∙ up in cc
+
 same_points : {D : Type 0} (one other : Flusher D) → journal_of one ≡ journal_of other → settled_in one ≡ settled_in other → point_of one ≡ point_of other
 same_points one other journal settled = λ i. record { journal = journal i; settled = settled i }
 
@@ -165,7 +177,8 @@ module _ {S D : Type 0} (scheme : Scheme S) (device : Device D) (counts : Counts
   settles_more later (Err error) flushes up = subst (Begins (settled_in before.flusher)) (sym flushes.not_settled) (begins_same (settled_in before.flusher))
 
   -- the same of a node that may be down
-  settles_any : (later : RoundsView S D) (round : Result ℕ FlushError) → Flushes scheme device before.node before.flusher later.flusher round → Begins (settled_in before.flusher) (settled_in later.flusher)
+  settles_any : (later : RoundsView S D) (round : Result ℕ FlushError) → Flushes scheme device before.node before.flusher later.flusher round
+      → Begins (settled_in before.flusher) (settled_in later.flusher)
   settles_any later (Ok count) flushes = settles_more later (Ok count) flushes (ok_is_up (Ok count) count refl)
   settles_any later (Err error) flushes = subst (Begins (settled_in before.flusher)) (sym flushes.not_settled) (begins_same (settled_in before.flusher))
 
@@ -173,14 +186,14 @@ module _ {S D : Type 0} (scheme : Scheme S) (device : Device D) (counts : Counts
   pub once_over : (later : RoundsView S D) (round : Result ℕ FlushError) → IsOver round → later.node ≡ before.node → GoesDown before.flusher later.flusher round
       → IsToldOf before.seat later.seat round → TakesAndSettles before.seat later.seat before.flusher later.flusher round → TellsRoom device before.flusher later.flusher round
       → Flushes scheme device before.node before.flusher later.flusher round → IfOk round (λ count. count ≡ 0 → journal_of later.flusher ≡ journal_of before.flusher)
-      → FlushesOnce scheme device rule rule missed before later round
-  once_over later round over node down told settles room flushes nothing = record {
+      → (is_down before.flusher ≡ false → IsAlive device (journal_of before.flusher)) → FlushesOnce scheme device rule rule missed before later round
+  once_over later round over node down told settles room flushes nothing alive = record {
     node = node;
     seen = told.more;
     more = settles_any later round flushes;
     down = down;
     cause = flushes.cause;
-    full = λ full. inl (no_room full);
+    full = λ full. (subst (IsAlive device) (sym (room.same full)) (alive (full_is_up before.flusher later.flusher round down full)), inl (no_room full));
     nothing = λ is. nothing_left before.seat.view.seen before.seat.view.seen (settled_in before.flusher) (taken_in later.flusher) (settled_in later.flusher) round is
         (begins_same before.seat.view.seen) settles.takes settles.size settles.settled;
     memory = λ is.
@@ -189,9 +202,10 @@ module _ {S D : Type 0} (scheme : Scheme S) (device : Device D) (counts : Counts
     count = counted round settles.size settles.settled;
     earlier = there round down flushes;
     any_moment = λ up. round_on scheme device before.node before.node before.flusher before.flusher later.flusher round refl (still up) (begins_same (settled_in before.flusher)) flushes (inl refl);
-    at_end = λ done up. ends_on scheme device counts before.node before.node before.flusher before.flusher later.flusher round refl (still up) (begins_same (settled_in before.flusher)) flushes (inl refl)
+    at_end = λ done up. ends_on scheme device counts before.node before.node before.flusher before.flusher later.flusher round refl (still up)
+        (begins_same (settled_in before.flusher)) flushes (inl refl)
         (settles_no_more round over (still up) flushes settles.size settles.settled);
-    by_rule = by round over nothing flushes settles.size settles.settled;
+    by_rule = by round over nothing down flushes settles.size settles.settled;
     pair = λ some is. flushes.disks.1 (some is);
   }
     where
@@ -234,20 +248,27 @@ module _ {S D : Type 0} (scheme : Scheme S) (device : Device D) (counts : Counts
       }
       counted (Err error) size all = tt
 
+      by_memory : (error : FlushError) → GoesDown before.flusher later.flusher (Err error) → Flushes scheme device before.node before.flusher later.flusher (Err error)
+          → is_down later.flusher ≡ false → journal_of later.flusher ≡ journal_of before.flusher
+      by_memory flush.Memory goes flushed up = (flushed.memory refl).0
+      by_memory flush.Device goes flushed up = absurd (fails_down before.flusher later.flusher flush.Device (λ is. let bad : flush.Device ≡ flush.Memory = is in cc) goes up)
+      by_memory flush.Full goes flushed up = absurd (fails_down before.flusher later.flusher flush.Full (λ is. let bad : flush.Full ≡ flush.Memory = is in cc) goes up)
+      by_memory flush.Down goes flushed up = absurd (fails_down before.flusher later.flusher flush.Down (λ is. let bad : flush.Down ≡ flush.Memory = is in cc) goes up)
+
       by : (it : Result ℕ FlushError) → IsOver it → IfOk it (λ count. count ≡ 0 → journal_of later.flusher ≡ journal_of before.flusher)
-          → Flushes scheme device before.node before.flusher later.flusher it → IfOk it (λ count. length (taken_in later.flusher) ≡ length (settled_in before.flusher) + count)
-          → OnOk it (settled_in later.flusher ≡ taken_in later.flusher)
-          → OnOk it (missed ≡ false → ByTheRule device rule (point_of before.flusher) rule (point_of later.flusher))
-      by (Ok count) none same flushed size all = λ fine.
+          → GoesDown before.flusher later.flusher it → Flushes scheme device before.node before.flusher later.flusher it
+          → IfOk it (λ count. length (taken_in later.flusher) ≡ length (settled_in before.flusher) + count) → OnOk it (settled_in later.flusher ≡ taken_in later.flusher)
+          → is_down later.flusher ≡ false → ByTheRule device (HasCheckpoint scheme device before.node) rule missed (point_of before.flusher) rule (point_of later.flusher)
+      by (Ok count) none same goes flushed size all = λ up.
           let settled = settles_no_more (Ok count) none (ok_is_up (Ok count) count refl) flushed size all in
           ([], (refl, same_points later.flusher before.flusher (same none) settled))
-      by (Err error) none same flushed size all = tt
+      by (Err error) none same goes flushed size all = λ up. ([], (refl, same_points later.flusher before.flusher (by_memory error goes flushed up) flushed.not_settled))
 
   -- a round that brought something, and then a checkpoint if one is due
   module _ (mid later : RoundsView S D) (later_rule : Rule) (count : ℕ) (node : mid.node ≡ before.node) (goes : GoesDown before.flusher mid.flusher (Ok count))
       (seen : Begins before.seat.view.seen mid.seat.view.seen) (settles : TakesAndSettles before.seat mid.seat before.flusher mid.flusher (Ok count))
       (flushes : Flushes scheme device before.node before.flusher mid.flusher (Ok count))
-      (same_area : spare_of (journal_of mid.flusher) ≡ spare_of (journal_of before.flusher)) where
+      (same_area : spare_of (journal_of mid.flusher) ≡ spare_of (journal_of before.flusher)) (adds : 0 < count → AddsSettled device before.flusher mid.flusher) where
     up : is_down before.flusher ≡ false
     up = was_up before.flusher mid.flusher count goes
 
@@ -259,7 +280,8 @@ module _ {S D : Type 0} (scheme : Scheme S) (device : Device D) (counts : Counts
 
     so_far : SoFar scheme device before.node before.flusher mid.flusher
     so_far = inr (
-      round_on scheme device before.node before.node before.flusher before.flusher mid.flusher (Ok count) refl (ok_is_up (Ok count) count refl) (begins_same (settled_in before.flusher)) flushes (inl refl),
+      round_on scheme device before.node before.node before.flusher before.flusher mid.flusher (Ok count) refl (ok_is_up (Ok count) count refl)
+          (begins_same (settled_in before.flusher)) flushes (inl refl),
       flushes.earlier,
     )
 
@@ -268,6 +290,13 @@ module _ {S D : Type 0} (scheme : Scheme S) (device : Device D) (counts : Counts
 
     size : length (settled_in mid.flusher) ≡ length (settled_in before.flusher) + count
     size = subst (λ (l : List Marked). length l ≡ length (settled_in before.flusher) + count) (sym settles.settled) settles.size
+
+    has_checkpoint : IsAtCheckpoint scheme device mid.node later.flusher → HasCheckpoint scheme device before.node (point_of later.flusher)
+    has_checkpoint writes = record {
+      records = writes.records;
+      checkpoint = subst (λ (n : NodeView S). IsCheckpointAfter scheme n (settled_in later.flusher) writes.records) node writes.checkpoint;
+      content = writes.content;
+    }
 
     some_spare : (IsSome rule.every → IsSome (spare_of (journal_of before.flusher))) → IsSome rule.every → IsSome (spare_of (journal_of mid.flusher))
     some_spare pair is = flushes.disks.1 (pair is)
@@ -287,22 +316,23 @@ module _ {S D : Type 0} (scheme : Scheme S) (device : Device D) (counts : Counts
       earlier = λ _. flushes.earlier;
       any_moment = λ _. leaves_of so_far;
       at_end = λ none _. absurd (some none);
-      by_rule = λ fine. (record { grown = point_of mid.flusher; rewritten = None } ∷ [], (record { same_area = same_area; brings = brings some; follows = not_due }, (refl, refl)));
+      by_rule = λ _. (record { grown = point_of mid.flusher; followed = none_due } ∷ [], (record { adds = adds (positive count some); same_area = same_area; brings = brings some; follows = not_due }, (refl, refl)));
       pair = some_spare;
     }
       where
         leaves_of : SoFar scheme device before.node before.flusher mid.flusher → Leaves scheme device before.node before.flusher mid.flusher
-        leaves_of (inl same) = round_on scheme device before.node before.node before.flusher before.flusher mid.flusher (Ok count) refl (ok_is_up (Ok count) count refl) (begins_same (settled_in before.flusher)) flushes (inl refl)
+        leaves_of (inl same) = round_on scheme device before.node before.node before.flusher before.flusher mid.flusher (Ok count) refl (ok_is_up (Ok count) count refl)
+            (begins_same (settled_in before.flusher)) flushes (inl refl)
         leaves_of (inr leaves) = leaves.0
 
     -- one was due, and was taken, or failed for another reason than that memory was refused
     once_checkpoint : (answer : Result ℕ FlushError) → (answer ≡ Err flush.Memory → ⊥) → (count ≡ 0 → ⊥) → IsDue rule (length_in device (journal_of mid.flusher))
         → later.node ≡ mid.node → GoesDown mid.flusher later.flusher answer
         → IsToldOf mid.seat later.seat answer → Flushes scheme device mid.node mid.flusher later.flusher answer → OnOk answer (HaveChangedPlaces (journal_of mid.flusher) (journal_of later.flusher))
-        → OnOk answer (later_rule ≡ counted_from device rule (journal_of later.flusher)) → OnErr answer (later_rule ≡ rule)
-        → (IsErrOf answer flush.Full → HasNoRoomToRewrite scheme mid.node later.flusher)
+        → OnOk answer (IsAtCheckpoint scheme device mid.node later.flusher) → OnOk answer (later_rule ≡ counted_from device rule (journal_of later.flusher)) → OnErr answer (later_rule ≡ rule)
+        → (IsErrOf answer flush.Full → IsAlive device (journal_of later.flusher) × HasNoRoomToRewrite scheme mid.node later.flusher)
         → FlushesOnce scheme device rule later_rule missed before later (answer_of count answer)
-    once_checkpoint (Ok generation) not_memory some due later_node later_goes told taken swapped counted kept full =
+    once_checkpoint (Ok generation) not_memory some due later_node later_goes told taken swapped writes counted kept full =
         let later_up = is_up mid.flusher later.flusher generation later_goes in
         let no_down = ok_is_up (Ok generation) generation refl in
         let more_later = subst (Begins (settled_in mid.flusher)) (sym taken.settled) (begins_taken (settled_in mid.flusher) (taken_in later.flusher) (Ok generation) no_down taken.takes) in
@@ -325,12 +355,12 @@ module _ {S D : Type 0} (scheme : Scheme S) (device : Device D) (counts : Counts
           earlier = λ _. keeps_on scheme device before.node mid.node before.flusher mid.flusher later.flusher node flushes.earlier taken.earlier;
           any_moment = λ _. round_on scheme device before.node mid.node before.flusher mid.flusher later.flusher (Ok generation) node no_down more taken so_far;
           at_end = λ none _. absurd (some none);
-          by_rule = λ fine.
-              let step : Step D = record { grown = point_of mid.flusher; rewritten = Some (point_of later.flusher) } in
-              (step ∷ [], (record { same_area = same_area; brings = brings some; follows = (due, swapped, more_later) }, (counted, refl)));
+          by_rule = λ _.
+              let step : Step D = record { grown = point_of mid.flusher; followed = made (point_of later.flusher) } in
+              (step ∷ [], (record { adds = adds (positive count some); same_area = same_area; brings = brings some; follows = (due, swapped, more_later, has_checkpoint writes) }, (counted, refl)));
           pair = λ pair is. taken.disks.1 (some_spare pair (subst (λ (r : Rule). IsSome r.every) counted is));
         }
-    once_checkpoint (Err error) not_memory some due later_node later_goes told taken swapped counted kept full =
+    once_checkpoint (Err error) not_memory some due later_node later_goes told taken swapped writes counted kept full =
         let no_down : IsErrOf {T = ℕ} (Err error) flush.Down → ⊥ = λ is. (let bad : true ≡ false = sym (later_goes.down.0 is) ∙ still_up in cc) in
         record {
           node = later_node ∙ node;
@@ -339,7 +369,7 @@ module _ {S D : Type 0} (scheme : Scheme S) (device : Device D) (counts : Counts
           down = goes_err before.flusher mid.flusher later.flusher error up still_up later_goes;
           cause = tells_after (faults_in device (store_of (journal_of before.flusher))) (faults_in device (store_of (journal_of mid.flusher)))
               (faults_in device (store_of (journal_of later.flusher))) error flushes.cause.0 taken.cause;
-          full = λ is. inr (subst (λ (n : NodeView S). HasNoRoomToRewrite scheme n later.flusher) node (full is));
+          full = λ is. ((full is).0, inr (subst (λ (n : NodeView S). HasNoRoomToRewrite scheme n later.flusher) node (full is).1));
           nothing = λ is. absurd (let bad : ◌≡◌ {A = Result ℕ FlushError} (Err error) (Ok 0) = is in cc);
           memory = λ is. absurd (not_memory is);
           count = tt;
@@ -347,14 +377,15 @@ module _ {S D : Type 0} (scheme : Scheme S) (device : Device D) (counts : Counts
               (fails_on scheme device mid.node mid.flusher later.flusher (Err error) error refl later_up later_goes taken);
           any_moment = λ _. round_on scheme device before.node mid.node before.flusher mid.flusher later.flusher (Err error) node no_down more taken so_far;
           at_end = λ _ _. ends_on scheme device counts before.node mid.node before.flusher mid.flusher later.flusher (Err error) node no_down more taken so_far taken.not_settled;
-          by_rule = tt;
+          by_rule = λ later_up. absurd (fails_down mid.flusher later.flusher error (λ is. not_memory (ap (λ (e : FlushError). Err e) is)) later_goes later_up);
           pair = λ pair is. taken.disks.1 (some_spare pair (subst (λ (r : Rule). IsSome r.every) kept is));
         }
 
     -- one was due, and memory was refused for it
-    once_missed : (count ≡ 0 → ⊥) → later.node ≡ mid.node → GoesDown mid.flusher later.flusher (Err flush.Memory) → IsToldOf mid.seat later.seat (Err flush.Memory)
+    once_missed : (count ≡ 0 → ⊥) → IsDue rule (length_in device (journal_of mid.flusher)) → later.node ≡ mid.node → GoesDown mid.flusher later.flusher (Err flush.Memory)
+        → IsToldOf mid.seat later.seat (Err flush.Memory)
         → Flushes scheme device mid.node mid.flusher later.flusher (Err flush.Memory) → later_rule ≡ rule → missed ≡ true → FlushesOnce scheme device rule later_rule missed before later (Ok count)
-    once_missed some later_node later_goes told taken kept marked =
+    once_missed some due later_node later_goes told taken kept marked =
         let later_up = memory_is_up mid.flusher later.flusher later_goes in
         let no_down : IsErrOf {T = ℕ} (Err flush.Memory) flush.Down → ⊥ = λ is. (let bad : flush.Memory ≡ flush.Down = ap error_in is in cc) in
         record {
@@ -377,7 +408,10 @@ module _ {S D : Type 0} (scheme : Scheme S) (device : Device D) (counts : Counts
               (fails_on scheme device mid.node mid.flusher later.flusher (Err flush.Memory) flush.Memory refl later_up later_goes taken);
           any_moment = λ _. round_on scheme device before.node mid.node before.flusher mid.flusher later.flusher (Err flush.Memory) node no_down more taken so_far;
           at_end = λ none _. absurd (some none);
-          by_rule = λ fine. absurd (let bad : true ≡ false = sym marked ∙ fine in cc);
+          by_rule = λ _.
+              let step : Step D = record { grown = point_of mid.flusher; followed = skipped } in
+              let same = same_points later.flusher mid.flusher (taken.memory refl).0 taken.not_settled in
+              (step ∷ [], (record { adds = adds (positive count some); same_area = same_area; brings = brings some; follows = (due, marked) }, (kept, same)));
           pair = λ pair is. taken.disks.1 (some_spare pair (subst (λ (r : Rule). IsSome r.every) kept is));
         }
 
@@ -386,7 +420,7 @@ module _ {S D : Type 0} (scheme : Scheme S) (device : Device D) (counts : Counts
     once_both result not_memory some (inl (due, it)) =
         subst (λ (r : Result (Unit {0}) FlushError). FlushesOnce scheme device rule later_rule missed before later (with_count count r)) (sym it.answered)
         (subst (FlushesOnce scheme device rule later_rule missed before later) (same_answer count it.answer)
-        (once_checkpoint it.answer (λ is. not_memory (it.answered ∙ ap without_number is)) some due it.node it.down it.told it.flushes it.swapped it.counts it.keeps it.full))
+        (once_checkpoint it.answer (λ is. not_memory (it.answered ∙ ap without_number is)) some due it.node it.down it.told it.flushes it.swapped it.writes it.counts it.keeps it.full))
     once_both result not_memory some (inr (not_due, ok, same, same_rule)) =
         subst (λ (r : Result (Unit {0}) FlushError). FlushesOnce scheme device rule later_rule missed before later (with_count count r)) (sym ok)
         (subst (λ (l : RoundsView S D). FlushesOnce scheme device rule later_rule missed before l (Ok count)) (sym same)
@@ -396,6 +430,6 @@ module _ {S D : Type 0} (scheme : Scheme S) (device : Device D) (counts : Counts
         → FlushesOnce scheme device rule later_rule missed before later (Ok count)
     once_without result memory marked some (inl (due, it)) =
         let same = was_memory it.answer (sym memory ∙ it.answered) in
-        once_missed some it.node (subst (GoesDown mid.flusher later.flusher) same it.down) (subst (IsToldOf mid.seat later.seat) same it.told)
+        once_missed some due it.node (subst (GoesDown mid.flusher later.flusher) same it.down) (subst (IsToldOf mid.seat later.seat) same it.told)
         (subst (Flushes scheme device mid.node mid.flusher later.flusher) same it.flushes) (subst (λ (a : Result ℕ FlushError). OnErr a (later_rule ≡ rule)) same it.keeps) marked
     once_without result memory marked some (inr it) = absurd (let bad : ◌≡◌ {A = Result (Unit {0}) FlushError} (Err flush.Memory) (Ok tt) = sym memory ∙ it.1 in cc)

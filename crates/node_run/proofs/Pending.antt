@@ -1,7 +1,6 @@
 -- Rounds until nothing is pending, and the checkpoints that are due after them.
 use Rattle.std.proofs.Common.{◌≡◌, ◌<◌, ℕ, Bool, true, false, List, [], ◌∷◌, ◌++◌, Option, Some, None, Result, Ok, Err, refl, sym, ap, subst, ◌∙◌, inl, inr}
-use Rattle.std.proofs.lemmas.Bool.{or_parts}
-use Rattle.std.specs.Prelude.{◌⊎◌, ◌↔◌, ◌||◌, IsErrOf, IsSome, IsTrue}
+use Rattle.std.specs.Prelude.{◌⊎◌, ◌↔◌, IsErrOf, IsSome, IsTrue}
 use Rattle.book.specs.declared.own.error.FlushError.{FlushError}
 use Rattle.book.specs.declared.own.error.FlushError.TheVariants as flush
 use Rattle.diskmodel.specs.Disk.{Device, TellsFault}
@@ -23,25 +22,55 @@ use Rattle.sigface.specs.Scheme.{Scheme}
 use Rattle.wire.specs.Lists.{Begins}
 use Rattle.node_run.specs.Ends.{faults_after, TellsRounds, TellsJournal}
 use Rattle.node_run.specs.Flushing.{FlushesOnce}
-use Rattle.node_run.specs.Rewriting.{AreSteps, ByTheRule, HasNoPlace, Point, Step, point_after, point_of, rule_after}
+use Rattle.node_run.specs.Rewriting.{AreSteps, ByTheRule, FollowsWhereDue, Followed, HasCheckpoint, HasNoPlace, Point, Step, none_due, made, skipped, point_after, point_of, rule_after}
 use Rattle.node_run.specs.Runs.{HoldsMore, LeavesSettled}
 use Rattle.node_run.specs.Writing.{no_faults}
 use Rattle.node_run.specs.declared.rule.Rule.{Rule}
 use Rattle.node_run.proofs.Moments.{SoFar, keeps_so_far, keeps_on, leaves_on, ends_after}
-use Rattle.node_run.proofs.Once.{error_in, was_up, is_up}
+use Rattle.node_run.proofs.Once.{error_in, was_up, is_up, memory_is_up}
 
 -- ---- the steps of several rounds
 
-steps_join : {D : Type 0} (device : Device D) (rule : Rule) (first : Point D) (steps : List (Step D)) (mid_rule : Rule) (mid : Point D) (more : List (Step D)) (later : Rule) (last : Point D)
-    → AreSteps device rule first steps mid_rule mid → AreSteps device mid_rule mid more later last → AreSteps device rule first (steps ++ more) later last
-steps_join {D} device rule first [] mid_rule mid more later last here there =
-    subst (λ (r : Rule). AreSteps device r first more later last) here.0 (subst (λ (p : Point D). AreSteps device mid_rule p more later last) here.1 there)
-steps_join device rule first (step ∷ steps) mid_rule mid more later last here there =
-    (here.0, steps_join device (rule_after device rule step) (point_after step) steps mid_rule mid more later last here.1 there)
+steps_join : {D : Type 0} (device : Device D) (Made : Point D → Type 0) (rule : Rule) (memory : Bool) (first : Point D) (steps : List (Step D)) (mid_rule : Rule) (mid : Point D) (more : List (Step D))
+    → (later : Rule) (last : Point D) → AreSteps device Made rule memory first steps mid_rule mid → AreSteps device Made mid_rule memory mid more later last
+    → AreSteps device Made rule memory first (steps ++ more) later last
+steps_join {D} device Made rule memory first [] mid_rule mid more later last here there =
+    subst (λ (r : Rule). AreSteps device Made r memory first more later last) here.0 (subst (λ (p : Point D). AreSteps device Made mid_rule memory p more later last) here.1 there)
+steps_join device Made rule memory first (step ∷ steps) mid_rule mid more later last here there =
+    (here.0, steps_join device Made (rule_after device rule step) memory (point_after step) steps mid_rule mid more later last here.1 there)
 
-pub by_rule_joins : {D : Type 0} (device : Device D) (rule mid_rule later : Rule) (first mid last : Point D) → ByTheRule device rule first mid_rule mid → ByTheRule device mid_rule mid later last
-    → ByTheRule device rule first later last
-by_rule_joins device rule mid_rule later first mid last here there = (here.0 ++ there.0, steps_join device rule first here.0 mid_rule mid there.0 later last here.1 there.1)
+by_rule_joins : {D : Type 0} (device : Device D) (Made : Point D → Type 0) (rule mid_rule later : Rule) (memory : Bool) (first mid last : Point D) → ByTheRule device Made rule memory first mid_rule mid
+    → ByTheRule device Made mid_rule memory mid later last → ByTheRule device Made rule memory first later last
+by_rule_joins device Made rule mid_rule later memory first mid last here there =
+    (here.0 ++ there.0, steps_join device Made rule memory first here.0 mid_rule mid there.0 later last here.1 there.1)
+
+-- steps after which a checkpoint may have been skipped are such steps where out of memory is reported too
+follows_weaker : {D : Type 0} (device : Device D) (Made Other : Point D → Type 0) (rule : Rule) (memory more : Bool) (grown : Point D) (followed : Followed D)
+    → ((point : Point D) → Made point → Other point) → (memory ≡ true → more ≡ true) → FollowsWhereDue device Made rule memory grown followed
+    → FollowsWhereDue device Other rule more grown followed
+follows_weaker device Made Other rule memory more grown none_due wider raised follows = follows
+follows_weaker device Made Other rule memory more grown (made point) wider raised follows = (follows.0, follows.1, follows.2, wider point follows.3)
+follows_weaker device Made Other rule memory more grown skipped wider raised follows = (follows.0, raised follows.1)
+
+steps_weaker : {D : Type 0} (device : Device D) (Made Other : Point D → Type 0) (rule : Rule) (memory more : Bool) (first : Point D) (steps : List (Step D)) (later : Rule) (last : Point D)
+    → ((point : Point D) → Made point → Other point) → (memory ≡ true → more ≡ true) → AreSteps device Made rule memory first steps later last
+    → AreSteps device Other rule more first steps later last
+steps_weaker device Made Other rule memory more first [] later last wider raised are = are
+steps_weaker device Made Other rule memory more first (step ∷ steps) later last wider raised are = (
+  record {
+    adds = are.0.adds;
+    same_area = are.0.same_area;
+    brings = are.0.brings;
+    follows = follows_weaker device Made Other rule memory more step.grown step.followed wider raised are.0.follows;
+  },
+  steps_weaker device Made Other (rule_after device rule step) memory more (point_after step) steps later last wider raised are.1,
+)
+
+pub by_rule_weaker : {D : Type 0} (device : Device D) (Made Other : Point D → Type 0) (rule later : Rule) (memory more : Bool) (first last : Point D)
+    → ((point : Point D) → Made point → Other point) → (memory ≡ true → more ≡ true) → ByTheRule device Made rule memory first later last
+    → ByTheRule device Other rule more first later last
+by_rule_weaker device Made Other rule later memory more first last wider raised by =
+    (by.0, steps_weaker device Made Other rule memory more first by.0 later last wider raised by.1)
 
 -- ---- what is told
 
@@ -84,11 +113,6 @@ fell before later flush.Device up goes = ((λ some. goes.device refl), (λ down.
 fell before later flush.Full up goes = ((λ some. goes.full refl), (λ down. refl))
 fell before later flush.Down up goes = absurd (let bad : true ≡ false = sym (goes.down.0 refl) ∙ up in cc)
 
--- what is missed stays so
-fine_earlier : (one other : Bool) → (one ≡ true → other ≡ true) → other ≡ false → one ≡ false
-fine_earlier false other kept fine = refl
-fine_earlier true other kept fine = absurd (let bad : true ≡ false = sym (kept refl) ∙ fine in cc)
-
 -- what there is in the loop
 pub record Looped {S D : Type 0} (scheme : Scheme S) (device : Device D) (rule now_rule : Rule) (missed : Bool) (first now : RoundsView S D) : Type 0 where
   pub faults : faults_in device (store_of (journal_of now.flusher)) ≡ faults_in device (store_of (journal_of first.flusher))
@@ -98,7 +122,7 @@ pub record Looped {S D : Type 0} (scheme : Scheme S) (device : Device D) (rule n
   pub node : now.node ≡ first.node
   pub more : Begins (settled_in first.flusher) (settled_in now.flusher)
   pub so_far : SoFar scheme device first.node first.flusher now.flusher
-  pub by_rule : missed ≡ false → ByTheRule device rule (point_of first.flusher) now_rule (point_of now.flusher)
+  pub by_rule : ByTheRule device (HasCheckpoint scheme device first.node) rule missed (point_of first.flusher) now_rule (point_of now.flusher)
   pub pair : IsSome now_rule.every → IsSome (spare_of (journal_of now.flusher))
 
 -- what is left, and reported
@@ -108,8 +132,7 @@ pub record Ended {S D : Type 0} (scheme : Scheme S) (device : Device D) (rule la
   pub down : is_down first.flusher ≡ false → IsSome faults.journal ↔ IsTrue (is_down later.flusher)
   pub stays : IsTrue (is_down first.flusher) → (faults.journal ≡ None) × (later.flusher ≡ first.flusher)
   pub full : is_down first.flusher ≡ false → faults.journal ≡ Some journal.Full → HasNoPlace scheme device first.node later.flusher
-  pub by_rule : is_down first.flusher ≡ false → faults.journal ≡ None → faults.memory ≡ false → missed ≡ false
-      → ByTheRule device rule (point_of first.flusher) later_rule (point_of later.flusher)
+  pub by_rule : is_down first.flusher ≡ false → faults.journal ≡ None → ByTheRule device (HasCheckpoint scheme device first.node) rule missed (point_of first.flusher) later_rule (point_of later.flusher)
   pub all : is_down later.flusher ≡ false → faults.memory ≡ false → TakesLongest first.seat.view.seen (settled_in later.flusher) (settled_in later.flusher)
   pub memory : faults.memory ≡ true → taken_in later.flusher ≡ settled_in later.flusher
   pub others : (faults.output ≡ false) × (faults.input ≡ false)
@@ -132,7 +155,7 @@ loop_begins scheme device rule missed first pair = record {
   node = refl;
   more = begins_same (settled_in first.flusher);
   so_far = inl refl;
-  by_rule = λ fine. ([], (refl, refl));
+  by_rule = ([], (refl, refl));
   pair = pair;
 }
 
@@ -148,6 +171,16 @@ longest_first first seen settled begins takes = record {
 
 module _ {S D : Type 0} (scheme : Scheme S) (device : Device D) (rule now_rule later_rule : Rule) (missed later_missed : Bool) (kept : missed ≡ true → later_missed ≡ true)
     (first now later : RoundsView S D) (loop : Looped scheme device rule now_rule missed first now) where
+  -- all so far was brought by the rule, and so is what comes now, unless the node went down
+  by_rule_then : (next : RoundsView S D)
+      → (is_down next.flusher ≡ false → ByTheRule device (HasCheckpoint scheme device now.node) now_rule later_missed (point_of now.flusher) later_rule (point_of next.flusher))
+      → is_down next.flusher ≡ false → ByTheRule device (HasCheckpoint scheme device first.node) rule later_missed (point_of first.flusher) later_rule (point_of next.flusher)
+  by_rule_then next by up =
+      let Made = HasCheckpoint scheme device first.node in
+      by_rule_joins device Made rule now_rule later_rule later_missed (point_of first.flusher) (point_of now.flusher) (point_of next.flusher)
+      (by_rule_weaker device Made Made rule now_rule missed later_missed (point_of first.flusher) (point_of now.flusher) (λ point is. is) kept loop.by_rule)
+      (subst (λ (n : NodeView S). ByTheRule device (HasCheckpoint scheme device n) now_rule later_missed (point_of now.flusher) later_rule (point_of next.flusher)) loop.node (by up))
+
   -- a round more, and the checkpoint after it
   pub looped : (count : ℕ) → FlushesOnce scheme device now_rule later_rule later_missed now later (Ok count) → Looped scheme device rule later_rule later_missed first later
   looped count once =
@@ -162,10 +195,10 @@ module _ {S D : Type 0} (scheme : Scheme S) (device : Device D) (rule now_rule l
         more = begins_trans (settled_in first.flusher) (settled_in now.flusher) (settled_in later.flusher) loop.more once.more;
         so_far = inr (
           leaves_on scheme device first.node now.node first.flusher now.flusher later.flusher loop.node loop.more loop.so_far (once.any_moment up),
-          keeps_on scheme device first.node now.node first.flusher now.flusher later.flusher loop.node (keeps_so_far scheme device first.node first.flusher now.flusher loop.so_far) (once.earlier still),
+          keeps_on scheme device first.node now.node first.flusher now.flusher later.flusher loop.node
+              (keeps_so_far scheme device first.node first.flusher now.flusher loop.so_far) (once.earlier still),
         );
-        by_rule = λ fine. by_rule_joins device rule now_rule later_rule (point_of first.flusher) (point_of now.flusher) (point_of later.flusher)
-            (loop.by_rule (fine_earlier missed later_missed kept fine)) (once.by_rule fine);
+        by_rule = by_rule_then later once.by_rule still;
         pair = once.pair loop.pair;
       }
 
@@ -180,7 +213,7 @@ module _ {S D : Type 0} (scheme : Scheme S) (device : Device D) (rule now_rule l
         down = λ up. ((λ some. absurd (cc)), (λ down. absurd (let bad : false ≡ true = sym still ∙ down in cc)));
         stays = λ down. (refl, next.stays down);
         full = λ up is. absurd (cc);
-        by_rule = λ up none lacks fine. next.by_rule fine;
+        by_rule = λ up none. next.by_rule;
         all = λ up fine. longest_first first.seat.view.seen now.seat.view.seen (settled_in later.flusher) loop.seen (once.nothing refl);
         memory = λ bad. absurd (let clash : false ≡ true = bad in cc);
         others = (refl, refl);
@@ -201,7 +234,7 @@ module _ {S D : Type 0} (scheme : Scheme S) (device : Device D) (rule now_rule l
     down = λ up. fell now.flusher later.flusher error (loop.down ∙ up) once.down;
     stays = λ down. stayed error once.down (loop.down ∙ down) (loop.stays down);
     full = λ up is. no_place error once.full is;
-    by_rule = λ up none lacks fine. no_end error once.down (loop.down ∙ up) none lacks;
+    by_rule = λ up none. by_rule_then later once.by_rule (still_up error once.down (loop.down ∙ up) none);
     all = λ up fine. never_up error once.down up fine;
     memory = λ lacks. none_taken error (λ is. (once.memory is).2) lacks;
     others = no_others error;
@@ -227,12 +260,11 @@ module _ {S D : Type 0} (scheme : Scheme S) (device : Device D) (rule now_rule l
       no_place flush.Full full is = subst (λ (n : NodeView S). HasNoPlace scheme device n later.flusher) loop.node (full refl)
       no_place flush.Down full is = absurd (cc)
 
-      no_end : (it : FlushError) → GoesDown now.flusher later.flusher (Err it) → is_down now.flusher ≡ false → (faults_after it).journal ≡ None → (faults_after it).memory ≡ false
-          → ByTheRule device rule (point_of first.flusher) later_rule (point_of later.flusher)
-      no_end flush.Memory goes up none fine = absurd (let bad : true ≡ false = fine in cc)
-      no_end flush.Device goes up none fine = absurd (let bad : ◌≡◌ {A = Option JournalError} (Some journal.Device) None = none in cc)
-      no_end flush.Full goes up none fine = absurd (let bad : ◌≡◌ {A = Option JournalError} (Some journal.Full) None = none in cc)
-      no_end flush.Down goes up none fine = absurd (let bad : true ≡ false = sym (goes.down.0 refl) ∙ up in cc)
+      still_up : (it : FlushError) → GoesDown now.flusher later.flusher (Err it) → is_down now.flusher ≡ false → (faults_after it).journal ≡ None → is_down later.flusher ≡ false
+      still_up flush.Memory goes up none = memory_is_up now.flusher later.flusher goes
+      still_up flush.Device goes up none = absurd (let bad : ◌≡◌ {A = Option JournalError} (Some journal.Device) None = none in cc)
+      still_up flush.Full goes up none = absurd (let bad : ◌≡◌ {A = Option JournalError} (Some journal.Full) None = none in cc)
+      still_up flush.Down goes up none = absurd (let bad : true ≡ false = sym (goes.down.0 refl) ∙ up in cc)
 
       never_up : (it : FlushError) → GoesDown now.flusher later.flusher (Err it) → is_down later.flusher ≡ false → (faults_after it).memory ≡ false
           → TakesLongest first.seat.view.seen (settled_in later.flusher) (settled_in later.flusher)
@@ -265,15 +297,15 @@ up_so_far first mid was false fault Lacks told up none = refl
 up_so_far first mid was true fault Lacks told up none = absurd (let bad : false ≡ true = subst (λ (f : Option JournalError). IsSome f) none (told.told up refl) in cc)
 
 -- all was brought by the rule before, and is then
-pub by_rule_on : {D : Type 0} (device : Device D) (rule mid_rule later : Rule) (first mid now : Flusher D) (Lacks : Type 0) (faults more all : Faults) (missed later_missed : Bool)
+pub by_rule_on : {D : Type 0} (device : Device D) (Made : Point D → Type 0) (rule mid_rule later : Rule) (first mid now : Flusher D) (Lacks : Type 0) (faults more all : Faults) (missed later_missed : Bool)
     (at_first at_mid : ℕ)
     → TellsJournal at_first at_mid (is_down first) (is_down mid) faults.journal Lacks
-    → (is_down first ≡ false → faults.journal ≡ None → faults.memory ≡ false → missed ≡ false → ByTheRule device rule (point_of first) mid_rule (point_of mid))
-    → (is_down mid ≡ false → more.journal ≡ None → more.memory ≡ false → later_missed ≡ false → ByTheRule device mid_rule (point_of mid) later (point_of now))
-    → (missed ≡ true → later_missed ≡ true) → all.journal ≡ first_of faults.journal more.journal → all.memory ≡ (faults.memory || more.memory)
-    → is_down first ≡ false → all.journal ≡ None → all.memory ≡ false → later_missed ≡ false → ByTheRule device rule (point_of first) later (point_of now)
-by_rule_on device rule mid_rule later first mid now Lacks faults more all missed later_missed at_first at_mid told before after kept journal_is memory_is up none lacks fine =
+    → (is_down first ≡ false → faults.journal ≡ None → ByTheRule device Made rule missed (point_of first) mid_rule (point_of mid))
+    → (is_down mid ≡ false → more.journal ≡ None → ByTheRule device Made mid_rule later_missed (point_of mid) later (point_of now))
+    → (missed ≡ true → later_missed ≡ true) → all.journal ≡ first_of faults.journal more.journal
+    → is_down first ≡ false → all.journal ≡ None → ByTheRule device Made rule later_missed (point_of first) later (point_of now)
+by_rule_on device Made rule mid_rule later first mid now Lacks faults more all missed later_missed at_first at_mid told before after kept journal_is up none =
     let both = none_of_both faults.journal more.journal (sym journal_is ∙ none) in
-    let memory = or_parts faults.memory more.memory (sym memory_is ∙ lacks) in
-    by_rule_joins device rule mid_rule later (point_of first) (point_of mid) (point_of now) (before up both.0 memory.0 (fine_earlier missed later_missed kept fine))
-    (after (up_so_far at_first at_mid (is_down first) (is_down mid) faults.journal Lacks told up both.0) both.1 memory.1 fine)
+    by_rule_joins device Made rule mid_rule later later_missed (point_of first) (point_of mid) (point_of now)
+    (by_rule_weaker device Made Made rule mid_rule missed later_missed (point_of first) (point_of mid) (λ point is. is) kept (before up both.0))
+    (after (up_so_far at_first at_mid (is_down first) (is_down mid) faults.journal Lacks told up both.0) both.1)

@@ -87,8 +87,12 @@ module _ {S : Type 0} (scheme : Scheme S) (shared : NodeView S) (before mid : Ca
         none = λ none. let bad : Some header ≡ None = sym some ∙ none in absurd cc;
         some = λ other there passes.
             let both : Some header ≡ Some other = sym some ∙ there in
-            let same : header ≡ other = cc in
-            (told, subst (λ (it : Header). IsSubmitted scheme shared (own_event node it) before later told) same (subst (λ (it : Event). IsSubmitted scheme shared it before later told) own done), newly);
+            let same : header ≡ other = cc in (
+              told,
+              subst (λ (it : Header). IsSubmitted scheme shared (own_event node it) before later told) same
+                  (subst (λ (it : Event). IsSubmitted scheme shared it before later told) own done),
+              newly,
+            );
         failed = λ other error there fault.
             let both : Some header ≡ Some other = sym some ∙ there in
             let same : header ≡ other = cc in
@@ -109,6 +113,7 @@ refused_mine scheme node event before later why (Err refusal) submits is = let s
 
 -- want of memory is told only where nothing was accepted
 pub lacked_memory : {S : Type 0} (scheme : Scheme S) (node : NodeView S) (event : Event) (before mid later : CallerView S) (told : Result Taken Rejection) (newness : Result Bool AllocError)
-    → mid.seat.view.mine ≡ before.seat.view.mine → IsSubmitted scheme node event mid later told → OnErr newness (told ≡ Err (Refused Memory)) → OnErr newness (later.seat.view.mine ≡ before.seat.view.mine)
+    → mid.seat.view.mine ≡ before.seat.view.mine → IsSubmitted scheme node event mid later told → OnErr newness (told ≡ Err (Refused Memory))
+    → OnErr newness (later.seat.view.mine ≡ before.seat.view.mine)
 lacked_memory scheme node event before mid later told (Ok new) mine done why = tt
 lacked_memory scheme node event before mid later told (Err error) mine done why = refused_mine scheme node event mid later (Refused Memory) done.answer done.submits (sym done.is ∙ why) ∙ mine

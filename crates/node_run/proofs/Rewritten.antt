@@ -5,9 +5,9 @@ use Rattle.book.specs.Checkpoints.{HasNoRoomFor}
 use Rattle.book.specs.declared.own.error.FlushError.{FlushError}
 use Rattle.book.specs.declared.own.error.FlushError.TheVariants as flush
 use Rattle.diskmodel.specs.Disk.{Device}
-use Rattle.flusher.specs.Rounds.{journal_of, GoesDown, IsToldOf, TellsRoomToRewrite}
+use Rattle.flusher.specs.Rounds.{journal_of, GoesDown, IsAtCheckpoint, IsToldOf, TellsRoomToRewrite}
 use Rattle.flusher.specs.declared.flusher.Flusher.{Flusher}
-use Rattle.journal.specs.Journal.{spare_of}
+use Rattle.journal.specs.Journal.{spare_of, IsAlive}
 use Rattle.journal.specs.Pairs.{HaveChangedPlaces}
 use Rattle.journal.specs.declared.journal.Journal.{Journal}
 use Rattle.node.specs.Callers.{RoundsView}
@@ -23,31 +23,36 @@ some_every None was len due = absurd due
 some_every (Some every) was len due = refl
 
 -- one that answered Full had no room
-no_room : {S D : Type 0} (scheme : Scheme S) (node : NodeView S) (before later : Flusher D) (answer : Result ℕ FlushError)
+no_room : {S D : Type 0} (scheme : Scheme S) (device : Device D) (node : NodeView S) (before later : Flusher D) (answer : Result ℕ FlushError) → IsAlive device (journal_of before)
     → IsSome (spare_of (journal_of later)) → IsErrOf answer flush.Down ⊎ IsErrOf answer flush.Memory ⊎ TellsRoomToRewrite scheme node before later answer
-    → IsErrOf answer flush.Full → HasNoRoomToRewrite scheme node later
-no_room {S} {D} scheme node before later answer pair = by
+    → IsErrOf answer flush.Full → IsAlive device (journal_of later) × HasNoRoomToRewrite scheme node later
+no_room {S} {D} scheme device node before later answer alive pair = by
   where
-    by : IsErrOf answer flush.Down ⊎ IsErrOf answer flush.Memory ⊎ TellsRoomToRewrite scheme node before later answer → IsErrOf answer flush.Full → HasNoRoomToRewrite scheme node later
+    by : IsErrOf answer flush.Down ⊎ IsErrOf answer flush.Memory ⊎ TellsRoomToRewrite scheme node before later answer → IsErrOf answer flush.Full
+        → IsAlive device (journal_of later) × HasNoRoomToRewrite scheme node later
     by (inl down) full = absurd (let bad : ◌≡◌ {A = Result ℕ FlushError} (Err flush.Full) (Err flush.Down) = sym full ∙ down in cc)
     by (inr (inl memory)) full = absurd (let bad : ◌≡◌ {A = Result ℕ FlushError} (Err flush.Full) (Err flush.Memory) = sym full ∙ memory in cc)
-    by (inr (inr room)) full = record {
-      pair = pair;
-      records = room.records;
-      checkpoint = room.checkpoint;
-      full = subst (λ (j : Journal D). HasNoRoomFor j room.records) (sym (room.same full)) (room.full.0 full);
-    }
+    by (inr (inr room)) full = (
+      subst (IsAlive device) (sym (room.same full)) alive,
+      record {
+        pair = pair;
+        records = room.records;
+        checkpoint = room.checkpoint;
+        full = subst (λ (j : Journal D). HasNoRoomFor j room.records) (sym (room.same full)) (room.full.0 full);
+      },
+    )
 
 -- it was due, and taken
 pub was_due : {S D : Type 0} (scheme : Scheme S) (device : Device D) (rule later_rule : Rule) (before later : RoundsView S D) (answer : Result ℕ FlushError) (result : Result (Unit {0}) FlushError)
     → IsSome (spare_of (journal_of before.flusher)) → IsDue rule (length_in device (journal_of before.flusher)) → result ≡ without_number answer
     → later.node ≡ before.node → GoesDown before.flusher later.flusher answer
     → IsToldOf before.seat later.seat answer → Flushes scheme device before.node before.flusher later.flusher answer
-    → OnOk answer (HaveChangedPlaces (journal_of before.flusher) (journal_of later.flusher)) → OnOk answer (later_rule ≡ counted_from device rule (journal_of later.flusher))
+    → OnOk answer (HaveChangedPlaces (journal_of before.flusher) (journal_of later.flusher)) → OnOk answer (IsAtCheckpoint scheme device before.node later.flusher)
+    → OnOk answer (later_rule ≡ counted_from device rule (journal_of later.flusher))
     → OnErr answer (later_rule ≡ rule)
     → IsErrOf answer flush.Down ⊎ IsErrOf answer flush.Memory ⊎ TellsRoomToRewrite scheme before.node before.flusher later.flusher answer
-    → RewritesWhereDue scheme device rule later_rule before later result
-was_due scheme device rule later_rule before later answer result pair due answered node down told flushes swapped counts keeps room = inl (
+    → IsAlive device (journal_of before.flusher) → RewritesWhereDue scheme device rule later_rule before later result
+was_due scheme device rule later_rule before later answer result pair due answered node down told flushes swapped writes counts keeps room alive = inl (
   due,
   record {
     answer = answer;
@@ -57,8 +62,9 @@ was_due scheme device rule later_rule before later answer result pair due answer
     told = told;
     flushes = flushes;
     swapped = swapped;
+    writes = writes;
     counts = counts;
     keeps = keeps;
-    full = no_room scheme before.node before.flusher later.flusher answer (flushes.disks.1 pair) room;
+    full = no_room scheme device before.node before.flusher later.flusher answer alive (flushes.disks.1 pair) room;
   },
 )

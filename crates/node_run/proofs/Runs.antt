@@ -48,10 +48,11 @@ use Rattle.validator.specs.Standing.{AreAtSound}
 use Rattle.node_run.specs.Ends.{TellsRounds}
 use Rattle.wire.specs.declared.keys.Key.{Key}
 use Rattle.node_run.specs.Members.{IsConfigOf, RefusesOpening}
+use Rattle.node_run.proofs.Pending.{by_rule_weaker}
 use Rattle.node_run.proofs.Written.{written_weaker, wrote_nothing}
-use Rattle.node_run.specs.Rewriting.{HasNoPlace}
+use Rattle.node_run.specs.Rewriting.{HasCheckpoint, HasNoRoomToAdd, HasNoRoomToRewrite, Point}
 use Rattle.node_run.specs.Runs.{HoldsMore, GoesOn, GoesOutAfterPrefix, AreSettled, IsReadAsOneOf, NoneOrOnDisk, GivesOnly, IsOfLoss, AreTwo}
-use Rattle.node_run.specs.Runs.{ComesByRule, HasNoRoomAfter, IsFullAfter, IsFullUp, RunsOver, RunsAs, every_on, is_all_brought, is_all_written, point_at, rule_on}
+use Rattle.node_run.specs.Runs.{ComesByRule, HasCheckpointFrom, HasNoRoomAfter, IsFullAfter, IsFullUp, IsRewrittenEach, RunsOver, RunsAs, every_on, is_all_brought, may_lack_memory, is_all_written, point_at, rule_on}
 use Rattle.node_run.specs.Writing.{no_memory, HasWritten, MayGo}
 use Rattle.node_run.specs.declared.ran.Ran.{Ran}
 use Rattle.sigface.specs.Scheme.{Scheme}
@@ -112,10 +113,11 @@ wrote_all faults whole = wrote_all_unless faults.journal faults.output _ whole
 -- a run whose ending hides no fault of what was brought to the disks had none
 nothing_unless : (fault : Option JournalError) (output memory lacks input : Bool) → IfSome fault (λ error. (error ≡ journal.Device) ⊎ (error ≡ journal.Full))
     → is_all_brought (unless_journal fault (if output then ends.Output else if memory || lacks then ends.Memory else if input then ends.Input else ends.Done)) ≡ true
-    → (fault ≡ None) × (memory ≡ false)
-nothing_unless None true memory lacks input which brought = absurd (let bad : false ≡ true = brought in cc)
+    → (fault ≡ None)
+    × (memory ≡ true → may_lack_memory (unless_journal fault (if output then ends.Output else if memory || lacks then ends.Memory else if input then ends.Input else ends.Done)) ≡ true)
+nothing_unless None true memory lacks input which brought = (refl, λ is. refl)
 nothing_unless None false true lacks input which brought = absurd (let bad : false ≡ true = brought in cc)
-nothing_unless None false false lacks input which brought = (refl, refl)
+nothing_unless None false false lacks input which brought = (refl, λ is. absurd (let bad : false ≡ true = is in cc))
 nothing_unless (Some journal.Memory) output memory lacks input (inl is) brought = absurd (let bad : journal.Memory ≡ journal.Device = is in cc)
 nothing_unless (Some journal.Memory) output memory lacks input (inr is) brought = absurd (let bad : journal.Memory ≡ journal.Full = is in cc)
 nothing_unless (Some journal.Device) output memory lacks input which brought = absurd (let bad : false ≡ true = brought in cc)
@@ -124,7 +126,7 @@ nothing_unless (Some journal.ConfigMismatch) output memory lacks input which bro
 nothing_unless (Some journal.Full) output memory lacks input which brought = absurd (let bad : false ≡ true = brought in cc)
 
 told_nothing : (faults : Faults) → IfSome faults.journal (λ error. (error ≡ journal.Device) ⊎ (error ≡ journal.Full)) → is_all_brought (ending_of faults) ≡ true
-    → (faults.journal ≡ None) × (faults.memory ≡ false)
+    → (faults.journal ≡ None) × (faults.memory ≡ true → may_lack_memory (ending_of faults) ≡ true)
 told_nothing faults which brought = nothing_unless faults.journal faults.output faults.memory _ faults.input which brought
 
 -- one that couldn't begin
@@ -172,6 +174,16 @@ kind_of node before (journal.Damaged place) tells =
 kind_of node before journal.ConfigMismatch tells =
     inr (inr (tells (λ is. let bad : journal.ConfigMismatch ≡ journal.Device = is in cc) (λ is. let bad : journal.ConfigMismatch ≡ journal.Full = is in cc)))
 kind_of node before journal.Full tells = inr (inl refl)
+
+-- one that ends with out of memory had no fault of the journal
+none_unless : (fault : Option JournalError) (other : Ending) → IfSome fault (λ error. (error ≡ journal.Device) ⊎ (error ≡ journal.Full)) → unless_journal fault other ≡ ends.Memory → fault ≡ None
+none_unless None other which is = refl
+none_unless (Some journal.Memory) other (inl bad) is = absurd (let clash : journal.Memory ≡ journal.Device = bad in cc)
+none_unless (Some journal.Memory) other (inr bad) is = absurd (let clash : journal.Memory ≡ journal.Full = bad in cc)
+none_unless (Some journal.Device) other which is = absurd (let bad : ends.Journal journal.Device ≡ ends.Memory = is in cc)
+none_unless (Some (journal.Damaged place)) other which is = absurd (let bad : ends.Journal (journal.Damaged place) ≡ ends.Memory = is in cc)
+none_unless (Some journal.ConfigMismatch) other which is = absurd (let bad : ends.Journal journal.ConfigMismatch ≡ ends.Memory = is in cc)
+none_unless (Some journal.Full) other which is = absurd (let bad : ends.Journal journal.Full ≡ ends.Memory = is in cc)
 
 not_refused : (error named : JournalError) → of_journal error ≡ ends.Journal named → IsNoRefusalOfBoth error → (named ≡ journal.Device) ⊎ (named ≡ journal.Full)
 not_refused error named is (inl (inl device)) = inl (sym (opening_decoded error named is) ∙ device)
@@ -227,10 +239,12 @@ module _ {S D : Type 0} (scheme : Scheme S) (device : Device D) where
     lost = some_left later (of_journal error);
     any_moment = from_opening node store later leaves;
     rewritten = λ brought. absurd (nothing_brought error brought);
+    lacks = λ is. inl leaves;
   }
 
   -- it was opened, and memory was refused then
-  pub not_run : (node : Node) (store now : Store D) (every : ℕ) → faults_in device now ≡ faults_in device store → IsDecodedThroughout node device store now → RunsOver node device store every ends.Memory (Some now)
+  pub not_run : (node : Node) (store now : Store D) (every : ℕ) → faults_in device now ≡ faults_in device store → IsDecodedThroughout node device store now
+      → RunsOver node device store every ends.Memory (Some now)
   not_run node store now every same leaves = record {
     device = λ is. absurd (none-some journal.Device (ap fault_in is));
     no_fault = λ other. same;
@@ -240,6 +254,7 @@ module _ {S D : Type 0} (scheme : Scheme S) (device : Device D) where
     lost = λ none. refl;
     any_moment = from_opening node store now leaves;
     rewritten = λ brought. absurd (let bad : false ≡ true = brought in cc);
+    lacks = λ is. inl leaves;
   }
 
   -- the disks were lost
@@ -253,6 +268,7 @@ module _ {S D : Type 0} (scheme : Scheme S) (device : Device D) where
     lost = λ none. ends_so;
     any_moment = tt;
     rewritten = λ brought. tt;
+    lacks = λ is. tt;
   }
     where
       ends_so : ending_of told_of ≡ ends.Memory
@@ -295,11 +311,12 @@ module _ {S D : Type 0} (scheme : Scheme S) (device : Device D) where
     base = begins.state;
     is_read = begins.is_read;
     last = journal_of up.last;
+    alive = up.lacks.0;
     is_left = up.is_left;
-    no_room = by up.lacks;
+    no_room = by up.lacks.1;
   }
     where
-      by : HasNoPlace scheme device shared up.last → HasNoRoomAfter node device begins.state (journal_of up.last)
+      by : HasNoRoomToAdd device up.last ⊎ HasNoRoomToRewrite scheme shared up.last → HasNoRoomAfter node device begins.state (journal_of up.last)
       by (inl add) = inl (records_after (settled_in up.last) (taken_in up.last), subst FitsGroup add.group.is add.group.longest.fits, add.room.too_long)
       by (inr rewrite) =
           let is_base = subst (λ (n : Node). AreAtSound n shared.begun begins.state) (sym of_node) begins.at in
@@ -312,7 +329,7 @@ module _ {S D : Type 0} (scheme : Scheme S) (device : Device D) where
       → StandsAt node (decoded_in node (areas_in device store)) shared.begun → faults_in device now ≡ faults_in device store
       → TellsRounds (faults_in device now) (faults_in device later) told_of.journal → IsDecodedThroughout node device store now
       → AtEachMomentOn device (HoldsMore scheme shared [] (areas_of device opened)) now later → KeepsStatesIn node (areas_in device store) (areas_of device opened)
-      → IsReadIn node device store opened → IsAlive device opened → (told_of.journal ≡ None → told_of.memory ≡ false → ComesByRule device (rule_on device store every opened) (point_at opened) later)
+      → IsReadIn node device store opened → IsAlive device opened → (told_of.journal ≡ None → ComesByRule device (HasCheckpoint scheme device shared) (rule_on device store every opened) told_of.memory (point_at opened) later)
       → (told_of.journal ≡ Some journal.Full → IsFullUp scheme device shared later) → RunsOver node device store every (ending_of told_of) (Some later)
   has_run shared node store now every opened later told_of of_node begins same tells opening leaves kept_all read alive by_rule full = record {
     device = λ is. subst (λ n. n < faults_in device later) same (tells.disk.device (decoded_of_journal told_of journal.Device is));
@@ -324,9 +341,36 @@ module _ {S D : Type 0} (scheme : Scheme S) (device : Device D) where
     any_moment = on_joins device (May node store) (HoldsMore scheme shared [] (areas_of device opened)) store now later (from_opening node store now opening) leaves more;
     rewritten = λ brought.
         let fine = told_nothing told_of tells.which brought in
-        record { opened = opened; read = read; keeps = kept_all; alive = alive; comes = by_rule fine.0 fine.1 };
+        each (may_lack_memory (ending_of told_of)) fine.1 (by_rule fine.0);
+    lacks = λ is. inr (each true (λ lacking. refl) (by_rule (none_unless told_of.journal _ tells.which is)));
   }
     where
+      from_base : (point : Point D) → HasCheckpoint scheme device shared point → HasCheckpointFrom node device begins.state point
+      from_base point has =
+          let is_base = subst (λ (n : Node). AreAtSound n shared.begun begins.state) (sym of_node) begins.at in record {
+            records = has.records;
+            checkpoint = subst (λ (n : Node). IsCheckpoint n (after_all n begins.state (events point.settled)) has.records) of_node (has.checkpoint begins.state is_base);
+            content = has.content;
+          }
+
+      each : (memory : Bool) → (told_of.memory ≡ true → memory ≡ true) → ComesByRule device (HasCheckpoint scheme device shared) (rule_on device store every opened) told_of.memory (point_at opened) later
+          → IsRewrittenEach node device store every memory later
+      each memory raised by = record {
+        opened = opened;
+        read = read;
+        keeps = kept_all;
+        alive = alive;
+        base = begins.state;
+        is_read = begins.is_read;
+        comes = record {
+          last = by.last;
+          last_rule = by.last_rule;
+          by_rule = by_rule_weaker device (HasCheckpoint scheme device shared) (HasCheckpointFrom node device begins.state) (rule_on device store every opened) by.last_rule told_of.memory memory
+              (point_at opened) by.last from_base raised by.by_rule;
+          is_left = by.is_left;
+        };
+      }
+
       which : (named : JournalError) → ending_of told_of ≡ ends.Journal named → (named ≡ journal.Device) ⊎ (named ≡ journal.Full)
       which named is = subst (λ (f : Option JournalError). IfSome f (λ error. (error ≡ journal.Device) ⊎ (error ≡ journal.Full))) (decoded_of_journal told_of named is) tells.which
 
@@ -340,7 +384,7 @@ module _ {S D : Type 0} (scheme : Scheme S) (device : Device D) where
       → IsDecodedThroughout node device store now
       → IfSome left (λ later. AtEachMomentOn device (HoldsMore scheme shared [] (areas_of device opened)) now later) → KeepsStatesIn node (areas_in device store) (areas_of device opened)
       → IsReadIn node device store opened → IsAlive device opened
-      → (told_of.journal ≡ None → told_of.memory ≡ false → IfSome left (ComesByRule device (rule_on device store every opened) (point_at opened)))
+      → (told_of.journal ≡ None → IfSome left (ComesByRule device (HasCheckpoint scheme device shared) (rule_on device store every opened) told_of.memory (point_at opened)))
       → (told_of.journal ≡ Some journal.Full → IfSome left (IsFullUp scheme device shared)) → RunsOver node device store every (ending_of told_of) left
   ended shared node store now every opened told_of None of_node begins same tells lost opening leaves kept_all read alive by_rule full = run_lost node store every told_of (lost refl)
   ended shared node store now every opened told_of (Some later) of_node begins same tells lost opening leaves kept_all read alive by_rule full =
@@ -415,7 +459,8 @@ gives_nothing {D} {W} node device contents store writer ran back = record {
 
 -- a member whom a number names ran
 pub run_as : {O D W : Type 0} (scheme : Scheme Key) (device : Device D) (contents : W → Option (List ℕ))
-    (named : Option O) (bytes_of : O → List ℕ) (config : ConfigView Key) (store : Store D) (every : ℕ) (writer : W) (ran : Ran D W) (text : List ℕ) → IfSome named (λ own. IsConfigOf text (bytes_of own) config)
+    (named : Option O) (bytes_of : O → List ℕ) (config : ConfigView Key) (store : Store D) (every : ℕ) (writer : W) (ran : Ran D W) (text : List ℕ)
+    → IfSome named (λ own. IsConfigOf text (bytes_of own) config)
     → AreTwo store → RunsOver (node_of scheme config) device store every ran.ending ran.store → GivesOnly (node_of scheme config) device contents store writer ran
     → IfSome named (λ own. (RefusesOpening (bytes_of own) ran.ending × (ran.writer ≡ Some writer)) ⊎ RunsAs scheme device contents (bytes_of own) every writer ran)
 run_as scheme device contents None bytes_of config store every writer ran text is_of two runs gives = tt

@@ -1,5 +1,5 @@
--- What a round does, and the checkpoint that is due after it.
-use Rattle.std.specs.Prelude.{◌≡◌, ⊤, ℕ, Bool, false, Result, Ok, Err, IfOk, IsErrOf, IsSome, OnOk}
+-- What a round does, with the checkpoint that is due after it.
+use Rattle.std.specs.Prelude.{◌≡◌, ⊤, ℕ, Bool, false, Result, Ok, Err, IfOk, IsErrOf, IsSome}
 use Rattle.book.specs.declared.own.error.FlushError.{FlushError}
 use Rattle.book.specs.declared.own.error.FlushError.TheVariants as errors
 use Rattle.diskmodel.specs.Disk.{Device, TellsFault}
@@ -10,18 +10,18 @@ use Rattle.journal.specs.Stores.{faults_in}
 use Rattle.node.specs.Callers.{RoundsView}
 use Rattle.node.specs.Disks.{AtEachMomentOn}
 use Rattle.wire.specs.Lists.{Begins}
-use Rattle.node_run.specs.Rewriting.{ByTheRule, HasNoPlace, IsCountOf, point_of}
+use Rattle.node_run.specs.Rewriting.{ByTheRule, HasCheckpoint, HasNoPlace, IsCountOf, point_of}
 use Rattle.node_run.specs.Runs.{HoldsMore, LeavesSettled}
 use Rattle.node_run.specs.declared.rule.Rule.{Rule}
 use Rattle.sigface.specs.Scheme.{Scheme}
 
--- nothing is to be done after this answer: nothing was pending, or a fault came
+-- no further round is needed after this result: nothing was pending, or an error came
 abbrev pub IsOver : Result ℕ FlushError → Type 0
 IsOver (Ok count) = count ≡ 0
 IsOver (Err error) = ⊤
 
--- A round of a node, and the checkpoint that is due after it, unless that is missed: memory was refused for it. A stop at any moment leaves what
--- was settled, and perhaps more after it.
+-- A round of a node, and then the checkpoint that is due, unless it is missed because an allocation failed. A stop at any moment leaves
+-- what was settled, and perhaps more after it.
 pub record FlushesOnce {S D : Type 0} (scheme : Scheme S) (device : Device D) (rule later_rule : Rule) (missed : Bool) (before later : RoundsView S D) (result : Result ℕ FlushError) : Type 0 where
   pub node : later.node ≡ before.node
   pub seen : Begins before.seat.view.seen later.seat.view.seen
@@ -31,20 +31,20 @@ pub record FlushesOnce {S D : Type 0} (scheme : Scheme S) (device : Device D) (r
   pub full : IsErrOf result errors.Full → HasNoPlace scheme device before.node later.flusher
   -- where nothing was pending, nothing more fits a group after what is settled
   pub nothing : result ≡ Ok 0 → TakesLongest before.seat.view.seen (settled_in later.flusher) (settled_in later.flusher)
-  -- Where memory is refused to the round nothing was brought, and nothing is taken that isn't settled. That it is refused to the checkpoint is
-  -- no error.
+  -- If an allocation of the round fails, the journal is unchanged and nothing is taken that isn't settled. If one of the checkpoint fails,
+  -- that is no error.
   pub memory : IsErrOf result errors.Memory
       → (journal_of later.flusher ≡ journal_of before.flusher) × (settled_in later.flusher ≡ settled_in before.flusher) × (taken_in later.flusher ≡ settled_in later.flusher)
-  -- the answer is how many records the round brought
+  -- the result is how many records the round settled
   pub count : IfOk result (λ count. IsCountOf (point_of before.flusher) (point_of later.flusher) count)
-  -- what came before stays as it was
+  -- whatever the journal had before stays as it was
   pub earlier : is_down later.flusher ≡ false
       → KeepsEarlier scheme before.node (settled_in before.flusher) (settled_in later.flusher) (areas_of device (journal_of before.flusher)) (areas_of device (journal_of later.flusher))
   pub any_moment : is_down before.flusher ≡ false
       → AtEachMomentOn device (HoldsMore scheme before.node (settled_in before.flusher) (areas_of device (journal_of before.flusher)))
       (store_of (journal_of before.flusher)) (store_of (journal_of later.flusher))
   pub at_end : IsOver result → is_down before.flusher ≡ false → LeavesSettled scheme device before.node before.flusher (settled_in later.flusher) (store_of (journal_of later.flusher))
-  -- unless one is missed, a checkpoint was taken exactly where one was due
-  pub by_rule : OnOk result (missed ≡ false → ByTheRule device rule (point_of before.flusher) later_rule (point_of later.flusher))
+  -- unless the node went down, a checkpoint was taken exactly where one was due, or is marked as missed
+  pub by_rule : is_down later.flusher ≡ false → ByTheRule device (HasCheckpoint scheme device before.node) rule missed (point_of before.flusher) later_rule (point_of later.flusher)
   -- a journal that may be rewritten is on two disks
   pub pair : (IsSome rule.every → IsSome (spare_of (journal_of before.flusher))) → IsSome later_rule.every → IsSome (spare_of (journal_of later.flusher))

@@ -1,4 +1,4 @@
--- What comes of a message that a frame brings.
+-- What happens to an event that a frame brings.
 use Rattle.std.specs.Prelude.{Bool, List, ◌≡◌, ◌⊎◌, true, false, Option, Some, None, Result, Ok, Err, is_some, if◌then◌else◌}
 use Rattle.book.specs.declared.book.Receipt.{Receipt}
 use Rattle.header.specs.Checks.{fault_of, accepts_all}
@@ -24,23 +24,24 @@ use Rattle.validator.specs.Setting.{node_of}
 use Rattle.node_run.specs.declared.caller.Taken.{Taken}
 use Rattle.node_run.specs.declared.caller.Taken.TheVariants.{New, Known, Waits}
 
--- a receipt or a refusal, as it is told
+-- the result that is reported for a receipt or a refusal
 abbrev pub told_as : Result Receipt Refusal → Result Taken Rejection
 told_as (Ok receipt) = Ok (if receipt.new then New else Known)
 told_as (Err refusal) = Err (Refused refusal)
 
--- an event was submitted, and this is told of the answer
+-- an event was submitted, and this is the reported result
 pub record IsSubmitted {S : Type 0} (scheme : Scheme S) (node : NodeView S) (event : Event) (before later : CallerView S) (told : Result Taken Rejection) : Type 0 where
   pub answer : Result Receipt Refusal
   pub submits : Submits scheme node event before.seat.view later.seat.view answer
   pub is : told ≡ told_as answer
 
--- an event is a certificate, and after all that was accepted, which the caller has then seen, it lacks a parent, from each base on
+-- the event is a certificate that lacks a parent, from each base, after all accepted events, which the caller has now seen
 pub record LacksParents {S : Type 0} (scheme : Scheme S) (node : NodeView S) (event : Event) (later : CallerView S) : Type 0 where
   pub certificate : is_some (certificate_digest_in event.message) ≡ true
   pub lacks : (base : State) → IsBase scheme node base → is_missing_parents (answered (node_of scheme node.setting) (seen_in (node_of scheme node.setting) base later.seat) event) ≡ true
 
--- an event is no certificate, or one that lacks no parent after what the caller had seen when it looked, during a call, from each base on
+-- the event is no certificate; or it lacks no parent, from each base, after the events that the caller had seen when it looked, at some
+-- moment of the call
 pub record MayBeSubmitted {S : Type 0} (scheme : Scheme S) (node : NodeView S) (event : Event) (before later : CallerView S) : Type 0 where
   pub looked : List Marked
   pub more : Begins before.seat.view.seen looked
@@ -48,32 +49,32 @@ pub record MayBeSubmitted {S : Type 0} (scheme : Scheme S) (node : NodeView S) (
   pub goes : is_some (certificate_digest_in event.message) ≡ true → (base : State) → IsBase scheme node base
       → is_missing_parents (answered (node_of scheme node.setting) (after_all (node_of scheme node.setting) base (events looked)) event) ≡ false
 
--- A call only looked: the seat is the same, with the events that it brought, has seen all that it had, and knows all as settled that it
--- knew, which is of what it has seen. That no output was taken out it doesn't say.
+-- A call only looked: the seat is the same, with the same own events; it has seen what it had and perhaps more, and knows as settled what
+-- it did and perhaps more, all of which it has seen. Whether the call took out an output isn't said here.
 pub record OnlyLooks (before later : SeatView) : Type 0 where
   pub same : IsSame before later
   pub seen : Begins before.view.seen later.view.seen
   pub durable : Begins before.view.durable later.view.durable
   pub within : Begins later.view.durable later.view.seen
 
--- What came of an event: the first fault of the checks is told, or it waits, or it might go and was submitted.
+-- What happened to an event: the first fault of the checks is reported, or it has to wait, or it may be submitted and was.
 pub record Handles {S : Type 0} (scheme : Scheme S) (node : NodeView S) (fault : Option CheckError) (event : Event) (before later : CallerView S) (told : Result Taken Rejection) : Type 0 where
   pub unchecked : (error : CheckError) → fault ≡ Some error → (told ≡ Err (Unchecked error)) × (later ≡ before)
   pub checked : fault ≡ None → (LacksParents scheme node event later × IsSame before.seat later.seat × (told ≡ Ok (Waits event)))
       ⊎ (MayBeSubmitted scheme node event before later × IsSubmitted scheme node event before later told)
 
--- what came of an event that has waited: the first fault of the checks is told, or it was submitted
+-- what happened to an event that has waited: the first fault of the checks is reported, or it was submitted
 pub record HandlesAgain {S : Type 0} (scheme : Scheme S) (node : NodeView S) (fault : Option CheckError) (event : Event) (before later : CallerView S) (told : Result Taken Rejection) : Type 0 where
   pub unchecked : (error : CheckError) → fault ≡ Some error → (told ≡ Err (Unchecked error)) × (later ≡ before)
   pub checked : fault ≡ None → IsSubmitted scheme node event before later told
 
--- it is told that the event was new
+-- the result reports that the event was new
 abbrev pub is_told_new : Result Taken Rejection → Bool
 is_told_new (Ok New) = true
 is_told_new other = false
 
--- What came of what is proposed after what the caller had seen when it looked, during the call, from each base on: a header that passes the
--- checks was submitted, and this says whether it was new; else nothing was.
+-- The node was asked for its proposal, from each base after the events that the caller had seen when it looked, at some moment of the call.
+-- A proposed header that passes the checks was submitted, and `new` says whether it was new; otherwise nothing was submitted.
 pub record IsProposed {S : Type 0} (scheme : Scheme S) (node : NodeView S) (before later : CallerView S) (new : Bool) : Type 0 where
   pub looked : List Marked
   pub more : Begins before.seat.view.seen looked

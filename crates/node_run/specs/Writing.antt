@@ -1,4 +1,4 @@
--- What goes to a node's writer.
+-- What a node's writer gets.
 use Rattle.std.specs.Prelude.{◌≤◌, length, take, ◌≡◌, ◌⊎◌, ◌||◌, ℕ, Bool, true, false, List, ◌++◌, Option, None, Some, ⊤, All}
 use Rattle.std.specs.List.{flat_map}
 use Rattle.std.specs.Io.KnownBytes.{Keeps, Appends}
@@ -18,26 +18,26 @@ use Rattle.node_shared.specs.Home.{NodeView, IsBase}
 use Rattle.sigface.specs.Scheme.{Scheme}
 use Rattle.validator.specs.Setting.{node_of}
 
--- nothing has gone wrong
+-- nothing has failed
 abbrev pub no_faults : Faults
 no_faults = record { journal = None; output = false; memory = false; input = false }
 
--- memory was refused
+-- an allocation failed
 abbrev pub no_memory : Faults
 no_memory = record { journal = None; output = false; memory = true; input = false }
 
--- a writer's known bytes grow by a beginning of these
+-- what the writer has got grows by a prefix of these bytes
 pub record AppendsSome (old new : Option (List ℕ)) (bytes : List ℕ) : Type 0 where
   pub part : List ℕ
   pub begins : Begins part bytes
   pub appends : Appends old new part
 
--- a writer is over: it failed, or an allocation failed for what was to go to it
+-- a writer gets no more: it failed, or an allocation for its bytes failed
 abbrev pub is_over : Faults → Bool
 is_over faults = faults.output || faults.memory
 
--- What comes of the bytes of one output. While the writer isn't over, they all stand after what it has; or it fails, and some of them may; or
--- an allocation failed for them, and none do. After either it is over, and no bytes go to it any more. No other fault is told.
+-- The bytes of one output. As long as nothing has failed the writer gets all of them; or it fails, and gets some of them; or an allocation
+-- for them fails, and it gets none. After a failure it gets no bytes any more. No other fault is reported.
 pub record Puts (bytes : List ℕ) (before later : Faults) (old new : Option (List ℕ)) : Type 0 where
   pub over : is_over before ≡ true → (later ≡ before) × Keeps old new
   pub fine : later.output ≡ false
@@ -45,8 +45,8 @@ pub record Puts (bytes : List ℕ) (before later : Faults) (old new : Option (Li
   pub some : AppendsSome old new bytes
   pub others : later ≡ record before { output = later.output; memory = later.memory }
 
--- An output was put out, from each base on, after some of the events that a seat knows as settled. It may be given out after all of
--- them, at each legal history that keeps a base.
+-- An output was put out, from each base, after some of the events that a seat knows as settled. It may be given out after all of them, at
+-- each legal history that keeps a base.
 pub record MayGo {S : Type 0} (scheme : Scheme S) (node : NodeView S) (view : View) (output : Output) : Type 0 where
   pub settled : List Marked
   pub begins : Begins settled view.durable
@@ -56,14 +56,14 @@ pub record MayGo {S : Type 0} (scheme : Scheme S) (node : NodeView S) (view : Vi
   pub within : count ≤ length settled
   pub put_out : (base : State) → IsBase scheme node base → GoesOutAfter (node_of scheme node.setting) base (events (take count settled)) output
 
--- an output that might go went to a writer
+-- an output that may go out was written
 pub record WritesNext (May : Output → Type 0) (before later : Faults) (old new : Option (List ℕ)) : Type 0 where
   pub output : Output
   pub may : May output
   pub puts : Puts (frame_of output) before later old new
 
--- All that went to the writer are frames of outputs that might go. Only where it failed they may be cut short. Nothing went to one that was
--- over. No fault is told but the writer's and that an allocation failed.
+-- The writer got only frames of outputs that may go out; only if it failed may the last be cut short. After a failure it got nothing. No
+-- fault is reported but the writer's and a failed allocation.
 pub record WritesOnly (May : Output → Type 0) (before later : Faults) (old new : Option (List ℕ)) : Type 0 where
   pub over : is_over before ≡ true → Keeps old new
   pub broken : before.output ≡ true → later.output ≡ true
@@ -74,14 +74,14 @@ pub record WritesOnly (May : Output → Type 0) (before later : Faults) (old new
   pub some : AppendsSome old new (flat_map frame_of outputs)
   pub others : later ≡ record before { output = later.output; memory = later.memory }
 
--- what a writer holds is a prefix of what it held with these bytes after it, where that is known
+-- what the writer holds now, where that is known, is what it held followed by a prefix of these bytes
 abbrev pub HoldsPart : Option (List ℕ) → Option (List ℕ) → List ℕ → Type 0
 HoldsPart None new bytes = ⊤
 HoldsPart (Some xs) None bytes = ⊥
 HoldsPart (Some xs) (Some ys) bytes = Begins ys (xs ++ bytes)
 
--- What a writer holds at the end is what it held with frames of outputs after it, one after the other, of all of which this holds. Only where
--- this isn't so of how it ended the last of the frames may be missing or cut short.
+-- At the end the writer holds what it held before, followed by whole frames of some outputs, which meet `AreRight`. Unless `IsWhole` holds,
+-- the last frame may be missing or cut short.
 pub record HasWritten (AreRight : List Output → Type 0) (IsWhole : Type 0) (old new : Option (List ℕ)) : Type 0 where
   pub outputs : List Output
   pub right : AreRight outputs

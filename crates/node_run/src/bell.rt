@@ -1,15 +1,15 @@
-//! How a thread is told that there is work for it.
+//! How a thread learns that there is work for it.
 
 use std::sync::{Condvar, Mutex, Wait};
 
-/// What a bell was told.
+/// The state of a bell.
 #[derive(Clone, Copy)]
 struct Told {
     rung: bool,
     closed: bool,
 }
 
-/// A bell that one thread waits for. Rings that come before it has waited are one.
+/// A bell that one thread waits for. Several rings before the thread waits count as one.
 #[derive(Drop)]
 pub(crate) struct Bell {
     told: Mutex<Told>,
@@ -17,7 +17,7 @@ pub(crate) struct Bell {
 }
 
 impl Bell {
-    /// A bell that was not rung.
+    /// A bell that wasn't rung yet.
     pub(crate) fn new() -> Bell {
         Bell {
             told: Mutex::new(Told {
@@ -28,19 +28,19 @@ impl Bell {
         }
     }
 
-    /// There is work.
+    /// Says that there is work.
     pub(crate) fn ring<R: Wait>(&self, rt: &R) {
         self.told.lock(rt).rung = true;
         self.changed.notify_one();
     }
 
-    /// There is no more to come.
+    /// Says that no more work will come.
     pub(crate) fn close<R: Wait>(&self, rt: &R) {
         self.told.lock(rt).closed = true;
         self.changed.notify_one();
     }
 
-    /// Sleeps until there is work, or no more to come. Says whether more may come after what there is.
+    /// Sleeps until there is work, or no more will come. Gives whether more may come after this.
     pub(crate) fn wait<R: Wait>(&self, rt: &R) -> bool {
         let told = self.told.lock(rt);
         let mut told = self
@@ -54,9 +54,9 @@ impl Bell {
 /// The bells of a node's threads.
 #[derive(Drop)]
 pub(crate) struct Bells {
-    /// For who flushes: something was accepted, or has to go out again.
+    /// For the thread that flushes: something was accepted, or has to go out again.
     pub(crate) pending: Bell,
-    /// For who writes: a round was made.
+    /// For the thread that writes: a round was made.
     pub(crate) settled: Bell,
 }
 

@@ -1,4 +1,4 @@
-//! Three works at once, two of them in threads of their own.
+//! Three pieces of work at once, two of them in threads of their own.
 
 ghost use Rattle.std.specs.Prelude.{◌≡◌, true, IfSome};
 ghost use Rattle.std.specs.Thread.{IsSend, IsSync};
@@ -8,17 +8,17 @@ use std::snapshot::Snapshot;
 use std::sync::Wait;
 use std::thread::{self, Promise, Scope, Threads};
 
-/// What a thread does.
+/// A piece of work for a thread.
 pub(crate) trait Work<R: Wait, X> {
-    /// What is so of a work and of what comes of it.
+    /// How a work's result is related to the work.
     ghost does: { Self → X → Type 0 };
 
-    /// Does it.
+    /// Does the work.
     fn work(self, rt: &R) -> X
         ensures { does self result };
 }
 
-// That a work was done.
+// The promise of a thread that did a work.
 struct Done<R, F> {
     runtime: PhantomData<R>,
     work: Snapshot<F>,
@@ -37,8 +37,8 @@ impl<R: Wait, F: Work<R, X>, X> Promise<X> for Done<R, F> {
     ghost kept_by = { λ done result. F.does done.work.value result };
 }
 
-/// Does two works in threads of their own, and the third one in this thread. Gives what came of them, once all have ended. None where
-/// the first thread couldn't be made; where the second couldn't, `instead` is done in place of the third.
+/// Does two works in threads of their own, and the third in this thread. Gives their results once all have ended. None where the first
+/// thread couldn't be made; where the second couldn't, `instead` is done in place of the third work.
 pub(crate) fn do_beside<R, F, G, H, I, X, Y, Z>(
     rt: &R,
     first: F,

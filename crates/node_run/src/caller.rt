@@ -1,4 +1,4 @@
-//! What a thread calls a node with.
+//! What a thread uses to call a node.
 
 ghost use Rattle.std.specs.Prelude.{◌≡◌, None, Err, true, false, IsSome, IsTrue, IsErr, ◌↔◌, IfOk, IfSome, OnErr};
 ghost use Rattle.header.specs.Digested.{certificate_digest_in};
@@ -28,7 +28,7 @@ use std::sync::Wait;
 use validator::Config;
 use wire::{Author, Message, Output};
 
-/// What came of a message.
+/// What happened to a message.
 #[derive(Drop)]
 pub(crate) enum Taken {
     /// The event was new.
@@ -39,7 +39,7 @@ pub(crate) enum Taken {
     Waits(Checked),
 }
 
-/// A caller of a node, for messages that aren't checked yet. Contracts see the caller that it calls with.
+/// A caller of a node for messages that weren't checked yet. Contracts see the inner caller.
 #[derive(Drop)]
 pub(crate) struct Caller<'n, 'a, S: Sign> {
     node: node::Caller<'n, 'a, S>,
@@ -58,21 +58,21 @@ impl<'n, 'a, S: Sign> Model for Caller<'n, 'a, S> {
 }
 
 impl<'n, 'a, S: Sign> Caller<'n, 'a, S> {
-    /// This caller.
+    /// A caller for unchecked messages, over this caller.
     pub(crate) fn new(node: node::Caller<'n, 'a, S>) -> Caller<'n, 'a, S>
         ensures { result ≡ node.entry }
     {
         Caller { node }
     }
 
-    /// The configuration.
+    /// The caller's configuration.
     pub(crate) fn config(&self) -> &Config<S>
         ensures { result.now ≡ self.now.setting }
     {
         self.node.config()
     }
 
-    /// Checks a message from its sender, and submits it unless it is a certificate that has to wait.
+    /// Checks a message from its sender, and submits it unless it is a certificate that has to wait for its parents.
     pub(crate) fn take<R: Wait>(
         &mut self,
         rt: &R,
@@ -123,7 +123,7 @@ impl<'n, 'a, S: Sign> Caller<'n, 'a, S> {
         passes(self.node.config().committee(), event) && self.node.ready(rt, event)
     }
 
-    /// Submits what has waited.
+    /// Submits a certificate that has waited.
     pub(crate) fn take_waiting<R: Wait>(
         &mut self,
         rt: &R,
@@ -137,8 +137,7 @@ impl<'n, 'a, S: Sign> Caller<'n, 'a, S> {
         submit(rt, &mut self.node, event)
     }
 
-    /// Submits the header that the validator proposes, if it proposes one. Says whether that was new. `AllocError` where memory was
-    /// refused.
+    /// Submits the header that the validator proposes, if it proposes one. Gives whether it was new. On `AllocError` an allocation failed.
     pub(crate) fn propose<R: Wait>(&mut self, rt: &R) -> Result<bool, AllocError>
         ensures stays { StaysWith self.old self.new }
         ensures proposed { IfOk result (λ new. IsProposed S.scheme self.old.node self.old self.new new) }
@@ -167,7 +166,7 @@ impl<'n, 'a, S: Sign> Caller<'n, 'a, S> {
         Ok(())
     }
 
-    /// What this caller knows as settled is then known to be settled in the node's rounds, so that what it collected is on their disk.
+    /// After this it is certain that all that this caller knows as settled is settled by the rounds, so what it collected is on the disk.
     pub(crate) fn cover<D: Disk, R: Wait>(&mut self, rt: &R, rounds: &mut Rounds<'n, 'a, S, D>)
         requires node { self.old.node ≡ rounds.old.node }
         ensures stays { StaysAsIs rounds.old.flusher rounds.new.flusher }
@@ -176,7 +175,7 @@ impl<'n, 'a, S: Sign> Caller<'n, 'a, S> {
         rounds.cover(rt, &mut self.node);
     }
 
-    /// The next output that may go out.
+    /// The next output that may leave.
     pub(crate) fn collect<R: Wait>(&mut self, rt: &R) -> Option<Output>
         ensures stays { StaysWith self.old self.new }
         ensures learned { Learned S.scheme self.old.node self.old.seat self.new.seat }
@@ -203,7 +202,7 @@ fn submit<S: Sign, R: Wait>(
     }
 }
 
-// Whether it is told that a proposal was new. A node that is down refuses it, and the run says so at its end.
+// Whether a proposal was new. A node that is down refuses it; the run reports that at its end.
 fn newness(told: Result<Taken, Rejection>) -> Result<bool, AllocError>
     ensures ok { IfOk result (λ new. new ≡ is_told_new told) }
     ensures err { OnErr result (told ≡ Err (Refused Refusal.Memory)) }

@@ -1,16 +1,16 @@
-//! What is due to be asked after a record.
+//! Which questions the node has to be asked after a record.
 
 ghost use Rattle.std.specs.Prelude.{◌≡◌, ◌↔◌, IsTrue};
 ghost use Rattle.node_run.specs.Asking.{Leaves, nothing_due, all_due, both_due};
 
 use wire::{Author, Message};
 
-/// What a node is due to be asked: which of the waiting certificates are ready, and what it proposes.
+/// Which questions the node has to be asked again: which of the waiting certificates are ready, and what it proposes.
 #[derive(Clone, Copy)]
 pub(crate) struct Due {
     /// Which of the waiting certificates are ready.
     pub(crate) waiting: bool,
-    /// What is proposed.
+    /// What the node proposes.
     pub(crate) proposal: bool,
 }
 
@@ -25,7 +25,7 @@ impl Due {
         }
     }
 
-    /// Both are due, as where nothing was asked yet.
+    /// Both questions are due, for example because nothing was asked yet.
     pub(crate) const fn all() -> Due
         ensures { result ≡ all_due }
     {
@@ -42,7 +42,7 @@ impl Due {
         !self.waiting && !self.proposal
     }
 
-    /// What is due here or there.
+    /// What is due in either of the two.
     pub(crate) fn and(self, other: Due) -> Due
         ensures { result ≡ both_due self other }
     {
@@ -53,8 +53,9 @@ impl Due {
     }
 }
 
-/// What is due after a new event of a member's node. What isn't due is answered as before the event: no certificate entered and no
-/// floor moved where the waiting ones aren't, and no round, availability or own header changed where the proposal isn't.
+/// What is due after a new event of a member's node. A question that isn't due has the same answer as before the event: if the waiting
+/// certificates aren't due, no certificate entered the DAG and the floor did not move; if the proposal isn't due, no round, availability or
+/// own header changed.
 pub(crate) fn due_after(own: Author, message: &Message) -> Due
     ensures left { Leaves own message.now result }
 {
@@ -68,11 +69,11 @@ pub(crate) fn due_after(own: Author, message: &Message) -> Due
             waiting: false,
             proposal: true,
         },
-        // The own vote is on the own header from the beginning, and a vote may complete its certificate.
+        // The node's own vote counts on an own header at once, and a later vote may complete its certificate.
         Message::Header(header) if header.body.author == own => Due::all(),
         Message::Header(_) => Due::nothing(),
         Message::Vote(_) | Message::Certificate(_) => Due::all(),
-        // A coin moves the floor, and gives no certificate.
+        // A coin moves the floor, and adds no certificate.
         Message::Coin(_) => Due {
             waiting: true,
             proposal: false,

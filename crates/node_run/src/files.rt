@@ -11,20 +11,22 @@ use std::fs::File;
 use std::io::ErrorKind;
 use std::rt::Files;
 
-/// So many bytes are kept of the file that isn't read: an opening reads no more of it than a group with the gates before and after it.
+/// How many bytes of the spare file are kept in memory: an opening reads no more of it than the longest group, with a gate before and after
+/// it.
 const FRONT_BYTES: u64 = (LENGTH_BYTES + MAX_GROUP_BYTES) as u64 + 2;
 
-/// The first group of a file that can be read is in so many bytes: the configuration of 31 members and a generation.
+/// How many bytes hold the first group of any file that can be read: the configuration of 31 members and a head.
 const FIRST_GROUP_BYTES: u64 = 4_096;
 
-/// Opens both files of the journal whose first one is at this path; the second one has the same name with `.2` after it. Each is made
-/// where there is nothing, and held alone.
+/// Opens both files of a journal. The first one is at this path, and the second has `.2` added to its name. A file that isn't there is
+/// created, and both are locked.
 ///
-/// The newer one is kept in memory whole, of the other one what an opening reads of it. Which one that is the files' first bytes tell
-/// before anybody holds them. Nothing rests on this but memory: where the other one would have to be read, the opening fails.
+/// The newer file is kept in memory as a whole, and of the other one only what an opening reads. The files' first bytes, read before the
+/// files are locked, tell which is newer. Only the use of memory rests on this: if the other file had to be read after all, the opening
+/// fails.
 ///
 /// # Errors
-/// As `FileDisk::open`.
+/// Those of `FileDisk::open`.
 pub(crate) fn open_files<R: Files<File = File> + AllocGlobal>(
     rt: &R,
     alloc: Global,
@@ -46,7 +48,7 @@ pub(crate) fn open_files<R: Files<File = File> + AllocGlobal>(
     }
 }
 
-// The generation of the file at a path, by its first bytes. None where they have none, or can't be read.
+// The generation of the file at this path, by its first bytes. None where they name none, or can't be read.
 fn generation_at<R: Files<File = File> + AllocGlobal>(
     rt: &R,
     alloc: Global,

@@ -1,4 +1,4 @@
-//! The thread that brings records to the disks.
+//! The thread that writes records to the disks.
 
 ghost use Rattle.std.specs.Prelude.{◌≡◌, ◌↔◌, true, false, Some, None, IsSome, IsTrue};
 ghost use Rattle.journal.specs.Journal.{spare_of};
@@ -9,7 +9,7 @@ ghost use Rattle.wire.specs.Lists.{Begins};
 ghost use Rattle.flusher.specs.Rounds.{journal_of, is_down, settled_in, taken_in, KeepsEarlier, TakesLongest};
 ghost use Rattle.node_run.specs.Ends.{faults_after, TellsRounds, TellsJournal};
 ghost use Rattle.node_run.specs.Flushing.{FlushesOnce};
-ghost use Rattle.node_run.specs.Rewriting.{length_in, point_of, ByTheRule, RewritesWhereDue, HasNoPlace};
+ghost use Rattle.node_run.specs.Rewriting.{length_in, point_of, ByTheRule, HasCheckpoint, RewritesWhereDue, HasNoPlace};
 ghost use Rattle.node_run.specs.Runs.{HoldsMore, LeavesSettled};
 
 use crate::bell::Bell;
@@ -21,9 +21,9 @@ use node_io::Faults;
 use sigface::Sign;
 use std::sync::Wait;
 
-/// Brings all records to the disks each time that the first bell is rung, and then rings the second, until the first is closed and all
-/// records are there. Rewrites the journal to a checkpoint where the rule says so; where memory is refused for one, it goes on without it
-/// and tells so at the end.
+/// Writes all records to the disks each time that the first bell is rung, and then rings the second bell, until the first is closed and all
+/// records are written. Rewrites the journal to a checkpoint where the rule says so; if an allocation for that fails, it goes on without,
+/// and reports that at the end.
 pub(crate) fn flush_all<S: Sign, D: Disk, R: Wait>(
     rt: &R,
     rounds: &mut Rounds<'_, '_, S, D>,
@@ -36,11 +36,12 @@ pub(crate) fn flush_all<S: Sign, D: Disk, R: Wait>(
     ensures journal { TellsJournal (faults_in D.device (store_of (journal_of rounds.old.flusher))) (faults_in D.device (store_of (journal_of rounds.new.flusher))) (is_down rounds.old.flusher) (is_down rounds.new.flusher) result.journal (HasNoPlace S.scheme D.device rounds.old.node rounds.new.flusher) }
     ensures others { (result.output ≡ false) × (result.input ≡ false) }
     ensures node { rounds.new.node ≡ rounds.old.node }
-    // Unless a fault is told, a checkpoint was taken after each round after which one was due, and after no other.
-    ensures by_rule { is_down rounds.old.flusher ≡ false → result.journal ≡ None → result.memory ≡ false → (later : Rule) × ByTheRule D.device rule (point_of rounds.old.flusher) later (point_of rounds.new.flusher) }
-    // A stop at any moment leaves what was settled, and perhaps more after it.
+    // Unless a fault of the journal is reported, a checkpoint was taken exactly after each round after which one was due. One may have been
+    // skipped where a failed allocation is reported.
+    ensures by_rule { is_down rounds.old.flusher ≡ false → result.journal ≡ None → (later : Rule) × ByTheRule D.device (HasCheckpoint S.scheme D.device rounds.old.node) rule result.memory (point_of rounds.old.flusher) later (point_of rounds.new.flusher) }
+    // A stop at any moment leaves what was settled before, and perhaps more.
     ensures any_moment { is_down rounds.old.flusher ≡ false → AtEachMomentOn D.device (HoldsMore S.scheme rounds.old.node (settled_in rounds.old.flusher) (areas_of D.device (journal_of rounds.old.flusher))) (store_of (journal_of rounds.old.flusher)) (store_of (journal_of rounds.new.flusher)) }
-    // At the end it leaves all that is settled.
+    // A stop at the end leaves all that is settled.
     ensures at_end { is_down rounds.old.flusher ≡ false → LeavesSettled S.scheme D.device rounds.old.node rounds.old.flusher (settled_in rounds.new.flusher) (store_of (journal_of rounds.new.flusher)) }
 {
     let mut faults = Faults::none();
@@ -59,8 +60,8 @@ pub(crate) fn flush_all<S: Sign, D: Disk, R: Wait>(
     unreachable!()
 }
 
-// Rounds until all records are on the disks, or until one fails, and the checkpoints that are due after them. Where memory is refused for a
-// checkpoint that is marked, and the rounds go on.
+// Makes rounds until all records are on the disks or one round fails, and the checkpoints that are due after them. If an allocation for a
+// checkpoint fails, that is marked, and the rounds go on.
 fn flush_pending<S: Sign, D: Disk, R: Wait>(
     rt: &R,
     rounds: &mut Rounds<'_, '_, S, D>,
@@ -72,24 +73,25 @@ fn flush_pending<S: Sign, D: Disk, R: Wait>(
     ensures pair { IsSome rule.new.every → IsSome (spare_of (journal_of rounds.new.flusher)) }
     ensures rounds { TellsRounds (faults_in D.device (store_of (journal_of rounds.old.flusher))) (faults_in D.device (store_of (journal_of rounds.new.flusher))) result.journal }
 
-    // A round that takes the node down is told as the journal's fault: the disk's, or that the group has no place.
+    // A round that takes the node down is reported as the journal's fault: the disk's, or that the group has no room.
     ensures down { is_down rounds.old.flusher ≡ false → IsSome result.journal ↔ IsTrue (is_down rounds.new.flusher) }
     ensures stays { IsTrue (is_down rounds.old.flusher) → (result.journal ≡ None) × (rounds.new.flusher ≡ rounds.old.flusher) }
     ensures full { is_down rounds.old.flusher ≡ false → result.journal ≡ Some JournalError.Full → HasNoPlace S.scheme D.device rounds.old.node rounds.new.flusher }
 
-    // Unless a fault is told or a checkpoint was missed, one was taken after each round after which it was due, and after no other.
-    ensures by_rule { is_down rounds.old.flusher ≡ false → result.journal ≡ None → result.memory ≡ false → missed.new ≡ false → ByTheRule D.device rule.old (point_of rounds.old.flusher) rule.new (point_of rounds.new.flusher) }
+    // Unless a fault of the journal is reported, a checkpoint was taken exactly after each round after which one was due, or is marked as
+    // missed.
+    ensures by_rule { is_down rounds.old.flusher ≡ false → result.journal ≡ None → ByTheRule D.device (HasCheckpoint S.scheme D.device rounds.old.node) rule.old missed.new (point_of rounds.old.flusher) rule.new (point_of rounds.new.flusher) }
     ensures missed { missed.old ≡ true → missed.new ≡ true }
 
-    // Unless the node is down or memory was refused to a round, of some list of what was accepted, with all of it that the seat had seen
-    // before, nothing more fits a group after what is settled. So it is where memory was refused for a checkpoint.
+    // Unless the node is down or an allocation of a round failed, all accepted events are settled, as of some moment after the call began.
+    // This holds also where an allocation for a checkpoint failed.
     ensures all { is_down rounds.new.flusher ≡ false → result.memory ≡ false → TakesLongest rounds.old.seat.view.seen (settled_in rounds.new.flusher) (settled_in rounds.new.flusher) }
-    // After want of memory nothing is taken that isn't settled.
+    // After a failed allocation nothing is taken that isn't settled.
     ensures memory { result.memory ≡ true → taken_in rounds.new.flusher ≡ settled_in rounds.new.flusher }
     ensures others { (result.output ≡ false) × (result.input ≡ false) }
     ensures node { rounds.new.node ≡ rounds.old.node }
     ensures more { Begins (settled_in rounds.old.flusher) (settled_in rounds.new.flusher) }
-    // What came before stays as it was.
+    // Whatever the journal had before stays as it was.
     ensures earlier { is_down rounds.new.flusher ≡ false → KeepsEarlier S.scheme rounds.old.node (settled_in rounds.old.flusher) (settled_in rounds.new.flusher) (areas_of D.device (journal_of rounds.old.flusher)) (areas_of D.device (journal_of rounds.new.flusher)) }
     ensures any_moment { is_down rounds.old.flusher ≡ false → AtEachMomentOn D.device (HoldsMore S.scheme rounds.old.node (settled_in rounds.old.flusher) (areas_of D.device (journal_of rounds.old.flusher))) (store_of (journal_of rounds.old.flusher)) (store_of (journal_of rounds.new.flusher)) }
     ensures at_end { is_down rounds.old.flusher ≡ false → LeavesSettled S.scheme D.device rounds.old.node rounds.old.flusher (settled_in rounds.new.flusher) (store_of (journal_of rounds.new.flusher)) }
@@ -104,8 +106,8 @@ fn flush_pending<S: Sign, D: Disk, R: Wait>(
     unreachable!()
 }
 
-// A round, and the checkpoint that is due after it. Answers how many records the round brought to the disks, 0 where all had been. Where
-// memory is refused for the checkpoint, that is marked, and it is due again after the next round.
+// Makes a round, and the checkpoint that is due after it. Gives the number of records that the round settled; 0 where all were settled
+// already. If an allocation for the checkpoint fails, that is marked, and the checkpoint is due again after the next round.
 fn flush_once<S: Sign, D: Disk, R: Wait>(
     rt: &R,
     rounds: &mut Rounds<'_, '_, S, D>,
@@ -154,7 +156,7 @@ fn rewrite_if_due<S: Sign, D: Disk, R: Wait>(
     Ok(())
 }
 
-/// How long the area that is read is, in bytes, of a node that is up.
+/// The length of the area that is read, in bytes, for a node that is up.
 pub(crate) fn length_of<S: Sign, D: Disk>(rounds: &Rounds<'_, '_, S, D>) -> u64
     requires { is_down rounds.now.flusher ≡ false }
     ensures { result ≡ length_in D.device (journal_of rounds.now.flusher) }
@@ -165,7 +167,7 @@ pub(crate) fn length_of<S: Sign, D: Disk>(rounds: &Rounds<'_, '_, S, D>) -> u64
     }
 }
 
-// What a round that failed means for the run. That of a node which is down was told before.
+// What a failed round means for the run. That the node is down already was reported before.
 fn faults_of(error: FlushError) -> Faults
     ensures { result ≡ faults_after error }
 {

@@ -25,7 +25,7 @@ use validator::Refusal;
 use waiter::{MAX_WAITING, WaitRefusal, Waiter};
 use wire::{Author, Batch, Message};
 
-/// Who takes what frames bring.
+/// Handles what frames bring.
 #[derive(Drop)]
 pub(crate) struct Intake<'n, 'a, S: Sign> {
     alloc: Global,
@@ -33,13 +33,13 @@ pub(crate) struct Intake<'n, 'a, S: Sign> {
     waiter: Waiter,
     makers: Makers,
     pending: &'n Bell,
-    // What is to be asked after the next record.
+    // What the node has to be asked after the next record.
     due: Due,
     was_refused_memory: bool,
 }
 
 impl<'n, 'a, S: Sign> Intake<'n, 'a, S> {
-    /// The bell is rung where there is something to flush or to give out. `AllocError` where an allocation failed.
+    /// The bell is rung where there is something to flush or to give out. On `AllocError` an allocation failed.
     pub(crate) fn new(
         alloc: Global,
         caller: Caller<'n, 'a, S>,
@@ -63,7 +63,7 @@ impl<'n, 'a, S: Sign> Intake<'n, 'a, S> {
         })
     }
 
-    /// Whether memory was refused outside an event.
+    /// Whether an allocation failed outside the handling of an event.
     pub(crate) fn was_refused_memory(&self) -> bool
         ensures { result ≡ self.now.was_refused_memory }
     {
@@ -81,8 +81,8 @@ impl<'n, 'a, S: Sign> Intake<'n, 'a, S> {
         }
     }
 
-    /// Takes what follows from the records so far: first what the validator proposes, then the certificate that is ready, as long as
-    /// there is one. It asks only what can be answered otherwise than when it was asked last, or what was refused for want of memory.
+    /// Submits what follows from the records so far: what the validator proposes, and then each waiting certificate that is ready. The node
+    /// is asked only what may have another answer than before, or what could not be answered because an allocation failed.
     pub(crate) fn follow<R: Wait, E: Write>(&mut self, rt: &R, errors: &mut E)
         ensures idle { self.old.due ≡ nothing_due → self.new ≡ self.old }
         ensures mark { self.old.was_refused_memory ≡ true → self.new.was_refused_memory ≡ true }
@@ -92,7 +92,7 @@ impl<'n, 'a, S: Sign> Intake<'n, 'a, S> {
         }
     }
 
-    // Asks for what is due, as long as that brings a certificate that is ready.
+    // Asks the node what is due, as long as that yields a certificate that is ready.
     fn ask<R: Wait, E: Write>(&mut self, rt: &R, errors: &mut E)
         ensures mark { self.old.was_refused_memory ≡ true → self.new.was_refused_memory ≡ true }
     {
@@ -105,7 +105,7 @@ impl<'n, 'a, S: Sign> Intake<'n, 'a, S> {
         }
     }
 
-    // Takes a certificate that has waited.
+    // Submits a certificate that has waited.
     fn take_ready<R: Wait, E: Write>(&mut self, rt: &R, event: Checked, errors: &mut E)
         ensures mark { self.new.was_refused_memory ≡ self.old.was_refused_memory }
     {
@@ -120,7 +120,7 @@ impl<'n, 'a, S: Sign> Intake<'n, 'a, S> {
         }
     }
 
-    // Whether what a frame of this body brings is a new record.
+    // Whether a frame with this body brought a new record.
     fn answer<R: Wait>(&mut self, rt: &R, body: &[u8]) -> Result<bool, Rejection>
         ensures mark { self.new.was_refused_memory ≡ self.old.was_refused_memory }
     {
@@ -159,7 +159,7 @@ impl<'n, 'a, S: Sign> Intake<'n, 'a, S> {
         }
     }
 
-    // Submits a message, or lets it wait. After a new record what it left as it was stays undue.
+    // Submits a message, or puts it among those that wait. After a new record only what it may have changed becomes due.
     fn submit<R: Wait>(
         &mut self,
         rt: &R,
@@ -188,7 +188,7 @@ impl<'n, 'a, S: Sign> Intake<'n, 'a, S> {
         }
     }
 
-    // Lets a certificate wait. That is no new record.
+    // Puts a certificate among those that wait. That makes no record.
     fn offer(&mut self, event: Checked) -> Result<bool, Rejection>
         requires { certificate_digest_in event.message ≢ None }
         ensures makers { self.new.makers ≡ self.old.makers }
@@ -199,7 +199,7 @@ impl<'n, 'a, S: Sign> Intake<'n, 'a, S> {
         ensures never_new { result ≢ Ok true }
         ensures ok { OnOk result (Enters event self.old.waiter self.new.waiter) }
         ensures err { OnErr result (self.new.waiter ≡ self.old.waiter) }
-        ensures why { IfErr result (CantWait event self.old.waiter) }
+        ensures why { IfErr result (CantWait event self.old.waiter self.new.caller.seat.view.down) }
     {
         if let Err(told) = self.caller.test_up() {
             return Err(told);
@@ -210,8 +210,8 @@ impl<'n, 'a, S: Sign> Intake<'n, 'a, S> {
         }
     }
 
-    // Takes what the validator proposes, where that is due. It stays due where memory was refused, and is again after a new own header.
-    // The mark is set only where no event of the caller's was accepted, and stays.
+    // Submits what the validator proposes, if that is due. It stays due where an allocation failed, and becomes due again after a new own
+    // header. The mark of a failed allocation is set only where no event of the caller's was accepted, and stays set.
     fn propose<R: Wait>(&mut self, rt: &R)
         ensures memory { self.new.was_refused_memory ≢ self.old.was_refused_memory → self.new.caller.seat.view.mine ≡ self.old.caller.seat.view.mine }
         ensures stays { self.old.was_refused_memory ≡ true → self.new.was_refused_memory ≡ true }
@@ -232,7 +232,7 @@ impl<'n, 'a, S: Sign> Intake<'n, 'a, S> {
         }
     }
 
-    // The first waiting certificate that is ready, where that is due. It stays due until none is.
+    // The first waiting certificate that is ready, if that is due. It stays due until no certificate is ready.
     fn next_ready<R: Wait>(&mut self, rt: &R) -> Option<Checked>
         ensures idle { self.old.due.waiting ≡ false → (result ≡ None) × (self.new ≡ self.old) }
         ensures some { IfSome result (λ _. self.new.due ≡ self.old.due) }
@@ -250,12 +250,12 @@ impl<'n, 'a, S: Sign> Intake<'n, 'a, S> {
     }
 }
 
-// Where a line can't be written nobody is told.
+// If the line can't be written, there is nobody to report that to.
 fn write_line<E: Write>(errors: &mut E, told: Rejection) {
     let _ = writeln!(errors, "{told}");
 }
 
-// What is told of a certificate that can't wait: that memory was refused, or why it would have had to.
+// The refusal that is reported of a certificate that can't wait: an allocation failed, or its parents are missing.
 fn told_of_wait(refusal: WaitRefusal) -> Rejection
     ensures { result ≡ told_of_wait refusal }
 {

@@ -1,5 +1,5 @@
-//! A node that runs: it reads frames, takes what they bring under a lock, brings it to a disk and writes what may go out, each in
-//! a thread of its own.
+//! A running node: it reads frames, handles what they bring under a lock, writes records to the disks, and writes the outputs that may
+//! leave. Reading, flushing and writing each have a thread of their own.
 #![tactic(auto)]
 
 mod bell;

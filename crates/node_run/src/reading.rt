@@ -1,4 +1,4 @@
-//! The thread that reads frames and takes what they bring.
+//! The thread that reads frames and handles what they bring.
 
 ghost use Rattle.std.specs.Prelude.{◌≡◌, true, Some};
 ghost use Rattle.node_io.specs.Endings.{after_input};
@@ -10,8 +10,8 @@ use sigface::Sign;
 use std::io::{BufWriter, Read, Write};
 use std::sync::Wait;
 
-/// Takes what the frames bring, until they end. A line for each refusal is written before more is read. It tells how they ended, and
-/// whether memory was refused outside an event.
+/// Handles what the frames bring, until they end. A line for each refusal is written before more is read. Gives how the frames ended, and
+/// whether an allocation failed outside the handling of an event.
 pub(crate) fn read_all<S: Sign, I: Read + Drop, E: Write + Drop, R: Wait>(
     rt: &R,
     input: &mut Input<I>,

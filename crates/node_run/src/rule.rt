@@ -1,12 +1,12 @@
 //! When a journal is rewritten to a checkpoint.
 
-/// A journal on two disks is rewritten after a round that leaves the area which is read so much longer than it was at the opening, or
-/// after the last checkpoint.
+/// The rule for checkpoints: a journal on two disks is rewritten after a round by which the area that is read has grown by `every` bytes
+/// since the opening or the last checkpoint.
 #[derive(Clone, Copy)]
 pub struct Rule {
-    /// So many bytes longer. None of a journal on one disk, which is never rewritten.
+    /// The growth in bytes. None for a journal on one disk, which is never rewritten.
     pub(crate) every: Option<u64>,
-    /// How long it was then, in bytes.
+    /// The length of the area at the opening or the last checkpoint, in bytes.
     pub(crate) since: u64,
 }
 

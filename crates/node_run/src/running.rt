@@ -22,19 +22,19 @@ use std::rt::Files;
 use std::sync::Wait;
 use std::thread::Threads;
 
-/// How much longer the area that is read gets before a checkpoint, in bytes: what an opening has to read beside the state stays below it.
+/// How many bytes the area that is read may grow until a checkpoint. So an opening has to read little more than this beside the state.
 pub const CHECKPOINT_BYTES: u64 = 1 << 30;
 
-/// That in numbers.
+/// `CHECKPOINT_BYTES` as a number.
 pub fn checkpoint_bytes_in_numbers()
     ensures { CHECKPOINT_BYTES ≡ 2 ^ 30 }
 {}
 
 /// Runs a node. The arguments are a committee file, the own number and the first of the journal's two files. Frames are read until they
-/// end, refusals go to the errors, a line each, and outputs to the writer. The journal is rewritten to a checkpoint after each round that
-/// leaves the area which is read so many bytes longer than it was at the opening, or after the last checkpoint. Answers how the run ended,
-/// the disks, if they were opened and weren't lost with a thread that couldn't be made, and the writer, if it wasn't lost so or where an
-/// allocation failed. Where the ending's status isn't 0 the last line of the errors says why.
+/// end; each refusal is written to the errors as a line, and outputs go to the writer. The journal is rewritten to a checkpoint after each
+/// round by which the area that is read has grown by `CHECKPOINT_BYTES` since the opening or the last checkpoint. Gives how the run ended;
+/// the disks, if they were opened and weren't lost with a thread that couldn't be made; and the writer, unless it was lost in the same way
+/// or by a failed allocation. Where the ending's status isn't 0, the last line of the errors says why.
 pub fn run<R, I, W, E>(
     rt: &R,
     alloc: Global,
@@ -50,7 +50,7 @@ where
     W: Write + Drop + Send,
     E: Write,
     ensures arguments { length args.now ≢ 3 → (result.ending ≡ Ending.Usage) × (result.writer ≡ Some writer) }
-    // Either the ending says why nothing was opened, and nothing was written, or the member of that number ran over its disks.
+    // Either the ending says why nothing was opened, and nothing was written; or the member with that number ran on its disks.
     ensures ending { IfSome (slice_get args.now 1) (λ own. (RefusesOpening (string_bytes own) result.ending × (result.writer ≡ Some writer))
         ⊎ RunsAs ⟦<HashSign as Sign>⟧.scheme ⟦<FileDisk as Disk>⟧.device W.contents (string_bytes own) every writer result) }
 {
@@ -59,7 +59,7 @@ where
     ran
 }
 
-// Runs a node that the arguments name.
+// Runs the node that the arguments name.
 fn run_named<R, I, W, E>(
     rt: &R,
     alloc: Global,
@@ -85,7 +85,7 @@ where
     run_member(rt, alloc, &config, store, every, reader, writer, errors)
 }
 
-// What a run gives back that could not be opened.
+// The result of a run whose node could not be opened.
 fn not_run<D, W>(ending: Ending, store: Option<Store<D>>, writer: W) -> Ran<D, W>
     ensures ending { result.ending ≡ ending }
     ensures store { result.store ≡ store }
@@ -98,10 +98,10 @@ fn not_run<D, W>(ending: Ending, store: Option<Store<D>>, writer: W) -> Ran<D, W
     }
 }
 
-/// The same over one disk or over two, with the text of the committee file and the own number. A journal on two disks is rewritten to a
-/// checkpoint after each round that leaves the area which is read so many bytes longer than it was at the opening, or after the last
-/// checkpoint. Answers how the run ended, the disks, if they weren't lost with a thread that couldn't be made, and the writer, if it
-/// wasn't lost so or where an allocation failed.
+/// Runs a node on one disk or two that are given, with the text of the committee file and the own number. A journal on two disks is
+/// rewritten to a checkpoint after each round by which the area that is read has grown by `every` bytes since the opening or the last
+/// checkpoint. Gives how the run ended; the disks, unless they were lost with a thread that couldn't be made; and the writer, unless it was
+/// lost in the same way or by a failed allocation.
 pub fn run_over<R, D, I, W, E>(
     rt: &R,
     alloc: Global,
@@ -118,7 +118,7 @@ where
     I: Read + Drop,
     W: Write + Drop + Send,
     E: Write,
-    // Either the text and the number make a configuration, with which it runs, and what it wrote is on the disks; or the ending says why
+    // Either the text and the number give a configuration, the node runs with it, and what it wrote is on the disks; or the ending says why
     // not, and the disks and the writer are as they were.
     ensures { ((config : ConfigView Key) × IsConfigOf named.entry.0.now named.entry.1.now config × RunsOver (node_of ⟦<HashSign as Sign>⟧.scheme config) D.device store every result.ending result.store
         × GivesOnly (node_of ⟦<HashSign as Sign>⟧.scheme config) D.device W.contents store writer result)

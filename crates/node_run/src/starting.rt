@@ -19,7 +19,8 @@ use validator::Config;
 /// The configuration and the journal that the arguments name: the committee file, the own number, the first of the journal's two files.
 ///
 /// # Errors
-/// That of the first test that fails: of the number of arguments, the file, its text, the own number, the journal's files.
+/// The first test that fails is reported: of the number of arguments, the file, its text, the own number, and the journal's files, in this
+/// order.
 pub(crate) fn open_all<R: Files<File = File> + AllocGlobal>(
     rt: &R,
     alloc: Global,
@@ -42,10 +43,10 @@ pub(crate) fn open_all<R: Files<File = File> + AllocGlobal>(
     }
 }
 
-/// The configuration of a member by a committee file's text and an own number.
+/// The configuration of a member, from a committee file's text and an own number.
 ///
 /// # Errors
-/// `Config` or `Memory` of the text, then `Usage` of a number that is no member's.
+/// `Config` or `Memory` for the text, and then `Usage` for a number that is no member's.
 pub(crate) fn config_of(alloc: Global, text: &[u8], own: &str) -> Result<Config<HashSign>, Ending>
     ensures ok { IfOk result (λ config. IsConfigOf text.now own.now config) }
     ensures refused { IfErr result (λ ending. RefusesConfig text.now own.now ending) }

@@ -11,7 +11,7 @@ ghost use Rattle.wire.specs.Lists.{Begins};
 ghost use Rattle.node_io.specs.Endings.{after_input};
 ghost use Rattle.node_io.specs.declared.input.End.{End};
 ghost use Rattle.node_run.specs.Ends.{TellsRounds};
-ghost use Rattle.node_run.specs.Rewriting.{point_of};
+ghost use Rattle.node_run.specs.Rewriting.{point_of, HasCheckpoint};
 ghost use Rattle.node_run.specs.Runs.{HoldsMore, AreSettled, ComesByRule, IsFullUp};
 ghost use Rattle.node_run.specs.Writing.{no_faults, no_memory, HasWritten};
 
@@ -35,7 +35,7 @@ use std::sync::Wait;
 use std::thread::Threads;
 use validator::Config;
 
-// What the thread does that flushes: it gives its rounds back.
+// The work of the flushing thread, which gives its rounds back.
 #[derive(Drop)]
 struct Flushing<'n, 'a, S: Sign, D: Disk> {
     rounds: Rounds<'n, 'a, S, D>,
@@ -80,7 +80,7 @@ impl<'n, 'a, R: Wait, S: Sign, D: Disk + Drop> Work<R, (Faults, Rounds<'n, 'a, S
     }
 }
 
-// What the thread does that writes: it gives its writer back, and what it called the node with.
+// The work of the writing thread, which gives back its writer and what it called the node with.
 #[derive(Drop)]
 struct Writing<'n, 'a, S: Sign, W: Write + Drop> {
     caller: Caller<'n, 'a, S>,
@@ -88,7 +88,7 @@ struct Writing<'n, 'a, S: Sign, W: Write + Drop> {
     settled: &'n Bell,
 }
 
-// What comes of that.
+// What the writing thread gives back.
 #[derive(Drop)]
 struct Wrote<'n, 'a, S: Sign, W> {
     caller: Caller<'n, 'a, S>,
@@ -123,7 +123,7 @@ impl<'n, 'a, R: Wait, S: Sign, W: Write + Drop> Work<R, Wrote<'n, 'a, S, W>>
     }
 }
 
-// What the thread does that reads: after it nothing is pending any more.
+// The work of the reading thread. After it nothing is pending any more.
 #[derive(Drop)]
 struct Reading<'n, 'a, 'e, S: Sign, I: Read + Drop, E: Write> {
     input: Input<I>,
@@ -153,7 +153,7 @@ impl<'n, 'a, 'e, R: Wait, S: Sign, I: Read + Drop, E: Write> Work<R, Faults>
     }
 }
 
-/// What the threads that read and write work with.
+/// What the reading and the writing thread work with.
 #[derive(Drop)]
 pub(crate) struct Desks<'n, 'a, 'e, S: Sign, I: Read + Drop, W: Write + Drop, E: Write> {
     reading: Reading<'n, 'a, 'e, S, I, E>,
@@ -162,7 +162,7 @@ pub(crate) struct Desks<'n, 'a, 'e, S: Sign, I: Read + Drop, W: Write + Drop, E:
 }
 
 impl<'n, 'a, 'e, S: Sign, I: Read + Drop, W: Write + Drop, E: Write> Desks<'n, 'a, 'e, S, I, W, E> {
-    /// `AllocError` where an allocation failed.
+    /// On `AllocError` an allocation failed.
     pub(crate) fn new<D: Disk>(
         alloc: Global,
         config: &'a Config<S>,
@@ -204,8 +204,8 @@ fn buffered<W: Write + Drop>(alloc: Global, writer: W) -> Result<BufWriter<W>, A
     }
 }
 
-/// Reads in this thread, and flushes and writes in two others, until all has been read, flushed and written. Answers what went wrong,
-/// what the journal was opened on, if it wasn't lost with a thread that couldn't be made, and the writer, if none was lost so.
+/// Reads in this thread, and flushes and writes in two others, until everything was read, flushed and written. Gives the faults; the disks
+/// of the journal, unless they were lost with a thread that couldn't be made; and the writer, unless it was lost.
 pub(crate) fn run_threads<'n, 'a, 'e, R, S, D, I, W, E>(
     rt: &R,
     rounds: Rounds<'n, 'a, S, D>,
@@ -224,15 +224,15 @@ where
     requires pair { IsSome rule.every → IsSome (spare_of (journal_of rounds.flusher)) }
     requires node { desks.writing.caller.node ≡ rounds.node }
     ensures told { IfSome result.1 (λ left. TellsRounds (faults_in D.device (store_of (journal_of rounds.entry.flusher))) (faults_in D.device left) result.0.journal) }
-    // A full journal is told where what was taken has no place on the disks.
+    // A full journal is reported where it has no room for what was taken.
     ensures full { result.0.journal ≡ Some JournalError.Full → IfSome result.1 (IsFullUp S.scheme D.device rounds.entry.node) }
     ensures lost { result.1 ≡ None → result.0 ≡ no_memory }
-    // A writer that is lost is reported as want of memory.
+    // A writer that is lost is reported as a failed allocation.
     ensures unwritten { result.2 ≡ None → (result.0.output ≡ false) × (result.0.memory ≡ true) }
-    // A stop at any moment leaves what was settled, and perhaps more after it.
+    // A stop at any moment leaves what was settled before, and perhaps more.
     ensures any_moment { is_down rounds.entry.flusher ≡ false → IfSome result.1 (λ left. AtEachMomentOn D.device (HoldsMore S.scheme rounds.entry.node (settled_in rounds.entry.flusher) (areas_of D.device (journal_of rounds.entry.flusher))) (store_of (journal_of rounds.entry.flusher)) left) }
-    // Unless a fault is told, all was brought to the disks by the rule.
-    ensures by_rule { is_down rounds.entry.flusher ≡ false → result.0.journal ≡ None → result.0.memory ≡ false → IfSome result.1 (ComesByRule D.device rule (point_of rounds.entry.flusher)) }
+    // Unless a fault of the journal is reported, the disks were written by the rule.
+    ensures by_rule { is_down rounds.entry.flusher ≡ false → result.0.journal ≡ None → IfSome result.1 (ComesByRule D.device (HasCheckpoint S.scheme D.device rounds.entry.node) rule result.0.memory (point_of rounds.entry.flusher)) }
     // What was written is on the disks.
     ensures given { is_down rounds.entry.flusher ≡ false → IfSome result.1 (λ left. IfSome result.2 (λ later. HasWritten (AreSettled S.scheme D.device rounds.entry.node rounds.entry.flusher left) (result.0.output ≡ false) (writer_contents W.contents desks.entry.writing.sink.writer) (W.contents later))) }
 {
@@ -264,7 +264,7 @@ where
     (faults, Some(store), Some(writer))
 }
 
-// What the journal was opened on, and the writer, whose outputs are then known to be there.
+// The disks of the journal, and the writer, whose outputs are then certain to be on these disks.
 fn give_back<'n, 'a, R, S, D, W>(
     rt: &R,
     mut rounds: Rounds<'n, 'a, S, D>,
@@ -289,7 +289,8 @@ where
     (rounds.into_store(), writer)
 }
 
-// The same, of which the third work is the one that reads: the prover searches too long for the lifetimes of all three at once.
+// Runs the third work, reading, beside the other two. A function of its own, since the prover searches too long for the lifetimes of all
+// three at once.
 fn read_beside<R, S, F, G, I, E, C, X, Y>(
     rt: &R,
     first: F,

@@ -1,4 +1,4 @@
-//! The thread that writes what goes out.
+//! The thread that writes the outputs.
 
 ghost use Rattle.std.specs.Prelude.{◌≡◌, [], true, false};
 ghost use Rattle.std.specs.Io.Buffered.{writer_contents};
@@ -19,7 +19,7 @@ use std::sync::Wait;
 use wire::Output;
 use wire_write::{WriteError, write_output};
 
-/// Where outputs go. Where one can't be written, or an allocation failed for it, none is from then on: what was written has no gap.
+/// Where outputs go. Once one couldn't be written, or an allocation for it failed, no more are written, so what was written has no gap.
 #[derive(Drop)]
 pub(crate) struct Sink<W: Write + Drop> {
     alloc: Global,
@@ -27,7 +27,7 @@ pub(crate) struct Sink<W: Write + Drop> {
     faults: Faults,
 }
 
-/// Writes a frame of each output that may go out, each time that the bell is rung, until it is closed and all are written.
+/// Writes a frame for each output that may leave, each time that the bell is rung, until the bell is closed and all are written.
 pub(crate) fn write_outputs<S: Sign, W: Write + Drop, R: Wait>(
     rt: &R,
     caller: &mut Caller<'_, '_, S>,
@@ -49,7 +49,7 @@ pub(crate) fn write_outputs<S: Sign, W: Write + Drop, R: Wait>(
     unreachable!()
 }
 
-// Writes what may go out now.
+// Writes the outputs that may leave now.
 fn write_due<S: Sign, W: Write + Drop, R: Wait>(
     rt: &R,
     caller: &mut Caller<'_, '_, S>,
@@ -68,7 +68,7 @@ fn write_due<S: Sign, W: Write + Drop, R: Wait>(
     unreachable!()
 }
 
-// Writes the next output that may go out. Says whether there was one.
+// Writes the next output that may leave. Gives whether there was one.
 fn write_next<S: Sign, W: Write + Drop, R: Wait>(
     rt: &R,
     caller: &mut Caller<'_, '_, S>,
@@ -90,7 +90,7 @@ fn write_next<S: Sign, W: Write + Drop, R: Wait>(
 }
 
 impl<W: Write + Drop> Sink<W> {
-    /// Nothing has gone wrong yet.
+    /// A sink in which nothing has failed yet.
     pub(crate) fn new(alloc: Global, writer: BufWriter<W>) -> Sink<W>
         ensures faults { result.faults ≡ no_faults }
         ensures writer { result.writer ≡ writer }
@@ -102,7 +102,7 @@ impl<W: Write + Drop> Sink<W> {
         }
     }
 
-    /// Gives the writer back, with all that was put, and says what went wrong. Where the writer fails it may lack the last bytes of that.
+    /// Gives back the writer, with everything that was put, and the faults. Where the writer failed it may lack the last bytes.
     pub(crate) fn finish(self) -> (Faults, W)
         ensures faults { result.0 ≡ record self.faults { output = result.0.output } }
         ensures broken { self.faults.output ≡ true → result.0.output ≡ true }
@@ -124,7 +124,7 @@ impl<W: Write + Drop> Sink<W> {
         }
     }
 
-    // Puts the frame of an output after what was written, and lets go of it.
+    // Puts the frame of an output after what was written, and drops the output.
     fn put(&mut self, output: Output)
         ensures { Puts (frame_of output) self.old.faults self.new.faults (writer_contents W.contents self.old.writer) (writer_contents W.contents self.new.writer) }
     {

@@ -1,4 +1,4 @@
-use Rattle.std.proofs.Common.{rules, Option, true, false, sym, subst, ◌∙◌, inr}
+use Rattle.std.proofs.Common.{rules, Option, None, true, false, sym, subst, ◌∙◌, inr}
 use Rattle.std.specs.Prelude.{◌≡◌, IsTrue}
 use Rattle.journal.specs.Pairs.{store_of}
 use Rattle.journal.specs.Stores.{faults_in}
@@ -6,10 +6,10 @@ use Rattle.journal.specs.declared.error.JournalError.{JournalError}
 use Rattle.flusher.specs.Rounds.{journal_of, is_down, settled_in}
 use Rattle.flusher.specs.declared.flusher.Flusher.{Flusher}
 use Rattle.node_run.specs.Ends.{TellsJournal}
-use Rattle.node_run.specs.Rewriting.{HasNoPlace}
+use Rattle.node_run.specs.Rewriting.{ByTheRule, HasCheckpoint, HasNoPlace, point_of}
 use Rattle.node_run.proofs.Flushed.{told_on}
 use Rattle.node_run.proofs.Moments.{all_on}
-use Rattle.node_run.proofs.Pending.{by_rule_on}
+use Rattle.node_run.proofs.Pending.{by_rule_on, by_rule_weaker}
 use Rattle.node_seats.proofs.Beginnings.{begins_trans}
 use Rattle.node_shared.specs.Home.{NodeView}
 use Rattle.node_run.proofs.flushing.flush_all.Goals as goal
@@ -31,7 +31,11 @@ loop-preserved g c =
     let output : c.and-faults.result.output ≡ false = search rules in
     let input : c.and-faults.result.input ≡ false = search rules in
     let leaves = all_on g.S.Sign.scheme g.D.Disk.device c.args.rounds.now.node c.loop.rounds.node first mid now c.loop.invariant.5 c.loop.invariant.6 c.loop.invariant.7
-    (λ down. (done.stays down).1) done.any_moment done.at_end done.earlier in (
+    (λ down. (done.stays down).1) done.any_moment done.at_end done.earlier in
+    let Made = HasCheckpoint g.S.Sign.scheme g.D.Disk.device c.args.rounds.now.node in
+    let by_rule = λ (up : is_down mid ≡ false) (none : c.flush_pending.result.journal ≡ None).
+    subst (λ (n : NodeView g.row.S.Denot). ByTheRule g.D.Disk.device (HasCheckpoint g.S.Sign.scheme g.D.Disk.device n) c.loop.rule c.flush_pending.new.missed (point_of mid) c.flush_pending.new.rule (point_of now))
+    c.loop.invariant.5 (done.by_rule up none) in (
       tt,
       tt,
       output,
@@ -40,8 +44,8 @@ loop-preserved g c =
       done.node ∙ c.loop.invariant.5,
       begins_trans (settled_in first) (settled_in mid) (settled_in now) c.loop.invariant.6 done.more,
       inr leaves,
-      by_rule_on g.D.Disk.device c.args.rule c.loop.rule c.flush_pending.new.rule first mid now (lacks mid) c.loop.faults c.flush_pending.result c.and-faults.result
-          c.loop.missed c.flush_pending.new.missed (faults first) (faults mid) c.loop.invariant.4 c.loop.invariant.8 done.by_rule done.missed c.and-faults.ensures.journal c.and-faults.ensures.memory,
+      by_rule_on g.D.Disk.device Made c.args.rule c.loop.rule c.flush_pending.new.rule first mid now (lacks mid) c.loop.faults c.flush_pending.result c.and-faults.result
+          c.loop.missed c.flush_pending.new.missed (faults first) (faults mid) c.loop.invariant.4 c.loop.invariant.8 by_rule done.missed c.and-faults.ensures.journal,
       done.pair,
     )
 
@@ -73,17 +77,23 @@ returns-then-not-may_go_on-clause-at_end g c = λ up.
     c.loop.invariant.5 c.loop.invariant.6 c.loop.invariant.7 (λ down. (done.stays down).1) done.any_moment done.at_end done.earlier up).1
 
 pub returns-then-not-may_go_on-clause-by_rule : goal.returns-then-not-may_go_on-clause-by_rule
-returns-then-not-may_go_on-clause-by_rule g c = λ up none fine.
-    let neither : (c.and-faults.result.memory ≡ false) × (c.flush_pending.new.missed ≡ false) = elim c.if-faults.branch [
-      | then-faults w ↦ absurd (let bad : true ≡ false = sym w.if-faults.true ∙ sym w.result-is ∙ fine in cc)
-      | else-faults w ↦ (w.if-faults.false, sym w.result-is ∙ fine)
+returns-then-not-may_go_on-clause-by_rule g c = λ up none.
+    let raised : c.flush_pending.new.missed ≡ true → c.if-faults.result ≡ true = λ is. elim c.if-faults.branch [
+      | then-faults w ↦ w.result-is ∙ w.if-faults.true
+      | else-faults w ↦ w.result-is ∙ is
     ] in
     let first = c.args.rounds.now.flusher in
     let mid = c.loop.rounds.flusher in
     let now = c.flush_pending.new.rounds.flusher in
-    let faults = λ (f : Flusher g.row.D.Denot). faults_in g.D.Disk.device (store_of (journal_of f)) in (
+    let faults = λ (f : Flusher g.row.D.Denot). faults_in g.D.Disk.device (store_of (journal_of f)) in
+    let Made = HasCheckpoint g.S.Sign.scheme g.D.Disk.device c.args.rounds.now.node in
+    let by_rule = λ (up : is_down mid ≡ false) (none : c.flush_pending.result.journal ≡ None).
+    subst (λ (n : NodeView g.row.S.Denot). ByTheRule g.D.Disk.device (HasCheckpoint g.S.Sign.scheme g.D.Disk.device n) c.loop.rule c.flush_pending.new.missed (point_of mid) c.flush_pending.new.rule (point_of now))
+    c.loop.invariant.5 (c.flush_pending.ensures.by_rule up none) in (
       c.flush_pending.new.rule,
-      by_rule_on g.D.Disk.device c.args.rule c.loop.rule c.flush_pending.new.rule first mid now (HasNoPlace g.S.Sign.scheme g.D.Disk.device c.args.rounds.now.node mid) c.loop.faults c.flush_pending.result
-          c.and-faults.result c.loop.missed c.flush_pending.new.missed (faults first) (faults mid) c.loop.invariant.4 c.loop.invariant.8 c.flush_pending.ensures.by_rule c.flush_pending.ensures.missed
-          c.and-faults.ensures.journal c.and-faults.ensures.memory up none neither.0 neither.1,
+      by_rule_weaker g.D.Disk.device Made Made c.args.rule c.flush_pending.new.rule c.flush_pending.new.missed c.if-faults.result (point_of first) (point_of now) (λ point made. made) raised
+          (by_rule_on g.D.Disk.device Made c.args.rule c.loop.rule c.flush_pending.new.rule first mid now
+          (HasNoPlace g.S.Sign.scheme g.D.Disk.device c.args.rounds.now.node mid) c.loop.faults c.flush_pending.result
+          c.and-faults.result c.loop.missed c.flush_pending.new.missed (faults first) (faults mid) c.loop.invariant.4 c.loop.invariant.8 by_rule c.flush_pending.ensures.missed
+          c.and-faults.ensures.journal up none),
     )

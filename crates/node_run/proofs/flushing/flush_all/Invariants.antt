@@ -6,7 +6,7 @@ use Rattle.journal.specs.Pairs.{store_of}
 use Rattle.journal.specs.Stores.{faults_in}
 use Rattle.flusher.specs.Rounds.{journal_of, is_down, settled_in}
 use Rattle.node_run.specs.Ends.{TellsJournal}
-use Rattle.node_run.specs.Rewriting.{point_of, ByTheRule, HasNoPlace}
+use Rattle.node_run.specs.Rewriting.{point_of, ByTheRule, HasCheckpoint, HasNoPlace}
 use Rattle.node_run.proofs.Moments.{AllSoFar}
 use Rattle.node_run.proofs.flushing.flush_all.Given as goal
 
@@ -20,5 +20,5 @@ invariant-loop g l =
     × (l.rounds.node ≡ l.initial.rounds.node)
     × Begins (settled_in first) (settled_in now)
     × AllSoFar g.S.Sign.scheme g.D.Disk.device l.initial.rounds.node first now
-    × (is_down first ≡ false → l.faults.journal ≡ None → l.faults.memory ≡ false → l.missed ≡ false → ByTheRule g.D.Disk.device l.initial.rule (point_of first) l.rule (point_of now))
+    × (is_down first ≡ false → l.faults.journal ≡ None → ByTheRule g.D.Disk.device (HasCheckpoint g.S.Sign.scheme g.D.Disk.device l.initial.rounds.node) l.initial.rule l.missed (point_of first) l.rule (point_of now))
     × (IsSome l.rule.every → IsSome (spare_of (journal_of now)))

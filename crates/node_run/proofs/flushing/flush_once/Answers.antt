@@ -1,7 +1,8 @@
-use Rattle.std.proofs.Common.{rules, ◌≡◌, ℕ, true, Result, Ok, Err, refl, ap, sym, subst, ◌∙◌}
+use Rattle.std.specs.Prelude.{IfOk}
+use Rattle.std.proofs.Common.{rules, ◌≡◌, ◌<◌, ℕ, true, Result, Ok, Err, refl, ap, sym, subst, ◌∙◌}
 use Rattle.book.specs.declared.own.error.FlushError.{FlushError}
 use Rattle.book.specs.declared.own.error.FlushError.TheVariants as flush
-use Rattle.flusher.specs.Rounds.{GoesDown, TakesAndSettles}
+use Rattle.flusher.specs.Rounds.{AddsSettled, GoesDown, TakesAndSettles}
 use Rattle.node.specs.Rounds.{Flushes}
 use Rattle.node_run.specs.Flushing.{FlushesOnce, IsOver}
 use Rattle.node_run.proofs.Once.{once_over, once_both, once_without, with_count}
@@ -15,7 +16,7 @@ returns-in-Ok-eq0 g c =
     record {
       once = subst (λ (r : Result ℕ FlushError). FlushesOnce g.S.Sign.scheme g.D.Disk.device c.args.rule.now c.args.rule.now c.args.missed.now c.args.rounds.now round.new.self r) ok
           (once_over g.S.Sign.scheme g.D.Disk.device g.met.D.Disk.counts_now c.args.rule.now c.args.missed.now c.args.rounds.now round.new.self round.result (subst IsOver (sym ok) refl)
-          round.ensures.node round.ensures.down round.ensures.told round.ensures.settles round.ensures.room round.ensures.flushes round.ensures.nothing);
+          round.ensures.node round.ensures.down round.ensures.told round.ensures.settles round.ensures.room round.ensures.flushes round.ensures.nothing round.ensures.alive);
       missed = λ is. is;
     }
 
@@ -36,7 +37,8 @@ returns-in-Ok-rewrite_if_due g c =
           round.ensures.node (subst (λ (r : Result ℕ FlushError). GoesDown c.args.rounds.now.flusher round.new.self.flusher r) c.in-Ok.is round.ensures.down) round.ensures.told.more
           (subst (λ (r : Result ℕ FlushError). TakesAndSettles c.args.rounds.now.seat round.new.self.seat c.args.rounds.now.flusher round.new.self.flusher r) c.in-Ok.is round.ensures.settles)
           (subst (λ (r : Result ℕ FlushError). Flushes g.S.Sign.scheme g.D.Disk.device c.args.rounds.now.node c.args.rounds.now.flusher round.new.self.flusher r) c.in-Ok.is round.ensures.flushes)
-          round.ensures.spare rewritten.result fine some rewritten.ensures.rewrites);
+          round.ensures.spare (subst (λ (r : Result ℕ FlushError). IfOk r (λ n. 0 < n → AddsSettled g.D.Disk.device c.args.rounds.now.flusher round.new.self.flusher)) c.in-Ok.is round.ensures.adds)
+          rewritten.result fine some rewritten.ensures.rewrites);
       missed = λ is. is;
     }
 
@@ -53,7 +55,8 @@ returns-in-Err-Memory g c =
           round.ensures.node (subst (λ (r : Result ℕ FlushError). GoesDown c.args.rounds.now.flusher round.new.self.flusher r) c.in-Ok.is round.ensures.down) round.ensures.told.more
           (subst (λ (r : Result ℕ FlushError). TakesAndSettles c.args.rounds.now.seat round.new.self.seat c.args.rounds.now.flusher round.new.self.flusher r) c.in-Ok.is round.ensures.settles)
           (subst (λ (r : Result ℕ FlushError). Flushes g.S.Sign.scheme g.D.Disk.device c.args.rounds.now.node c.args.rounds.now.flusher round.new.self.flusher r) c.in-Ok.is round.ensures.flushes)
-          round.ensures.spare rewritten.result (c.in-Err-Memory.is ∙ ap Err c.in-Err-Memory.field-0-is) refl some rewritten.ensures.rewrites;
+          round.ensures.spare (subst (λ (r : Result ℕ FlushError). IfOk r (λ n. 0 < n → AddsSettled g.D.Disk.device c.args.rounds.now.flusher round.new.self.flusher)) c.in-Ok.is round.ensures.adds)
+          rewritten.result (c.in-Err-Memory.is ∙ ap Err c.in-Err-Memory.field-0-is) refl some rewritten.ensures.rewrites;
       missed = λ _. refl;
     }
 
@@ -74,7 +77,8 @@ returns-in-Err-rewrite_if_due g c =
           round.ensures.node (subst (λ (r : Result ℕ FlushError). GoesDown c.args.rounds.now.flusher round.new.self.flusher r) c.in-Ok.is round.ensures.down) round.ensures.told.more
           (subst (λ (r : Result ℕ FlushError). TakesAndSettles c.args.rounds.now.seat round.new.self.seat c.args.rounds.now.flusher round.new.self.flusher r) c.in-Ok.is round.ensures.settles)
           (subst (λ (r : Result ℕ FlushError). Flushes g.S.Sign.scheme g.D.Disk.device c.args.rounds.now.node c.args.rounds.now.flusher round.new.self.flusher r) c.in-Ok.is round.ensures.flushes)
-          round.ensures.spare rewritten.result fine some rewritten.ensures.rewrites);
+          round.ensures.spare (subst (λ (r : Result ℕ FlushError). IfOk r (λ n. 0 < n → AddsSettled g.D.Disk.device c.args.rounds.now.flusher round.new.self.flusher)) c.in-Ok.is round.ensures.adds)
+          rewritten.result fine some rewritten.ensures.rewrites);
       missed = λ is. is;
     }
 
@@ -85,6 +89,6 @@ returns-in-Err g c =
     record {
       once = subst (λ (r : Result ℕ FlushError). FlushesOnce g.S.Sign.scheme g.D.Disk.device c.args.rule.now c.args.rule.now c.args.missed.now c.args.rounds.now round.new.self r) c.in-Err.is
           (once_over g.S.Sign.scheme g.D.Disk.device g.met.D.Disk.counts_now c.args.rule.now c.args.missed.now c.args.rounds.now round.new.self round.result (subst IsOver (sym c.in-Err.is) tt)
-          round.ensures.node round.ensures.down round.ensures.told round.ensures.settles round.ensures.room round.ensures.flushes round.ensures.nothing);
+          round.ensures.node round.ensures.down round.ensures.told round.ensures.settles round.ensures.room round.ensures.flushes round.ensures.nothing round.ensures.alive);
       missed = λ is. is;
     }

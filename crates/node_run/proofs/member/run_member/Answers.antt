@@ -19,7 +19,7 @@ use Rattle.validator.specs.Setting.{node_of}
 use Rattle.node_run.proofs.Runs.{ended, gives_nothing, gives_only, not_opened, not_run, two_where_due}
 use Rattle.node_run.proofs.Written.{new_contents}
 use Rattle.node_run.proofs.member.run_member.Goals as goal
-use Rattle.node_run.specs.Rewriting.{length_in, point_of, Point}
+use Rattle.node_run.specs.Rewriting.{length_in, point_of, HasCheckpoint, Point}
 use Rattle.node_run.specs.Runs.{ComesByRule, HoldsMore, RunsOver, point_at, rule_on}
 use Rattle.node_run.specs.declared.rule.Rule.{Rule}
 
@@ -71,8 +71,8 @@ returns-in-Ok-new-clause-runs g c =
     c.run_threads-store.ensures.told c.run_threads-store.ensures.lost opening leaves
     (subst (λ (f : Flusher g.row.D.Denot). KeepsStatesIn node (areas_in device c.args.store) (areas_of device (journal_of f))) (sym flusher) started.kept)
     (subst (λ (f : Flusher g.row.D.Denot). IsReadIn node device c.args.store (journal_of f)) (sym flusher) started.disks) alive
-    (λ none fine. subst (λ (p : Point g.row.D.Denot). IfSome left (ComesByRule device (rule_on device c.args.store c.args.every (journal_of rounds.flusher)) p)) point
-    (subst (λ (r : Rule). IfSome left (ComesByRule device r (point_of rounds.flusher))) rule (c.run_threads-store.ensures.by_rule up none fine)))
+    (λ none. subst (λ (p : Point g.row.D.Denot). IfSome left (ComesByRule device (HasCheckpoint g.S.Sign.scheme device rounds.node) (rule_on device c.args.store c.args.every (journal_of rounds.flusher)) c.run_threads-store.result.0.memory p)) point
+    (subst (λ (r : Rule). IfSome left (ComesByRule device (HasCheckpoint g.S.Sign.scheme device rounds.node) r c.run_threads-store.result.0.memory (point_of rounds.flusher))) rule (c.run_threads-store.ensures.by_rule up none)))
     c.run_threads-store.ensures.full)
 
 pub returns-clause-runs : goal.returns-clause-runs

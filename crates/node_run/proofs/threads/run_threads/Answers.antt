@@ -29,10 +29,10 @@ returns-clause-given g c = λ up.
     (sym c.give_back-store.ensures.writer) wrote.0.1)
 
 pub returns-clause-by_rule : goal.returns-clause-by_rule
-returns-clause-by_rule g c = λ up none fine.
+returns-clause-by_rule g c = λ up none.
     let store : c.give_back-store.result.0 ≡ store_of (journal_of c.in-Some.rounds.flusher) = search rules in
     comes_by_rule g.S.Sign.scheme g.D.Disk.device c.args.rule c.args.rounds c.in-Some.rounds c.and-2.result c.in-Some.flushed c.and-faults.result c.give_back-store.result.0
-    c.in-Some.ensures.first up store c.and-faults.ensures.journal c.and-faults.ensures.memory none fine
+    c.in-Some.ensures.first up store c.and-faults.ensures.journal c.and-faults.ensures.memory none
 
 pub returns-clause-full : goal.returns-clause-full
 returns-clause-full g c = λ is.
@@ -50,3 +50,9 @@ returns-in_default-others-clause-full g c = λ is.
     let none : c.of_memory-in_default-others.result.journal ≡ None = search rules in
     is_full_up g.S.Sign.scheme g.D.Disk.device c.args.rule c.args.rounds c.in-Some.rounds c.in-Some.flushed c.and.result.journal c.into_store.result
     c.in-Some.ensures.first store (c.and.ensures.journal ∙ ap (λ (it : Option JournalError). first_of it c.in-Some.flushed.journal) none) is
+
+pub returns-in_default-others-clause-by_rule : goal.returns-in_default-others-clause-by_rule
+returns-in_default-others-clause-by_rule g c = λ up none.
+    let store : c.into_store.result ≡ store_of (journal_of c.in-Some.rounds.flusher) = search rules in
+    comes_by_rule g.S.Sign.scheme g.D.Disk.device c.args.rule c.args.rounds c.in-Some.rounds c.of_memory-in_default-others.result c.in-Some.flushed c.and.result c.into_store.result
+    c.in-Some.ensures.first up store c.and.ensures.journal c.and.ensures.memory none

@@ -12,7 +12,7 @@ use Rattle.node_seats.proofs.Same.{same_then, same_told, or_second}
 use Rattle.node_seats.specs.Sights.{SeatView}
 use Rattle.node_seats.specs.Views.{IsSame}
 use Rattle.node_seats.specs.declared.view.Marked.{Marked}
-use Rattle.node_shared.specs.Home.{IsFlushOf, taken_by}
+use Rattle.node_shared.specs.Home.{IsCheckpointAfter, IsFlushOf, taken_by}
 use Rattle.node_shared.specs.declared.flush_seat.FlushSeat.{FlushSeat}
 use Rattle.wire.specs.Lists.{Begins}
 use Rattle.flusher.specs.Rounds.{HoldsEither, IsFlusherOf, KeepsEarlier}
@@ -122,7 +122,8 @@ returns-clause-any_moment g c =
     let journal = c.args.self.now.journal in
     let taken = ap taken_by c.tell_settled.ensures.flush ∙ c.in_ok-generation.ensures.taken in
     let leaves = λ (s t : List Marked).
-    AtEachMoment device (spare_disk journal) (disk_of c.rewrite.new.self.journal) (λ left. HoldsEither g.S.Sign.scheme c.args.node.now s t (areas_of device journal) (areas_with device journal left)) in
+    AtEachMoment device (spare_disk journal) (disk_of c.rewrite.new.self.journal)
+    (λ left. HoldsEither g.S.Sign.scheme c.args.node.now s t (areas_of device journal) (areas_with device journal left)) in
     inr (subst (λ s. leaves s (taken_by c.tell_settled.new.flush)) c.in-Ok.ensures.flush_durable
     (subst (leaves c.take_all.new.flush.seat.view.durable) (sym taken) c.in_ok-generation.ensures.any_moment))
 
@@ -140,7 +141,17 @@ returns-in_err-generation-clause-any_moment g c =
     let journal = c.args.self.now.journal in
     let same : c.from_residual.result ≡ c.rewrite.result = search rules in
     let leaves = λ (r : Result ℕ FlushError) (s t : List Marked).
-    AtEachMoment device (spare_disk journal) (rewritten_disk r c.rewrite.new.self.journal) (λ left. HoldsEither g.S.Sign.scheme c.args.node.now s t (areas_of device journal) (areas_with device journal left)) in
+    AtEachMoment device (spare_disk journal) (rewritten_disk r c.rewrite.new.self.journal)
+    (λ left. HoldsEither g.S.Sign.scheme c.args.node.now s t (areas_of device journal) (areas_with device journal left)) in
     inr (subst (λ r. leaves r c.args.self.now.seat.seat.view.durable (taken_by c.rewrite.new.self.seat)) (sym same)
     (subst (λ s. leaves c.rewrite.result s (taken_by c.rewrite.new.self.seat)) c.in-Ok.ensures.flush_durable
     (subst (leaves c.rewrite.result c.take_all.new.flush.seat.view.durable) (sym c.rewrite.ensures.taken) c.rewrite.ensures.any_moment)))
+
+pub returns-clause-writes : goal.returns-clause-writes
+returns-clause-writes g c =
+    let settled = ap (λ (f : FlushSeat). f.seat.view.durable) c.tell_settled.ensures.flush ∙ c.in_ok-generation.ensures.ok.1 in
+    record {
+      records = c.in-Ok.snapshot;
+      checkpoint = subst (λ (l : List Marked). IsCheckpointAfter g.S.Sign.scheme c.args.node.now l c.in-Ok.snapshot) (sym settled) c.in-Ok.ensures.takes.checkpoint;
+      content = c.in_ok-generation.ensures.content;
+    }

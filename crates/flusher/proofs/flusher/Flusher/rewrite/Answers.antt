@@ -1,7 +1,9 @@
-use Rattle.std.proofs.Common.{◌≡◌, true, false, List, ℕ, sym, ap, ◌∙◌, subst}
+use Rattle.std.proofs.Common.{◌≡◌, true, false, List, ◌∷◌, ℕ, sym, ap, ◌∙◌, subst}
 use Rattle.std.specs.Prelude.{not}
 use Rattle.diskmodel.proofs.Clock.{weaker}
 use Rattle.journal.specs.Journal.{disk_of}
+use Rattle.journal.specs.Snapshot.{bytes_for}
+use Rattle.journal.specs.declared.layout.TheConstants.{OPEN}
 use Rattle.journal.specs.Pairs.{StandsAsOrAfter, areas_of, spare_disk}
 use Rattle.node_seats.specs.declared.view.Marked.{Marked}
 use Rattle.flusher.proofs.Taking.{still_flush}
@@ -76,3 +78,6 @@ returns-in-Full-clause-any_moment g c =
     (StandsAsOrAfter g.D.Disk.device c.args.self.now.journal c.args.snapshot) c.in-Err.ensures.any_moment
     (either_rewritten g.S.Sign.scheme g.D.Disk.device c.args.node.now c.args.self.now.seat c.args.self.now.journal c.requires.flush_seat c.requires.holds c.requires.legal
     c.requires.pair c.args.snapshot c.requires.checkpoint)
+
+pub returns-in-Ok-clause-content : goal.returns-in-Ok-clause-content
+returns-in-Ok-clause-content g c = c.in-Ok.ensures.content ∙ ap (λ (n : ℕ). OPEN ∷ bytes_for n c.args.snapshot) (sym c.in-Ok.ensures.swapped.generation)

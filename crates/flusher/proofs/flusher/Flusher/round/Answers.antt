@@ -5,17 +5,18 @@ use Rattle.node_seats.specs.Sights.{SeatView}
 use Rattle.node_seats.proofs.Beginnings.{begins_same, begins_trans}
 use Rattle.node_seats.proofs.Same.{same_then, same_told, or_second}
 use Rattle.node_shared.specs.Home.{IsFlushOf, taken_by}
-use Rattle.flusher.specs.Rounds.{areas_at, IsFlusherOf, HoldsAfter, HoldsEither, KeepsEarlier}
+use Rattle.flusher.specs.Rounds.{areas_at, IsFlusherOf, HoldsAfter, HoldsEither, KeepsEarlier, records_after}
 use Rattle.flusher.specs.declared.flusher.Flusher.{Flusher}
 use Rattle.flusher.proofs.Adding.{holds_here}
 use Rattle.diskmodel.proofs.Clock.{started}
 use Rattle.diskmodel.specs.Disk.{AtEachMoment}
+use Rattle.journal.specs.Format.{file_with}
 use Rattle.journal.specs.Journal.{disk_of}
 use Rattle.journal.specs.Pairs.{areas_of}
 use Rattle.node_seats.specs.declared.view.Marked.{Marked}
 use Rattle.node_shared.specs.declared.flush_seat.FlushSeat.{FlushSeat}
 use Rattle.book.proofs.Options.{of_some}
-use Rattle.flusher.proofs.Taking.{rests_at, takes_none, takes_some, size_some, takes_as, is_none}
+use Rattle.flusher.proofs.Taking.{group_after, rests_at, takes_none, takes_some, size_some, takes_as, is_none}
 use Rattle.flusher.proofs.flusher.Flusher.round.Goals as goal
 use Rattle.flusher.proofs.flusher.Flusher.round.Goals.{in-Some+in_ok-count-in-Some, in-None}
 
@@ -197,3 +198,19 @@ returns-clause-nothing g c = elim c.match-found.branch [
   | in-Some+in_ok-count-in-Some w ↦ λ none. absurd (let some = w.in_ok-count-in-Some.ensures.some in omega (arith, some, w.count-is, none))
   | in-None w ↦ λ none. ap (λ (f : _). f.journal) w.self-is
 ]
+
+-- the group that was taken is of what is settled then
+pub returns-clause-adds : goal.returns-clause-adds
+returns-clause-adds g c =
+    let flush = c.take.new.flush in
+    let device = g.D.Disk.device in
+    let told = c.tell_settled.ensures in
+    elim c.match-found.branch [
+      | in-Some+in_ok-count-in-Some w ↦ λ some.
+          let added = w.in_ok-count-in-Some.ensures in
+          let group = (of_some _ _ _ w.in-Some.is c.in-Ok.ensures.takes.group).is ∙ group_after c.args.node.now flush c.in-Ok.ensures.flush in
+          let settled = ap (λ (f : FlushSeat). f.seat.view.durable) told.flush ∙ ap (λ (f : Flusher g.row.D.Denot). f.seat.seat.view.durable) w.self-is ∙ added.ok.1 in
+          ap (λ (f : Flusher g.row.D.Denot). device.content (disk_of f.journal)) w.self-is ∙ added.content
+          ∙ ap (file_with (device.content (disk_of c.args.self.now.journal))) (group ∙ (λ i. records_after (c.in-Ok.ensures.flush_durable i) (sym settled i)))
+      | in-None w ↦ λ some. absurd (omega (arith, some, w.count-is))
+    ]

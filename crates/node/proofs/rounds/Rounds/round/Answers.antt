@@ -1,7 +1,7 @@
 use Rattle.std.proofs.Common.{subst}
-use Rattle.std.specs.Prelude.{◌⊎◌, IsErrOf, OnOk}
+use Rattle.std.specs.Prelude.{◌⊎◌, ◌<◌, IfOk, IsErrOf, OnOk}
 use Rattle.diskmodel.specs.Disk.{AtEachMoment}
-use Rattle.flusher.specs.Rounds.{journal_of, settled_in, taken_in, areas_at, HoldsEither, KeepsEarlier}
+use Rattle.flusher.specs.Rounds.{journal_of, settled_in, taken_in, areas_at, AddsSettled, HoldsEither, KeepsEarlier}
 use Rattle.flusher.specs.declared.FlushError.TheVariants.{Down}
 use Rattle.journal.specs.Journal.{disk_of}
 use Rattle.journal.specs.Pairs.{areas_of}
@@ -31,3 +31,7 @@ returns-clause-flushes g c =
     subst (λ (r : RoundsView g.row.S.Denot g.row.D.Denot). Flushes g.S.Sign.scheme device r.node r.flusher c.round.new.self c.round.result) c.self.view_is
     (round_flushes g.S.Sign.scheme device g.met.D.Disk.only_now c.self.inside.node.now c.self.inside.flusher c.round.new.self c.round.result c.self.invariant.1 c.round.ensures.down _ _
     c.round.ensures.settles c.round.ensures.cause c.round.ensures.spare c.round.ensures.any_moment c.round.ensures.earlier)
+
+pub returns-clause-adds : goal.returns-clause-adds
+returns-clause-adds g c =
+    subst (λ (r : RoundsView g.row.S.Denot g.row.D.Denot). IfOk c.round.result (λ count. 0 < count → AddsSettled g.D.Disk.device r.flusher c.round.new.self)) c.self.view_is c.round.ensures.adds
