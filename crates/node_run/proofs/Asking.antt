@@ -1,37 +1,37 @@
 -- What an event leaves as it was, of what a node is asked after it.
-use Rattle.std.proofs.Common.{◌≡◌, ℕ, ◌+◌, ◌-◌, ◌≤◌, Bool, true, false, cond, List, [], ◌∷◌, ◌++◌, Option, Some, None, inl, inr, refl, sym, ap, subst, ◌∙◌, append-nil, arith}
+use Rattle.std.proofs.Common.{◌≡◌, ℕ, suc, ◌+◌, ◌-◌, ◌≤◌, ◌<◌, Bool, true, false, cond, List, [], ◌∷◌, ◌++◌, Option, Some, None, inl, inr, refl, sym, ap, subst, ◌∙◌, append-nil, arith}
 use Rattle.std.proofs.Math.Path.{fun_ext}
-use Rattle.std.proofs.lemmas.Bool.{cases_Bool, leb-true, ltb-true, true≢false}
+use Rattle.std.proofs.lemmas.Bool.{cases_Bool, eqb-true, leb-true, ltb-true, true≢false}
 use Rattle.std.proofs.lemmas.List.Folds.{find-append}
-use Rattle.std.specs.Prelude.{◌==◌, ◌&&◌, ◌||◌, not, nat_le, nat_lt, take, map, fold, filter_map, is_some, if◌then◌else◌}
-use Rattle.std.specs.List.{list_any}
+use Rattle.std.specs.Prelude.{◌⊎◌, ◌==◌, ◌&&◌, ◌||◌, not, nat_le, nat_lt, take, map, fold, filter_map, is_some, option_and_then, if◌then◌else◌}
+use Rattle.std.specs.List.{list_all, list_any}
 use Rattle.std.specs.Option.{option_or, option_map_or, option_to_list}
 use Rattle.committee.specs.Charter.{numbers, weight}
 use Rattle.committee.proofs.Weights.{some_of_weight}
-use Rattle.header.specs.declared.admission.Admission.TheVariants.{New, Refused}
-use Rattle.header.specs.declared.refusal.Refusal.TheVariants.{TooOld, MissingParents}
+use Rattle.header.specs.declared.admission.Admission.TheVariants.{New, Known, Refused}
+use Rattle.header.specs.declared.refusal.Refusal.TheVariants.{TooOld, MissingParents, CertConflict, DigestClash}
 use Rattle.spec_laws.proofs.Lists.{filter_map-push, given_or_none}
 use Rattle.spec_laws.proofs.Proposed.{above_floor}
 use Rattle.spec_machine.proofs.Proposing.{full_is, full_most}
 use Rattle.spec_machine.proofs.SoundRounds.{open_round}
 use Rattle.spec_machine.specs.Laws.{SoundStays}
-use Rattle.spec_machine.specs.Machine.{after, certificate_of, full_to, grown, header_at, highest_with, is_missing_parents, proposed, round_in}
+use Rattle.spec_machine.specs.Machine.{after, certificate_of, counted_with, full_to, grown, header_at, highest_with, is_missing_parents, proposed, round_in}
 use Rattle.spec_machine.specs.Sound.{IsSound}
-use Rattle.spec_model.specs.Admitting.{held_certificate_answer, when◌gives◌else◌, order_outputs}
+use Rattle.spec_model.specs.Admitting.{held_certificate_answer, when◌gives◌else◌, order_outputs, same_header}
 use Rattle.spec_model.specs.Giving.{unless_low}
 use Rattle.spec_model.specs.Histories.{as_batch, as_ack, as_header, as_coin}
-use Rattle.spec_model.specs.Holdings.{batch_digest, is_full, is_low, all_held, ledger_of}
+use Rattle.spec_model.specs.Holdings.{batch_digest, certificate_by, is_full, is_held, is_low, all_held, ledger_of, votes_by}
 use Rattle.spec_model.specs.Nodes.{Node, IsNode, quorum, size_of}
 use Rattle.spec_model.specs.Ordering.{floor_by}
 use Rattle.spec_model.specs.Proposing.{nameable, as_parent, signed, to_name}
-use Rattle.spec_model.specs.Slots.{Slots, round_of, same_digest, slots_of}
+use Rattle.spec_model.specs.Slots.{Slots, certificate_digest, is_of_slot, round_of, same_digest, slots_of}
 use Rattle.spec_model.specs.States.{State, batch_in, floor_in, has_own_batch, holds, is_available}
-use Rattle.spec_model.specs.Words.{Author, BatchAck, BatchReference, Certificate, Coin, BatchView, Digest, Event, Header, Output}
+use Rattle.spec_model.specs.Words.{Author, BatchAck, BatchReference, Certificate, Coin, BatchView, Digest, Event, Header, Output, ParentReference, Vote}
 use Rattle.wire.specs.References.{placed}
 use Rattle.wire.specs.declared.limits.TheConstants.{MAX_BATCHES}
 use Rattle.wire.specs.declared.message.Message.TheVariants as message
 use Rattle.wire.specs.declared.round.TheConstants.Round.{MAX as MAX_ROUND}
-use Rattle.node_run.specs.Asking.{LeavesProposal, LeavesWaiting, lacks_parents}
+use Rattle.node_run.specs.Asking.{IsOver, LacksNothingBelow, LeavesOthers, LeavesProposal, LeavesWaiting, lacks_parents}
 
 or_none : {X : Type 0} (found : Option X) → option_or found None ≡ found
 or_none None = refl
@@ -342,8 +342,8 @@ pub ack_waits : (own : Author) (ack : BatchAck) → LeavesWaiting own (message.B
 ack_waits own ack node state sender from certificate new =
     waits node state (record { sender = sender; message = message.BatchAck ack }) new.sound refl refl from certificate
 
-pub header_waits : (own : Author) (header : Header) → (header.body.author.0 == own.0) ≡ false → LeavesWaiting own (message.Header header)
-header_waits own header other node state sender from certificate new =
+pub header_waits : (own : Author) (header : Header) → LeavesWaiting own (message.Header header)
+header_waits own header node state sender from certificate new =
     waits node state (record { sender = sender; message = message.Header header }) new.sound refl refl from certificate
 
 pub batch_proposes : (own : Author) (batch : BatchView) → (batch.author.0 == own.0) ≡ false → LeavesProposal own (message.Batch batch)
@@ -365,3 +365,266 @@ coin_proposes law own coin node state sender new =
     let event : Event = record { sender = sender; message = message.Coin coin } in
     proposes_on node state event new.sound refl new.node_is (law node state event new.node_is new.sound new.taken new.new) (λ round. refl)
     (nameable_as node state event state.batches (batches_stay node state event refl) (acks_stay node state event refl) (named_stay node state event refl))
+
+-- ---- whom a certificate concerns
+
+held_never : (same alike : Bool) → is_missing_parents (if not same then Refused CertConflict else if alike then Known [] else Refused DigestClash) ≡ false
+held_never false alike = refl
+held_never true true = refl
+held_never true false = refl
+
+-- what a certificate lacks parents by: it isn't low, nothing is in its slot, and not all parents are held
+missing_is : (low : Bool) (slot : Option Certificate) (held : Bool) (certificate : Certificate) (outputs : List Output) → missing low slot held certificate outputs ≡ true
+    → (low ≡ false) × (slot ≡ None) × (held ≡ false)
+missing_is true slot held certificate outputs is = absurd (true≢false (sym is))
+missing_is false (Some found) held certificate outputs is =
+    absurd (true≢false (sym is ∙ held_never (same_digest (certificate_digest found.header) (certificate_digest certificate.header)) (same_header found.header certificate.header)))
+missing_is false None true certificate outputs is = absurd (true≢false (sym is))
+missing_is false None false certificate outputs is = (refl, refl, refl)
+
+-- and it does so by these
+is_missing : (low : Bool) (slot : Option Certificate) (held : Bool) (certificate : Certificate) (outputs : List Output) → low ≡ false → slot ≡ None → held ≡ false
+    → missing low slot held certificate outputs ≡ true
+is_missing true slot held certificate outputs high none some = absurd (true≢false high)
+is_missing false (Some found) held certificate outputs high none some = absurd cc
+is_missing false None true certificate outputs high none some = absurd (true≢false some)
+is_missing false None false certificate outputs high none some = refl
+
+-- nothing lacks parents that are all held
+held_is : (low : Bool) (slot : Option Certificate) (certificate : Certificate) (outputs : List Output) → missing low slot true certificate outputs ≡ false
+held_is true slot certificate outputs = refl
+held_is false (Some found) certificate outputs =
+    held_never (same_digest (certificate_digest found.header) (certificate_digest certificate.header)) (same_header found.header certificate.header)
+held_is false None certificate outputs = refl
+
+or_true : (either : Bool) → (either || true) ≡ true
+or_true true = refl
+or_true false = refl
+
+-- a test that holds wherever another one does, holds of all where that does
+all_more : {X : Type 0} (one other : X → Bool) (xs : List X) → ((x : X) → one x ≡ true → other x ≡ true) → list_all one xs ≡ true → list_all other xs ≡ true
+all_more one other [] more all = refl
+all_more one other (x ∷ xs) more all = by (all_more one other xs more) (one x) refl all
+  where
+    by : (list_all one xs ≡ true → list_all other xs ≡ true) → (is : Bool) → one x ≡ is → (is && list_all one xs) ≡ true → (other x && list_all other xs) ≡ true
+    by more_of true is rest = ap (λ b. b && list_all other xs) (more x is) ∙ more_of rest
+    by more_of false is rest = absurd (true≢false (sym rest))
+
+all_hold : {X : Type 0} (test : X → Bool) (xs : List X) → ((x : X) → test x ≡ true) → list_all test xs ≡ true
+all_hold test [] each = refl
+all_hold test (x ∷ xs) each = ap (λ b. b && list_all test xs) (each x) ∙ all_hold test xs each
+
+-- ---- the floor
+
+over_or_not : (floor round : ℕ) → IsOver floor round ⊎ (IsOver floor round → ⊥)
+over_or_not floor round =
+    elim (cases_Bool (nat_lt 0 floor)) [
+      | inl some ↦ elim (cases_Bool (nat_le round (suc floor))) [
+        | inl within ↦ inl (ltb-true 0 floor some, leb-true round (suc floor) within)
+        | inr above ↦ inr (λ over. let less : round ≤ suc floor = over.1 in grind (arith, above, less))
+      ]
+      | inr none ↦ inr (λ over. let less : 0 < floor = over.0 in grind (arith, none, less))
+    ]
+
+-- what is said of a floor that has not risen over a round or over the one below
+not_to : (floor round other : ℕ) → (IsOver floor round → ⊥) → round ≤ suc other → (nat_lt 0 floor && nat_le other floor) ≡ false
+not_to floor round other isnt near =
+    elim (cases_Bool (nat_lt 0 floor)) [
+      | inl some ↦ elim (cases_Bool (nat_le other floor)) [
+        | inl within ↦ absurd (isnt (ltb-true 0 floor some, omega (arith, near, leb-true other floor within)))
+        | inr above ↦ rw (some, above) refl
+      ]
+      | inr none ↦ rw none refl
+    ]
+
+-- ---- the slots of a round of which no certificate comes
+
+nothing_of : (round author : ℕ) (found : Option Certificate) → ((c : Certificate) → found ≡ Some c → (c.header.round == round) ≡ false) → slots_of (option_to_list found) round author ≡ None
+nothing_of round author None apart = refl
+nothing_of round author (Some c) apart = ap (λ same. cond (same && (c.header.author.0 == author)) (Some c) None) (apart c refl)
+
+module _ (node : Node) (state : State) (event : Event) (round : ℕ) (apart : (c : Certificate) → certificate_of node state event.message ≡ Some c → (c.header.round == round) ≡ false) where
+  abbrev then : State
+  then = after node state event
+
+  -- what is there was there
+  was_there : (author : ℕ) (c : Certificate) → then.slots round author ≡ Some c → state.slots round author ≡ Some c
+  was_there author c is =
+      elim (cases_Bool (nat_lt round (floor_in node (grown node state event.message)))) [
+        | inl below ↦ let bad : None ≡ Some c = sym (ap (λ low. if low then None else (grown node state event.message).slots round author) below) ∙ is in absurd cc
+        | inr isnt ↦
+            sym (or_none (state.slots round author))
+            ∙ sym (ap (option_or (state.slots round author)) (nothing_of round author (certificate_of node state event.message) apart))
+            ∙ sym (ap (λ low. if low then None else (grown node state event.message).slots round author) isnt) ∙ is
+      ]
+
+  -- so nothing is there where nothing was
+  none_there : (author : ℕ) → state.slots round author ≡ None → then.slots round author ≡ None
+  none_there author none = by (then.slots round author) refl
+    where
+      by : (found : Option Certificate) → then.slots round author ≡ found → then.slots round author ≡ None
+      by None is = is
+      by (Some c) is = let bad : None ≡ Some c = sym none ∙ was_there author c is in absurd cc
+
+-- A new message whose certificate, if it adds one, is of the lower of two rounds, one after the other, concerns no certificate of
+-- others, unless the floor rises over it.
+module _ (node : Node) (state : State) (event : Event) (low high : ℕ)
+    (added : (c : Certificate) → certificate_of node state event.message ≡ Some c → (c.header.round ≡ low) × (high ≡ suc (suc low)))
+    (from : Author) (certificate : Certificate) (outside : low ≤ certificate.header.round → certificate.header.round < high → ⊥) (lacks : lacks_parents node state from certificate ≡ true) where
+  abbrev round : ℕ
+  round = certificate.header.round
+
+  abbrev next_state : State
+  next_state = after node state event
+
+  abbrev floor : ℕ
+  floor = floor_in node next_state
+
+  abbrev adds : State → List Output
+  adds there = order_outputs there (grown node there (message.Certificate certificate))
+
+  was : (is_low (floor_in node state) round ≡ false) × (state.slots round certificate.header.author.0 ≡ None) × (all_held state.slots (floor_in node state) certificate.header ≡ false)
+  was = missing_is (is_low (floor_in node state) round) (state.slots round certificate.header.author.0) (all_held state.slots (floor_in node state) certificate.header)
+      certificate (adds state) lacks
+
+  -- the certificate is neither of this round nor of the one below
+  here : (c : Certificate) → certificate_of node state event.message ≡ Some c → (c.header.round == round) ≡ false
+  here c is =
+      let at = added c is in
+      elim (cases_Bool (c.header.round == round)) [
+        | inl same ↦ let e : c.header.round ≡ round = eqb-true c.header.round round same in absurd (outside (omega (arith, at.0, e)) (omega (arith, at.0, at.1, e)))
+        | inr other ↦ other
+      ]
+
+  below : (c : Certificate) → certificate_of node state event.message ≡ Some c → (c.header.round == round - 1) ≡ false
+  below c is =
+      let at = added c is in
+      elim (cases_Bool (c.header.round == round - 1)) [
+        | inl same ↦
+            let e : c.header.round ≡ round - 1 = eqb-true c.header.round (round - 1) same in
+            absurd (outside (omega (arith, at.0, e)) (omega (arith, at.0, at.1, e)))
+        | inr other ↦ other
+      ]
+
+  abbrev matches : ParentReference → Option Certificate → Bool
+  matches parent found = option_map_or (λ c. same_digest (certificate_digest c.header) parent.certificate) found false
+
+  abbrev asked : Bool
+  asked = nat_lt 0 floor && nat_le (round - 1) floor
+
+  abbrev asked_before : Bool
+  asked_before = nat_lt 0 (floor_in node state) && nat_le (round - 1) (floor_in node state)
+
+  held_by : (asked ≡ false) → (parent : ParentReference) (found : Option Certificate) → next_state.slots (round - 1) parent.author.0 ≡ found → (matches parent found || asked) ≡ true
+      → is_held state.slots (floor_in node state) round parent ≡ true
+  held_by isnt parent None none is = absurd (true≢false (sym is ∙ isnt))
+  held_by isnt parent (Some c) some is =
+      let same : matches parent (Some c) ≡ true = sym (or_false (matches parent (Some c))) ∙ sym (ap (λ b. matches parent (Some c) || b) isnt) ∙ is in
+      ap (λ o. matches parent o || asked_before) (was_there node state event (round - 1) below parent.author.0 c some) ∙ ap (λ b. b || asked_before) same
+
+  held_before : (IsOver floor round → ⊥) → (parent : ParentReference) → is_held next_state.slots floor round parent ≡ true → is_held state.slots (floor_in node state) round parent ≡ true
+  held_before isnt parent is = held_by (not_to floor round (round - 1) isnt (omega arith)) parent (next_state.slots (round - 1) parent.author.0) refl is
+
+  not_held : (IsOver floor round → ⊥) → all_held next_state.slots floor certificate.header ≡ false
+  not_held isnt =
+      elim (cases_Bool (all_held next_state.slots floor certificate.header)) [
+        | inl all ↦
+            absurd (true≢false (sym (all_more (is_held next_state.slots floor round) (is_held state.slots (floor_in node state) round) certificate.header.parents (held_before isnt) all) ∙ was.2))
+        | inr some ↦ some
+      ]
+
+  not_low : (IsOver floor round → ⊥) → is_low floor round ≡ false
+  not_low isnt =
+      elim (cases_Bool (round == 0)) [
+        | inl genesis ↦ absurd (true≢false (sym (ap (λ b. b || (nat_lt 0 (floor_in node state) && nat_le round (floor_in node state))) genesis) ∙ was.0))
+        | inr other ↦ ap (λ b. b || (nat_lt 0 floor && nat_le round floor)) other ∙ not_to floor round round isnt (omega arith)
+      ]
+
+  lack_by : IsOver floor round ⊎ (IsOver floor round → ⊥) → (lacks_parents node next_state from certificate ≡ true) ⊎ IsOver floor round
+  lack_by (inl over) = inr over
+  lack_by (inr isnt) =
+      inl (is_missing (is_low floor round) (next_state.slots round certificate.header.author.0) (all_held next_state.slots floor certificate.header) certificate (adds next_state)
+      (not_low isnt) (none_there node state event round here certificate.header.author.0 was.1) (not_held isnt))
+
+  others_lack : (lacks_parents node (after node state event) from certificate ≡ true) ⊎ IsOver (floor_in node (after node state event)) certificate.header.round
+  others_lack = lack_by (over_or_not floor round)
+
+pub certificate_others : (own : Author) (certificate : Certificate) → LeavesOthers own (message.Certificate certificate) certificate.header.round (suc (suc certificate.header.round))
+certificate_others own certificate node state sender from other new outside lacks =
+    others_lack node state (record { sender = sender; message = message.Certificate certificate }) certificate.header.round (suc (suc certificate.header.round))
+    (λ c is. let same : certificate ≡ c = cc in (ap (λ (one : Certificate). one.header.round) (sym same), refl)) from other outside lacks
+
+-- the certificate of the own header of a round is of that round
+module _ (node : Node) (state : State) (vote : Vote) (sound : IsSound node state) where
+  abbrev counted : ℕ → Option Vote
+  counted = counted_with node state (message.Vote vote) vote.round
+
+  of_header : (header : Header) (c : Certificate) → header.body.round ≡ vote.round → certificate_by node counted header ≡ Some c → c.header.round ≡ vote.round
+  of_header header c at is = by ((header.body.author.0 == node.own.0) && nat_le (quorum node) (weight node.charter (λ voter. is_some (counted voter)))) is
+    where
+      by : (full : Bool) → (if full then Some (record { header = header.body; votes = votes_by node counted }) else None) ≡ Some c → c.header.round ≡ vote.round
+      by true same =
+          let one : ◌≡◌ {A = Certificate} (record { header = header.body; votes = votes_by node counted }) c = cc in
+          ap (λ (it : Certificate). it.header.round) (sym one) ∙ at
+      by false same = absurd cc
+
+  vote_adds : (found : Option Header) (c : Certificate) → state.own_headers vote.round ≡ found → option_and_then (certificate_by node counted) found ≡ Some c → c.header.round ≡ vote.round
+  vote_adds None c none is = absurd cc
+  vote_adds (Some header) c some is = of_header header c (placed_at (sound.votes.headers vote.round header some).place) is
+    where
+      placed_at : is_of_slot vote.round node.own.0 header.body ≡ true → header.body.round ≡ vote.round
+      placed_at place =
+          elim (cases_Bool (header.body.round == vote.round)) [
+            | inl same ↦ eqb-true header.body.round vote.round same
+            | inr other ↦ absurd (true≢false (sym place ∙ ap (λ b. b && (header.body.author.0 == node.own.0)) other))
+          ]
+
+pub vote_others : (own : Author) (vote : Vote) → LeavesOthers own (message.Vote vote) vote.round (suc (suc vote.round))
+vote_others own vote node state sender from certificate new outside lacks =
+    others_lack node state (record { sender = sender; message = message.Vote vote }) vote.round (suc (suc vote.round))
+    (λ c is. (vote_adds node state vote new.sound (state.own_headers vote.round) c refl is, refl)) from certificate outside lacks
+
+pub coin_others : (own : Author) (coin : Coin) (low high : ℕ) → LeavesOthers own (message.Coin coin) low high
+coin_others own coin low high node state sender from certificate new outside lacks =
+    others_lack node state (record { sender = sender; message = message.Coin coin }) low high (λ c is. absurd cc) from certificate outside lacks
+
+module _ (node : Node) (state : State) (from : Author) (certificate : Certificate) (round : ℕ) (over : IsOver (floor_in node state) round) (below : certificate.header.round ≤ round) where
+  abbrev low_floor : ℕ
+  low_floor = floor_in node state
+
+  abbrev slot : Option Certificate
+  slot = state.slots certificate.header.round certificate.header.author.0
+
+  abbrev held : Bool
+  held = all_held state.slots low_floor certificate.header
+
+  abbrev outputs : List Output
+  outputs = order_outputs state (grown node state (message.Certificate certificate))
+
+  above_none : nat_lt 0 low_floor ≡ true
+  above_none =
+      elim (cases_Bool (nat_lt 0 low_floor)) [
+        | inl some ↦ some
+        | inr none ↦ let less : 0 < low_floor = over.0 in absurd (grind (arith, none, less))
+      ]
+
+  to : nat_le (certificate.header.round - 1) low_floor ≡ true
+  to =
+      elim (cases_Bool (nat_le (certificate.header.round - 1) low_floor)) [
+        | inl within ↦ within
+        | inr above ↦ let near : certificate.header.round ≤ suc low_floor = omega (arith, over.1, below) in absurd (grind (arith, above, near))
+      ]
+
+  abbrev named : ParentReference → Bool
+  named parent = option_map_or (λ c. same_digest (certificate_digest c.header) parent.certificate) (state.slots (certificate.header.round - 1) parent.author.0) false
+
+  all : held ≡ true
+  all = all_hold (is_held state.slots low_floor certificate.header.round) certificate.header.parents (λ parent.
+      ap (λ b. named parent || (b && nat_le (certificate.header.round - 1) low_floor)) above_none ∙ ap (λ b. named parent || b) to ∙ or_true (named parent))
+
+  lacks_none : lacks_parents node state from certificate ≡ false
+  lacks_none = ap (λ all. missing (is_low low_floor certificate.header.round) slot all certificate outputs) all ∙ held_is (is_low low_floor certificate.header.round) slot certificate outputs
+
+-- where the floor has risen over the certificates of a round, neither they nor those of a lower one lack parents
+pub lacks_nothing_below : LacksNothingBelow
+lacks_nothing_below node state from certificate round over below = lacks_none node state from certificate round over below

@@ -1,5 +1,5 @@
 -- What comes of a message, by what the caller made of it.
-use Rattle.std.proofs.Common.{◌≡◌, Bool, true, false, cond, List, Option, Some, None, Result, Ok, Err, inl, inr, refl, sym, ap, ◌∙◌}
+use Rattle.std.proofs.Common.{◌≡◌, Bool, true, false, cond, Option, Some, None, Result, Ok, Err, inl, inr, refl, sym, ap, ◌∙◌}
 use Rattle.std.specs.Prelude.{◌≢◌, IfErr, OnOk, OnErr, is_some}
 use Rattle.book.specs.declared.book.Receipt.{Receipt}
 use Rattle.header.specs.Digested.{certificate_digest_in}
@@ -11,6 +11,7 @@ use Rattle.node_io.specs.declared.rejection.Rejection.TheVariants.{Unchecked}
 use Rattle.node.specs.Callers.{CallerView}
 use Rattle.node_shared.specs.Home.{NodeView}
 use Rattle.sigface.specs.Scheme.{Scheme}
+use Rattle.waiter.specs.Rounds.{WaitersView}
 use Rattle.node_run.specs.Bringing.{Brings, CantWait, Enters}
 use Rattle.node_run.specs.Taking.{Handles, OnlyLooks, told_as}
 use Rattle.node_run.specs.declared.caller.Taken.{Taken}
@@ -25,7 +26,7 @@ never_waits : (certificate : Event) (answer : Result Receipt Refusal) → told_a
 never_waits certificate (Ok receipt) is = either_way certificate receipt.new is
 never_waits certificate (Err why) is = absurd cc
 
-module _ {S : Type 0} (scheme : Scheme S) (node : NodeView S) (fault : Option CheckError) (event : Event) (before later : CallerView S) (old new : List Event)
+module _ {S : Type 0} (scheme : Scheme S) (node : NodeView S) (fault : Option CheckError) (event : Event) (before later : CallerView S) (old new : WaitersView)
     (told : Result Taken Rejection) (handles : Handles scheme node fault event before later told) where
   pub brings_new : told ≡ Ok New → new ≡ old → Brings scheme node fault event before later old new (Ok true)
   brings_new is same = record {

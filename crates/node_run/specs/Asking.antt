@@ -1,14 +1,17 @@
 -- Which questions to a node have the same answer after an event as before it.
-use Rattle.std.specs.Prelude.{◌≡◌, ◌≢◌, Bool, true, false, ◌||◌, IsTrue, Result, Ok}
+use Rattle.std.specs.Prelude.{◌≡◌, ◌≢◌, ◌<◌, ◌≤◌, ◌⊎◌, ℕ, suc, min, max, Bool, true, false, ◌||◌, IsTrue, List, ◌∷◌, ◌++◌, Result, Ok}
 use Rattle.spec_machine.specs.Machine.{after, answered, is_missing_parents, proposed}
 use Rattle.spec_machine.specs.Sound.{IsSound}
 use Rattle.spec_model.specs.Admitting.{IsTaken, is_new}
 use Rattle.spec_model.specs.Nodes.{Node, IsNode}
-use Rattle.spec_model.specs.States.{State}
-use Rattle.spec_model.specs.Words.{Author, Certificate, Message}
+use Rattle.spec_model.specs.States.{State, floor_in}
+use Rattle.spec_model.specs.Words.{Author, Certificate, Event, Message}
+use Rattle.waiter.specs.Rounds.{WaitersView, held}
 use Rattle.wire.specs.declared.message.Message.TheVariants as message
 use Rattle.node_io.specs.declared.rejection.Rejection.{Rejection}
 use Rattle.node_run.specs.declared.due.Due.{Due}
+use Rattle.node_run.specs.declared.due.Waiting.{Waiting}
+use Rattle.node_run.specs.declared.due.Waiting.TheVariants.{Nothing, Rounds}
 
 -- a message from this sender is a new event at a sound state of the node of this member
 pub record IsNewAt (own : Author) (sent : Message) (node : Node) (state : State) (sender : Author) : Type 0 where
@@ -34,19 +37,64 @@ LeavesProposal own sent =
     (node : Node) (state : State) (sender : Author) → IsNewAt own sent node state sender
     → proposed node (after node state (record { sender = sender; message = sent })) ≡ proposed node state
 
--- each question that isn't due after a message has the same answer as before it
+-- The floor has risen over the certificates of a round: they are low, or nobody asks for their parents.
+abbrev pub IsOver : ℕ → ℕ → Type 0
+IsOver floor round = (0 < floor) × (round ≤ suc floor)
+
+-- After a new message a certificate that lacked parents still lacks them, whatever the sound state, if its round is not in a range of
+-- rounds, unless the floor has risen over it.
+abbrev pub LeavesOthers : Author → Message → ℕ → ℕ → Type 0
+LeavesOthers own sent low end =
+    (node : Node) (state : State) (sender from : Author) (certificate : Certificate) → IsNewAt own sent node state sender
+    → (low ≤ certificate.header.round → certificate.header.round < end → ⊥) → lacks_parents node state from certificate ≡ true
+    → (lacks_parents node (after node state (record { sender = sender; message = sent })) from certificate ≡ true)
+    ⊎ IsOver (floor_in node (after node state (record { sender = sender; message = sent }))) certificate.header.round
+
+-- where the floor has risen over the certificates of a round, neither they nor those of a lower round lack parents
+abbrev pub LacksNothingBelow : Type 0
+LacksNothingBelow =
+    (node : Node) (state : State) (from : Author) (certificate : Certificate) (round : ℕ) → IsOver (floor_in node state) round → certificate.header.round ≤ round
+    → lacks_parents node state from certificate ≡ false
+
+-- Each question that isn't due after a message has the same answer as before it. Of the waiting certificates those of some rounds may be
+-- due: one of another round that lacked parents lacks them yet, unless the floor has risen over it.
 pub record Leaves (own : Author) (sent : Message) (due : Due) : Type 0 where
-  pub waiting : due.waiting ≡ false → LeavesWaiting own sent
+  pub waiting : due.waiting ≡ Nothing → LeavesWaiting own sent
+  pub others : (low end : ℕ) → due.waiting ≡ Rounds low end → LeavesOthers own sent low end
   pub proposal : due.proposal ≡ false → LeavesProposal own sent
 
 abbrev pub nothing_due : Due
-nothing_due = record { waiting = false; proposal = false }
+nothing_due = record { waiting = Nothing; proposal = false }
 
-abbrev pub all_due : Due
-all_due = record { waiting = true; proposal = true }
+-- what is due where nothing was asked yet and nothing waits
+abbrev pub first_due : Due
+first_due = record { waiting = Nothing; proposal = true }
+
+-- Due are the rounds from the lower low one up to the higher end.
+abbrev pub both_waiting : Waiting → Waiting → Waiting
+both_waiting Nothing other = other
+both_waiting one Nothing = one
+both_waiting (Rounds low end) (Rounds other_low other_end) = Rounds (min low other_low) (max end other_end)
 
 abbrev pub both_due : Due → Due → Due
-both_due one other = record { waiting = one.waiting || other.waiting; proposal = one.proposal || other.proposal }
+both_due one other = record { waiting = both_waiting one.waiting other.waiting; proposal = one.proposal || other.proposal }
+
+-- a certificate was taken out of those of a round that wait, and no other certificate
+pub record IsTakenOut (event : Event) (round : ℕ) (old new : WaitersView) : Type 0 where
+  pub front : List Event
+  pub back : List Event
+  pub stood : held old round ≡ front ++ event ∷ back
+  pub left : held new round ≡ front ++ back
+  pub others : (other : ℕ) → other ≢ round → held new other ≡ held old other
+
+-- of the rounds that were due, those from this one on still are
+abbrev pub IsDueFrom : ℕ → Waiting → Waiting → Type 0
+IsDueFrom round old new = (low : ℕ) × (end : ℕ) × (old ≡ Rounds low end) × (new ≡ Rounds round end) × (low ≤ round) × (round < end)
+
+-- A certificate of some round was taken out. Then either the same is due as before, or of the rounds that were due those from that round
+-- on still are.
+abbrev pub TakesOne : Event → WaitersView → WaitersView → Due → Due → Type 0
+TakesOne event old new due later = (round : ℕ) × IsTakenOut event round old new × ((later ≡ due) ⊎ IsDueFrom round due.waiting later.waiting)
 
 -- What is due after a message: if it was new, what was due before and every question whose answer the message may change; otherwise what
 -- was due before.

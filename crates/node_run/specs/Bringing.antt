@@ -1,5 +1,5 @@
 -- What happens to a message that a frame brings.
-use Rattle.std.specs.Prelude.{◌≡◌, ◌≢◌, ◌⊎◌, Bool, true, false, List, [], ◌∷◌, ◌++◌, length, Option, Result, Ok, Err, IfErr, IsTrue, OnErr}
+use Rattle.std.specs.Prelude.{◌≡◌, ◌≢◌, ◌⊎◌, Bool, true, false, Option, Result, Ok, Err, IfErr, IsTrue, OnErr}
 use Rattle.header.specs.declared.error.CheckError.{CheckError}
 use Rattle.spec_model.specs.Words.{Author, Event}
 use Rattle.header.specs.declared.refusal.Refusal.TheVariants as refusal
@@ -8,29 +8,29 @@ use Rattle.node_io.specs.declared.rejection.Rejection.TheVariants.{Refused}
 use Rattle.node.specs.Callers.{CallerView}
 use Rattle.node_shared.specs.Home.{NodeView}
 use Rattle.sigface.specs.Scheme.{Scheme}
-use Rattle.waiter.specs.Waiting as waiting
+use Rattle.waiter.specs.Rounds.{IsWithOne, WaitersView, WaitsThere}
 use Rattle.waiter.specs.declared.waiter.TheConstants.{MAX_WAITING}
 use Rattle.wire.specs.Batches.{BatchView}
 use Rattle.wire.specs.declared.message.Message.TheVariants as message
-use Rattle.node_run.specs.Taking.{Handles, OnlyLooks}
+use Rattle.node_run.specs.Taking.{Handles, HandlesAgain, OnlyLooks}
 use Rattle.node_run.specs.declared.caller.Taken.{Taken}
 use Rattle.node_run.specs.declared.caller.Taken.TheVariants.{New, Known, Waits}
 
--- a certificate is put at the end of those that wait, unless one with its digest waits already
-pub record Enters (event : Event) (old new : List Event) : Type 0 where
-  pub again : waiting.Waits old event → new ≡ old
-  pub first : (waiting.Waits old event → ⊥) → new ≡ old ++ event ∷ []
+-- a certificate is put at the end of those of its round that wait, unless one with its digest waits there already
+pub record Enters (event : Event) (old new : WaitersView) : Type 0 where
+  pub again : WaitsThere old event → new ≡ old
+  pub first : (WaitsThere old event → ⊥) → IsWithOne old new event
 
 -- why a certificate can't wait: the node is down, an allocation failed, or the greatest number of certificates wait already, none with its
 -- digest
-abbrev pub CantWait : Event → List Event → Bool → Rejection → Type 0
+abbrev pub CantWait : Event → WaitersView → Bool → Rejection → Type 0
 CantWait event held down why =
     ((why ≡ Refused refusal.Down) × IsTrue down) ⊎ (why ≡ Refused refusal.Memory)
-    ⊎ ((why ≡ Refused refusal.MissingParents) × (waiting.Waits held event → ⊥) × (length held ≡ MAX_WAITING))
+    ⊎ ((why ≡ Refused refusal.MissingParents) × (WaitsThere held event → ⊥) × (held.count ≡ MAX_WAITING))
 
 -- The result says whether the message was a new record, or why it was refused. A message that has to wait is put among those that wait, or
 -- refused. After that the caller's seat is unchanged, except that it may have looked where the message waits.
-pub record Brings {S : Type 0} (scheme : Scheme S) (node : NodeView S) (fault : Option CheckError) (event : Event) (before now : CallerView S) (old new : List Event)
+pub record Brings {S : Type 0} (scheme : Scheme S) (node : NodeView S) (fault : Option CheckError) (event : Event) (before now : CallerView S) (old new : WaitersView)
     (result : Result Bool Rejection) : Type 0 where
   pub told : Result Taken Rejection
   pub later : CallerView S
@@ -40,6 +40,19 @@ pub record Brings {S : Type 0} (scheme : Scheme S) (node : NodeView S) (fault : 
   pub waits : (certificate : Event) → told ≡ Ok (Waits certificate)
       → (result ≢ Ok true) × (result ≡ Ok false → Enters certificate old new) × OnErr result (new ≡ old) × IfErr result (CantWait certificate old now.seat.view.down) × OnlyLooks later.seat now.seat
   pub refused : (why : Rejection) → told ≡ Err why → (result ≡ Err why) × (new ≡ old) × (now ≡ later)
+
+-- what is reported of an event that was handled: whether it was a new record, or why it was refused
+abbrev pub reported : Result Taken Rejection → Result Bool Rejection
+reported (Ok New) = Ok true
+reported (Ok other) = Ok false
+reported (Err why) = Err why
+
+-- an event that has waited was handled again, and the result reports that
+pub record BringsAgain {S : Type 0} (scheme : Scheme S) (node : NodeView S) (fault : Option CheckError) (event : Event) (before later : CallerView S)
+    (result : Result Bool Rejection) : Type 0 where
+  pub told : Result Taken Rejection
+  pub handles : HandlesAgain scheme node fault event before later told
+  pub is : result ≡ reported told
 
 -- an own batch as an event
 abbrev pub own_batch : Author → BatchView → Event

@@ -1,36 +1,63 @@
 //! Which questions the node has to be asked after a record.
 
-ghost use Rattle.std.specs.Prelude.{◌≡◌, ◌↔◌, IsTrue};
-ghost use Rattle.node_run.specs.Asking.{Leaves, nothing_due, all_due, both_due};
+ghost use Rattle.std.specs.Prelude.{◌≡◌, ◌↔◌, IsTrue, suc, true};
+ghost use Rattle.node_run.specs.Asking.{Leaves, LacksNothingBelow, nothing_due, first_due, both_due, both_waiting};
 
-use wire::{Author, Message};
+use wire::{Author, Message, Round};
+
+/// Of which rounds certificates that wait may be ready.
+#[derive(Clone, Copy)]
+pub(crate) enum Waiting {
+    /// Of none.
+    Nothing,
+    /// Of each round from the lowest on that is below the end, which may be none. Others are ready only where the floor has risen over
+    /// the lowest that waits.
+    Rounds {
+        /// The lowest of the rounds.
+        low: u64,
+        /// The round after the highest of them.
+        end: u64,
+    },
+}
+
+impl Waiting {
+    // Those of either.
+    fn and(self, other: Waiting) -> Waiting
+        ensures { result ≡ both_waiting self other }
+    {
+        match (self, other) {
+            (Waiting::Nothing, _) => other,
+            (_, Waiting::Nothing) => self,
+            (
+                Waiting::Rounds { low, end },
+                Waiting::Rounds {
+                    low: other_low,
+                    end: other_end,
+                },
+            ) => Waiting::Rounds {
+                low: low.min(other_low),
+                end: end.max(other_end),
+            },
+        }
+    }
+}
 
 /// Which questions the node has to be asked again: which of the waiting certificates are ready, and what it proposes.
 #[derive(Clone, Copy)]
 pub(crate) struct Due {
-    /// Which of the waiting certificates are ready.
-    pub(crate) waiting: bool,
+    /// Of which rounds waiting certificates may be ready.
+    pub(crate) waiting: Waiting,
     /// What the node proposes.
     pub(crate) proposal: bool,
 }
 
 impl Due {
-    /// Nothing is due.
-    pub(crate) const fn nothing() -> Due
-        ensures { result ≡ nothing_due }
+    /// What is due of a node of which nothing was asked yet: what it proposes. No certificate waits then.
+    pub(crate) const fn first() -> Due
+        ensures { result ≡ first_due }
     {
         Due {
-            waiting: false,
-            proposal: false,
-        }
-    }
-
-    /// Both questions are due, for example because nothing was asked yet.
-    pub(crate) const fn all() -> Due
-        ensures { result ≡ all_due }
-    {
-        Due {
-            waiting: true,
+            waiting: Waiting::Nothing,
             proposal: true,
         }
     }
@@ -39,7 +66,7 @@ impl Due {
     pub(crate) fn is_nothing(self) -> bool
         ensures { IsTrue result ↔ (self ≡ nothing_due) }
     {
-        !self.waiting && !self.proposal
+        matches!(self.waiting, Waiting::Nothing) && !self.proposal
     }
 
     /// What is due in either of the two.
@@ -47,36 +74,58 @@ impl Due {
         ensures { result ≡ both_due self other }
     {
         Due {
-            waiting: self.waiting || other.waiting,
+            waiting: self.waiting.and(other.waiting),
             proposal: self.proposal || other.proposal,
         }
     }
 }
 
-/// What is due after a new event of a member's node. A question that isn't due has the same answer as before the event: if the waiting
-/// certificates aren't due, no certificate entered the DAG and the floor did not move; if the proposal isn't due, no round, availability or
-/// own header changed.
+/// What is due after a new event of a member's node. A question that isn't due has the same answer as before the event: if no waiting
+/// certificates are due, no certificate entered the DAG and the floor did not move; if the proposal isn't due, no round, availability or
+/// own header changed. A certificate that enters concerns the waiting ones of its round, since its slot is filled now, and those of the
+/// next round, since it may be their parent.
 pub(crate) fn due_after(own: Author, message: &Message) -> Due
     ensures left { Leaves own message.now result }
 {
     spec_machine::sound_stays();
     match message {
         Message::Batch(batch) => Due {
-            waiting: false,
+            waiting: Waiting::Nothing,
             proposal: batch.author() == own,
         },
         Message::BatchAck(_) => Due {
-            waiting: false,
+            waiting: Waiting::Nothing,
             proposal: true,
         },
-        // The node's own vote counts on an own header at once, and a later vote may complete its certificate.
-        Message::Header(header) if header.body.author == own => Due::all(),
-        Message::Header(_) => Due::nothing(),
-        Message::Vote(_) | Message::Certificate(_) => Due::all(),
+        // No header adds a certificate.
+        Message::Header(header) => Due {
+            waiting: Waiting::Nothing,
+            proposal: header.body.author == own,
+        },
+        // A vote may complete the certificate of the own header of its round.
+        Message::Vote(vote) => certificate_due(vote.round),
+        Message::Certificate(certificate) => certificate_due(certificate.header.round),
         // A coin moves the floor, and adds no certificate.
         Message::Coin(_) => Due {
-            waiting: true,
+            waiting: Waiting::Rounds { low: 0, end: 0 },
             proposal: false,
         },
     }
 }
+
+// What is due after a certificate of this round entered.
+fn certificate_due(round: Round) -> Due
+    ensures { result ≡ record { waiting = Waiting.Rounds round (suc (suc round)); proposal = true } }
+{
+    let low = round.number();
+    Due {
+        waiting: Waiting::Rounds { low, end: low + 2 },
+        proposal: true,
+    }
+}
+
+/// Where the floor has risen over a certificate that waits, it lacks no parents, and neither does one of a lower round. So where the
+/// lowest lacks one, the floor has risen over none.
+pub(crate) fn low_ones_lack_nothing()
+    ensures { LacksNothingBelow }
+{}

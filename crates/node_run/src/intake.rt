@@ -1,20 +1,21 @@
 //! What is done with the frames.
 
 ghost use Rattle.std.specs.Prelude.{◌≡◌, ◌≢◌, [], true, false, None, Ok, IfOk, IfErr, IfSome, IfNone, OnOk, OnErr};
-ghost use Rattle.header.specs.Checks.{fault_of};
+ghost use Rattle.header.specs.Checks.{fault_of, accepts_all};
 ghost use Rattle.header.specs.Digested.{certificate_digest_in};
 ghost use Rattle.node_io.specs.Makers.{fresh_makers};
 ghost use Rattle.sigface.specs.Pair.{is_pair_signature};
 ghost use Rattle.node.specs.Callers.{StaysWith};
 ghost use Rattle.wire.specs.declared.message.Message.TheVariants as message;
-ghost use Rattle.node_run.specs.Asking.{IsDueAfter, nothing_due, all_due};
-ghost use Rattle.node_run.specs.Bringing.{Brings, CantWait, Enters, own_batch};
+ghost use Rattle.waiter.specs.Rounds.{none_waits};
+ghost use Rattle.node_run.specs.Asking.{IsDueAfter, IsTakenOut, TakesOne, nothing_due, first_due};
+ghost use Rattle.node_run.specs.Bringing.{Brings, BringsAgain, CantWait, Enters, own_batch};
 ghost use Rattle.node_run.specs.Ends.{told_of_wait};
 ghost use Rattle.node_run.specs.Taking.{IsProposed, OnlyLooks};
 
 use crate::bell::Bell;
 use crate::caller::{Caller, Taken};
-use crate::due::{Due, due_after};
+use crate::due::{Due, Waiting, due_after};
 use header::Checked;
 use node_io::{Makers, Rejection, Request, request_of};
 use sigface::{Sign, TableSeed};
@@ -22,7 +23,7 @@ use std::alloc::{AllocError, Global};
 use std::io::Write;
 use std::sync::Wait;
 use validator::Refusal;
-use waiter::{MAX_WAITING, WaitRefusal, Waiter};
+use waiter::{MAX_WAITING, WaitRefusal, Waiters};
 use wire::{Author, Batch, Message};
 
 /// Handles what frames bring.
@@ -30,7 +31,7 @@ use wire::{Author, Batch, Message};
 pub(crate) struct Intake<'n, 'a, S: Sign> {
     alloc: Global,
     caller: Caller<'n, 'a, S>,
-    waiter: Waiter,
+    waiters: Waiters,
     makers: Makers,
     pending: &'n Bell,
     // What the node has to be asked after the next record.
@@ -47,7 +48,7 @@ impl<'n, 'a, S: Sign> Intake<'n, 'a, S> {
     ) -> Result<Intake<'n, 'a, S>, AllocError>
         ensures caller { IfOk result (λ intake. intake.caller ≡ caller.entry) }
         ensures makers { IfOk result (λ intake. intake.makers ≡ fresh_makers caller.entry.setting.own caller.entry.setting.charter.workers) }
-        ensures fresh { IfOk result (λ intake. (intake.waiter ≡ []) × (intake.was_refused_memory ≡ false) × (intake.due ≡ all_due)) }
+        ensures fresh { IfOk result (λ intake. (intake.waiters ≡ none_waits) × (intake.was_refused_memory ≡ false) × (intake.due ≡ first_due)) }
     {
         let config = caller.config();
         let makers = Makers::new(alloc, config.committee(), config.own())?;
@@ -55,10 +56,10 @@ impl<'n, 'a, S: Sign> Intake<'n, 'a, S> {
         Ok(Intake {
             alloc,
             caller,
-            waiter: Waiter::new(alloc, seed),
+            waiters: Waiters::new(alloc, seed),
             makers,
             pending,
-            due: Due::all(),
+            due: Due::first(),
             was_refused_memory: false,
         })
     }
@@ -101,23 +102,27 @@ impl<'n, 'a, S: Sign> Intake<'n, 'a, S> {
             let Some(event) = self.next_ready(rt) else {
                 return;
             };
-            self.take_ready(rt, event, errors);
+            if let Err(told) = self.take_ready(rt, event) {
+                write_line(errors, told);
+            }
         }
     }
 
-    // Submits a certificate that has waited.
-    fn take_ready<R: Wait, E: Write>(&mut self, rt: &R, event: Checked, errors: &mut E)
+    // Submits a certificate that has waited. Gives whether it is a new record, after which only what it may have changed becomes due.
+    fn take_ready<R: Wait>(&mut self, rt: &R, event: Checked) -> Result<bool, Rejection>
+        ensures due { IsDueAfter self.old.caller.setting.own event.message self.old.due self.new.due result }
+        ensures waiters { self.new.waiters ≡ self.old.waiters }
+        ensures again { BringsAgain S.scheme self.old.caller.node (fault_of self.old.caller.setting.charter accepts_all event) event self.old.caller self.new.caller result }
         ensures mark { self.new.was_refused_memory ≡ self.old.was_refused_memory }
     {
-        match self.caller.take_waiting(rt, event) {
-            Ok(taken) => {
-                if matches!(taken, Taken::New) {
-                    self.due = Due::all();
-                }
-                self.pending.ring(rt);
-            }
-            Err(told) => write_line(errors, told),
+        let after = due_after(self.caller.config().own(), event.message());
+        let taken = self.caller.take_waiting(rt, event)?;
+        let is_new = matches!(taken, Taken::New);
+        if is_new {
+            self.due = self.due.and(after);
         }
+        self.pending.ring(rt);
+        Ok(is_new)
     }
 
     // Whether a frame with this body brought a new record.
@@ -148,7 +153,7 @@ impl<'n, 'a, S: Sign> Intake<'n, 'a, S> {
         ensures stays { StaysWith self.old.caller self.new.caller }
         ensures none { batch ≡ None → (result ≡ Ok false) × (self.new ≡ self.old) }
         ensures due { IfSome batch (λ given. IsDueAfter self.old.caller.setting.own (message.Batch given) self.old.due self.new.due result) }
-        ensures some { IfSome batch (λ given. Brings S.scheme self.old.caller.node (fault_of self.old.caller.setting.charter is_pair_signature (own_batch self.old.caller.setting.own given)) (own_batch self.old.caller.setting.own given) self.old.caller self.new.caller self.old.waiter self.new.waiter result) }
+        ensures some { IfSome batch (λ given. Brings S.scheme self.old.caller.node (fault_of self.old.caller.setting.charter is_pair_signature (own_batch self.old.caller.setting.own given)) (own_batch self.old.caller.setting.own given) self.old.caller self.new.caller self.old.waiters self.new.waiters result) }
     {
         match batch {
             Some(batch) => {
@@ -170,7 +175,7 @@ impl<'n, 'a, S: Sign> Intake<'n, 'a, S> {
         ensures makers { self.new.makers ≡ self.old.makers }
         ensures mark { self.new.was_refused_memory ≡ self.old.was_refused_memory }
         ensures stays { StaysWith self.old.caller self.new.caller }
-        ensures brings { Brings S.scheme self.old.caller.node (fault_of self.old.caller.setting.charter is_pair_signature (record { sender = sender; message = message })) (record { sender = sender; message = message }) self.old.caller self.new.caller self.old.waiter self.new.waiter result }
+        ensures brings { Brings S.scheme self.old.caller.node (fault_of self.old.caller.setting.charter is_pair_signature (record { sender = sender; message = message })) (record { sender = sender; message = message }) self.old.caller self.new.caller self.old.waiters self.new.waiters result }
     {
         let after = due_after(self.caller.config().own(), &message);
         match self.caller.take(rt, sender, message) {
@@ -197,56 +202,81 @@ impl<'n, 'a, S: Sign> Intake<'n, 'a, S> {
         ensures looks { OnlyLooks self.old.caller.seat self.new.caller.seat }
         ensures due { self.new.due ≡ self.old.due }
         ensures never_new { result ≢ Ok true }
-        ensures ok { OnOk result (Enters event self.old.waiter self.new.waiter) }
-        ensures err { OnErr result (self.new.waiter ≡ self.old.waiter) }
-        ensures why { IfErr result (CantWait event self.old.waiter self.new.caller.seat.view.down) }
+        ensures ok { OnOk result (Enters event self.old.waiters self.new.waiters) }
+        ensures err { OnErr result (self.new.waiters ≡ self.old.waiters) }
+        ensures why { IfErr result (CantWait event self.old.waiters self.new.caller.seat.view.down) }
     {
         if let Err(told) = self.caller.test_up() {
             return Err(told);
         }
-        match self.waiter.offer(event) {
+        match self.waiters.offer(event) {
             Ok(()) => Ok(false),
             Err(refusal) => Err(told_of_wait(refusal)),
         }
     }
 
-    // Submits what the validator proposes, if that is due. It stays due where an allocation failed, and becomes due again after a new own
-    // header. The mark of a failed allocation is set only where no event of the caller's was accepted, and stays set.
+    // Submits what the validator proposes, if that is due. It stays due where an allocation failed, and after a new own header, which adds
+    // no certificate that another one may wait for. The mark of a failed allocation is set only where no event of the caller's was
+    // accepted, and stays set.
     fn propose<R: Wait>(&mut self, rt: &R)
         ensures memory { self.new.was_refused_memory ≢ self.old.was_refused_memory → self.new.caller.seat.view.mine ≡ self.old.caller.seat.view.mine }
         ensures stays { self.old.was_refused_memory ≡ true → self.new.was_refused_memory ≡ true }
         ensures idle { self.old.due.proposal ≡ false → self.new ≡ self.old }
         ensures asked { self.old.due.proposal ≡ true → self.new.due.proposal ≡ false → IsProposed S.scheme self.old.caller.node self.old.caller self.new.caller false }
-        ensures waiting { self.old.due.waiting ≡ true → self.new.due.waiting ≡ true }
+        ensures waiting { self.new.due.waiting ≡ self.old.due.waiting }
     {
         if !self.due.proposal {
             return;
         }
         match self.caller.propose(rt) {
-            Ok(true) => {
-                self.due = Due::all();
-                self.pending.ring(rt);
-            }
+            Ok(true) => self.pending.ring(rt),
             Ok(false) => self.due.proposal = false,
             Err(AllocError) => self.was_refused_memory = true,
         }
     }
 
-    // The first waiting certificate that is ready, if that is due. It stays due until no certificate is ready.
+    // A waiting certificate that is ready, if one may be: where the floor has risen over the lowest round in which one waits, the first
+    // ready one of that round; otherwise the first of the lowest round that is due and has one. The rounds below it stop being due, and
+    // all do where no certificate is ready.
     fn next_ready<R: Wait>(&mut self, rt: &R) -> Option<Checked>
-        ensures idle { self.old.due.waiting ≡ false → (result ≡ None) × (self.new ≡ self.old) }
-        ensures some { IfSome result (λ _. self.new.due ≡ self.old.due) }
-        ensures none { IfNone result (self.new.waiter ≡ self.old.waiter) }
+        ensures idle { self.old.due.waiting ≡ Waiting.Nothing → (result ≡ None) × (self.new ≡ self.old) }
+        ensures some { IfSome result (λ event. TakesOne event self.old.waiters self.new.waiters self.old.due self.new.due) }
+        ensures none { IfNone result ((self.new.waiters ≡ self.old.waiters) × (self.new.due.waiting ≡ Waiting.Nothing)) }
         ensures proposal { self.new.due.proposal ≡ self.old.due.proposal }
         ensures mark { self.new.was_refused_memory ≡ self.old.was_refused_memory }
     {
-        if !self.due.waiting {
+        let Waiting::Rounds { low, end } = self.due.waiting else {
             return None;
+        };
+        if let Some((lowest, first)) = self.waiters.lowest() {
+            let is_due = low <= lowest && lowest < end;
+            if !is_due && self.caller.is_ready(rt, first) {
+                let found = self.ready_of(rt, lowest);
+                if found.is_some() {
+                    return found;
+                }
+            }
+            for round in low.max(lowest)..end {
+                if let Some(found) = self.ready_of(rt, round) {
+                    self.due.waiting = Waiting::Rounds { low: round, end };
+                    return Some(found);
+                }
+            }
         }
+        self.due.waiting = Waiting::Nothing;
+        None
+    }
+
+    // The first of a round that waits and is ready.
+    fn ready_of<R: Wait>(&mut self, rt: &R, round: u64) -> Option<Checked>
+        ensures due { self.new.due ≡ self.old.due }
+        ensures some { IfSome result (λ event. IsTakenOut event round self.old.waiters self.new.waiters) }
+        ensures none { IfNone result (self.new.waiters ≡ self.old.waiters) }
+        ensures mark { self.new.was_refused_memory ≡ self.old.was_refused_memory }
+    {
         let caller = &mut self.caller;
-        let found = self.waiter.next_ready(|event| caller.is_ready(rt, event));
-        self.due.waiting = found.is_some();
-        found
+        self.waiters
+            .next_ready_of(round, |event| caller.is_ready(rt, event))
     }
 }
 

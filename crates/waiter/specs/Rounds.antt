@@ -1,4 +1,4 @@
--- What waits, by round.
+-- The waiting certificates, by round.
 use Rattle.std.specs.Prelude.{◌≡◌, ◌≢◌, ◌==◌, ℕ, suc, List, [], ◌∷◌, ◌++◌, All, length, if◌then◌else◌}
 use Rattle.std.specs.BTreeMap.{is_at}
 use Rattle.std.specs.List.{sum_by}
@@ -10,7 +10,7 @@ use Rattle.wire.specs.declared.message.Message.{Message}
 use Rattle.wire.specs.declared.message.Message.TheVariants as message
 use Rattle.waiter.specs.Waiting.{Waits}
 
--- the round of an event that is a certificate
+-- the round of a certificate that waits
 abbrev pub round_of : Event → ℕ
 round_of event = on event.message
   where
@@ -18,40 +18,40 @@ round_of event = on event.message
     on (message.Certificate certificate) = certificate.header.round
     on _ = 0
 
--- those of a round that a tree has
+-- the certificates of a round in such a tree
 abbrev pub held_in : List (ℕ × List Event) → ℕ → List Event
 held_in rounds round = option_map_or (λ (events : List Event). events) (lookup (is_at (nat_cmp round)) rounds) []
 
--- what contracts see of those that wait: each round with those of it in the order of offering, and how many there are
+-- what contracts see of the waiting certificates: each round with its certificates in the order in which they came, and their number
 pub record WaitersView : Type 0 where
   pub rounds : List (ℕ × List Event)
   pub count : ℕ
 
--- those of a round
+-- the waiting certificates of a round
 abbrev pub held : WaitersView → ℕ → List Event
 held waiters round = held_in waiters.rounds round
 
--- none waits
+-- no certificate waits
 abbrev pub none_waits : WaitersView
 none_waits = record { rounds = []; count = 0 }
 
--- one of this certificate digest waits of its round
+-- a certificate of the same digest waits already
 abbrev pub WaitsThere : WaitersView → Event → Type 0
 WaitsThere waiters event = Waits (held waiters (round_of event)) event
 
--- these are held of a round, and of each other one what was
+-- one round has these certificates now, and every other round is unchanged
 abbrev pub HeldWith : (ℕ → List Event) → (ℕ → List Event) → ℕ → List Event → Type 0
 HeldWith old new round events = (other : ℕ) → new other ≡ (if other == round then events else old other)
 
--- one more waits, after the others of its round
+-- one more certificate waits, as the last of its round
 pub record IsWithOne (old new : WaitersView) (event : Event) : Type 0 where
   pub held_are : HeldWith (held old) (held new) (round_of event) (held old (round_of event) ++ event ∷ [])
   pub count : new.count ≡ suc old.count
 
--- of each round that is there one waits at least
+-- each round in the tree has at least one certificate
 abbrev pub NoneIsEmpty : List (ℕ × List Event) → Type 0
 NoneIsEmpty rounds = All (λ (events : List Event). events ≢ []) (values_of rounds)
 
--- how many wait of all rounds
+-- how many certificates wait in all rounds
 abbrev pub waiting_in : List (ℕ × List Event) → ℕ
 waiting_in rounds = sum_by (λ (events : List Event). length events) (values_of rounds)

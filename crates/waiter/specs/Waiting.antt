@@ -1,4 +1,4 @@
--- What waits, and what is ready.
+-- Which certificates wait, and which of them is ready.
 use Rattle.std.specs.Prelude.{◌≡◌, List, ◌∷◌, ◌++◌, Bool, true, false, Any}
 use Rattle.std.specs.Fn.{Mut, CalledAt}
 use Rattle.std.specs.List.{FoldsTo}
@@ -6,16 +6,16 @@ use Rattle.wire.specs.Events.{Event}
 use Rattle.header.specs.Digested.{certificate_digest_in}
 use denote.Ref.{Bor}
 
--- one of this certificate digest waits
+-- a certificate of the same digest waits already
 abbrev pub Waits : List Event → Event → Type 0
 Waits waiting event = Any (λ (other : Event). certificate_digest_in other.message ≡ certificate_digest_in event.message) waiting
 
 module _ {F : Type 0} (closure : Mut F (Bor Event × Unit {0}) Bool) where
-  -- asked of each of these in turn, the closure answers no, and is left so
+  -- asked about each of these events in turn, the closure says no
   abbrev pub AnswersNo : F → List Event → F → Type 0
   AnswersNo first events last = FoldsTo (λ before event after. CalledAt closure before event false after) first events last
 
-  -- found is the first of which the closure answers yes, and the others stay in their order
+  -- this is the first event about which the closure says yes, and the others keep their order
   pub record IsFirstReady (ready : F) (old : List Event) (found : Event) (new : List Event) : Type 0 where
     pub front : List Event
     pub back : List Event

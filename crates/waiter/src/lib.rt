@@ -1,4 +1,4 @@
-//! Certificates that wait for their parents, in the order in which they were offered, each once.
+//! Certificates that wait for their parents, in the order in which they came, each once.
 #![tactic(auto)]
 
 mod refusal;

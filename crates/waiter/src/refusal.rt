@@ -1,4 +1,4 @@
-//! Why a message doesn't wait.
+//! Why a certificate can't wait.
 
 ghost use Rattle.std.specs.Prelude.{◌≡◌};
 ghost use Rattle.waiter.specs.declared.refusal.WaitRefusal.TheVariants.{Memory};
@@ -6,13 +6,13 @@ ghost use Rattle.waiter.specs.declared.refusal.WaitRefusal.TheVariants.{Memory};
 use std::alloc::AllocFailed;
 use thiserror::Error;
 
-/// Why a message doesn't wait. Printed as its number and its name.
+/// Why a certificate can't wait. Printed as its number and its name.
 #[derive(Clone, Copy, Debug, PartialEq, Eq, Error)]
 pub enum WaitRefusal {
     /// An allocation failed.
     #[error("1 Memory")]
     Memory,
-    /// As many wait as may.
+    /// The greatest number of certificates wait already.
     #[error("2 Full")]
     Full,
     /// The message is no certificate.

@@ -16,17 +16,17 @@ use std::alloc::Global;
 use std::marker::Model;
 use wire::Digest;
 
-/// Certificates that wait, at most.
+/// How many certificates may wait.
 pub const MAX_WAITING: usize = 4_096;
 
-/// The limit in numbers.
+/// The limit as a number.
 pub fn limits_in_numbers()
     ensures waiting { MAX_WAITING ≡ 4096 }
 {}
 
-/// Certificates that wait for their parents. Contracts see them with their senders, in the order of offering.
+/// Certificates that wait for their parents. Contracts see them with their senders, in the order in which they came.
 pub struct Waiter {
-    // By the certificate digest, in the order of offering.
+    // The waiting certificates by digest, in the order in which they came.
     waiting: IndexMap<Digest, Checked, TableSeed>,
 }
 
@@ -51,7 +51,7 @@ impl Model for Waiter {
 }
 
 impl Waiter {
-    /// No certificate waits. Its table begins its hashes at the seed.
+    /// No waiting certificates. The table hashes with this seed.
     pub fn new(alloc: Global, seed: TableSeed) -> Waiter
         ensures { result ≡ [] }
     {
@@ -60,7 +60,7 @@ impl Waiter {
         }
     }
 
-    /// Lets a certificate wait, after the others. Where one of its digest waits already, that one stays alone.
+    /// Adds a certificate, as the last one. If one with its digest waits already, only that one stays.
     pub fn offer(&mut self, checked: Checked) -> Result<(), WaitRefusal>
         ensures not_a_certificate { IsErrOf result WaitRefusal.NotACertificate ↔ (certificate_digest_in checked.message ≡ None) }
         ensures full { IsErrOf result WaitRefusal.Full ↔ ((certificate_digest_in checked.message ≢ None) × (¬ Waits self.old checked) × (length self.old ≡ MAX_WAITING)) }
@@ -84,7 +84,7 @@ impl Waiter {
         Ok(())
     }
 
-    /// Whether one of a certificate's digest waits.
+    /// Whether a certificate with the same digest waits.
     pub fn has(&self, checked: &Checked) -> bool
         ensures waits { IsTrue result ↔ Waits self.now checked.now }
         ensures certificate { IsTrue result → certificate_digest_in checked.now.message ≢ None }
@@ -95,14 +95,14 @@ impl Waiter {
         }
     }
 
-    /// Whether none waits.
+    /// Whether no certificate waits.
     pub fn is_empty(&self) -> bool
         ensures { IsTrue result ↔ (self.now ≡ []) }
     {
         self.waiting.is_empty()
     }
 
-    /// The first that waits.
+    /// The first waiting certificate.
     pub fn first(&self) -> Option<&Checked>
         ensures { option_copied result ≡ slice_get self.now 0 }
     {
@@ -110,7 +110,7 @@ impl Waiter {
         Some(checked)
     }
 
-    /// Asks of each in turn whether it is ready, and takes out the first that is. It takes no memory.
+    /// Asks about each certificate in turn whether it is ready, and removes and gives the first that is. The call allocates no memory.
     pub fn next_ready<F: FnMut(&Checked) -> bool>(&mut self, ready: F) -> Option<Checked>
         requires { F.IsAlwaysCallable ready }
         ensures first { IfSome result (λ checked. IsFirstReady F.FnMut ready self.old checked self.new) }
@@ -122,7 +122,7 @@ impl Waiter {
         Some(checked)
     }
 
-    // The place of the first of which the answer is yes.
+    // The place of the first certificate for which the answer is yes.
     fn first_ready<F: FnMut(&Checked) -> bool>(&self, mut ready: F) -> Option<usize>
         requires { F.IsAlwaysCallable ready }
         ensures found { IfSome result (λ place. (checked : Event) × (asked : F) × (last : F) × (slice_get self.now place ≡ Some checked) × AnswersNo F.FnMut ready (take place self.now) asked × CalledAt F.FnMut asked checked true last) }

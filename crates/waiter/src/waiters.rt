@@ -16,12 +16,12 @@ use std::collections::BTreeMap;
 use std::marker::Model;
 use wire::Message;
 
-/// Certificates that wait for their parents, by round. So those of one round can be asked alone. Contracts see those of each round in
-/// the order of offering, and how many there are.
+/// Certificates that wait for their parents, by round, so that those of one round can be asked about alone. Contracts see those of each
+/// round, in the order in which they came, and their number.
 pub struct Waiters {
     alloc: Global,
     seed: TableSeed,
-    // No round is here without a certificate.
+    // Each round in the tree has at least one certificate.
     rounds: BTreeMap<u64, Waiter>,
     count: usize,
 }
@@ -50,7 +50,7 @@ impl Model for Waiters {
 }
 
 impl Waiters {
-    /// No certificate waits. The tables begin their hashes at the seed.
+    /// No waiting certificates. The tables hash with this seed.
     pub fn new(alloc: Global, seed: TableSeed) -> Waiters
         ensures { result ≡ none_waits }
     {
@@ -62,7 +62,7 @@ impl Waiters {
         }
     }
 
-    /// Lets a certificate wait, after the others of its round. Where one of its digest waits there already, that one stays alone.
+    /// Adds a certificate, as the last one of its round. If one with its digest waits already, only that one stays.
     pub fn offer(&mut self, checked: Checked) -> Result<(), WaitRefusal>
         ensures not_a_certificate { IsErrOf result WaitRefusal.NotACertificate ↔ (certificate_digest_in checked.message ≡ None) }
         ensures full { IsErrOf result WaitRefusal.Full ↔ ((certificate_digest_in checked.message ≢ None) × (¬ WaitsThere self.old checked) × (self.old.count ≡ MAX_WAITING)) }
@@ -88,7 +88,7 @@ impl Waiters {
         Ok(())
     }
 
-    /// The first that waits of the lowest round, with that round. It takes no memory.
+    /// The first waiting certificate of the lowest round, with that round. The call allocates no memory.
     pub fn lowest(&self) -> Option<(u64, &Checked)>
         ensures first { IfSome result (λ found. (rest : List Event) × (held self.now found.0 ≡ found.1.now ∷ rest)) }
         ensures least { IfSome result (λ found. (round : ℕ) → round < found.0 → held self.now round ≡ []) }
@@ -99,7 +99,8 @@ impl Waiters {
         Some((*round, first))
     }
 
-    /// Asks of each of a round in turn whether it is ready, and takes out the first that is. It takes no memory.
+    /// Asks about each certificate of a round in turn whether it is ready, and removes and gives the first that is. The call allocates no
+    /// memory.
     pub fn next_ready_of<F: FnMut(&Checked) -> bool>(
         &mut self,
         round: u64,
@@ -128,7 +129,7 @@ fn round_of(checked: &Checked) -> u64
     }
 }
 
-// Whether one of a certificate's digest waits of a round.
+// Whether a certificate with the same digest waits in a round.
 fn waits(rounds: &BTreeMap<u64, Waiter>, round: u64, checked: &Checked) -> bool
     ensures yes { result ≡ true → Waits (held_in rounds.now.entries round) checked.now }
     ensures no { result ≡ false → ¬ Waits (held_in rounds.now.entries round) checked.now }
@@ -140,7 +141,7 @@ fn waits(rounds: &BTreeMap<u64, Waiter>, round: u64, checked: &Checked) -> bool
     }
 }
 
-// Lets a certificate wait of its round, of which none of its digest waits. The tree is as it was where an allocation failed.
+// Adds a certificate to its round, in which none with its digest waits. If an allocation fails, the tree is as it was.
 fn add(
     alloc: Global,
     seed: TableSeed,
@@ -168,7 +169,7 @@ fn add(
     Ok(())
 }
 
-// Takes out the first of a round that is ready. A round of which none waits any more goes.
+// Removes and gives the first certificate of a round that is ready. A round without certificates is removed too.
 fn take_ready<F: FnMut(&Checked) -> bool>(
     rounds: &mut BTreeMap<u64, Waiter>,
     round: u64,

@@ -65,7 +65,8 @@ pub returns-clause-count : goal.returns-clause-count
 returns-clause-count c =
     let old = c.args.rounds.now in
     let new = c.offer-2.new.self in
-    let is : new ≡ c.args.checked ∷ [] = c.in_ok-offer.ensures.added (none_wait c.new-waiter.result c.args.checked c.new-waiter.ensures) ∙ ap (λ (l : List Event). l ++ c.args.checked ∷ []) c.new-waiter.ensures in
+    let is : new ≡ c.args.checked ∷ [] = c.in_ok-offer.ensures.added (none_wait c.new-waiter.result c.args.checked c.new-waiter.ensures)
+    ∙ ap (λ (l : List Event). l ++ c.args.checked ∷ []) c.new-waiter.ensures in
     let none : lookup (is_at (nat_cmp c.args.round)) old.entries ≡ None = sym c.in_default.ensures.value in
     let sums = sum_by-insert_entry (λ (l : List Event). length l) nat_cmp_total old.entries c.args.round new c.get_mut.ensures.ordered in
     let nothing = ap (λ o. unwrap_or (option_map (λ (l : List Event). length l) o) 0) none in
@@ -77,7 +78,8 @@ pub returns-clause-kept : goal.returns-clause-kept
 returns-clause-kept c =
     let old = c.args.rounds.now in
     let new = c.offer-2.new.self in
-    let is : new ≡ c.args.checked ∷ [] = c.in_ok-offer.ensures.added (none_wait c.new-waiter.result c.args.checked c.new-waiter.ensures) ∙ ap (λ (l : List Event). l ++ c.args.checked ∷ []) c.new-waiter.ensures in
+    let is : new ≡ c.args.checked ∷ [] = c.in_ok-offer.ensures.added (none_wait c.new-waiter.result c.args.checked c.new-waiter.ensures)
+    ∙ ap (λ (l : List Event). l ++ c.args.checked ∷ []) c.new-waiter.ensures in
     let some : new ≢ [] = subst (λ (l : List Event). l ≢ []) (sym is) (pushed_some [] c.args.checked) in
     let entries = rw c.get_mut.follows.holds-at-none at c.in_ok-insert.ensures.entries in
     subst NoneIsEmpty (sym entries) (All-values-insert_entry nat_cmp c.args.round new (λ (l : List Event). l ≢ []) old.entries c.requires.kept some)

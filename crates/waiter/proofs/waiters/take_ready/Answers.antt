@@ -1,7 +1,7 @@
-use Rattle.std.proofs.Common.{◌≡◌, ◌+◌, suc, List, [], ◌∷◌, ◌++◌, Some, None, length, refl, sym, ap, subst, ◌∙◌, length-append, arith}
+use Rattle.std.proofs.Common.{◌≡◌, ◌+◌, suc, List, [], ◌∷◌, Some, length, refl, sym, ap, subst, ◌∙◌, length-append, arith}
 use Rattle.std.specs.Prelude.{IsSome, ◌≢◌, unwrap_or, option_map}
 use Rattle.std.specs.BTreeMap.{is_at}
-use Rattle.std.specs.Map.{lookup, remove_entry, set_value, values_of}
+use Rattle.std.specs.Map.{lookup, remove_entry, set_value}
 use Rattle.std.specs.Ordering.{nat_cmp}
 use Rattle.std.proofs.lemmas.Map.Entries.{sum_by-remove_entry, sum_by-set_value}
 use Rattle.std.proofs.lemmas.Map.Steps.{set_value_same}
@@ -24,7 +24,10 @@ returns-in_err-found-clause-kept g c =
     let later = c.next_ready.new.self in
     let test = is_at (nat_cmp c.args.round) in
     let writes = c.get_mut.follows.holds later in
-    subst NoneIsEmpty (sym (writes.0 ∙ ap (set_value test old.entries) c.in_err-found.ensures.none ∙ set_value_same test old.entries c.in_ok-waiter.waiter.now (sym c.in_ok-waiter.ensures.value)))
+    let mid = (c.get_mut.follows.lender later).entries in
+    let there = sym {a = Some c.in_ok-waiter.waiter.now} c.in_ok-waiter.ensures.value in
+    subst NoneIsEmpty
+    (sym {a = mid} (writes.0 ∙ ap (set_value test old.entries) c.in_err-found.ensures.none ∙ set_value_same test old.entries c.in_ok-waiter.waiter.now there))
     c.requires.kept
 
 pub returns-in_err-found-clause-none : goal.returns-in_err-found-clause-none
@@ -33,8 +36,9 @@ returns-in_err-found-clause-none g c =
     let later = c.next_ready.new.self in
     let test = is_at (nat_cmp c.args.round) in
     let writes = c.get_mut.follows.holds later in
+    let there = sym {a = Some c.in_ok-waiter.waiter.now} c.in_ok-waiter.ensures.value in
     if_none c.from_residual-in_err-found.result
-    (writes.0 ∙ ap (set_value test old.entries) c.in_err-found.ensures.none ∙ set_value_same test old.entries c.in_ok-waiter.waiter.now (sym c.in_ok-waiter.ensures.value))
+    (writes.0 ∙ ap (set_value test old.entries) c.in_err-found.ensures.none ∙ set_value_same test old.entries c.in_ok-waiter.waiter.now there)
 
 pub returns-clause-count : goal.returns-clause-count
 returns-clause-count g c =
@@ -48,7 +52,7 @@ returns-clause-count g c =
     let first = c.in_ok-found.ensures.first in
     let before : length events ≡ length first.front + suc (length first.back) = ap (λ (l : List Event). length l) first.stood ∙ length-append first.front (c.in_ok-found.found ∷ first.back) in
     let after : length later ≡ length first.front + length first.back = ap (λ (l : List Event). length l) first.left ∙ length-append first.front first.back in
-    let sums = sum_by-set_value (λ (l : List Event). length l) test old.entries events later (sym there) in
+    let sums = sum_by-set_value (λ (l : List Event). length l) test old.entries events later (sym {a = Some events} there) in
     let whole : waiting_in mid + 1 ≡ waiting_in old.entries = let e = ap waiting_in writes.0 in omega (arith, e, before, after, sums) in
     let at_round : lookup test mid ≡ Some later = (writes.3 (subst IsSome there refl)).1 in
     let less = sum_by-remove_entry (λ (l : List Event). length l) test mid in
@@ -73,13 +77,14 @@ returns-clause-kept g c =
     let later = c.next_ready.new.self in
     let test = is_at (nat_cmp c.args.round) in
     let writes = c.get_mut.follows.holds later in
-    let gone : NoneIsEmpty (remove_entry test (c.get_mut.follows.lender later).entries) =
-    subst (λ es. NoneIsEmpty (remove_entry test es)) (sym writes.0)
+    let mid = (c.get_mut.follows.lender later).entries in
+    let gone : NoneIsEmpty (remove_entry test mid) =
+    subst (λ es. NoneIsEmpty (remove_entry test es)) (sym {a = mid} writes.0)
     (subst NoneIsEmpty (sym (removed_same test old.entries later)) (All-map-remove_entry test (λ e. e.1) (λ (l : List Event). l ≢ []) old.entries c.requires.kept)) in
     elim c.if-is_empty.branch [
       | then-is_empty+in-Some-1 w ↦ rw w.rounds-is (subst NoneIsEmpty (sym w.remove.ensures.entries) gone)
       | then-is_empty+in-None-1 w ↦ rw w.rounds-is (subst NoneIsEmpty (sym w.remove.ensures.entries) gone)
       | else-is_empty w ↦
           let some : later ≢ [] = λ none. let bad = w.if-is_empty.ensures.1 none in absurd cc in
-          rw w.rounds-is (subst NoneIsEmpty (sym writes.0) (All-values-set_value test (λ (l : List Event). l ≢ []) old.entries later c.requires.kept some))
+          rw w.rounds-is (subst NoneIsEmpty (sym {a = mid} writes.0) (All-values-set_value test (λ (l : List Event). l ≢ []) old.entries later c.requires.kept some))
     ]

@@ -1,4 +1,5 @@
-use Rattle.std.proofs.Common.{[], Ok, refl, ap, ◌∙◌}
+use Rattle.std.proofs.Common.{Ok, refl, ap, ◌∙◌}
+use Rattle.waiter.specs.Rounds.{none_waits}
 use Rattle.node_run.proofs.Brought.{brings_new, brings_known, brings_refusal, brings_waiting, waits_certificate}
 use Rattle.node_run.proofs.intake.Intake.submit.Goals as goal
 
@@ -21,4 +22,4 @@ returns-in-Err-clause-brings g c =
     brings_refusal _ _ _ _ _ c.take.new.self _ _ c.take.result c.take.ensures.handles c.in-Err.told c.in-Err.is refl
 
 pub offer-requires : goal.offer-requires
-offer-requires g c = waits_certificate _ _ _ _ _ c.take.new.self [] [] c.take.result c.take.ensures.handles c.in-Ok-Waits.event (c.in-Ok-Waits.is ∙ ap Ok c.in-Ok-Waits.field-0-is)
+offer-requires g c = waits_certificate _ _ _ _ _ c.take.new.self none_waits none_waits c.take.result c.take.ensures.handles c.in-Ok-Waits.event (c.in-Ok-Waits.is ∙ ap Ok c.in-Ok-Waits.field-0-is)

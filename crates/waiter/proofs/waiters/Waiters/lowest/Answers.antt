@@ -1,7 +1,7 @@
-use Rattle.std.proofs.Common.{◌≡◌, List, [], ◌∷◌, Some, None, sym, ap, ◌∙◌}
+use Rattle.std.proofs.Common.{◌≡◌, Some, None, sym, ap, ◌∙◌}
 use Rattle.std.specs.Prelude.{slice_get}
-use Rattle.waiter.specs.Rounds.{WaitersView, held, held_in}
-use Rattle.waiter.proofs.ByRound.{told, first_is, if_none, nothing_first, some_there}
+use Rattle.waiter.specs.Rounds.{WaitersView, held}
+use Rattle.waiter.proofs.ByRound.{told, first_is, nothing_first, some_there}
 use Rattle.waiter.proofs.waiters.Waiters.lowest.Goals as goal
 
 pub returns-in_err-first-clause-none : goal.returns-in_err-first-clause-none

@@ -1,6 +1,4 @@
-use Rattle.std.proofs.Common.{◌≡◌, ◌≤◌, None, refl, sym, ap, subst, ◌∙◌, arith}
-use Rattle.wire.specs.Events.{Event}
-use Rattle.header.specs.Digested.{certificate_digest_in}
+use Rattle.std.proofs.Common.{◌≡◌, refl, sym, ap, subst, ◌∙◌, arith}
 use Rattle.waiter.specs.declared.waiter.TheConstants.{MAX_WAITING}
 use Rattle.waiter.specs.Rounds.{WaitersView, WaitsThere, held_in}
 use Rattle.waiter.specs.Waiting.{Waits}
