@@ -152,7 +152,8 @@ module _ (configuration : List ℕ) (state : List (List ℕ)) (old : List ℕ) (
         ∙ sym (ends_with configuration (state ++ next ∷ []) front (last ++ next ∷ []) grown)
 
   -- a record that begins a group
-  whole_groups : (groups : List (List (List ℕ))) → sized_body (configuration ∷ head_record 0 ∷ []) ++ file_bytes groups ≡ (sized_body (configuration ∷ head_record 0 ∷ []) ++ in_turn (map as_written groups)) ++ 0 ∷ []
+  whole_groups : (groups : List (List (List ℕ))) → sized_body (configuration ∷ head_record 0 ∷ []) ++ file_bytes groups
+      ≡ (sized_body (configuration ∷ head_record 0 ∷ []) ++ in_turn (map as_written groups)) ++ 0 ∷ []
   whole_groups groups = sym (append_assoc (sized_body (configuration ∷ head_record 0 ∷ [])) (in_turn (map as_written groups)) (0 ∷ []))
 
   pub begins_group : packed (state ++ next ∷ []) ≡ packed state ++ (next ∷ []) ∷ [] → file_with old (next ∷ []) ≡ bytes_for 0 (configuration ∷ (state ++ next ∷ []))

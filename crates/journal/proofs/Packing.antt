@@ -189,7 +189,13 @@ numbered generation new place (configuration ∷ state) can at =
 pub head_inside : (generation : ℕ) (records : List (List ℕ)) → CanPack records → head_place records + 8 ≤ length (bytes_for generation records)
 head_inside generation [] can = absurd can
 head_inside generation (configuration ∷ state) can =
-    omega (arith, ap length (around_head generation configuration state), length-before_head configuration, length-append (before_head configuration) (to_be_bytes w64 generation ++ file_bytes (packed state)))
+    omega (
+      arith,
+      ap length (around_head generation configuration state),
+      length-before_head configuration,
+      length-append (before_head configuration)
+          (to_be_bytes w64 generation ++ file_bytes (packed state)),
+    )
 
 -- a snapshot of which another generation is written
 pub record Renumbered (old new : List ℕ) (place count generation : ℕ) : Type 0 where

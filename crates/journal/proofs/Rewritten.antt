@@ -61,7 +61,8 @@ module _ {D : Type 0} (device : Device D) where
 
   -- and their first gate is opened
   pub opens : (above : ℕ) (bytes : List ℕ) (old one two three : D) → SoFar old two (IsOlderOrNew above bytes) → device.content one ≡ 0 ∷ bytes
-      → LeavesOnly (device.content one) (device.outcome two) → TimePasses device two three → ComesBy (IsTorn 0 1) (device.outcome two) (device.outcome three) → SoFar old three (IsOlderOrNew above bytes)
+      → LeavesOnly (device.content one) (device.outcome two) → TimePasses device two three → ComesBy (IsTorn 0 1) (device.outcome two) (device.outcome three)
+      → SoFar old three (IsOlderOrNew above bytes)
   opens above bytes old one two three before content durable time comes =
       then_left old two three (IsOlderOrNew above bytes) before time
       (from_only (IsTorn 0 1) (0 ∷ bytes) (device.outcome two) (device.outcome three) (IsOlderOrNew above bytes)

@@ -1,4 +1,4 @@
--- What the bytes of a whole journal stand for: of one area, or of two, of which one is read.
+-- What the bytes of a whole journal are read as: those of one area, or of two, one of which is read.
 use Rattle.std.specs.Prelude.{◌≡◌, ◌≢◌, ◌⊎◌, ℕ, ◌+◌, ◌<◌, ◌==◌, not, nat_lt, List, [], ◌∷◌, ◌++◌, length, map, drop, slice_index, Option, Some, None}
 use Rattle.std.specs.Prelude.{Result, Ok, Err, if◌then◌else◌}
 use Rattle.std.specs.Int.{w64, from_be_bytes, to_be_bytes}
@@ -20,7 +20,7 @@ pub data Areas : Type 0 where
 
 -- ---- the generation of an area
 
--- the record of a checkpoint's head: its kind, and the generation
+-- the record of a checkpoint's head: its kind, then the generation
 abbrev pub head_record : ℕ → List ℕ
 head_record generation = HEAD ∷ to_be_bytes w64 generation
 
@@ -28,25 +28,27 @@ head_record generation = HEAD ∷ to_be_bytes w64 generation
 abbrev pub unless_zero : ℕ → Option ℕ
 unless_zero number = if number == 0 then None else Some number
 
--- the generation that the record of a head has, which is at least 1
+-- the generation in the record of a head; one that is 0 doesn't count
 unfoldable pub head_in : List ℕ → Option ℕ
 head_in bytes =
     if not (length bytes == HEAD_BYTES) then None
     else if not (slice_index bytes 0 == HEAD) then None
     else unless_zero (from_be_bytes w64 (drop 1 bytes))
 
--- the generation of an area with these records in its first group: 0 where it is a configuration alone, else that of the head after it
+-- the generation of an area by the records of its first group: 0 where that is a configuration alone, otherwise the one in the head after
+-- it
 unfoldable pub generation_of : List (List ℕ) → Option ℕ
 generation_of [] = None
 generation_of (configuration ∷ []) = option_map (λ version. 0) (shaped_version configuration)
 generation_of (configuration ∷ head ∷ []) = option_and_then (λ version. head_in head) (shaped_version configuration)
 generation_of (configuration ∷ head ∷ other ∷ others) = None
 
--- the generation of an area with these bytes after its first gate
+-- the generation of an area, by the bytes after its first gate
 abbrev pub first_generation : List ℕ → Option ℕ
 first_generation bytes = option_and_then (λ body. option_and_then generation_of (group_of body)) (body_at bytes)
 
--- what an area tells by its first group: nothing where its first gate isn't open, else its generation, or that it is damaged
+-- what the first group of an area says of its generation: None where the first gate isn't open, Some None where the group is damaged,
+-- otherwise Some of Some generation
 unfoldable pub tells : List ℕ → Option (Option ℕ)
 tells [] = None
 tells (gate ∷ []) = None
@@ -54,23 +56,23 @@ tells (gate ∷ byte ∷ rest) = if gate == CLOSED then None else Some (first_ge
 
 -- ---- the area that is read
 
--- the place from which those of an area are counted
+-- the number at which the places of an area begin to count
 abbrev pub base_of : Side → ℕ
 base_of First = 0
 base_of Second = SECOND_AREA
 
--- the other side
+-- the opposite side
 abbrev pub other_side : Side → Side
 other_side First = Second
 other_side Second = First
 
--- the two areas, of which the first one given is on this side
+-- the two areas in their order, given the one on this side and then the other
 abbrev pub pair_of : Side → List ℕ → List ℕ → Areas
 pair_of First live other = pair live other
 pair_of Second live other = pair other live
 
--- The area that is read, by what both tell: that of the greater generation among those with an open first gate, or none; or the place of
--- the first gate that is damaged, or that repeats the other's generation.
+-- Which area is read, by what the first groups of both say: of those with an open first gate the one of the greater generation, or none; or
+-- an error at the first gate that is damaged or has the other's generation.
 unfoldable pub chosen : Option (Option ℕ) → Option (Option ℕ) → Result (Option Side) ℕ
 chosen None None = Ok None
 chosen (Some None) other = Err 0
@@ -81,54 +83,54 @@ chosen None (Some (Some other)) = Ok (Some Second)
 chosen (Some (Some one)) (Some (Some other)) =
     if one == other then Err SECOND_AREA else if nat_lt other one then Ok (Some First) else Ok (Some Second)
 
--- a record of an area whose places are counted from this one
+-- a record of an area, with its place counted from `base`
 abbrev pub moved_by : ℕ → Record → Record
 moved_by base record_read = record record_read { gate = base + record_read.gate }
 
--- what an area stands for, with places counted from this one
+-- what an area is read as, with places counted from `base`
 abbrev pub moved : ℕ → Result (List Record) ℕ → Result (List Record) ℕ
 moved base (Ok records) = Ok (map (moved_by base) records)
 moved base (Err gate) = Err (base + gate)
 
--- what an area on a side stands for
+-- what the area on this side is read as
 abbrev pub stands_at : Side → List ℕ → Result (List Record) ℕ
 stands_at First bytes = stands bytes
 stands_at Second bytes = moved (base_of Second) (stands bytes)
 
--- what two areas stand for, of which this one is read
+-- what two areas are read as, by the choice between them
 abbrev pub read_from : List ℕ → List ℕ → Result (Option Side) ℕ → Result (List Record) ℕ
 read_from one other (Err place) = Err place
 read_from one other (Ok None) = Ok []
 read_from one other (Ok (Some First)) = stands_at First one
 read_from one other (Ok (Some Second)) = stands_at Second other
 
--- what the bytes of a journal stand for: the records of the area that is read, or the first place of damage
+-- what the bytes of a journal are read as: the records of the area that is read, or the first place of damage
 unfoldable pub stands_in : Areas → Result (List Record) ℕ
 stands_in (alone bytes) = stands bytes
 stands_in (pair one other) = read_from one other (chosen (tells one) (tells other))
 
 -- ---- a rewriting
 
--- an area of one byte, or whose first group is open and of a lower generation
+-- an area of one byte, or one whose first group is open and of a lower generation
 abbrev pub IsAtRest : ℕ → List ℕ → Type 0
 IsAtRest generation file = (length file ≡ 1) ⊎ ((lower : ℕ) × (tells file ≡ Some (Some lower)) × (lower < generation))
 
--- an area that tells nothing, or whose first group is open and of a lower generation
+-- an area whose first gate isn't open, or one whose first group is open and of a lower generation
 abbrev pub IsOlder : ℕ → List ℕ → Type 0
 IsOlder generation file = (tells file ≡ None) ⊎ ((lower : ℕ) × (tells file ≡ Some (Some lower)) × (lower < generation))
 
--- an older area, or these bytes after an open gate
+-- an older area, or an open gate and then these bytes
 abbrev pub IsOlderOrNew : ℕ → List ℕ → List ℕ → Type 0
 IsOlderOrNew generation bytes left = IsOlder generation left ⊎ ((gate : ℕ) × (gate ≢ CLOSED) × (left ≡ gate ∷ bytes))
 
--- the calls that leave one closed gate of an area
+-- the calls that leave one closed gate of an area and nothing after it
 abbrev pub clear_calls : List Call
 clear_calls = Wrote 0 (CLOSED ∷ []) ∷ Synced ∷ Cut 1 ∷ Synced ∷ []
 
--- the calls that write bytes after the closed gate of an area, and open it
+-- the calls that write these bytes after an area's closed gate and then open it
 abbrev pub fill_calls : List ℕ → List Call
 fill_calls bytes = Wrote 1 bytes ∷ Synced ∷ Wrote 0 (OPEN ∷ []) ∷ Synced ∷ []
 
--- the calls of a rewriting of an area to an open gate and these bytes
+-- the calls that rewrite an area to an open gate and then these bytes
 abbrev pub rewrite_calls : List ℕ → List Call
 rewrite_calls bytes = clear_calls ++ fill_calls bytes

@@ -10,27 +10,27 @@ abbrev pub number_of : Version → ℕ
 number_of First = 1
 number_of Second = 2
 
--- how many members the bytes of a configuration count
+-- the number of members that a configuration's bytes name
 abbrev pub members_in : List ℕ → ℕ
 members_in bytes = from_be_bytes w16 (slice_index bytes 12 ∷ slice_index bytes 13 ∷ [])
 
--- how many bytes the stakes of so many members have in a version
+-- how many bytes the stakes of this many members take in a version
 abbrev pub stakes_size : Version → ℕ → ℕ
 stakes_size First members = 0
 stakes_size Second members = members * STAKE_BYTES
 
--- how many bytes a configuration of so many members has in a version
+-- how many bytes the configuration of this many members takes in a version
 abbrev pub size_in : Version → ℕ → ℕ
 size_in version members = SETTINGS_BYTES + members * KEY_BYTES + stakes_size version members
 
--- bytes begin as a configuration of a version: its kind, the version's number
+-- bytes start like a configuration of a version: with its kind and the version's number
 abbrev pub has_front : Version → List ℕ → Bool
 has_front version bytes = (slice_index bytes 0 == CONFIGURATION) && (slice_index bytes 1 == number_of version)
 
--- bytes have the shape of a configuration of a version: they begin as one, and have the length that its members give
+-- bytes have the shape of a configuration of a version: its start, and the length that its number of members requires
 unfoldable pub is_configuration : Version → List ℕ → Bool
 is_configuration version bytes = has_front version bytes && (length bytes == size_in version (members_in bytes))
 
--- the version in whose shape bytes are
+-- the version of whose configurations these bytes have the shape
 abbrev pub shaped_version : List ℕ → Option Version
 shaped_version bytes = if is_configuration First bytes then Some First else if is_configuration Second bytes then Some Second else None

@@ -1,4 +1,4 @@
--- A checkpoint that is being made.
+-- A checkpoint while it is being built.
 use Rattle.std.specs.Prelude.{◌≡◌, ◌⊎◌, ℕ, ◌≤◌, List, [], ◌∷◌, ◌++◌, length, map}
 use Rattle.std.specs.Borrow.{Bor}
 use Rattle.std.specs.List.{flat_map}
@@ -7,11 +7,11 @@ use Rattle.journal.specs.Format.{sized_body, in_turn, as_written}
 use Rattle.journal.specs.Snapshot.{packed, bytes_for, CanPack, BeginsShaped, head_place}
 use Rattle.journal.specs.declared.layout.TheConstants.{OPEN, MAX_GROUP_RECORDS}
 
--- the bytes of the first group, of these groups, and then an open gate
+-- the bytes of a checkpoint's first group, then of these groups, then an open gate: all that stands before the length of the next group
 abbrev pub before_group : List ℕ → List (List (List ℕ)) → List ℕ
 before_group configuration groups = sized_body (configuration ∷ head_record 0 ∷ []) ++ (in_turn (map as_written groups) ++ OPEN ∷ [])
 
--- The last group of a state has so many records, and its length stands at this place.
+-- The last group of a state has this many records, and its length field stands at this place.
 pub record EndsIn (configuration : List ℕ) (state : List (List ℕ)) (start count : ℕ) : Type 0 where
   pub front : List (List (List ℕ))
   pub last : List (List ℕ)
@@ -19,25 +19,25 @@ pub record EndsIn (configuration : List ℕ) (state : List (List ℕ)) (start co
   pub counts : count ≡ length last
   pub at : start ≡ length (before_group configuration front)
 
--- no record of the state stands there yet: the next one begins a group
+-- no record of the state is there yet, so the next one begins a group
 pub record IsBare (state : List (List ℕ)) (start count : ℕ) : Type 0 where
   pub none : state ≡ []
   pub at : start ≡ 0
   pub full : count ≡ MAX_GROUP_RECORDS
 
--- how the groups of these records end
+-- where the last group begins, and how many records it has
 abbrev pub IsLast : List (List ℕ) → ℕ → ℕ → Type 0
 IsLast [] start count = ⊥
 IsLast (configuration ∷ state) start count = IsBare state start count ⊎ EndsIn configuration state start count
 
--- Bytes are those of a checkpoint of generation 0 after its first gate, whose last group is this one.
+-- These are the bytes of a checkpoint of generation 0 after its first gate, with this last group.
 pub record IsDraft (bytes : List ℕ) (start count : ℕ) : Type 0 where
   pub records : List (List ℕ)
   pub written : bytes ≡ bytes_for 0 records
   pub packable : CanPack records
   pub last : IsLast records start count
 
--- The same, with what a checkpoint keeps beside its bytes: where the generation stands, and how many records it has without the head.
+-- The same bytes, with what a checkpoint also keeps: the place of the generation, and the number of records without the head.
 pub record IsDraftOf (bytes : List ℕ) (place records_count start count : ℕ) : Type 0 where
   pub draft : IsDraft bytes start count
   pub shaped : BeginsShaped draft.records
@@ -45,6 +45,6 @@ pub record IsDraftOf (bytes : List ℕ) (place records_count start count : ℕ) 
   pub counts : records_count ≡ length draft.records
   pub few : records_count ≤ length bytes
 
--- the bytes of the parts of a record, one after the other
+-- the bytes of a record that is given in parts
 abbrev pub whole : List (Bor (List ℕ)) → List ℕ
 whole parts = flat_map (λ part. part.now) parts

@@ -1,4 +1,4 @@
--- What a journal on a disk is, and what a stop of the machine leaves of it.
+-- What a journal on a disk is, and what a stop of the machine may leave of it.
 use Rattle.std.specs.Prelude.{◌≡◌, ◌≢◌, ◌⊎◌, ℕ, ◌+◌, ◌-◌, ◌<◌, ◌≤◌, List, [], ◌∷◌, ◌++◌, length, take, Option, Some, Result, Ok, Err, IfOk, IfErr, IfSome}
 use Rattle.diskmodel.specs.Disk.{LeavesOnly, Device}
 use Rattle.diskmodel.specs.declared.call.Call.{Call}
@@ -13,59 +13,60 @@ use Rattle.journal.specs.declared.spare.Spare.{Spare}
 use Rattle.journal.specs.Areas.{tells, IsAtRest}
 use Rattle.journal.specs.Format.{group_bytes, kept, walk, stands, ScansTo}
 
--- the disk of a journal, to which it is written
+-- the disk to which a journal is written
 abbrev pub disk_of : {D : Type 0} → Journal D → D
 disk_of journal = journal.disk
 
--- what a journal on two disks has beside it: the other disk, and the side and the generation of the one that is written to
+-- the spare disk of a journal on two disks, with the side and the generation of the one that is written to
 abbrev pub spare_of : {D : Type 0} → Journal D → Option (Spare D)
 spare_of journal = journal.spare
 
--- the disk after a call that takes one: it is in what the call gives, or is handed back with the error
+-- the disk after a call that took it: the call's value holds it, or its error hands it back
 abbrev pub disk_after : {T D E : Type 0} → (T → D) → Result T (Failed E D) → D
 disk_after disk_in (Ok given) = disk_in given
 disk_after disk_in (Err failed) = failed.disk
 
--- A call that takes a disk, and gives it back with its answer, answers this error exactly where the disk has failed since.
+-- A call that takes a disk, and gives it back with its result, gives this error exactly where the disk has failed since.
 abbrev pub TellsFaultBack : {T D E : Type 0} → Device D → (T → D) → E → D → Result T (Failed E D) → Type 0
 TellsFaultBack device disk_in error disk result =
     IfOk result (λ given. device.faults (disk_in given) ≡ device.faults disk)
     × IfErr result (λ failed. (failed.error ≡ error → device.faults disk < device.faults failed.disk)
     × (failed.error ≢ error → device.faults failed.disk ≡ device.faults disk))
 
--- The file stands for records, and the closed gate that ends its groups is its last byte.
+-- A file is read as records, and the closed gate that ends its groups is its last byte.
 pub record EndsClosed (file : List ℕ) : Type 0 where
   pub records : List Record
   pub stands_for : stands file ≡ Ok records
   pub ends : walk 0 0 file ≡ Ok (records, length file - 1)
   pub some : 0 < length file
 
--- no group was written to a journal on two disks yet: the first group goes to the first area
+-- a journal on two disks to which no group was written yet: the first group will go to the first area
 pub record IsNewPair (live spare : List ℕ) (side : Side) (generation : ℕ) : Type 0 where
   pub empty : live ≡ CLOSED ∷ []
   pub lowest : generation ≡ 0
   pub first : side ≡ First
   pub other_short : length spare ≡ 1
 
--- Of two disks: the one that is written to tells its generation, or the pair is new; the other one is at rest and durable.
+-- Of two disks, the one that is written to has its generation in its first group, unless the pair is new; the spare is at rest and durable.
 pub record IsAlivePair {D : Type 0} (device : Device D) (live : D) (spare : Spare D) : Type 0 where
   pub of_generation : (tells (device.content live) ≡ Some (Some spare.generation)) ⊎ IsNewPair (device.content live) (device.content spare.disk) spare.side spare.generation
   pub at_rest : IsAtRest spare.generation (device.content spare.disk)
   pub durable : LeavesOnly (device.content spare.disk) (device.outcome spare.disk)
 
--- A journal that can be added to: its file ends with its closed gate and is durable, and its length is kept. Of two disks the other one is too.
+-- A journal to which can be appended: its file ends with its closed gate and is durable, and its length is known. So is the spare, if there
+-- is one.
 pub record IsAlive {D : Type 0} (device : Device D) (journal : Journal D) : Type 0 where
   pub ends_closed : EndsClosed (device.content (disk_of journal))
   pub len : journal.len ≡ length (device.content (disk_of journal))
   pub durable : LeavesOnly (device.content (disk_of journal)) (device.outcome (disk_of journal))
   pub pair : IfSome (spare_of journal) (IsAlivePair device (disk_of journal))
 
--- the calls that add a group of these records to a file of this length: it is written after the file's closed gate, and synced; then
--- that gate is opened, in a write of its own, and synced
+-- the calls that append a group of these records to a file of this length: the group is written after the file's closed gate, and synced;
+-- then the gate is opened, in a write of its own, and synced
 abbrev pub append_calls : ℕ → List (List ℕ) → List Call
 append_calls len records = Wrote len (group_bytes records) ∷ Synced ∷ Wrote (len - 1) (OPEN ∷ []) ∷ Synced ∷ []
 
--- some of these calls were made after the old ones, from the first on
+-- after the earlier calls some of these were made, the first ones first
 pub record MadeSome (calls old new : List Call) : Type 0 where
   pub made : List Call
   pub left : List Call
@@ -77,38 +78,38 @@ abbrev pub with_group : ℕ → List (List ℕ) → Result (List Record) ℕ →
 with_group gate group (Ok records) = Ok (records ++ kept gate group)
 with_group gate group (Err place) = Err place
 
--- what this file stands for, and then the records of a group whose gate is its last byte
+-- what this file is read as, and then the records of a group whose gate is its last byte
 abbrev pub stands_with : List ℕ → List (List ℕ) → Result (List Record) ℕ
 stands_with file group = with_group (length file - 1) group (stands file)
 
--- What an opening leaves of a file: one closed gate of a file of at most one byte, and otherwise the bytes up
--- to the closed gate at which reading ends.
+-- What an opening leaves of a file: one closed gate, if the file has at most one byte, and otherwise its bytes up to the closed gate at
+-- which reading ends.
 pub record IsClosedUp (file left : List ℕ) : Type 0 where
   pub short : length file < 2 → left ≡ CLOSED ∷ []
   pub long : 2 ≤ length file → (gate : ℕ) × ScansTo file gate × (left ≡ take (gate + 1) file)
 
--- what a stop leaves stands for the records of this file, or for these with the whole group
+-- what a stop leaves is read as the records of this file, or as these and then the whole group
 abbrev pub IsBeforeOrAfter : List ℕ → List (List ℕ) → List ℕ → Type 0
 IsBeforeOrAfter file group left = (stands left ≡ stands file) ⊎ (stands left ≡ stands_with file group)
 
--- both stand for records, and for the same: damaged bytes stand for none
+-- both files are read as the same records; neither is damaged
 abbrev pub HaveSameRecords : List ℕ → List ℕ → Type 0
 HaveSameRecords file left = (records : List Record) × (stands file ≡ Ok records) × (stands left ≡ Ok records)
 
--- what a stop leaves is one of these byte for byte, or stands for the records of one
+-- what a stop leaves is one of these outcomes byte for byte, or is read as the same records as one of them
 abbrev pub StandsAsOneOf : (List ℕ → Type 0) → List ℕ → Type 0
 StandsAsOneOf outcome left = outcome left ⊎ ((first : List ℕ) × outcome first × HaveSameRecords first left)
 
 -- ---- two areas
 
--- two files tell the same, and stand for the same records
+-- two files have the same generation, and are read as the same records
 abbrev pub AreSame : List ℕ → List ℕ → Type 0
 AreSame file left = (tells left ≡ tells file) × HaveSameRecords file left
 
--- what a stop leaves is one of these byte for byte, or tells and stands for the same as one that isn't damaged
+-- what a stop leaves is one of these outcomes byte for byte, or has the generation and the records of one that isn't damaged
 abbrev pub IsAsOneOf : (List ℕ → Type 0) → List ℕ → Type 0
 IsAsOneOf outcome left = outcome left ⊎ ((was : List ℕ) × outcome was × AreSame was left)
 
--- what a stop leaves is this file, or tells and stands for the same as it does
+-- what a stop leaves is this file, or has the same generation and records
 abbrev pub IsSameAs : List ℕ → List ℕ → Type 0
 IsSameAs file left = (left ≡ file) ⊎ AreSame file left

@@ -1,4 +1,4 @@
--- The records of a checkpoint, the groups in which they are written, and the bytes of these.
+-- The records of a checkpoint, the groups into which they are packed, and the bytes of these groups.
 use Rattle.std.specs.Prelude.{◌≡◌, ⊤, ℕ, ◌+◌, ◌&&◌, nat_lt, nat_le, Bool, List, [], ◌∷◌, ◌++◌, length, map, IsSome, Result, Ok, Err, if◌then◌else◌}
 use Rattle.std.specs.List.{All}
 use Rattle.journal.specs.Areas.{head_record}
@@ -9,17 +9,17 @@ use Rattle.journal.specs.declared.record.Record.{Record}
 
 -- ---- groups
 
--- a record fits a group after these
+-- a group with these records has room for one more
 abbrev pub has_room : List (List ℕ) → List ℕ → Bool
 has_room group next = nat_lt (length group) MAX_GROUP_RECORDS && nat_le (body_len group + (LENGTH_BYTES + length next)) MAX_GROUP_BYTES
 
--- records in groups, each as long as the next record allows; the first group has these records already
+-- these records packed into groups, a new one only where the next record has no room; the first group starts with the given records
 unfoldable pub packed_after : List (List ℕ) → List (List ℕ) → List (List (List ℕ))
 packed_after group [] = group ∷ []
 packed_after group (next ∷ rest) =
     if has_room group next then packed_after (group ++ next ∷ []) rest else group ∷ packed_after (next ∷ []) rest
 
--- records in groups, each as long as the next record allows
+-- records packed into groups, a new one only where the next record has no room
 unfoldable pub packed : List (List ℕ) → List (List (List ℕ))
 packed [] = []
 packed (first ∷ rest) = packed_after (first ∷ []) rest
@@ -29,7 +29,7 @@ abbrev pub checkpoint_groups : ℕ → List (List ℕ) → List (List (List ℕ)
 checkpoint_groups generation [] = []
 checkpoint_groups generation (configuration ∷ state) = (configuration ∷ head_record generation ∷ []) ∷ packed state
 
--- their bytes after the first gate
+-- the bytes of these groups after the first gate
 abbrev pub bytes_for : ℕ → List (List ℕ) → List ℕ
 bytes_for generation [] = []
 bytes_for generation (configuration ∷ state) = sized_body (configuration ∷ head_record generation ∷ []) ++ file_bytes (packed state)
@@ -40,7 +40,7 @@ bytes_for generation (configuration ∷ state) = sized_body (configuration ∷ h
 abbrev pub FitsAlone : List ℕ → Type 0
 FitsAlone bytes = FitsGroup (bytes ∷ [])
 
--- a first record, which fits a group with a head after it, and others, each of which fits a group
+-- a first record that fits a group together with a head, and other records that each fit a group
 abbrev pub CanPack : List (List ℕ) → Type 0
 CanPack [] = ⊥
 CanPack (configuration ∷ state) = FitsGroup (configuration ∷ head_record 0 ∷ []) × All FitsAlone state
@@ -56,12 +56,12 @@ without_head [] = []
 without_head (configuration ∷ []) = configuration ∷ []
 without_head (configuration ∷ head ∷ state) = configuration ∷ state
 
--- the bytes of what was read without the head, or of nothing
+-- the bytes of the records that were read, without the head; none where reading failed
 abbrev pub read_without_head : Result (List Record) ℕ → List (List ℕ)
 read_without_head (Ok records) = without_head (map (λ one. one.bytes) records)
 read_without_head (Err gate) = []
 
--- the records of a checkpoint whose bytes these are after its first gate
+-- the records of the checkpoint that has these bytes after its first gate
 unfoldable pub records_in : List ℕ → List (List ℕ)
 records_in bytes = read_without_head (stands (OPEN ∷ bytes))
 
@@ -70,8 +70,8 @@ abbrev pub head_place : List (List ℕ) → ℕ
 head_place [] = 0
 head_place (configuration ∷ state) = 13 + length configuration
 
--- Bytes are those of a checkpoint of some generation after its first gate, which has so many records without the head, and the generation
--- at this place.
+-- These are the bytes of a checkpoint of some generation after its first gate. It has this many records without the head, and its
+-- generation is at this place.
 pub record IsSnapshot (bytes : List ℕ) (place count : ℕ) : Type 0 where
   pub generation : ℕ
   pub written : bytes ≡ bytes_for generation (records_in bytes)

@@ -1,4 +1,4 @@
-//! How both areas of a journal on two disks are opened.
+//! How the two areas of a journal on two disks are opened.
 
 ghost use Rattle.std.specs.Prelude.{◌≡◌, ◌≢◌, ◌⊎◌, ◌+◌, ℕ, Some, None, Ok, Err, IfOk, IfErr, OnOk, IsErrOf, length, take};
 ghost use Rattle.diskmodel.specs.Disk.{LeavesOnly, AtEachMoment, NoneNew, TellsFault};
@@ -18,7 +18,7 @@ use crate::window::read_area;
 use diskmodel::Disk;
 use std::alloc::Global;
 
-// The bytes in front of a disk, so many at most.
+// The first bytes of a disk, at most so many.
 fn read_front<D: Disk>(alloc: Global, disk: &mut D, most: u64) -> Result<Vec<u8>, JournalError>
     ensures bytes { IfOk result (λ bytes. bytes.items ≡ take most (D.device.content disk.old)) }
     ensures content { D.device.content disk.new ≡ D.device.content disk.old }
@@ -34,7 +34,7 @@ fn read_front<D: Disk>(alloc: Global, disk: &mut D, most: u64) -> Result<Vec<u8>
     Ok(bytes)
 }
 
-// What an area tells, whose disk is durable after it.
+// What the first group of an area says of its generation (`tells`). The area's disk is durable after the call.
 fn told_by<D: Disk>(alloc: Global, disk: &mut D) -> Result<Option<Option<u64>>, JournalError>
     ensures told { IfOk result (λ told. told ≡ tells (D.device.content disk.old)) }
     ensures content { D.device.content disk.new ≡ D.device.content disk.old }
@@ -49,7 +49,7 @@ fn told_by<D: Disk>(alloc: Global, disk: &mut D) -> Result<Option<Option<u64>>, 
     Ok(tells(alloc, &bytes)?)
 }
 
-// The area that is read, by what both tell, and its generation. A new pair begins in the first one.
+// Which area is read, by what both first groups say, and its generation. A new pair begins in the first area.
 #[tactic(auto, unfolding(crate::specs::Areas::chosen))]
 fn choose(
     first: Option<Option<u64>>,
@@ -76,7 +76,7 @@ fn choose(
     }
 }
 
-// Hands the records of the area that is read to a reader, and gives the length of its file, which it leaves with a closed gate at its end.
+// Hands the records of the area that is read to a reader. The file is left with a closed gate at its end, and its length is given.
 fn open_area<D: Disk, R: Reader>(
     alloc: Global,
     side: Side,
@@ -103,7 +103,7 @@ fn open_area<D: Disk, R: Reader>(
     Ok(gate + 1)
 }
 
-// Leaves one closed gate of an area that tells nothing.
+// Leaves one closed gate of an area whose first gate isn't open.
 fn shut_area<D: Disk>(disk: &mut D) -> Result<(), JournalError>
     requires shut { tells (D.device.content disk.old) ≡ None }
     requires durable { LeavesOnly (D.device.content disk.old) (D.device.outcome disk.old) }
@@ -120,7 +120,7 @@ fn shut_area<D: Disk>(disk: &mut D) -> Result<(), JournalError>
     close_end(disk, len, 0)
 }
 
-// Leaves an area that isn't read at rest: one closed gate where it tells nothing, and else all its bytes.
+// Leaves the spare area at rest: one closed gate where its first gate isn't open, and otherwise all its bytes.
 fn rest_area<D: Disk>(disk: &mut D, shut: bool) -> Result<(), JournalError>
     requires shut { shut ≡ is_shut (D.device.content disk.old) }
     requires durable { LeavesOnly (D.device.content disk.old) (D.device.outcome disk.old) }
@@ -137,7 +137,7 @@ fn rest_area<D: Disk>(disk: &mut D, shut: bool) -> Result<(), JournalError>
     Ok(())
 }
 
-// Opens both areas, of which the one on this side is read, with this generation.
+// Opens both areas. The one on this side, of this generation, is the one that is read.
 fn settle<D: Disk, R: Reader>(
     alloc: Global,
     side: Side,
@@ -168,16 +168,16 @@ fn settle<D: Disk, R: Reader>(
     Ok(len)
 }
 
-// How both areas were opened.
+// The result of opening both areas.
 pub(crate) struct Opened {
     // The side of the area that is read, and its generation.
     pub(crate) side: Side,
     pub(crate) generation: u64,
-    // The length of its file.
+    // The length of the file that is read.
     pub(crate) len: u64,
 }
 
-// Opens both areas, of which this side is read, with this generation. Each is said to tell nothing or something.
+// Opens both areas. The one on this side, of this generation, is read; a flag for each says whether its first gate is closed.
 fn settle_side<D: Disk, R: Reader>(
     alloc: Global,
     choice: (Side, u64),
@@ -233,7 +233,7 @@ fn settle_side<D: Disk, R: Reader>(
     })
 }
 
-// Opens both areas, by what they tell.
+// Opens both areas, and chooses by their first groups which one is read.
 pub(crate) fn open_areas<D: Disk, R: Reader>(
     alloc: Global,
     first: &mut D,

@@ -2,14 +2,14 @@
 
 ghost use Rattle.std.specs.Prelude.{◌≡◌, ◌*◌, ◌≤◌, length};
 ghost use Rattle.journal.specs.Configuration.{number_of, stakes_size, size_in, has_front, is_configuration as told_configuration, shaped_version as told_version};
-ghost use Rattle.journal.specs.Areas.{head_in as told_head};
+ghost use Rattle.journal.specs.Areas.{head_in as spec_head_in};
 
 use crate::version::Version;
 
-/// The kind of a record that has a configuration.
+/// The kind of the record of a node's configuration.
 pub const CONFIGURATION: u8 = 0;
 
-/// The kind of a record that has the head of a checkpoint.
+/// The kind of the record of a checkpoint's head.
 pub const HEAD: u8 = 2;
 
 /// The bytes of a configuration before the members' keys.
@@ -24,7 +24,7 @@ pub const STAKE_BYTES: usize = 4;
 /// The bytes of a head: its kind, and the generation.
 pub const HEAD_BYTES: usize = 9;
 
-/// The version in whose shape bytes are, if they have a configuration's.
+/// The version of whose configurations these bytes have the shape, if there is one.
 pub fn shaped_version(bytes: &[u8]) -> Option<Version>
     ensures { result ≡ told_version bytes.now }
 {
@@ -37,7 +37,7 @@ pub fn shaped_version(bytes: &[u8]) -> Option<Version>
     }
 }
 
-// Whether bytes have the shape of a configuration: its kind, the version, and the length that its members give.
+// Whether bytes have the shape of a configuration: its kind, the version, and the length that its number of members requires.
 #[tactic(auto, unfolding(crate::specs::Configuration::is_configuration))]
 fn is_configuration(version: Version, bytes: &[u8]) -> bool
     ensures { result ≡ told_configuration version bytes.now }
@@ -49,7 +49,7 @@ fn is_configuration(version: Version, bytes: &[u8]) -> bool
     has_front(version, bytes) && bytes.len() == size_in(version, members)
 }
 
-// Whether bytes begin as a configuration.
+// Whether bytes start like a configuration of this version.
 fn has_front(version: Version, bytes: &[u8]) -> bool
     requires { 2 ≤ length bytes.now }
     ensures { result ≡ has_front version bytes.now }
@@ -67,14 +67,14 @@ pub fn number_of(version: Version) -> u8
     }
 }
 
-// How many bytes a configuration of so many members has.
+// How many bytes the configuration of this many members has.
 fn size_in(version: Version, members: u16) -> usize
     ensures { result ≡ size_in version members }
 {
     SETTINGS_BYTES + members as usize * KEY_BYTES + stakes_size(version, members)
 }
 
-// How many bytes the stakes of so many members have.
+// How many bytes the stakes of this many members have.
 fn stakes_size(version: Version, members: u16) -> usize
     ensures value { result ≡ stakes_size version members }
     ensures most { result ≤ members * STAKE_BYTES }
@@ -85,10 +85,11 @@ fn stakes_size(version: Version, members: u16) -> usize
     }
 }
 
-// The generation that the record of a head has.
+/// The generation in the record of a checkpoint's head, which is big-endian. None where these bytes are no head: another length, another
+/// first byte, or generation 0.
 #[tactic(auto, unfolding(crate::specs::Areas::head_in))]
-pub(crate) fn head_in(bytes: &[u8]) -> Option<u64>
-    ensures { result ≡ told_head bytes.now }
+pub fn head_in(bytes: &[u8]) -> Option<u64>
+    ensures { result ≡ spec_head_in bytes.now }
 {
     if bytes.len() != HEAD_BYTES || bytes[0] != HEAD {
         return None;

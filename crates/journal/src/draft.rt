@@ -1,4 +1,4 @@
-//! A checkpoint that is being made, a record at a time.
+//! A checkpoint that is built record by record.
 
 ghost use Rattle.std.specs.Prelude.{◌≡◌, ◌+◌, IsSome, ◌-◌, ◌<◌, ◌≤◌, ◌^◌, ◌++◌, ◌∷◌, [], ◌&&◌, nat_lt, nat_le, vec_len, length, take, drop, IfOk, OnOk, OnErr};
 ghost use Rattle.std.specs.Int.{w32, to_be_bytes};
@@ -14,13 +14,12 @@ use crate::snapshot::Snapshot;
 use std::alloc::{AllocError, Global};
 use std::marker::Model;
 
-/// A checkpoint that is being made, a record at a time. Contracts see its records so far: a configuration, and those of
-/// the state.
+/// A checkpoint that is built record by record. Contracts see its records so far: a configuration, and those of the state.
 #[derive(Drop)]
 pub struct SnapshotDraft {
-    // The bytes of a checkpoint of these records, without the first gate.
+    // The bytes of a checkpoint with these records, without the first gate.
     bytes: Vec<u8>,
-    // The place of the generation in them.
+    // The place of the generation in `bytes`.
     place: usize,
     count: u64,
     last: LastGroup,
@@ -39,7 +38,7 @@ impl Model for SnapshotDraft {
 }
 
 impl SnapshotDraft {
-    /// A checkpoint of this configuration, and no other record.
+    /// A checkpoint with this configuration and no other record.
     pub fn new(alloc: Global, configuration: &[u8]) -> Result<SnapshotDraft, AllocError>
         requires shaped { IsSome (shaped_version configuration.now) }
         requires fits { CanPack (configuration.now ∷ []) }
@@ -50,7 +49,7 @@ impl SnapshotDraft {
             bytes,
             place: 3 * LENGTH_BYTES + 1 + configuration.len(),
             count: 1,
-            // No record of the state joins the first group: it counts as full.
+            // No record of the state may join the first group, so that group counts as full.
             last: LastGroup {
                 start: 0,
                 records: MAX_GROUP_RECORDS,
@@ -58,7 +57,7 @@ impl SnapshotDraft {
         })
     }
 
-    /// Adds a record of these parts. Where memory is refused nothing has changed.
+    /// Adds a record that is given in parts. If an allocation fails, nothing has changed.
     pub fn push(&mut self, parts: &[&[u8]]) -> Result<(), AllocError>
         requires { FitsAlone (whole parts.now) }
         ensures added { OnOk result (self.new ≡ self.old ++ whole parts.now ∷ []) }
@@ -69,7 +68,7 @@ impl SnapshotDraft {
         Ok(())
     }
 
-    /// The checkpoint of its records.
+    /// Ends the draft: the checkpoint of its records.
     pub fn close(self) -> Snapshot
         ensures { result ≡ self }
     {
@@ -99,14 +98,14 @@ fn first_group(alloc: Global, configuration: &[u8]) -> Result<Vec<u8>, AllocErro
     Ok(bytes)
 }
 
-// The group that the next record may join: the place of its length, and how many records it has.
+// The group that the next record may join: the place of its length field, and how many records it has.
 #[derive(Clone, Copy)]
 struct LastGroup {
     start: usize,
     records: usize,
 }
 
-// Whether a group of so many records, with a body so long, has room for a record of this length.
+// Whether a group with so many records and a body of this length has room for a record of this length.
 fn has_room(records: usize, body: usize, len: usize) -> bool
     requires { body + (LENGTH_BYTES + len) < 2 ^ 64 }
     ensures { result ≡ (nat_lt records MAX_GROUP_RECORDS && nat_le (body + (LENGTH_BYTES + len)) MAX_GROUP_BYTES) }
@@ -114,8 +113,7 @@ fn has_room(records: usize, body: usize, len: usize) -> bool
     records < MAX_GROUP_RECORDS && body + (LENGTH_BYTES + len) <= MAX_GROUP_BYTES
 }
 
-// Adds a record of these parts to the bytes of a checkpoint: to its last group where that has room, and else in a group
-// of its own.
+// Adds a record, given in parts, to the bytes of a checkpoint: to its last group where that has room, and otherwise in a new group.
 fn put_record(
     bytes: &mut Vec<u8>,
     last: LastGroup,
@@ -142,7 +140,7 @@ fn put_record(
     }
 }
 
-// How long a record of these parts is.
+// The length of a record that is given in parts.
 fn whole_len(parts: &[&[u8]]) -> usize
     requires { length (whole parts.now) ≤ MAX_GROUP_BYTES }
     ensures { result ≡ length (whole parts.now) }
@@ -154,7 +152,7 @@ fn whole_len(parts: &[&[u8]]) -> usize
     len
 }
 
-// Adds a record to the last group, with a body so long, whose length stands at this place.
+// Adds a record to the last group, whose body has this length and whose length field is at this place.
 fn join(
     bytes: &mut Vec<u8>,
     start: usize,
@@ -168,14 +166,14 @@ fn join(
     ensures items { OnOk result (bytes.new.items ≡ take start bytes.old.items ++ (to_be_bytes w32 (body + (LENGTH_BYTES + length (whole parts.now))) ++ (drop (start + LENGTH_BYTES) (take (length bytes.old.items - 1) bytes.old.items) ++ (record_bytes (whole parts.now) ++ CLOSED ∷ [])))) }
     ensures same { OnErr result (bytes.new.items ≡ bytes.old.items) }
 {
-    // The first byte of its length takes the place of the closed gate.
+    // The record's length starts where the closed gate stands now.
     let number = (len as u32).to_be_bytes();
     put_after(bytes, number[0], &number[1..], parts)?;
     put_four(bytes, start, (body + (LENGTH_BYTES + len)) as u32);
     Ok(())
 }
 
-// Adds a record in a group of its own, whose gate it opens.
+// Adds a record as the first of a new group, and opens that group's gate.
 fn begin(bytes: &mut Vec<u8>, len: usize, parts: &[&[u8]]) -> Result<(), AllocError>
     requires some { 1 ≤ vec_len bytes.old }
     requires len { len ≡ length (whole parts.now) }
@@ -191,8 +189,8 @@ fn begin(bytes: &mut Vec<u8>, len: usize, parts: &[&[u8]]) -> Result<(), AllocEr
     put_after(bytes, OPEN, &lengths, parts)
 }
 
-// Puts a byte in the place of the closed gate at the end, and after it these bytes, a record, and a closed gate. Where
-// memory is refused the bytes are as before.
+// Replaces the closed gate at the end by one byte, and adds more bytes, a record and a closed gate. If an allocation fails, the bytes are
+// as before.
 fn put_after(
     bytes: &mut Vec<u8>,
     first: u8,
@@ -212,7 +210,7 @@ fn put_after(
     Ok(())
 }
 
-// Puts these bytes, a record and a closed gate after the others.
+// Adds these bytes, a record and a closed gate at the end.
 fn put_last(bytes: &mut Vec<u8>, lengths: &[u8], parts: &[&[u8]]) -> Result<(), AllocError>
     ensures items { OnOk result (bytes.new.items ≡ bytes.old.items ++ (lengths.now ++ (whole parts.now ++ CLOSED ∷ []))) }
     ensures kept { take (vec_len bytes.old) bytes.new.items ≡ bytes.old.items }
@@ -223,7 +221,7 @@ fn put_last(bytes: &mut Vec<u8>, lengths: &[u8], parts: &[&[u8]]) -> Result<(), 
     Ok(())
 }
 
-// Puts the parts of a record after the bytes.
+// Adds the parts of a record at the end.
 fn put_parts(bytes: &mut Vec<u8>, parts: &[&[u8]]) -> Result<(), AllocError>
     ensures items { OnOk result (bytes.new.items ≡ bytes.old.items ++ whole parts.now) }
     ensures kept { take (vec_len bytes.old) bytes.new.items ≡ bytes.old.items }
@@ -234,7 +232,7 @@ fn put_parts(bytes: &mut Vec<u8>, parts: &[&[u8]]) -> Result<(), AllocError>
     Ok(())
 }
 
-// Puts a number of four bytes in the place of those that stand there.
+// Overwrites the four bytes at this place with a number.
 fn put_four(bytes: &mut Vec<u8>, at: usize, number: u32)
     requires { at + 4 ≤ vec_len bytes.old }
     ensures { bytes.new.items ≡ take at bytes.old.items ++ (to_be_bytes w32 number ++ drop (at + 4) bytes.old.items) }

@@ -5,8 +5,8 @@ use crate::snapshot::Snapshot;
 
 /// Records that are on the disk.
 pub enum Durable {
-    /// They were appended.
+    /// A group that was appended.
     Group(Group),
-    /// They were written as a checkpoint.
+    /// A checkpoint, to which the journal was rewritten.
     Snapshot(Snapshot),
 }

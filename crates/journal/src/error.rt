@@ -1,4 +1,4 @@
-//! Why a journal could not be opened or added to.
+//! Why a journal could not be opened or appended to.
 
 ghost use Rattle.std.specs.Prelude.{◌≡◌};
 ghost use Rattle.journal.specs.declared.error.JournalError.TheVariants.{Memory, Device};
@@ -7,23 +7,22 @@ use diskmodel::DiskFault;
 use std::alloc::{AllocError, AllocFailed};
 use thiserror::Error;
 
-/// Why a journal could not be opened, or a group could not be added.
+/// Why a journal could not be opened, appended to or rewritten.
 #[derive(Clone, Copy, Debug, PartialEq, Eq, Error)]
 pub enum JournalError {
-    /// Memory was refused.
+    /// An allocation failed.
     #[error("1 Memory")]
     Memory,
     /// The disk failed.
     #[error("2 Device")]
     Device,
-    /// No whole group stands after the open gate at this place, in bytes from the front.
+    /// The open gate at this place, in bytes from the front, has no whole group after it.
     #[error("3 Damaged")]
     Damaged(u64),
-    /// The journal was made with other settings. Opening and appending never answer it: it is for
-    /// the layer that keeps settings.
+    /// The journal was made with other settings. Opening and appending never report this: it is for the layer that knows the settings.
     #[error("4 ConfigMismatch")]
     ConfigMismatch,
-    /// The journal would pass its greatest length.
+    /// The journal would exceed its greatest length.
     #[error("5 Full")]
     Full,
 }
@@ -55,7 +54,7 @@ impl<T: Drop> From<AllocFailed<T>> for JournalError {
 /// A call that failed, with the disk that it was given.
 #[derive(Debug, Drop)]
 pub struct Failed<E, D> {
-    /// Why it failed.
+    /// Why the call failed.
     pub error: E,
     /// The disk, handed back.
     pub disk: D,

@@ -9,7 +9,7 @@ use crate::layout::{CLOSED, LENGTH_BYTES, MAX_GROUP_BYTES, MAX_GROUP_RECORDS};
 use std::alloc::{AllocError, Global};
 use std::marker::Model;
 
-/// Records that are to be added together, within the limits of a group. It must be appended.
+/// Records that are to be appended together, within the limits of a group. A group can't be dropped: it has to be appended.
 pub struct Group {
     // The length of the body, the body, and the closed gate for the next group.
     bytes: Vec<u8>,
@@ -43,7 +43,7 @@ impl Group {
         Ok(Some(Group { bytes, count }))
     }
 
-    /// How many records it has.
+    /// How many records the group has.
     pub fn records_count(&self) -> u64
         ensures value { result ≡ length self.now }
         ensures fits { FitsGroup self.now }
@@ -51,8 +51,8 @@ impl Group {
         self.count
     }
 
-    /// The group that these bytes are, of so many records: the length of its body, the body, and the closed gate for the
-    /// next group.
+    /// The group with these bytes, which are the length of its body, the body, and the closed gate for the next group. It has this many
+    /// records.
     pub fn of_bytes(bytes: Vec<u8>, count: u64) -> Group
         requires { IsGroup bytes.items count }
         ensures { (records : List (List ℕ)) → FitsGroup records → bytes.items ≡ group_bytes records → result ≡ records }
@@ -68,14 +68,14 @@ impl Group {
         &self.bytes
     }
 
-    // How long it is on the disk, without its own gate, in bytes.
+    // How many bytes a group takes on the disk, without its own gate.
     pub(crate) fn written_len(&self) -> u64
         ensures { result ≡ length (group_bytes self.now) }
     {
         self.bytes.len() as u64
     }
 
-    // Spends a group.
+    // Ends a group that isn't appended.
     pub(crate) fn discard(self) {
         let Group { bytes: _, count: _ } = self;
     }
@@ -109,7 +109,7 @@ fn bytes_of(alloc: Global, records: &[Vec<u8>], len: usize) -> Result<Vec<u8>, A
     Ok(bytes)
 }
 
-// Puts the records after the bytes, each with its length before it.
+// Adds the records to the bytes, each after its length.
 fn put_body(bytes: &mut Vec<u8>, records: &[Vec<u8>]) -> Result<(), AllocError>
     requires { body_len (contents records.now) ≤ MAX_GROUP_BYTES }
     ensures { OnOk result (bytes.new.items ≡ bytes.old.items ++ body_bytes (contents records.now)) }

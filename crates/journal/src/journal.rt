@@ -29,14 +29,14 @@ use diskmodel::Disk;
 use std::alloc::Global;
 use std::marker::Model;
 
-/// The length that is kept after a failure of the disk: no journal that is alive has it.
+/// The length that is noted once the disk has failed. A journal that can be appended to never has it.
 const DEAD: u64 = 0;
 
-/// Groups of records on a disk, each of them there as a whole or not at all.
+/// Groups of records on a disk. Each group is there as a whole or not at all.
 pub struct Journal<D: Disk> {
     disk: D,
     len: u64,
-    // Of two disks, the other one.
+    // The spare disk of a journal on two disks.
     spare: Option<Spare<D>>,
 }
 
@@ -50,7 +50,8 @@ impl<D: Disk + Drop> Drop for Journal<D> {
     }
 }
 
-/// Says that records are on the disk: those of a group, or of a checkpoint without its head. Contracts see them. It must be spent.
+/// Proof that records are on the disk: those of a group, or of a checkpoint without its head. Contracts see these records. It can't be
+/// dropped, so that it is used exactly once.
 pub struct Synced {
     durable: Durable,
 }
@@ -65,7 +66,7 @@ impl Model for Synced {
 }
 
 impl Synced {
-    /// How many records they are. It spends the word that they are on the disk.
+    /// How many records are on the disk. The call consumes the value that proves it.
     pub fn records(self) -> u64
         ensures { result ≡ length self }
     {
@@ -86,8 +87,7 @@ impl Synced {
 }
 
 impl<D: Disk> Journal<D> {
-    /// Opens the journal on a disk, and gives the records of its groups from the front. A failed
-    /// call hands the disk back.
+    /// Opens the journal on a disk, and gives the records of its groups, oldest first. A failed call hands the disk back.
     pub fn open(
         alloc: Global,
         mut disk: D,
@@ -97,18 +97,18 @@ impl<D: Disk> Journal<D> {
         ensures same { IfOk result (λ opened. stands (D.device.content (disk_of opened.0)) ≡ stands (D.device.content disk)) }
         ensures content { IfOk result (λ opened. IsClosedUp (D.device.content disk) (D.device.content (disk_of opened.0))) }
 
-        // Only a failure of the disk leaves other bytes than there were.
+        // The bytes are as before unless the disk failed.
         ensures unchanged { IfErr result (λ failed. failed.error ≢ JournalError.Device → D.device.content failed.disk ≡ D.device.content disk) }
 
-        // A stop at any moment of the call leaves bytes that one before it might have left, or the records of such bytes.
-        // So durable bytes that are damaged stay as they are.
+        // What a stop at any moment of the call leaves might have been left before it, or is read as the same records. So durable bytes
+        // that are damaged stay as they are.
         ensures any_moment { AtEachMoment D.device disk (disk_after (λ opened. disk_of opened.0) result) (StandsAsOneOf (D.device.outcome disk)) }
 
         ensures damaged { IfErr result (λ failed. (gate : ℕ) → failed.error ≡ JournalError.Damaged gate → stands (D.device.content disk) ≡ Err gate) }
         ensures never_full { IfErr result (λ failed. failed.error ≢ JournalError.Full) }
         ensures never_config { IfErr result (λ failed. failed.error ≢ JournalError.ConfigMismatch) }
 
-        // It answers Device exactly where the disk has failed.
+        // The error is Device exactly where the disk has failed.
         ensures cause { TellsFaultBack D.device (λ opened. disk_of opened.0) JournalError.Device disk result }
 
         ensures alone { IfOk result (λ opened. spare_of opened.0 ≡ None) }
@@ -120,8 +120,8 @@ impl<D: Disk> Journal<D> {
         }
     }
 
-    /// Opens the journal on two disks, that of the first area and that of the second, and gives the records of the area
-    /// that is read. A failed call hands both disks back.
+    /// Opens the journal on two disks, given in the order of their areas, and gives the records of the area that is read. A failed call
+    /// hands both disks back.
     pub fn open_pair(
         alloc: Global,
         mut first: D,
@@ -130,21 +130,21 @@ impl<D: Disk> Journal<D> {
         ensures alive { IfOk result (λ opened. IsAlive D.device opened.0) }
         ensures pair { IfOk result (λ opened. IsSome (spare_of opened.0)) }
 
-        // The area of the greater generation is read. Where none has a group it is the first one, with generation 0.
+        // The area of the greater generation is read. Where neither has a group, the first area is read, with generation 0.
         ensures chosen { IfOk result (λ opened. IsChosenOf D.device first second opened.0) }
 
         ensures records { IfOk result (λ opened. stands_in (pair (D.device.content first) (D.device.content second)) ≡ Ok opened.1.items) }
         ensures same { IfOk result (λ opened. stands_in (areas_of D.device opened.0) ≡ stands_in (pair (D.device.content first) (D.device.content second))) }
 
-        // An area whose first gate is open, and that isn't read, keeps all its bytes.
+        // The area that isn't read keeps all its bytes if its first gate is open.
         ensures content { IfOk result (λ opened. AreClosedUp D.device first second opened.0) }
 
-        // Only a failure of a disk leaves other bytes than there were.
+        // The bytes are as before unless a disk failed.
         ensures first_unchanged { IfErr result (λ failed. failed.error ≢ JournalError.Device → D.device.content failed.disk.0 ≡ D.device.content first) }
         ensures second_unchanged { IfErr result (λ failed. failed.error ≢ JournalError.Device → D.device.content failed.disk.1 ≡ D.device.content second) }
 
-        // A stop at any moment of the call leaves of each disk bytes that one before it might have left, or what tells and
-        // stands for the same as such bytes.
+        // What a stop at any moment of the call leaves of each disk might have been left before it, or has the same generation and is read
+        // as the same records.
         ensures first_moment { AtEachMoment D.device first (disk_after (λ opened. disks_of opened.0) result).0 (IsAsOneOf (D.device.outcome first)) }
         ensures second_moment { AtEachMoment D.device second (disk_after (λ opened. disks_of opened.0) result).1 (IsAsOneOf (D.device.outcome second)) }
 
@@ -152,7 +152,7 @@ impl<D: Disk> Journal<D> {
         ensures never_full { IfErr result (λ failed. failed.error ≢ JournalError.Full) }
         ensures never_config { IfErr result (λ failed. failed.error ≢ JournalError.ConfigMismatch) }
 
-        // It answers Device exactly where one of both disks has failed.
+        // The error is Device exactly where one of the two disks has failed.
         ensures cause { TellsFaultsBack (faults_of_both D.device) (λ opened. disks_of opened.0) JournalError.Device (first, second) result }
     {
         let mut records = Vec::new(alloc);
@@ -165,8 +165,7 @@ impl<D: Disk> Journal<D> {
         }
     }
 
-    /// Opens the journal on what is given, one disk or two, and hands its records to a reader, group by group. A failed call hands
-    /// all of it back.
+    /// Opens the journal on one disk or on two, and hands its records to a reader, group by group. A failed call hands the disks back.
     #[tactic(auto, unfolding(crate::specs::Areas::stands_in))]
     pub fn open_store<R: Reader>(
         alloc: Global,
@@ -178,17 +177,17 @@ impl<D: Disk> Journal<D> {
         ensures same { IfOk result (λ journal. stands_in (areas_of D.device journal) ≡ stands_in (areas_in D.device store)) }
         ensures content { IfOk result (λ journal. IsOpenedOn D.device store journal) }
 
-        // Only a failure of a disk leaves other bytes than there were.
+        // The bytes are as before unless a disk failed.
         ensures unchanged { IfErr result (λ failed. failed.error ≢ JournalError.Device → areas_in D.device failed.disk ≡ areas_in D.device store) }
 
-        // It gives back as many disks as it was given, whatever the answer.
+        // The opening gives back as many disks as it was given, whatever its result.
         ensures any_moment { OpensAtEachMoment D.device store (disk_after store_of result) }
 
         ensures damaged { IfErr result (λ failed. (place : ℕ) → failed.error ≡ JournalError.Damaged place → stands_in (areas_in D.device store) ≡ Err place) }
         ensures never_full { IfErr result (λ failed. failed.error ≢ JournalError.Full) }
         ensures never_config { IfErr result (λ failed. failed.error ≢ JournalError.ConfigMismatch) }
 
-        // It answers Device exactly where one of the disks has failed.
+        // The error is Device exactly where one of the disks has failed.
         ensures cause { TellsFaultsBack (faults_in D.device) store_of JournalError.Device store result }
     {
         match store {
@@ -211,7 +210,7 @@ impl<D: Disk> Journal<D> {
         }
     }
 
-    // On a disk whose file is of this length.
+    // A journal on a disk whose file has this length.
     fn on_one(disk: D, len: u64) -> Journal<D>
         ensures disk { disk_of result ≡ disk }
         ensures len { result.len ≡ len }
@@ -224,7 +223,7 @@ impl<D: Disk> Journal<D> {
         }
     }
 
-    // On both disks, as they were opened.
+    // A journal on two disks that were opened.
     fn on_two(opened: Opened, first: D, second: D) -> Journal<D>
         ensures disk { disk_of result ≡ on_side opened.side first second }
         ensures len { result.len ≡ opened.len }
@@ -244,12 +243,12 @@ impl<D: Disk> Journal<D> {
         Journal { disk, len, spare }
     }
 
-    /// Adds a group after the others. At `Ok` it is on the disk. At `Full` nothing has changed.
-    /// At `Device` nothing can be added any more: open the disk again. It takes no memory.
+    /// Appends a group. At `Ok` it is on the disk. At `Full` nothing has changed. At `Device` nothing can be appended any more: open the
+    /// disk again. The call allocates no memory.
     pub fn append(&mut self, group: Group) -> Result<Synced, JournalError>
         requires alive { IsAlive D.device self.old }
 
-        // A new journal on two disks begins with its configuration alone.
+        // The first group of a new journal on two disks is its configuration alone.
         requires first { IsSome (spare_of self.old) → D.device.content (disk_of self.old) ≡ CLOSED ∷ [] → generation_of group ≡ Some 0 }
 
         ensures alive { OnOk result (IsAlive D.device self.new) }
@@ -257,25 +256,25 @@ impl<D: Disk> Journal<D> {
         ensures content { OnOk result (D.device.content (disk_of self.new) ≡ file_with (D.device.content (disk_of self.old)) group) }
         ensures synced { IfOk result (λ synced. synced ≡ group) }
 
-        // A stop at any moment of the call leaves the records from before it, with the whole group or without.
+        // What a stop at any moment of the call leaves is read as the earlier records, with the whole group or without it.
         ensures any_moment { AtEachMoment D.device (disk_of self.old) (disk_of self.new) (IsBeforeOrAfter (D.device.content (disk_of self.old)) group) }
 
         ensures errors { IfErr result (λ error. (error ≡ JournalError.Device) ⊎ (error ≡ JournalError.Full)) }
 
-        // It answers Device exactly where the disk has failed.
+        // The error is Device exactly where the disk has failed.
         ensures cause { TellsFault JournalError.Device (D.device.faults (disk_of self.old)) (D.device.faults (disk_of self.new)) result }
 
-        // At `Device` nothing can be added any more.
+        // After `Device` nothing can be appended any more.
         ensures dead { IsErrOf result JournalError.Device → ¬ IsAlive D.device self.new }
 
-        // The disk has made the four calls that add the group, or some of them.
+        // The disk has made the four calls that append the group, or the first ones of them.
         ensures calls { OnOk result (D.device.calls (disk_of self.new) ≡ D.device.calls (disk_of self.old) ++ append_calls (length (D.device.content (disk_of self.old))) group) }
         ensures calls_err { OnErr result (MadeSome (append_calls (length (D.device.content (disk_of self.old))) group) (D.device.calls (disk_of self.old)) (D.device.calls (disk_of self.new))) }
 
         ensures full { IsErrOf result JournalError.Full ↔ (MAX_JOURNAL_BYTES < length (D.device.content (disk_of self.old)) + length (group_bytes group)) }
         ensures unchanged { IsErrOf result JournalError.Full → self.new ≡ self.old }
 
-        // Of two disks it writes to one alone.
+        // The spare disk, if there is one, is untouched.
         ensures spare { spare_of self.new ≡ spare_of self.old }
     {
         let added = group.written_len();
@@ -294,8 +293,8 @@ impl<D: Disk> Journal<D> {
         })
     }
 
-    /// Writes a checkpoint to the area that isn't read, which is read from then on. At `Full` nothing has changed. At `Device`
-    /// nothing can be written any more: open both disks again. It takes no memory.
+    /// Writes a checkpoint to the spare area, which is read from then on. At `Full` nothing has changed. At `Device` nothing can be written
+    /// any more: open both disks again. The call allocates no memory.
     pub fn rewrite(&mut self, mut snapshot: Snapshot) -> Result<Synced, JournalError>
         requires alive { IsAlive D.device self.old }
         requires pair { IsSome (spare_of self.old) }
@@ -309,28 +308,29 @@ impl<D: Disk> Journal<D> {
         ensures records { OnOk result (stands_in (areas_of D.device self.new) ≡ stands_as (other_side (side_in self.old)) (generation_in self.old + 1) snapshot) }
         ensures synced { IfOk result (λ synced. synced ≡ snapshot) }
 
-        // A stop at any moment of the call leaves an area with which both stand for the records from before it, or for the checkpoint's.
+        // With what a stop at any moment of the call leaves of the spare area, both areas are read as the earlier records, or as the
+        // checkpoint.
         ensures any_moment { AtEachMoment D.device (spare_disk self.old) (rewritten_disk result self.new) (StandsAsOrAfter D.device self.old snapshot) }
 
-        // The other one is the same, whatever the answer.
+        // The disk that was read so far is untouched, whatever the result.
         ensures untouched { untouched_disk result self.new ≡ disk_of self.old }
 
         ensures errors { IfErr result (λ error. (error ≡ JournalError.Device) ⊎ (error ≡ JournalError.Full)) }
 
-        // It answers Device exactly where the disk that it writes has failed.
+        // The error is Device exactly where the disk that is written has failed.
         ensures cause { TellsFault JournalError.Device (D.device.faults (spare_disk self.old)) (D.device.faults (rewritten_disk result self.new)) result }
 
-        // At `Device` nothing can be written any more.
+        // After `Device` nothing can be written any more.
         ensures dead { IsErrOf result JournalError.Device → ¬ IsAlive D.device self.new }
 
-        // The disk has made the eight calls of a rewriting, or some of them.
+        // The disk has made the eight calls of a rewriting, or the first ones of them.
         ensures calls { OnOk result (D.device.calls (disk_of self.new) ≡ D.device.calls (spare_disk self.old) ++ rewrite_calls (bytes_for (generation_in self.old + 1) snapshot)) }
         ensures calls_err { OnErr result (MadeSome (rewrite_calls (bytes_for (generation_in self.old + 1) snapshot)) (D.device.calls (spare_disk self.old)) (D.device.calls (spare_disk self.new))) }
 
         ensures full { IsErrOf result JournalError.Full ↔ ((MAX_JOURNAL_BYTES < 1 + length (bytes_for (generation_in self.old + 1) snapshot)) ⊎ (generation_in self.old ≡ 2 ^ 64 - 1)) }
         ensures unchanged { IsErrOf result JournalError.Full → self.new ≡ self.old }
 
-        // It stays a journal on two disks, each on its side.
+        // The journal stays on two disks, and after an error each disk has kept its place.
         ensures keeps { OnErr result (HaveKeptPlaces self.old self.new) }
     {
         let Some(spare) = &mut self.spare else {
@@ -352,14 +352,14 @@ impl<D: Disk> Journal<D> {
         })
     }
 
-    /// Whether it is a journal on two disks.
+    /// Whether the journal is on two disks.
     pub fn is_pair(&self) -> bool
         ensures { IsTrue result ↔ IsSome (spare_of self.now) }
     {
         self.spare.is_some()
     }
 
-    /// The generation of the area that is read: how often a journal on two disks was rewritten. 0 of a journal on one disk.
+    /// The generation of the area that is read: how often a journal on two disks was rewritten. It is 0 on one disk.
     pub fn generation(&self) -> u64
         ensures { result ≡ generation_in self.now }
     {
@@ -369,7 +369,7 @@ impl<D: Disk> Journal<D> {
         }
     }
 
-    /// How long the area that is read is, in bytes.
+    /// The length of the area that is read, in bytes.
     pub fn len(&self) -> u64
         requires { IsAlive D.device self.now }
         ensures { result ≡ length (D.device.content (disk_of self.now)) }
@@ -377,7 +377,7 @@ impl<D: Disk> Journal<D> {
         self.len
     }
 
-    /// Gives both disks back, of a journal on two: that of the first area, and that of the second.
+    /// Gives both disks of a journal on two disks back, in the order of their areas.
     pub fn into_disks(self) -> (D, D)
         requires { IsSome (spare_of self) }
         ensures { result ≡ by_area (side_in self) (disk_of self) (spare_disk self) }
@@ -393,7 +393,7 @@ impl<D: Disk> Journal<D> {
         }
     }
 
-    /// Gives back what it was opened on.
+    /// Gives the disks back on which the journal was opened.
     pub fn into_store(self) -> Store<D>
         ensures { result ≡ store_of self }
     {
@@ -411,7 +411,7 @@ impl<D: Disk> Journal<D> {
         }
     }
 
-    /// Gives the disk back, of a journal on one.
+    /// Gives the disk of a journal on one disk back.
     pub fn into_disk(self) -> D
         requires { spare_of self ≡ None }
         ensures { result ≡ disk_of self }
@@ -455,7 +455,7 @@ fn write_group<D: Disk>(disk: &mut D, len: u64, group: &Group) -> Result<(), Jou
     Ok(())
 }
 
-// Hands the records on a disk to a reader, and gives the length of its file, which it leaves with a closed gate at its end.
+// Hands the records on a disk to a reader. The file is left with a closed gate at its end, and its length is given.
 fn repair<D: Disk, R: Reader>(
     alloc: Global,
     disk: &mut D,
@@ -481,7 +481,7 @@ fn repair<D: Disk, R: Reader>(
     Ok(gate + 1)
 }
 
-// Makes the closed gate at this place the end of a durable file of this length.
+// Makes the closed gate at this place the last byte of a durable file, which has this length now.
 pub(crate) fn close_end<D: Disk>(disk: &mut D, len: u64, gate: u64) -> Result<(), JournalError>
     requires len { len ≡ length (D.device.content disk.old) }
     requires found { ScansTo (D.device.content disk.old) gate }

@@ -1,4 +1,4 @@
-//! What the bytes of a journal stand for, said of all bytes.
+//! What the bytes of a journal are read as: laws for all bytes.
 
 ghost use Rattle.std.specs.Prelude.{◌≡◌, ◌↔◌, ℕ, ◌≤◌, ◌<◌, ◌^◌, List, [], ◌∷◌, ◌++◌, length, map, Ok, Err};
 ghost use Rattle.std.specs.List.{All};
@@ -11,7 +11,7 @@ ghost use Rattle.journal.specs.Format.{FitsGroup, Gated, IsOpen, in_turn, file_w
 
 use diskmodel::Disk;
 
-/// The limits and the fixed bytes of the format, in numbers.
+/// The limits and the fixed bytes of the format, as numbers.
 pub fn layout_in_numbers()
     ensures length { LENGTH_BYTES ≡ 4 }
     ensures group_records { MAX_GROUP_RECORDS ≡ 1024 }
@@ -21,29 +21,28 @@ pub fn layout_in_numbers()
     ensures opened { OPEN ≡ 1 }
 {}
 
-/// Groups after open gates, with a closed gate after the last, stand for their records, each with
-/// the place of its group's gate, whatever follows; and bytes that stand for records are such
-/// groups, but for those of at most one byte, which stand for none.
+/// Groups after open gates, with a closed gate after the last, are read as their records, each with the place of its group's gate, whatever
+/// follows. Conversely, bytes that are read as records are such groups, except that at most one byte is read as no records.
 pub fn groups_stand()
     ensures stand { (groups : List Gated) (after : List ℕ) → All IsOpen groups → stands (in_turn groups ++ CLOSED ∷ after) ≡ Ok (all_kept 0 (map (λ group. group.records) groups)) }
     ensures only { (bytes : List ℕ) (records : List Record) → AreBytes bytes → 2 ≤ length bytes → stands bytes ≡ Ok records → AreGroups bytes records }
     ensures short { (bytes : List ℕ) → length bytes < 2 → stands bytes ≡ Ok [] }
 {}
 
-/// Bytes, two or more, are damaged at a place exactly where groups after open gates end there, and an open gate
-/// there has no whole group after it.
+/// Bytes, at least two, are damaged at a place exactly where groups after open gates end there, and the open gate there has no whole group
+/// after it.
 pub fn damage_is_found()
     ensures { (bytes : List ℕ) (place : ℕ) → AreBytes bytes → (stands bytes ≡ Err place) ↔ IsDamagedAt bytes place }
 {}
 
-/// The bytes of groups within their limits, with anything after them, stand for the records of these
-/// groups, each with the place of its group's gate. To append a group is to write one group more.
+/// The bytes of groups within their limits, with anything after them, are read as the records of these groups, each with the place of its
+/// group's gate. To append a group is to write one group more.
 pub fn written_groups_stand()
     ensures stand { (groups : List (List (List ℕ))) (after : List ℕ) → All FitsGroup groups → stands (file_bytes groups ++ after) ≡ Ok (all_kept 0 groups) }
     ensures one_more { (groups : List (List (List ℕ))) (group : List (List ℕ)) → file_with (file_bytes groups) group ≡ file_bytes (groups ++ group ∷ []) }
 {}
 
-/// What two areas are left as, each by what one disk may be left as or as the same records, stands for what both disks may stand for.
+/// Two areas are together read as an outcome of both disks, if each of them is an outcome of its disk or is read as the same records.
 pub fn both_stand_as_before<D: Disk>()
     ensures { (first second : D) (left right : List ℕ) → IsAsOneOf (D.device.outcome first) left → IsAsOneOf (D.device.outcome second) right → (one : List ℕ) × (other : List ℕ) × D.device.outcome first one × D.device.outcome second other × (stands_in (pair left right) ≡ stands_in (pair one other)) }
 {}

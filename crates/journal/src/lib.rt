@@ -1,4 +1,4 @@
-//! Groups of records on a disk, each atomic at every moment.
+//! Groups of records on a disk, each of which is there as a whole or not at all, at every moment.
 #![tactic(auto)]
 
 mod areas;
@@ -22,7 +22,7 @@ mod version;
 mod window;
 
 pub use configuration::{
-    CONFIGURATION, HEAD, HEAD_BYTES, KEY_BYTES, SETTINGS_BYTES, STAKE_BYTES, number_of,
+    CONFIGURATION, HEAD, HEAD_BYTES, KEY_BYTES, SETTINGS_BYTES, STAKE_BYTES, head_in, number_of,
     shaped_version,
 };
 pub use draft::SnapshotDraft;

@@ -1,4 +1,4 @@
-//! What takes the records of a journal while it is opened.
+//! What takes the records of a journal while the journal is opened.
 
 ghost use Rattle.std.specs.Prelude.{◌≡◌, ◌++◌, [], List, OnOk};
 ghost use Rattle.std.proofs.Common.{sym, ap, ◌∙◌, append_assoc};
@@ -8,19 +8,19 @@ ghost use Rattle.journal.specs.declared.record.Record.{Record};
 use crate::record::{Record, RecordRef};
 use std::alloc::{AllocError, Global};
 
-/// What takes the records of a journal, group by group, while it is opened.
+/// What takes the records of a journal, group by group, while the journal is opened.
 pub trait Reader {
-    /// It has come from one state to another by taking these records, from the first to the last.
+    /// Taking these records, in their order, leads from one state of the reader to another.
     ghost takes: { Self → List Record → Self → Type 0 };
 
     /// Takes the records of the next group.
     fn take(&mut self, alloc: Global, group: Vec<RecordRef<'_>>) -> Result<(), AllocError>
         ensures { OnOk result (takes self.old group.entry.items self.new) };
 
-    /// It stays as it is by taking none.
+    /// Taking no records leaves the reader as it is.
     ghost takes_none: { (one : Self) → takes one [] one };
 
-    /// It takes some records, and then others.
+    /// Taking some records and then others is taking all of them.
     ghost takes_more: { (one other third : Self) (records more : List Record) → takes one records other → takes other more third → takes one (records ++ more) third };
 }
 

@@ -1,4 +1,4 @@
-//! What the bytes of a journal stand for.
+//! What the bytes of a journal are read as.
 
 ghost use Rattle.std.specs.Prelude.{◌≡◌, ◌+◌, ◌≤◌, ◌<◌, length, map, Ok, IfOk, IfErr};
 ghost use Rattle.std.specs.Option.{option_map, option_copied};
@@ -14,8 +14,8 @@ use crate::record::{Record, RecordRef};
 use crate::side::Side;
 use std::alloc::{AllocError, Global};
 
-/// What the bytes of a journal stand for: the records of the groups whose gates are open, from the
-/// front. `Damaged` names the place of an open gate with no whole group after it.
+/// The records that the bytes of a journal are read as: those of the groups with open gates, from the front. `Damaged` has the place of an
+/// open gate with no whole group after it.
 #[tactic(auto, unfolding(crate::specs::Format::stands))]
 pub fn stands(alloc: Global, bytes: &[u8]) -> Result<Vec<Record>, JournalError>
     ensures ok { IfOk result (λ records. stands bytes.now ≡ Ok records.items) }
@@ -25,7 +25,7 @@ pub fn stands(alloc: Global, bytes: &[u8]) -> Result<Vec<Record>, JournalError>
     Ok(records)
 }
 
-// The records that the bytes stand for, and the place of the closed gate that ends them.
+// The records that the bytes are read as, and the place of the closed gate that ends them.
 #[tactic(auto, unfolding(crate::specs::Format::scan))]
 pub(crate) fn scan(alloc: Global, bytes: &[u8]) -> Result<(Vec<Record>, u64), JournalError>
     ensures ok { IfOk result (λ found. scan bytes.now ≡ Ok (found.0.items, found.1)) }
@@ -37,7 +37,7 @@ pub(crate) fn scan(alloc: Global, bytes: &[u8]) -> Result<(Vec<Record>, u64), Jo
     walk(alloc, bytes)
 }
 
-// The same, from the gate at the front on.
+// The records and the place of the closed gate that ends them, for bytes that start with a gate.
 fn walk(alloc: Global, bytes: &[u8]) -> Result<(Vec<Record>, u64), JournalError>
     requires { 0 < length bytes.now }
     ensures ok { IfOk result (λ found. walk 0 0 bytes.now ≡ Ok (found.0.items, found.1)) }
@@ -46,7 +46,7 @@ fn walk(alloc: Global, bytes: &[u8]) -> Result<(Vec<Record>, u64), JournalError>
     walk_from(alloc, bytes, 0)
 }
 
-// The same, of bytes whose places are counted from this one, from which that of the closed gate is counted.
+// As `walk`, for bytes whose first place is `base`; the place of the closed gate counts from there too.
 fn walk_from(alloc: Global, bytes: &[u8], base: u64) -> Result<(Vec<Record>, u64), JournalError>
     requires some { 0 < length bytes.now }
     requires base { base ≤ SECOND_AREA }
@@ -69,8 +69,8 @@ fn walk_from(alloc: Global, bytes: &[u8], base: u64) -> Result<(Vec<Record>, u64
     Ok((records, gate as u64))
 }
 
-/// What a file of a journal with these bytes in front tells by its first group: `None` where its first gate isn't open; else its
-/// generation, or none where that group is no first group of a journal.
+/// What the first group of a file says of its generation, given the file's first bytes: `None` where its first gate isn't open,
+/// `Some(None)` where the group is damaged, and otherwise the generation.
 ///
 /// # Errors
 /// Out of memory.
@@ -84,7 +84,7 @@ pub fn tells(alloc: Global, bytes: &[u8]) -> Result<Option<Option<u64>>, AllocEr
     Ok(Some(first_generation(alloc, &bytes[1..])?))
 }
 
-// The generation of an area with these bytes after its first gate.
+// The generation of an area, by the bytes after its first gate.
 fn first_generation(alloc: Global, bytes: &[u8]) -> Result<Option<u64>, AllocError>
     ensures { IfOk result (λ generation. generation ≡ first_generation bytes.now) }
 {
@@ -97,7 +97,7 @@ fn first_generation(alloc: Global, bytes: &[u8]) -> Result<Option<u64>, AllocErr
     Ok(generation_of(&records))
 }
 
-// The generation of an area with these records in its first group.
+// The generation of an area, by the records of its first group.
 #[tactic(auto, unfolding(crate::specs::Areas::generation_of))]
 fn generation_of(records: &[RecordRef<'_>]) -> Option<u64>
     ensures { result ≡ generation_of (map (λ one. one.bytes) records.now) }
@@ -115,7 +115,7 @@ fn generation_of(records: &[RecordRef<'_>]) -> Option<u64>
     }
 }
 
-// The number in a length field at the front of the bytes.
+// The number in the length field at the front of the bytes.
 fn length_at(bytes: &[u8]) -> u32
     requires { LENGTH_BYTES ≤ length bytes.now }
     ensures { result ≡ length_field bytes.now }
@@ -124,7 +124,7 @@ fn length_at(bytes: &[u8]) -> u32
     u32::from_be_bytes([front[0], front[1], front[2], front[3]])
 }
 
-// The body after an open gate, if it and the next gate stand within the bytes.
+// The body after an open gate, if the body and the next gate are within the bytes.
 #[tactic(auto, unfolding(crate::specs::Format::body_at))]
 pub(crate) fn body_at(bytes: &[u8]) -> Option<&[u8]>
     ensures { option_copied result ≡ body_at bytes.now }
@@ -139,8 +139,7 @@ pub(crate) fn body_at(bytes: &[u8]) -> Option<&[u8]>
     Some(&bytes[LENGTH_BYTES..LENGTH_BYTES + len])
 }
 
-// The records of a body, with the place of its gate, if it is a list of whole records and not too
-// many.
+// The records of a body, with the place of its gate, if they are whole and not too many.
 #[tactic(auto, unfolding(crate::specs::Format::group_of))]
 pub(crate) fn group_of<'b>(
     alloc: Global,
@@ -158,7 +157,7 @@ pub(crate) fn group_of<'b>(
     Ok(Some(records))
 }
 
-// The records of a body, with the place of its gate, if it is a list of whole records.
+// The records of a body, with the place of its gate, if they are whole.
 fn records_of<'b>(
     alloc: Global,
     body: &'b [u8],
@@ -178,7 +177,7 @@ fn records_of<'b>(
     Ok(Some(records))
 }
 
-// The record at the front of the bytes, and the bytes after it, if it is whole.
+// The first record in the bytes and the bytes after it, if the record is whole.
 #[tactic(auto, unfolding(crate::specs::Format::split_record))]
 fn split_record(bytes: &[u8]) -> Option<(&[u8], &[u8])>
     ensures { option_map (λ parts. (parts.0.now, parts.1.now)) result ≡ split_record bytes.now }

@@ -6,18 +6,18 @@ use diskmodel::KeptBytes;
 use std::alloc::{AllocError, Global};
 use std::marker::Model;
 
-/// A record of a group that counts.
+/// A record of a group whose gate is open.
 #[derive(Debug, Drop)]
 pub struct Record {
-    /// What it says.
+    /// The bytes of the record.
     pub bytes: KeptBytes,
     /// The place of its group's gate, in bytes from the front of the journal.
     pub gate: u64,
 }
 
-/// Such a record where it was read: its bytes are those of the buffer, and no copy. Contracts see the record.
+/// A record where it was read: its bytes are borrowed from the buffer, not copied. Contracts see the record.
 pub struct RecordRef<'b> {
-    /// What it says.
+    /// The bytes of the record.
     pub bytes: &'b [u8],
     /// The place of its group's gate, in bytes from the front of the journal.
     pub gate: u64,

@@ -10,8 +10,8 @@ use crate::error::JournalError;
 use crate::layout::{CLOSED, OPEN};
 use diskmodel::Disk;
 
-/// Rewrites an area to an open gate and these bytes. A stop at any moment of the call leaves an older area, or the new one with any
-/// open gate.
+/// Rewrites an area to an open gate and these bytes. A stop at any moment of the call leaves an older area, or the new one with some open
+/// gate.
 pub(crate) fn rewrite_area<D: Disk>(disk: &mut D, bytes: &[u8]) -> Result<(), JournalError>
     requires { LeavesOnly (D.device.content disk.old) (D.device.outcome disk.old) }
     ensures content { OnOk result (D.device.content disk.new ≡ OPEN ∷ bytes.now) }
@@ -38,14 +38,14 @@ fn clear<D: Disk>(disk: &mut D) -> Result<(), JournalError>
     ensures calls_err { OnErr result (MadeSome clear_calls (D.device.calls disk.old) (D.device.calls disk.new)) }
 {
     disk.write_at(0, &[CLOSED])?;
-    // The gate has to be durable before what stands after it goes.
+    // The closed gate has to be durable before the bytes after it are cut off.
     disk.sync()?;
     disk.cut(1)?;
     disk.sync()?;
     Ok(())
 }
 
-// Writes these bytes after the closed gate of a cleared area, and opens it.
+// Writes these bytes after the closed gate of a cleared area, and opens the gate.
 fn fill<D: Disk>(disk: &mut D, bytes: &[u8]) -> Result<(), JournalError>
     requires cleared { D.device.content disk.old ≡ CLOSED ∷ [] }
     requires durable { LeavesOnly (D.device.content disk.old) (D.device.outcome disk.old) }

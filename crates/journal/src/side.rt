@@ -7,9 +7,9 @@ use crate::layout::SECOND_AREA;
 /// One of the two areas of a journal.
 #[derive(Clone, Copy, Debug, PartialEq, Eq)]
 pub enum Side {
-    /// The area on the first disk. Its places are counted from 0.
+    /// The area on the first disk. Its places count from 0.
     First,
-    /// The area on the second disk. Its places are counted from `SECOND_AREA`.
+    /// The area on the second disk. Its places count from `SECOND_AREA`.
     Second,
 }
 
@@ -17,7 +17,7 @@ impl Side {
     ghost use Rattle.journal.specs.Areas.{base_of, other_side};
     ghost use Rattle.journal.specs.Opened.{on_side, off_side};
 
-    // The other one.
+    // The opposite side.
     pub(crate) fn other(self) -> Side
         ensures { result ≡ other_side self }
     {
@@ -27,7 +27,7 @@ impl Side {
         }
     }
 
-    // The place from which those of its area are counted.
+    // The number at which the places of this side's area begin to count.
     pub(crate) fn base(self) -> u64
         ensures { result ≡ base_of self }
     {
@@ -37,7 +37,7 @@ impl Side {
         }
     }
 
-    // Of two, that of this side and then the other one.
+    // Of two values, one for each side: the one of this side, and then the other one.
     pub(crate) fn before_other<X>(self, first: X, second: X) -> (X, X)
         ensures { result ≡ (on_side self first second, off_side self first second) }
     {

@@ -21,12 +21,12 @@ use diskmodel::Disk;
 use std::alloc::{AllocError, Global};
 use std::marker::Model;
 
-/// The records of a checkpoint: a configuration, and those of the state. Contracts see them, and not the head between them, which has
-/// the generation that a journal gives. It must be spent.
+/// The records of a checkpoint: a configuration, and those of the state. Contracts see them without the head between them, since the
+/// journal chooses the generation in it. A snapshot can't be dropped.
 pub struct Snapshot {
-    // The bytes of its groups, without the first gate.
+    // The bytes of the groups, without the first gate.
     bytes: Vec<u8>,
-    // The place of the generation in them.
+    // The place of the generation in `bytes`.
     place: usize,
     count: u64,
 }
@@ -45,8 +45,7 @@ impl Model for Snapshot {
 impl Snapshot {
     ghost use Rattle.journal.specs.Snapshot.{records_in, IsSnapshot};
 
-    /// A checkpoint of these records, of which the first one is a configuration; or `None` where there is none, or one
-    /// doesn't fit a group.
+    /// A checkpoint of these records, the first of which is a configuration; `None` where there is no record, or one doesn't fit a group.
     pub fn new(alloc: Global, records: &[Vec<u8>]) -> Result<Option<Snapshot>, AllocError>
         requires { BeginsShaped (contents records.now) }
         ensures { IfOk result (λ snapshot. SomeIff snapshot (CanPack (contents records.now)) (contents records.now)) }
@@ -59,7 +58,7 @@ impl Snapshot {
         Ok(Some(draft.close()))
     }
 
-    // The checkpoint that these bytes are, with the place of the generation in them, and its number of records.
+    // The checkpoint with these bytes, the place of the generation in them, and the number of its records.
     pub(crate) fn of_bytes(bytes: Vec<u8>, place: usize, count: u64) -> Snapshot
         requires { IsSnapshot bytes.items place count }
         ensures { result ≡ records_in bytes.items }
@@ -71,15 +70,15 @@ impl Snapshot {
         }
     }
 
-    /// How many records it has, without the head.
+    /// How many records the checkpoint has, without the head.
     pub fn records_count(&self) -> u64
         ensures { result ≡ length self.now }
     {
         self.count
     }
 
-    /// What holds of it: each record fits a group, and what a journal writes of it is bytes, whatever its generation. The call does
-    /// nothing.
+    /// What holds of every snapshot: each record fits a group, and each byte of its groups is below 256, whatever the generation. The call
+    /// does nothing.
     pub fn limits_hold(&self)
         ensures packs { CanPack self.now }
         ensures are_bytes { (generation : ℕ) → AreBytes (bytes_for generation self.now) }
@@ -87,7 +86,7 @@ impl Snapshot {
         are_bytes(&self.bytes);
     }
 
-    // How long its groups are on the disk, without the first gate, in bytes.
+    // How many bytes the groups take on the disk, without the first gate.
     pub(crate) fn written_len(&self) -> u64
         ensures value { (generation : ℕ) → result ≡ length (bytes_for generation self.now) }
         ensures packs { CanPack self.now }
@@ -116,7 +115,7 @@ impl Snapshot {
         rewrite_area(disk, &self.bytes)
     }
 
-    // Spends it.
+    // Ends a snapshot that isn't written.
     pub(crate) fn discard(self) {
         let Snapshot {
             bytes: _,
@@ -126,15 +125,14 @@ impl Snapshot {
     }
 }
 
-// What holds of bytes. The call does nothing.
+// Each of these bytes is a number below 256. The call does nothing.
 fn are_bytes(bytes: &[u8])
     ensures { AreBytes bytes.now }
 {
     let _ = bytes;
 }
 
-// Whether the records can be written as a checkpoint: the first one fits a group with a head after it, and each other
-// one fits a group.
+// Whether the records can be written as a checkpoint: the first one fits a group together with a head, and each other one fits a group.
 fn can_pack(records: &[Vec<u8>]) -> bool
     ensures { IsTrue result ↔ CanPack (contents records.now) }
 {
@@ -156,7 +154,7 @@ fn fit_alone(records: &[Vec<u8>]) -> bool
     true
 }
 
-// Adds the records.
+// Adds all of the records.
 fn push_all(draft: &mut SnapshotDraft, records: &[Vec<u8>]) -> Result<(), AllocError>
     requires { All FitsAlone (contents records.now) }
     ensures { OnOk result (draft.new ≡ draft.old ++ contents records.now) }
@@ -167,7 +165,7 @@ fn push_all(draft: &mut SnapshotDraft, records: &[Vec<u8>]) -> Result<(), AllocE
     Ok(())
 }
 
-// Puts a number of eight bytes in the place of those that stand there.
+// Overwrites the eight bytes at this place with a number.
 fn put_eight(bytes: &mut Vec<u8>, at: usize, number: u64)
     requires { at + 8 ≤ vec_len bytes.old }
     ensures { bytes.new.items ≡ take at bytes.old.items ++ (to_be_bytes w64 number ++ drop (at + 8) bytes.old.items) }

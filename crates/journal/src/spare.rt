@@ -1,4 +1,4 @@
-//! What a journal on two disks has beside the one that it is written to.
+//! The spare disk of a journal on two disks.
 
 ghost use Rattle.std.specs.Prelude.{◌≡◌, ◌+◌, ◌<◌, ◌^◌, ◌++◌, ◌∷◌, IfErr, OnOk, OnErr};
 ghost use Rattle.diskmodel.specs.Disk.{LeavesOnly, AtEachMoment, TellsFault};
@@ -14,7 +14,7 @@ use crate::snapshot::Snapshot;
 use diskmodel::Disk;
 use std::mem;
 
-/// The disk of the area that isn't read, and the side and the generation of the one that is.
+/// The spare disk, whose area isn't read, and the side and the generation of the area that is.
 pub struct Spare<D: Disk> {
     pub(crate) disk: D,
     pub(crate) side: Side,
@@ -32,8 +32,8 @@ impl<D: Disk + Drop> Drop for Spare<D> {
 }
 
 impl<D: Disk> Spare<D> {
-    // Writes a checkpoint of the next generation to the area that isn't read. Where that succeeds its disk changes places with the one
-    // that was read so far.
+    // Writes a checkpoint of the next generation to the spare area. If that succeeds, the spare disk changes places with the one that was
+    // read so far.
     pub(crate) fn rewrite(
         &mut self,
         live: &mut D,
@@ -60,7 +60,7 @@ impl<D: Disk> Spare<D> {
         Ok(())
     }
 
-    // Both disks, this one and that which was read: that of the first area, and that of the second.
+    // The spare disk and the one that was read, in the order of their areas.
     pub(crate) fn into_disks(self, live: D) -> (D, D)
         ensures { result ≡ by_area self.side live self.disk }
     {

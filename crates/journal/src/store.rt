@@ -1,6 +1,6 @@
-//! What a journal is opened on.
+//! The disks on which a journal is opened.
 
-/// The disk of a journal, or both disks of one on two: that of the first area, and that of the second.
+/// The disk of a journal, or both disks in the order of their areas.
 #[derive(Debug, Drop)]
 pub enum Store<D> {
     /// One disk.

@@ -1,4 +1,4 @@
-//! Reading the groups of a file through a window on it.
+//! Reading the groups of a file through a window: the part of the file that is in memory.
 
 ghost use Rattle.std.specs.Prelude.{◌≡◌, ◌≢◌, ◌+◌, ◌<◌, ◌≤◌, [], ℕ, List, length, Ok, IfOk, IfErr, IsTrue, false, OnOk, vec_len};
 ghost use Rattle.diskmodel.specs.Disk.{TellsFault};
@@ -17,10 +17,10 @@ use crate::side::Side;
 use diskmodel::Disk;
 use std::alloc::{AllocError, Global};
 
-// A part of a file, of which the groups are read from the front.
+// A part of a file, from which groups are read, front first.
 #[derive(Drop)]
 pub(crate) struct Window {
-    // Its last bytes are the file's from the next gate on, and so many before them were read.
+    // The first `read` bytes were read already; the others are the file's, from the next gate on.
     bytes: Vec<u8>,
     read: usize,
     // The place of the next gate, and the length of the file.
@@ -29,7 +29,7 @@ pub(crate) struct Window {
 }
 
 impl Window {
-    // At the front of a file of this length. One that is longer than any memory isn't read.
+    // A window at the front of a file of this length. For a file that is longer than any memory the answer is `AllocError`.
     pub(crate) fn new(alloc: Global, len: u64) -> Result<Window, AllocError>
         requires { 0 < len }
         ensures { IfOk result (λ window. (window.gate ≡ 0) × ((file : List ℕ) → len ≡ length file → IsWindow file window)) }
@@ -104,7 +104,7 @@ impl Window {
         Ok(true)
     }
 
-    // Has the next gate and the group after it, if there is a whole one.
+    // Fetches the next gate and the group after it, if there is a whole one.
     fn reach<D: Disk>(&mut self, disk: &mut D) -> Result<(), JournalError>
         requires { IsWindow (D.device.content disk.old) self.old }
         ensures window { OnOk result (IsWindow (D.device.content disk.old) self.new) }
@@ -120,7 +120,7 @@ impl Window {
         Ok(())
     }
 
-    // Whether it has the whole next group, or all that is left of the file.
+    // Whether the window has the whole next group, or all that is left of the file.
     fn has_next(&self) -> bool
         requires within { self.now.read ≤ vec_len self.now.bytes }
         requires inside { self.now.gate ≤ self.now.len }
@@ -139,7 +139,7 @@ impl Window {
         true
     }
 
-    // Reads as many bytes from the next gate on as a group has at most, with both gates, or all that are left.
+    // Reads from the next gate on as many bytes as the longest group has with both its gates, or all that are left.
     fn fill<D: Disk>(&mut self, disk: &mut D) -> Result<(), JournalError>
         requires { IsWindow (D.device.content disk.old) self.old }
         ensures window { OnOk result (IsWindow (D.device.content disk.old) self.new) }
@@ -157,7 +157,7 @@ impl Window {
     }
 }
 
-// Reads the groups of an area on a side. Gives the place of the closed gate that ends them, and the length of the file.
+// Reads the groups of the area on this side. Gives the place of the closed gate that ends them, and the length of the file.
 pub(crate) fn read_area<D: Disk, R: Reader>(
     alloc: Global,
     side: Side,
@@ -173,7 +173,7 @@ pub(crate) fn read_area<D: Disk, R: Reader>(
 {
     let len = disk.len()?;
     if len < 2 {
-        // It has no group, whatever its byte. It is read all the same, so that an opening makes the same calls.
+        // A file of one byte has no group, whatever the byte. It is read all the same, so that every opening makes the same calls.
         let mut byte = [CLOSED; 1];
         disk.read_at(0, &mut byte[..len as usize])?;
         disk.end_reading();

@@ -1,4 +1,4 @@
--- What is told of a journal: what the definitions say of the state and the events that the bytes of its two files are read as.
+-- What a journal's summary says: the state and the events that the bytes of its two files are read as.
 use Rattle.std.specs.Prelude.{◌≡◌, ℕ, ◌==◌, ◌++◌, List, [], ◌∷◌, length, map, Result, Ok, Option, Some, None, nat_le, if◌then◌else◌}
 use Rattle.std.specs.Option.{option_and_then, option_map, option_map_or}
 use Rattle.committee.specs.Charter.{Charter}
@@ -26,40 +26,40 @@ use Rattle.journal_account.specs.declared.votes.Given.{Given}
 
 -- ---- the parts of a journal's records
 
--- the records after a head, where one stands in the group of the first record
+-- the records that follow a head, if there is one in the group of the first record
 unfoldable pub after_head : Record → List Record → Option (List Record)
 after_head first [] = None
 after_head first (second ∷ rest) = if second.gate == first.gate then Some rest else None
 
--- the records of events: those after the first group, and after those of a checkpoint's state
+-- the records of events: those that follow the first group, and follow the records of a checkpoint's state where there is one
 unfoldable pub events_in : List Record → List Record
 events_in [] = []
 events_in (first ∷ rest) = option_map_or events_part (after_head first rest) rest
 
--- the state with which a journal begins, by the records after the configuration: that of a checkpoint, or the fresh one
+-- the state with which a journal begins, by the records that follow the configuration: a checkpoint's, or the fresh one
 unfoldable pub base_of : Node → Record → List Record → Result State ℕ
 base_of node first rest = option_map_or (λ records. read_state node first (state_part records)) (after_head first rest) (Ok (fresh node))
 
--- the same of all records, or why they are none of the node's
+-- the state with which a journal begins, by all its records, or why they aren't the node's
 unfoldable pub base_in : Node → List Record → Result State JournalError
 base_in node [] = Ok (fresh node)
 base_in node (first ∷ rest) = unless (own_fault node first) (base_of node first rest)
 
--- the generation of the checkpoint with which records begin, if they begin with one
+-- the generation of the checkpoint with which the records begin, if they do
 unfoldable pub generation_in : List Record → Option ℕ
 generation_in [] = None
 generation_in (first ∷ []) = None
 generation_in (first ∷ second ∷ rest) = if second.gate == first.gate then head_in second.bytes else None
 
--- the file in which records are, by the place of the first one
+-- the side of the file from which the records are, which the place of the first one shows
 unfoldable pub side_in : List Record → Side
 side_in [] = sides.First
 side_in (first ∷ rest) = if nat_le SECOND_AREA first.gate then sides.Second else sides.First
 
 -- ---- what the bytes are read as
 
--- The bytes of a journal are read as a state and events after it: its records begin with the state and have these events, each is new, and
--- they lead to what the bytes stand for, which is no other state; an opening finds that.
+-- The bytes of a journal are read as a state and later events: the records begin with that state and have these events, each of which is
+-- new. The bytes stand for the state after them and for no other, and an opening finds that state.
 pub record IsReadAs (node : Node) (areas : Areas) (base : State) (events : History) : Type 0 where
   pub records : List Record
   pub stand : stands_in areas ≡ Ok records
@@ -70,16 +70,16 @@ pub record IsReadAs (node : Node) (areas : Areas) (base : State) (events : Histo
   pub one_state : (other : State) → StandsFor node areas other → other ≡ after_all node base events
   pub is_told : decoded_in node areas ≡ Ok (after_all node base events)
 
--- so they are, and tables stand at the state to which the events lead
+-- areas are read as a state and the events after it, and the tables hold the state after these events
 pub record IsReadAt (node : Node) (areas : Areas) (tables : Tables) : Type 0 where
   pub base : State
   pub events : History
   pub read_as : IsReadAs node areas base events
   pub at : AreAtSound node tables (after_all node base events)
 
--- ---- what is told
+-- ---- what a summary has
 
--- these numbers are those of the state and the events that a journal is read as
+-- the numbers in this summary are those of the state and the events that a journal is read as
 pub record Sums (node : Node) (areas : Areas) (summary : Summary) : Type 0 where
   pub base : State
   pub events : History
@@ -90,34 +90,34 @@ pub record Sums (node : Node) (areas : Areas) (summary : Summary) : Type 0 where
   pub floor : summary.floor ≡ floor_in node (after_all node base events)
   pub checkpoint : summary.checkpoint ≡ option_map (λ generation. (generation, side_in read_as.records)) (generation_in read_as.records)
 
--- the vote that a header stands for: each header that is taken is voted for, an own one too
+-- the vote that a header stands for: the node votes for each header that it takes, its own included
 abbrev pub given_to : Header → Given
 given_to header = record { author = header.body.author; round = header.body.round; digest = header_digest header.body }
 
--- the vote that an event gives
+-- the vote that the node gave at an event, if the event is a header
 abbrev pub given_by : Event → Option Given
 given_by event = option_map given_to (as_header event.message)
 
--- the vote that a record's event gives
+-- the vote that the node gave at the event of a record
 abbrev pub given_in : Charter → Record → Option Given
 given_in charter one = option_and_then given_by (event_in charter one.bytes)
 
--- the vote that a checkpoint says for another's header, and that of an own header
+-- the vote for another's header as a checkpoint has it, and the vote for an own header
 abbrev pub given_for : KeptVote → Given
 given_for vote = record { author = record { 0 = vote.author }; round = vote.round; digest = vote.header }
 
 abbrev pub given_as : KeptHeader → Given
 given_as voted = given_to voted.header
 
--- these are the votes that the checkpoint of a state says, those for others first
+-- these are the votes in the checkpoint of a state, first those for others' headers
 pub record AreKeptVotes (node : Node) (state : State) (votes : List Given) : Type 0 where
   pub checkpoint : Checkpoint
   pub written : IsWritten node checkpoint
   pub is : state_in node checkpoint ≡ state
   pub are : votes ≡ map given_for checkpoint.votes ++ map given_as checkpoint.headers
 
--- these are the votes of the state and the events that a journal is read as: those that the state has, and then those that the events gave,
--- in that order
+-- these are the votes of the state and the events that a journal is read as: first those of the state, then those given at the events, in
+-- their order
 pub record AreVotes (node : Node) (areas : Areas) (votes : List Given) : Type 0 where
   pub base : State
   pub events : History
@@ -126,7 +126,7 @@ pub record AreVotes (node : Node) (areas : Areas) (votes : List Given) : Type 0 
   pub of_base : AreKeptVotes node base kept
   pub are : votes ≡ kept ++ map given_to (headers events)
 
--- these digests are the order of the state to which the events lead that a journal is read as
+-- these digests are the order after the state and the events that a journal is read as
 pub record AreOrdered (node : Node) (areas : Areas) (digests : List Digest) : Type 0 where
   pub base : State
   pub events : History

@@ -1,4 +1,4 @@
-//! The events of a journal's records, and what a validator is after them. An opening of a node reads them by the same definitions.
+//! The events of a journal's records, and the validator after them, by the same definitions as in an opening of a node.
 
 ghost use Rattle.std.specs.Prelude.{◌≡◌, ◌≢◌, true, IfErr, OnOk};
 ghost use Rattle.journal.specs.Format.{FailsAs};
@@ -56,7 +56,7 @@ fn take_event<S: Sign>(
     only_new(step, one.gate)
 }
 
-// What came of an event has to be new; else its group, at this place, is damaged, unless an allocation failed.
+// An event that isn't new means that the group at this place is damaged, unless an allocation failed.
 fn only_new(step: Result<Step, Refusal>, gate: u64) -> Result<(), Flaw>
     ensures ok { OnOk result (is_new_step step ≡ true) }
     ensures err { IfErr result (λ flaw. flaw.error ≢ errors.Memory → (flaw.error ≡ errors.Damaged gate) × IsOld step) }
@@ -69,7 +69,7 @@ fn only_new(step: Result<Step, Refusal>, gate: u64) -> Result<(), Flaw>
     }
 }
 
-/// Takes the events of these records, of which each has to be new.
+/// Takes the events of these records, each of which has to be new.
 pub(crate) fn replay<S: Sign>(
     alloc: Global,
     validator: &mut Validator<'_, S>,

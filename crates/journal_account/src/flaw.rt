@@ -18,28 +18,28 @@ pub enum Why {
     /// An allocation failed.
     #[error("out of memory")]
     Memory,
-    /// After an open gate there is no whole group.
+    /// No whole group follows an open gate.
     #[error("no whole group stands behind this open gate")]
     Group,
-    /// No first group stands in front: neither a configuration alone nor one with the head of a checkpoint.
+    /// The file doesn't begin with a first group, which is a configuration alone or one with the head of a checkpoint.
     #[error("the first group isn't a configuration, alone or with a checkpoint's head")]
     FirstGroup,
     /// The first groups of both files have the same generation.
     #[error("both files have the same generation")]
     Same,
-    /// A record of a checkpoint's state doesn't follow the format, or what it says isn't sound.
+    /// A record of a checkpoint's state doesn't follow the format, or isn't sound.
     #[error("a record of the checkpoint is at fault")]
     State,
-    /// Each record of a checkpoint's state is sound by itself, and all of them together aren't.
+    /// Each record of a checkpoint's state is sound by itself, and the whole isn't.
     #[error("the records of the checkpoint don't go together")]
     WholeState,
-    /// No committee has the keys, stakes and limits of the configuration.
+    /// The keys, stakes and limits of the configuration are no committee's.
     #[error("the configuration is no committee's: {0}")]
     NoCommittee(CommitteeError),
-    /// The configuration names an own number that no member has.
+    /// The own number in the configuration is no member's.
     #[error("the configuration's own number is no member's")]
     NoMember,
-    /// The configuration is another one.
+    /// The configuration isn't the expected one.
     #[error("it is another committee's journal")]
     Other,
     /// A record isn't of the kind that events have.
@@ -48,23 +48,23 @@ pub enum Why {
     /// The message of an event can't be read.
     #[error("a message can't be read: {0}")]
     Unread(WireError),
-    /// An event fails a check of the committee.
+    /// The message of an event fails a check of the committee.
     #[error("an event fails a check: {0}")]
     Unchecked(CheckError),
-    /// An event is there for the second time.
+    /// An event occurs a second time.
     #[error("an event is there twice")]
     Known,
-    /// An event would have been refused after those before it.
+    /// An event would have been refused after the ones before it.
     #[error("an event would have been refused: {0}")]
     Refused(Refusal),
 }
 
-/// Why a journal can't be read as one: the error that an opening answers, and what is wrong.
+/// Why a journal can't be read as one: the error that an opening reports, and what is wrong.
 #[derive(Clone, Copy, Debug)]
 pub struct Flaw {
     /// The error of an opening: `Memory`, `Damaged` with a place in bytes, or `ConfigMismatch`.
     pub error: JournalError,
-    /// What is wrong.
+    /// What is wrong with the journal.
     pub why: Why,
 }
 
@@ -94,7 +94,7 @@ impl Flaw {
         matches!(self.error, JournalError::Memory)
     }
 
-    /// The configuration is another one.
+    /// The configuration isn't the expected one.
     pub fn other() -> Flaw
         ensures { result.error ≡ errors.ConfigMismatch }
     {

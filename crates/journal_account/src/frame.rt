@@ -1,4 +1,4 @@
-//! The last own header, as a frame that gives it to its node again.
+//! The last own header of a journal, as a frame by which it can be given to its node again.
 
 use crate::flaw::Flaw;
 use crate::kept::kept_in;
@@ -14,11 +14,11 @@ use wire::{Author, Header, Message, encode};
 /// The bytes of a record before its sender: its kind.
 const KIND_BYTES: usize = 1;
 
-/// The frame of the last own header of a journal of these records: its length in four bytes, the sender, and the message. It is that of
-/// the last event that is an own header; where there is none, of the last own header that the checkpoint says. None where it says none.
+/// The frame of the last own header in a journal with these records: its length in four bytes, the sender, and the message. It is of the
+/// last event that is an own header; without one, of the last own header in the checkpoint. None where the journal has no own header.
 ///
 /// # Errors
-/// As `after_records`, but that events aren't tested.
+/// Those of `after_records`, except that events aren't tested.
 pub fn last_frame<S: Sign>(
     alloc: Global,
     config: &Config<S>,
@@ -62,7 +62,7 @@ fn header_frame(alloc: Global, own: Author, header: Header) -> Result<Option<Vec
     frame_of(alloc, &body)
 }
 
-// The frame with this body. None where four bytes don't hold its length, as they do in any group.
+// The frame with this body. None where the length doesn't fit four bytes, as it does in any group.
 fn frame_of(alloc: Global, body: &[u8]) -> Result<Option<Vec<u8>>, AllocError> {
     let Ok(len) = u32::try_from(body.len()) else {
         return Ok(None);

@@ -1,4 +1,4 @@
-//! The certificates of a journal as a graph: what each of them names, and what became of it.
+//! The certificates of a journal as a graph: what each names as parents, and what became of it.
 
 use crate::flaw::Flaw;
 use crate::kept::kept_in;
@@ -18,34 +18,34 @@ use wire::{Author, Digest, HeaderBody, Message, Round, Vote, header_digest};
 /// A certificate that the journal's member has held.
 #[derive(Drop)]
 pub struct Vertex {
-    /// Its digest, round and author.
+    /// The certificate's digest, round and author.
     pub named: Named,
     /// The authors of its parents, which are of the round before.
     pub parents: Vec<Author>,
-    /// The wave with whose leader it is ordered.
+    /// The wave whose leader orders this certificate, if any does.
     pub wave: Option<u64>,
 }
 
 /// What became of a wave.
 #[derive(Clone, Copy, Debug, PartialEq, Eq)]
 pub enum Fate {
-    /// Its leader is committed, and the order has it.
+    /// The wave's leader is committed, and is in the order.
     Committed,
-    /// A later one is, and its own isn't.
+    /// The leader of a later wave is committed, and its own isn't.
     Skipped,
-    /// None from it on is committed.
+    /// No leader of this or a later wave is committed.
     Open,
 }
 
 /// The certificates of a journal, and what is known of its waves.
 pub struct Graph {
-    // By round, and then by author.
+    // The certificates, by round and then author.
     vertices: Vec<Vertex>,
     waves: Waves,
-    // The last committed wave, or 0.
+    // The last committed wave; 0 where there is none.
     last_committed: u64,
     floor: u64,
-    // The floor of the checkpoint, or 0.
+    // The floor of the checkpoint; 0 where there is none.
     first: u64,
     members: u16,
 }
@@ -64,10 +64,10 @@ impl Drop for Graph {
 }
 
 impl Graph {
-    /// That of a journal of these records.
+    /// The graph of a journal with these records.
     ///
     /// # Errors
-    /// What an opening of a node answers: `Damaged` with a place in bytes, `ConfigMismatch`, or `Memory` where an allocation failed.
+    /// Those of an opening of a node: `Damaged` with a place in bytes, `ConfigMismatch`, or `Memory` where an allocation failed.
     pub fn new<S: Sign>(
         alloc: Global,
         config: &Config<S>,
@@ -102,12 +102,12 @@ impl Graph {
         self.members
     }
 
-    /// The floor, a round: what lies below it is held no longer.
+    /// The floor, as a round: what is below it is no longer held.
     pub fn floor(&self) -> u64 {
         self.floor
     }
 
-    /// The first round: that of the genesis, or with a checkpoint its floor. Of lower rounds it has nothing.
+    /// The first round in the graph: that of the genesis, or the floor of a checkpoint. It has nothing of lower rounds.
     pub fn first_round(&self) -> u64 {
         self.first
     }
@@ -120,7 +120,7 @@ impl Graph {
         }
     }
 
-    /// The certificate of a round above 0 and an author.
+    /// The certificate in this slot, of a round above 0.
     pub fn at(&self, round: u64, author: Author) -> Option<&Vertex> {
         match self.vertices.get(place_of(&self.vertices, round, author)) {
             Some(vertex) if is_at(&vertex.named, round, author) => Some(vertex),
@@ -128,12 +128,12 @@ impl Graph {
         }
     }
 
-    /// The author whose certificate is a wave's leader, where the wave's coin is known.
+    /// The author whose certificate is a wave's leader, if the wave's coin is known.
     pub fn leader_of(&self, wave: u64) -> Option<Author> {
         self.waves.leader_of(wave)
     }
 
-    /// What became of a wave whose first round isn't below the first one here.
+    /// What became of a wave, whose first round isn't below the first round of the graph.
     pub fn fate_of(&self, wave: u64) -> Fate {
         if wave > self.last_committed {
             return Fate::Open;
@@ -154,12 +154,12 @@ impl Graph {
 struct Voted {
     header: Digest,
     vertex: Vertex,
-    // What the members who voted on it weigh.
+    // The weight of the members who voted on the header.
     weight: u64,
 }
 
-// The certificates of a checkpoint and of the events of these records, by round and then by author: those that came in, and those of own
-// headers, once they were voted for by a quorum.
+// The certificates of a checkpoint and of the events in these records, by round and then author: those that came in, and those of own
+// headers for which a quorum voted.
 fn vertices_in(
     alloc: Global,
     committee: &Committee,
@@ -184,7 +184,7 @@ fn vertices_in(
     Ok(vertices)
 }
 
-// Adds an own header of a checkpoint, unless its certificate is complete: then the checkpoint has that too.
+// Adds an own header of a checkpoint, unless its certificate is complete: then the checkpoint has the certificate too.
 fn add_voted(
     alloc: Global,
     committee: &Committee,
@@ -206,7 +206,7 @@ fn add_voted(
     Ok(())
 }
 
-// Adds what an event has of certificates.
+// Adds the certificates of an event.
 fn add(
     alloc: Global,
     committee: &Committee,
@@ -238,7 +238,7 @@ fn add(
     Ok(())
 }
 
-// The certificate that a vote of this stake completes.
+// The certificate that a vote with this stake completes.
 fn completed(voted: &mut Vec<Voted>, vote: &Vote, stake: u64, quorum: u64) -> Option<Vertex> {
     let place = voted.iter().position(|one| one.header == vote.header)?;
     voted[place].weight = voted[place].weight.saturating_add(stake);
@@ -263,7 +263,7 @@ fn vertex_of(alloc: Global, body: &HeaderBody) -> Result<Vertex, AllocError> {
     })
 }
 
-// Where the certificate of a round and author stands, or would stand.
+// The place in the list of the certificate in this slot, or where it would be inserted.
 fn place_of(vertices: &[Vertex], round: u64, author: Author) -> usize {
     vertices.partition_point(|vertex| {
         let here = vertex.named.round.number();
@@ -275,7 +275,7 @@ fn is_at(named: &Named, round: u64, author: Author) -> bool {
     named.round.number() == round && named.author == author
 }
 
-// Notes the wave with whose leader the certificate of a digest is ordered.
+// Notes for the certificate with this digest the wave whose leader orders it.
 fn mark(vertices: &mut Vec<Vertex>, waves: &Waves, digest: &Digest, wave: Option<u64>) {
     let Some(named) = waves.find(digest) else {
         return;

@@ -1,4 +1,4 @@
-//! What a checkpoint says of votes, headers, certificates and coins.
+//! The votes, headers, certificates and coins in a checkpoint.
 
 ghost use Rattle.std.specs.Prelude.{◌≡◌, ◌++◌, map, IfOk, OnOk};
 ghost use Rattle.spec_model.specs.States.{State};
@@ -19,10 +19,10 @@ use validator::{Config, Validator};
 use votebook::Slot;
 use wire::{Author, Digest, header_digest};
 
-/// What the checkpoint says with which a journal of these records begins: nothing where it has none.
+/// What the checkpoint holds with which a journal of these records begins; nothing where it has no checkpoint.
 ///
 /// # Errors
-/// As `after_records`.
+/// Those of `after_records`.
 pub(crate) fn kept_in<S: Sign>(
     alloc: Global,
     config: &Config<S>,
@@ -32,7 +32,7 @@ pub(crate) fn kept_in<S: Sign>(
     Ok(parts_of(alloc, validator.tables())?)
 }
 
-/// The votes that a validator's state has: for the headers of others, rising by round and then by author, and then for own ones.
+/// The votes in a validator's state: first those for others' headers, sorted by round and then author, and then those for own ones.
 pub(crate) fn given_by_kept<S: Sign>(
     alloc: Global,
     validator: &Validator<'_, S>,
@@ -63,7 +63,7 @@ fn given_to_others(alloc: Global, kept: &[(Slot, Digest)]) -> Result<Vec<Given>,
     Ok(votes)
 }
 
-// Adds those for own headers.
+// Adds the votes for own headers.
 fn add_own(votes: &mut Vec<Given>, kept: &[VotedHeader]) -> Result<(), AllocError>
     ensures { OnOk result (votes.new.items ≡ votes.old.items ++ map (λ voted. given_as (header_of voted)) kept.now) }
 {

@@ -1,4 +1,4 @@
-//! What a journal comes to, told from the bytes of its two files without running a node: what an opening of a node on the same bytes would
+//! The summary of a journal, from the bytes of its two files, without running a node: it is what an opening of a node on these bytes would
 //! find.
 #![tactic(auto)]
 

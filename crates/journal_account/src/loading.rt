@@ -1,4 +1,4 @@
-//! The state of a checkpoint. An opening of a node reads it by the same definitions.
+//! The state of a checkpoint, by the same definitions as in an opening of a node.
 
 ghost use Rattle.std.specs.Prelude.{◌≡◌, ◌≢◌, ◌∷◌, IfOk, IfErr};
 ghost use Rattle.journal.specs.Format.{FailsAs};
@@ -13,10 +13,11 @@ use sigface::Sign;
 use std::alloc::Global;
 use validator::{Config, LoadError, Loading, Validator};
 
-/// The validator at the state of a checkpoint: of this configuration, which is the first record, and of these records after the head.
+/// The validator in the state of a checkpoint. The first record is this configuration's; the others follow the head.
 ///
 /// # Errors
-/// `Damaged` with the gate of the first record at fault, and with the first gate where no record is and the whole is; `Memory`.
+/// `Damaged` with the gate of the first record at fault, or with the first gate where only the whole is; `Memory` where an allocation
+/// failed.
 pub(crate) fn load<'a, S: Sign>(
     alloc: Global,
     config: &'a Config<S>,
@@ -42,7 +43,7 @@ pub(crate) fn load<'a, S: Sign>(
     }
 }
 
-// What is wrong with a journal where these records can't be loaded.
+// What is wrong with a journal whose checkpoint can't be loaded.
 fn fault_of(first: &Record, state: &[Record], error: LoadError) -> Flaw
     ensures { result.error ≡ error_at (gates_of (first.now ∷ state.now)) error }
 {
@@ -53,7 +54,7 @@ fn fault_of(first: &Record, state: &[Record], error: LoadError) -> Flaw
     }
 }
 
-// The gate of the record at this place, of which the first one is at 0; that one's where there is none.
+// The gate of the record at this place, counted from the first record at 0; the first record's gate where there is none at the place.
 fn gate_at(first: &Record, state: &[Record], place: u64) -> u64
     ensures { result ≡ gate_of (gates_of (first.now ∷ state.now)) (at_record place) }
 {

@@ -1,4 +1,4 @@
-//! Whose journal it is: its first record has to be the configuration that is looked for.
+//! Whose journal it is: the first record has to be the expected configuration.
 
 ghost use Rattle.std.specs.Prelude.{◌≡◌, ◌≢◌, None, Some, IfErr, OnOk};
 ghost use Rattle.journal.specs.declared.error.JournalError.TheVariants as errors;
@@ -12,10 +12,11 @@ use sigface::Sign;
 use std::alloc::Global;
 use validator::Config;
 
-/// Tests the first record of a journal: it has to be this configuration.
+/// Tests the first record of a journal, which has to be this configuration.
 ///
 /// # Errors
-/// `Damaged` at the place of its group, where it is no configuration; `ConfigMismatch`, where it is another one; `Memory`.
+/// `Damaged` at the place of its group, where it is no configuration; `ConfigMismatch`, where it is another one; `Memory` where an
+/// allocation failed.
 pub(crate) fn test_first<S: Sign>(
     alloc: Global,
     config: &Config<S>,

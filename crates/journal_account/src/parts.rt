@@ -2,14 +2,13 @@
 
 ghost use Rattle.std.specs.Prelude.{◌≡◌, ◌≤◌, length, take, drop};
 ghost use Rattle.std.specs.Option.{option_copied, option_map};
-ghost use Rattle.journal.specs.Areas.{head_in};
 ghost use Rattle.opening.specs.Decoded.{is_event as is_event_of, state_part, events_part};
 ghost use Rattle.journal_account.specs.Accounts.{after_head, events_in, generation_in, side_in};
 
-use journal::{HEAD, HEAD_BYTES, Record, SECOND_AREA, Side};
+use journal::{Record, SECOND_AREA, Side, head_in};
 use opening::EVENT;
 
-/// The records of events: those after the first group, and after those of a checkpoint's state.
+/// The records of events: those that follow the first group, and the records of a checkpoint's state where there is one.
 #[tactic(auto, unfolding(crate::specs::Accounts::events_in))]
 pub(crate) fn events_of(records: &[Record]) -> &[Record]
     ensures { result.now ≡ events_in records.now }
@@ -26,8 +25,8 @@ pub(crate) fn events_of(records: &[Record]) -> &[Record]
     }
 }
 
-/// The generation of a checkpoint with which these records begin, and the file in which it is. None where they begin with a
-/// configuration alone.
+/// The generation of the checkpoint with which these records begin, and the file that has it. None where they begin with a configuration
+/// alone.
 pub(crate) fn checkpoint_in(records: &[Record]) -> Option<(u64, Side)>
     ensures { result ≡ option_map (λ generation. (generation, side_in records.now)) (generation_in records.now) }
 {
@@ -37,7 +36,7 @@ pub(crate) fn checkpoint_in(records: &[Record]) -> Option<(u64, Side)>
     }
 }
 
-/// The file in which records are: the second one, where their places are counted from its base.
+/// The file from which records are: the second one, where their places count from its base.
 #[tactic(auto, unfolding(crate::specs::Accounts::side_in))]
 fn side_in(records: &[Record]) -> Side
     ensures { result ≡ side_in records.now }
@@ -48,7 +47,7 @@ fn side_in(records: &[Record]) -> Side
     }
 }
 
-/// The generation that a head in the first group has.
+/// The generation in the head, if the first group has one.
 #[tactic(auto, unfolding(crate::specs::Accounts::generation_in))]
 fn generation_in(records: &[Record]) -> Option<u64>
     ensures { result ≡ generation_in records.now }
@@ -59,25 +58,7 @@ fn generation_in(records: &[Record]) -> Option<u64>
     }
 }
 
-// The generation that the record of a head has.
-#[tactic(auto, unfolding(journal::specs::Areas::head_in))]
-fn head_in(bytes: &[u8]) -> Option<u64>
-    ensures { result ≡ head_in bytes.now }
-{
-    if bytes.len() != HEAD_BYTES || bytes[0] != HEAD {
-        return None;
-    }
-    let generation = u64::from_be_bytes([
-        bytes[1], bytes[2], bytes[3], bytes[4], bytes[5], bytes[6], bytes[7], bytes[8],
-    ]);
-    if generation == 0 {
-        None
-    } else {
-        Some(generation)
-    }
-}
-
-/// The records after a head, where one stands in the group of the first record.
+/// The records that follow a head, if there is one in the group of the first record.
 #[tactic(auto, unfolding(crate::specs::Accounts::after_head))]
 pub(crate) fn after_head<'r>(first: &Record, rest: &'r [Record]) -> Option<&'r [Record]>
     ensures { option_copied result ≡ after_head first.now rest.now }

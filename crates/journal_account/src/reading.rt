@@ -1,4 +1,4 @@
-//! How a journal is read: the validator after its records.
+//! Reading a journal: the validator in the state after its records.
 
 ghost use Rattle.std.specs.Prelude.{◌≡◌, ◌∷◌, [], take, Ok, All, IfOk, IfErr};
 ghost use Rattle.journal.specs.Areas.{Areas, stands_in};
@@ -20,10 +20,10 @@ use sigface::Sign;
 use std::alloc::Global;
 use validator::{Config, Validator};
 
-/// The validator after a journal of these records, of which the first has to be this configuration.
+/// The validator in the state after a journal of these records, the first of which has to be this configuration.
 ///
 /// # Errors
-/// Those of `Damaged`, `ConfigMismatch` and `Memory` that an opening of a node answers, in its order.
+/// `Damaged`, `ConfigMismatch` and `Memory`, in the order in which an opening of a node reports them.
 pub fn after_records<'a, S: Sign>(
     alloc: Global,
     config: &'a Config<S>,
@@ -31,7 +31,7 @@ pub fn after_records<'a, S: Sign>(
 ) -> Result<Validator<'a, S>, Flaw>
     ensures setting { IfOk result (λ validator. validator.setting ≡ config.now) }
     ensures stands { let node = node_of S.scheme config.now in IfOk result (λ validator. StandsAt node (read_pair node records.now) validator.tables) }
-    // Where two files stand for the records, they are read as a state and events after it, and the validator stands at what these lead to.
+    // Where two files are read as these records, they stand for a state and later events, and the validator is in the state after these.
     ensures read { let node = node_of S.scheme config.now in (areas : Areas) → IsPair areas → stands_in areas ≡ Ok records.now
         → IfOk result (λ validator. IsReadAt node areas validator.tables) }
     ensures err { IfErr result (λ flaw. Tells flaw.error (read_pair (node_of S.scheme config.now) records.now)) }
@@ -44,10 +44,10 @@ pub fn after_records<'a, S: Sign>(
     Ok(validator)
 }
 
-/// The validator with which a journal of these records begins: at the state of its checkpoint, or where it has none the fresh one.
+/// The validator with which a journal of these records begins: in the state of its checkpoint, or in the fresh state where it has none.
 ///
 /// # Errors
-/// As `after_records`.
+/// Those of `after_records`.
 pub(crate) fn begun<'a, S: Sign>(
     alloc: Global,
     config: &'a Config<S>,
@@ -66,7 +66,7 @@ pub(crate) fn begun<'a, S: Sign>(
     }
 }
 
-// The same, by the records after the first one, which is the configuration.
+// The validator with which a journal begins, from its first record, the configuration, and the records that follow.
 fn begun_by<'a, S: Sign>(
     alloc: Global,
     config: &'a Config<S>,
@@ -86,7 +86,7 @@ fn begun_by<'a, S: Sign>(
     }
 }
 
-// What holds of records: they have bytes. The call does nothing.
+// Records have bytes. The call does nothing.
 pub(crate) fn are_texts(records: &[Record])
     ensures { All IsText records.now }
 {

@@ -1,4 +1,6 @@
-//! The configuration that a journal begins with, as that of its member.
+//! The configuration with which a journal begins.
+
+ghost use Rattle.std.specs.Prelude.{◌≡◌, [], Ok, None, IfOk};
 
 use crate::flaw::{Flaw, Why};
 use committee::{Committee, CommitteeError};
@@ -8,18 +10,21 @@ use std::alloc::{AllocError, Global};
 use validator::Config;
 use wire::Author;
 
-/// The configuration of the member whose journal has these records: of this committee, or else of the one that the first record has,
-/// with the own number that it has. None without a record.
+/// The configuration of the member whose journal has these records: of the given committee, or otherwise of the one in the first record,
+/// and with the own number in that record. None where there is no record.
 ///
 /// # Errors
-/// `Damaged` at the place of the first group, where its first record is no configuration, or where no committee is given and it is
-/// none of a member of one; `ConfigMismatch`, where the own number is no member's of the committee that is given; `Memory` where an
+/// `Damaged` at the place of the first group, where its first record is no configuration, or where no committee is given and the record's
+/// own one, or its member, isn't valid; `ConfigMismatch`, where the own number is no member's of the given committee; `Memory` where an
 /// allocation failed.
 pub fn config_in(
     alloc: Global,
     committee: Option<Committee>,
     records: &[Record],
-) -> Result<Option<Config<HashSign>>, Flaw> {
+) -> Result<Option<Config<HashSign>>, Flaw>
+    ensures none { IfOk result (λ config. config ≡ None → records.now ≡ []) }
+    ensures empty { records.now ≡ [] → result ≡ Ok None }
+{
     let Some(first) = records.first() else {
         return Ok(None);
     };
@@ -38,7 +43,7 @@ pub fn config_in(
     }
 }
 
-// The committee that a first record of this version has.
+// The committee in a first record of this version.
 fn own_committee(alloc: Global, version: Version, first: &Record) -> Result<Committee, Flaw> {
     let text = committee_text(alloc, version, first.bytes.as_slice())?;
     match Committee::read(alloc, text.as_str()) {
@@ -48,7 +53,7 @@ fn own_committee(alloc: Global, version: Version, first: &Record) -> Result<Comm
     }
 }
 
-/// The own number that a first record has, if it is long enough.
+/// The own number in a first record, if the record is long enough.
 pub fn own_number(bytes: &[u8]) -> Option<Author> {
     match bytes {
         [_, _, first, second, ..] => Some(Author(u16::from_be_bytes([*first, *second]))),
@@ -56,15 +61,15 @@ pub fn own_number(bytes: &[u8]) -> Option<Author> {
     }
 }
 
-// The member of a committee whose number a first record has, if there is one. It signs by the pair for tests, whose keys are the
-// members'; of its signatures nothing is told.
+// The member with the number in a first record, if there is one. Its signer is the insecure one for tests, whose keys are the members';
+// nothing that is reported depends on its signatures.
 fn member_of(committee: Committee, first: &Record) -> Option<Config<HashSign>> {
     let own = own_number(first.bytes.as_slice())?;
     let key = *committee.key(own)?;
     Config::new(committee, own, HashSign::new(key))
 }
 
-// The committee file that says what a configuration says, of bytes that have the shape of one of this version.
+// A committee file with the settings of these bytes, which have the shape of a configuration of this version.
 fn committee_text(alloc: Global, version: Version, bytes: &[u8]) -> Result<String, AllocError> {
     let (depth, workers) = (two_at(bytes, 4), two_at(bytes, 6));
     let (batches, members) = (four_at(bytes, 8), two_at(bytes, 12));
@@ -85,7 +90,7 @@ fn committee_text(alloc: Global, version: Version, bytes: &[u8]) -> Result<Strin
     Ok(text)
 }
 
-// Puts the key of a member as a string of digits.
+// Adds the key of a member, as a string of digits.
 fn put_key(text: &mut String, bytes: &[u8], member: u16) -> Result<(), AllocError> {
     let at = SETTINGS_BYTES + member as usize * KEY_BYTES;
     text.push_str("\"")?;
@@ -107,7 +112,7 @@ fn stake_at(version: Version, bytes: &[u8], members: u16, member: u16) -> u32 {
     }
 }
 
-// The number in the two bytes at a place, or 0 where they aren't there.
+// The number in the two bytes at a place; 0 where they are missing.
 fn two_at(bytes: &[u8], at: usize) -> u16 {
     match bytes.get(at..) {
         Some([first, second, ..]) => u16::from_be_bytes([*first, *second]),
@@ -115,7 +120,7 @@ fn two_at(bytes: &[u8], at: usize) -> u16 {
     }
 }
 
-// The number in the four bytes at a place, or 0 where they aren't there.
+// The number in the four bytes at a place; 0 where they are missing.
 fn four_at(bytes: &[u8], at: usize) -> u32 {
     match bytes.get(at..) {
         Some([first, second, third, fourth, ..]) => {

@@ -1,4 +1,4 @@
-//! What a journal comes to, in numbers.
+//! The summary of a journal, in numbers.
 
 ghost use Rattle.std.specs.Prelude.{◌≡◌, Ok, IfOk, IfErr};
 ghost use Rattle.journal.specs.Areas.{Areas, stands_in};
@@ -15,23 +15,23 @@ use sigface::Sign;
 use std::alloc::Global;
 use validator::Config;
 
-/// What a journal comes to.
+/// The summary of a journal.
 #[derive(Clone, Copy, Debug, PartialEq, Eq)]
 pub struct Summary {
-    /// How many events it has, after its checkpoint where it has one.
+    /// The number of events, after the checkpoint where there is one.
     pub events: u64,
-    /// How many certificates are ordered.
+    /// The number of ordered certificates.
     pub order: u64,
     /// The node's round.
     pub round: u64,
-    /// The floor, a round.
+    /// The floor, as a round.
     pub floor: u64,
-    /// The generation of the checkpoint with which it begins, and which of both files has it. None where it has no checkpoint.
+    /// The generation of the checkpoint with which the journal begins, and the file that has it. None where it has no checkpoint.
     pub checkpoint: Option<(u64, Side)>,
 }
 
 impl Summary {
-    /// That of a journal without events.
+    /// The summary of a journal without events.
     pub fn empty() -> Summary {
         Summary {
             events: 0,
@@ -43,10 +43,10 @@ impl Summary {
     }
 }
 
-/// What a journal of these records comes to, as this configuration's.
+/// The summary of a journal with these records and this configuration.
 ///
 /// # Errors
-/// What an opening of a node answers: `Damaged` with a place in bytes, `ConfigMismatch`, or `Memory` where an allocation failed.
+/// Those of an opening of a node: `Damaged` with a place in bytes, `ConfigMismatch`, or `Memory` where an allocation failed.
 pub fn summary_of<S: Sign>(
     alloc: Global,
     config: &Config<S>,

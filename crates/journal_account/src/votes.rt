@@ -22,7 +22,7 @@ use std::alloc::{AllocError, Global};
 use validator::Config;
 use wire::{Author, Digest, Message, header_digest};
 
-/// A vote for the header of an author and round; an own header stands for the own vote.
+/// A vote of the member for a header; an own header counts as voted for.
 #[derive(Clone, Copy, Debug, PartialEq, Eq)]
 pub struct Given {
     /// The header's author.
@@ -33,12 +33,12 @@ pub struct Given {
     pub digest: Digest,
 }
 
-/// The votes that the member has given by a journal of these records, own headers included: those that its checkpoint says, for the
-/// headers of others by round and then by author and for own ones by round, and then those of its events, in their order. A checkpoint
-/// says none of rounds below its floor.
+/// The votes that the member has given by a journal of these records, those for its own headers included. First come those of the
+/// checkpoint, for others' headers by round and then author and for own ones by round; then those of the events, in their order. A
+/// checkpoint has no votes of rounds below its floor.
 ///
 /// # Errors
-/// What an opening of a node answers: `Damaged` with a place in bytes, `ConfigMismatch`, or `Memory` where an allocation failed.
+/// Those of an opening of a node: `Damaged` with a place in bytes, `ConfigMismatch`, or `Memory` where an allocation failed.
 pub fn votes_of<S: Sign>(
     alloc: Global,
     config: &Config<S>,
@@ -59,7 +59,7 @@ pub fn votes_of<S: Sign>(
     Ok(votes)
 }
 
-// The votes of the events of records, in their order.
+// The votes given at the events of records, in their order.
 fn given_in_each(
     alloc: Global,
     committee: &Committee,
@@ -75,7 +75,7 @@ fn given_in_each(
     Ok(votes)
 }
 
-// Puts a vote after others, if there is one.
+// Adds a vote, if there is one.
 fn push_given(votes: &mut Vec<Given>, given: Option<Given>) -> Result<(), AllocError>
     ensures { OnOk result (votes.new.items ≡ votes.old.items ++ option_to_list given) }
 {
@@ -85,7 +85,7 @@ fn push_given(votes: &mut Vec<Given>, given: Option<Given>) -> Result<(), AllocE
     Ok(())
 }
 
-// The vote of a record's event.
+// The vote given at the event of a record, if any.
 fn given_in(alloc: Global, committee: &Committee, one: &Record) -> Result<Option<Given>, AllocError>
     ensures { IfOk result (λ given. given ≡ given_in committee.now one.now) }
 {
@@ -95,7 +95,7 @@ fn given_in(alloc: Global, committee: &Committee, one: &Record) -> Result<Option
     }
 }
 
-// The vote that an event gives, if it is a header.
+// The vote given at an event, if the event is a header.
 fn given_by(event: &Checked) -> Option<Given>
     ensures { result ≡ given_by event.now }
 {

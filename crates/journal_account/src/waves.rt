@@ -1,4 +1,4 @@
-//! What the certificates of a journal are, by their digests, and which of them are leaders.
+//! The certificates of a journal by their digests, and which of them are leaders.
 
 use crate::flaw::Flaw;
 use crate::kept::kept_in;
@@ -12,20 +12,20 @@ use std::alloc::{AllocError, Global};
 use validator::Config;
 use wire::{Author, Digest, HeaderBody, Message, Round, certificate_digest, header_digest};
 
-/// A certificate that may be held: one that came in, or that of an own header.
+/// A certificate that the member may hold: one that came in, or that of an own header.
 #[derive(Clone, Copy, Debug, PartialEq, Eq, PartialOrd, Ord)]
 pub struct Named {
-    /// Its digest.
+    /// The certificate's digest.
     pub digest: Digest,
-    /// Its round.
+    /// The certificate's round.
     pub round: Round,
-    /// Its author.
+    /// The author of the certificate's header.
     pub author: Author,
 }
 
-/// The certificates and the coins that a journal has.
+/// The certificates and the coins in a journal.
 pub struct Waves {
-    // By digest.
+    // The certificates, by digest.
     named: Vec<Named>,
     // The value of each coin, that of wave 1 first.
     coins: Vec<u64>,
@@ -43,10 +43,10 @@ impl Drop for Waves {
 }
 
 impl Waves {
-    /// Those of a journal of these records: of the checkpoint with which it begins, and of its events.
+    /// The certificates and coins of a journal with these records: of the checkpoint with which it begins, and of its events.
     ///
     /// # Errors
-    /// As `after_records`, but that events aren't tested.
+    /// Those of `after_records`, except that events aren't tested.
     pub fn new<S: Sign>(
         alloc: Global,
         config: &Config<S>,
@@ -68,7 +68,7 @@ impl Waves {
         Ok(waves)
     }
 
-    // Adds what a checkpoint has of certificates and coins.
+    // Adds the certificates and the coins of a checkpoint.
     fn add_kept(&mut self, kept: &Kept) -> Result<(), AllocError> {
         for (certificate, _) in &kept.certificates {
             self.named.push(certificate_of(&certificate.header))?;
@@ -84,7 +84,7 @@ impl Waves {
         Ok(())
     }
 
-    // Adds what an event has of certificates and coins.
+    // Adds the certificates and the coins of an event.
     fn add(&mut self, event: &Checked) -> Result<(), AllocError> {
         match event.message() {
             Message::Header(header) => self.named.push(certificate_of(&header.body))?,
@@ -106,7 +106,7 @@ impl Waves {
         }
     }
 
-    /// The author whose certificate of a wave's first round is its leader: that which its coin chooses, where it is known.
+    /// The author whose certificate of a wave's first round is the leader: the one that the wave's coin chooses, if that is known.
     pub fn leader_of(&self, wave: u64) -> Option<Author> {
         if wave == 0 || self.members == 0 {
             return None;
@@ -118,7 +118,8 @@ impl Waves {
         }
     }
 
-    /// The wave of which a certificate is the leader: that of its round, if it is the wave's first one and the coin chooses its author.
+    /// The wave whose leader a certificate is, if any: the wave of its round, if that is the wave's first round and the coin chooses its
+    /// author.
     pub fn led_by(&self, one: Named) -> Option<u64> {
         let round = one.round.number();
         if round % 2 == 0 {
@@ -143,9 +144,9 @@ pub(crate) fn certificate_of(body: &HeaderBody) -> Named {
     }
 }
 
-/// For each certificate of an order the wave with whose leader it is ordered. In an order each leader comes last of those that are
-/// ordered with it, and nothing else of it is a leader. None of a certificate that isn't known: a checkpoint has those from its floor on
-/// alone, so each leader after a known one is known. `AllocError` where an allocation failed.
+/// For each certificate of an order the wave whose leader orders it. Each leader comes last of those that it orders, and no other
+/// certificate among them is a leader. None for a certificate that isn't known: a checkpoint has only those from its floor on, so after a
+/// known certificate each leader is known. On `AllocError` an allocation failed.
 pub fn waves_of(
     alloc: Global,
     waves: &Waves,

@@ -29,7 +29,8 @@ pub returns-clause-second_moment : goal.returns-clause-second_moment
 returns-clause-second_moment g c =
     let device = g.D.Disk.device in
     let old = c.args.second.now in
-    over_opening device old c.told_by-2.new.disk c.settle_side.new.second (g.met.D.Disk.content_is_outcome old) c.told_by-2.ensures.any_moment c.told_by-2.ensures.content c.settle_side.ensures.second_moment
+    over_opening device old c.told_by-2.new.disk c.settle_side.new.second
+    (g.met.D.Disk.content_is_outcome old) c.told_by-2.ensures.any_moment c.told_by-2.ensures.content c.settle_side.ensures.second_moment
 
 pub returns-in_err-choice-clause-damaged : goal.returns-in_err-choice-clause-damaged
 returns-in_err-choice-clause-damaged g c place is =

@@ -14,4 +14,5 @@ returns-clause-any_moment g c =
     let old = c.args.disk.now in
     let P : List ℕ → Type 0 = IsSameAs (device.content old) in
     let read = then_same device old old c.len.new.self P (begins device old P (g.met.D.Disk.only_now old) (λ left now. inl (c.requires.durable left now))) c.len.ensures.time c.len.ensures.outcomes in
-    until_closed device old c.len.new.self c.close_end.new.disk [] (shut_stands (device.content old) c.requires.shut) c.len.ensures.content read.moments c.close_end.ensures.any_moment c.close_end.ensures.telling
+    until_closed device old c.len.new.self c.close_end.new.disk [] (shut_stands (device.content old) c.requires.shut) c.len.ensures.content read.moments
+    c.close_end.ensures.any_moment c.close_end.ensures.telling

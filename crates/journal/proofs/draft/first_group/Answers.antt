@@ -9,7 +9,8 @@ pub returns : goal.returns
 returns c =
     let configuration = c.args.configuration.now in
     let counted : 17 + length configuration ≡ body_len (configuration ∷ head_record 0 ∷ []) = omega arith in
-    let one : c.extend_from_slice.new.self.items ≡ to_be_bytes w32 (17 + length configuration) = c.in_ok-extend_from_slice.ensures.items ∙ (λ i. c.in_ok-bytes.ensures.items i ++ c.to_be_bytes.ensures i) in
+    let one : c.extend_from_slice.new.self.items ≡ to_be_bytes w32 (17 + length configuration) = c.in_ok-extend_from_slice.ensures.items
+    ∙ (λ i. c.in_ok-bytes.ensures.items i ++ c.to_be_bytes.ensures i) in
     let two : c.extend_from_slice-2.new.self.items ≡ to_be_bytes w32 (17 + length configuration) ++ to_be_bytes w32 (length configuration) =
     c.in_ok-extend_from_slice-2.ensures.items ∙ (λ i. one i ++ c.to_be_bytes-2.ensures i) in
     let three : c.extend_from_slice-3.new.self.items ≡ (to_be_bytes w32 (17 + length configuration) ++ to_be_bytes w32 (length configuration)) ++ configuration =

@@ -53,4 +53,5 @@ returns-in_err-sync-clause-any_moment g c =
 pub returns-in_err-gate-clause-any_moment : goal.returns-in_err-gate-clause-any_moment
 returns-in_err-gate-clause-any_moment g c =
     let old = c.args.disk.now in
-    until_read g.D.Disk.device old c.sync.new.self c.read_area.new.disk (λ left now. g.met.D.Disk.only_now old left now) c.sync.ensures.time c.sync.ensures.outcomes c.read_area.ensures.only_read.any_moment
+    until_read g.D.Disk.device old c.sync.new.self c.read_area.new.disk
+    (λ left now. g.met.D.Disk.only_now old left now) c.sync.ensures.time c.sync.ensures.outcomes c.read_area.ensures.only_read.any_moment

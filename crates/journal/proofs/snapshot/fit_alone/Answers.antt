@@ -10,7 +10,13 @@ use Rattle.journal.proofs.snapshot.fit_alone.Goals as goal
 pub returns-then-len : goal.returns-then-len
 returns-then-len c = (
   λ is. absurd (cc),
-  λ all. absurd (omega (arith, (alone_at c.args.records.now c.loop-record.record-index c.record-item.result c.loop-record-test.true c.record-item.is all).not_long, c.len.ensures, c.record-item.result.ok)),
+  λ all. absurd (omega (
+    arith,
+    (alone_at c.args.records.now c.loop-record.record-index c.record-item.result c.loop-record-test.true c.record-item.is
+        all).not_long,
+    c.len.ensures,
+    c.record-item.result.ok,
+  )),
 )
 
 pub loop-record-preserved : goal.loop-record-preserved

@@ -36,4 +36,5 @@ pub returns-clause-calls_err : goal.returns-clause-calls_err
 returns-clause-calls_err g c =
     let with = renumbered c.self.inside.bytes.items c.put_eight.new.bytes.items c.self.inside.place c.self.inside.count c.args.generation c.self.invariant c.put_eight.ensures in
     let bytes : c.deref.result.now ≡ bytes_for c.args.generation c.args.self.now = c.deref.ensures.value ∙ with.bytes ∙ ap (bytes_for c.args.generation) c.self.view_is in
-    subst (λ (l : List ℕ). OnErr c.rewrite_area.result (MadeSome (rewrite_calls l) (g.D.Disk.device.calls c.args.disk.now) (g.D.Disk.device.calls c.rewrite_area.new.disk))) bytes c.rewrite_area.ensures.calls_err
+    subst (λ (l : List ℕ). OnErr c.rewrite_area.result (MadeSome (rewrite_calls l) (g.D.Disk.device.calls c.args.disk.now)
+    (g.D.Disk.device.calls c.rewrite_area.new.disk))) bytes c.rewrite_area.ensures.calls_err

@@ -8,7 +8,8 @@ pub loop-preserved : goal.loop-preserved
 loop-preserved g c =
     let before = c.loop.invariant.taken in
     let more = c.in_ok-next.ensures.group c.if-branch.true in
-    let next : left_from c.args.base c.loop.self.gate (g.D.Disk.device.content c.args.disk.now) ≡ with_front more.0 (left_from c.args.base c.next.new.self.gate (g.D.Disk.device.content c.args.disk.now)) =
+    let next : left_from c.args.base c.loop.self.gate (g.D.Disk.device.content c.args.disk.now)
+    ≡ with_front more.0 (left_from c.args.base c.next.new.self.gate (g.D.Disk.device.content c.args.disk.now)) =
     subst (λ (l : List ℕ). left_from c.args.base c.loop.self.gate l ≡ with_front more.0 (left_from c.args.base c.next.new.self.gate l)) c.loop.invariant.only_read.content more.2 in
     record {
       window = search rules;
