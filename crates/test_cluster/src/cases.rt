@@ -1,4 +1,4 @@
-//! What the commands of a case are put to.
+//! The commands of a case on a cluster.
 
 use crate::disks::{Grip, GrippedDisk, disks_of, new_grips};
 use crate::moves::{call_of, coin, delivery, gift, leaving, member, parted};
@@ -16,21 +16,21 @@ use std::thread::Threads;
 use test_cases::{Told, bad};
 use wire::Author;
 
-/// A cluster, what the case has defined by labels, and a grip of each node's disk.
+/// A cluster, the labels that the case has defined, and a grip on each node's disk.
 #[derive(Drop)]
 pub struct ClusterCases<'a> {
     alloc: Global,
     settings: &'a Settings,
     labels: Labels,
     grips: Vec<Grip>,
-    // The moves that are to be applied at once.
+    // The moves that are to be applied all at once.
     plan: Vec<Move>,
-    /// None before the case opens one.
+    /// The cluster, once a case has opened it.
     cluster: Option<Cluster<'a, HashSign, GrippedDisk, HashVerify>>,
 }
 
 impl<'a> ClusterCases<'a> {
-    /// As before the first case.
+    /// The state before the first case.
     pub fn new(alloc: Global, settings: &'a Settings) -> Result<ClusterCases<'a>, AllocError> {
         Ok(ClusterCases {
             alloc,
@@ -51,7 +51,7 @@ impl<'a> ClusterCases<'a> {
         Ok(())
     }
 
-    /// Carries out a command, and adds the lines that it answers.
+    /// Carries out a command, and adds the lines of its answer.
     pub fn obey<R>(&mut self, rt: &R, command: &str, answer: &mut String) -> Told
     where
         R: Threads + Wait + Sync,
@@ -91,7 +91,7 @@ impl<'a> ClusterCases<'a> {
         }
     }
 
-    /// `cluster COUNT` opens a node for each of the first so many members.
+    /// `cluster COUNT` opens a node for each of the first `COUNT` members.
     fn open(&mut self, words: &str, answer: &mut String) -> Told {
         let count = words.parse().unwrap_or(0);
         let Some(configs) = self.settings.first(count) else {
@@ -108,7 +108,7 @@ impl<'a> ClusterCases<'a> {
         Ok(())
     }
 
-    /// `plan MOVE` keeps a move, which is none that a disk has to be told of before.
+    /// `plan MOVE` keeps a move, which has to be one for which no disk has to be prepared.
     fn plan(&mut self, words: &str, answer: &mut String) -> Told {
         let (name, words) = parted(words);
         let step = match name {
@@ -125,7 +125,7 @@ impl<'a> ClusterCases<'a> {
         Ok(())
     }
 
-    /// `play COUNT` opens a node for each of the first so many members, and applies the moves that are planned.
+    /// `play COUNT` opens a node for each of the first `COUNT` members, and applies the planned moves.
     fn play(&mut self, words: &str, answer: &mut String) -> Told {
         let count = words.parse().unwrap_or(0);
         let Some(configs) = self.settings.first(count) else {
@@ -158,7 +158,7 @@ impl<'a> ClusterCases<'a> {
         Ok(())
     }
 
-    /// `stop NODE LEAVING`.
+    /// Carries out `stop NODE LEAVING`, where LEAVING says what the stop leaves of the node's disk.
     fn stop(&mut self, words: &str, answer: &mut String) -> Told {
         let (node, how) = parted(words);
         let (Some(node), Some(how)) = (member(node), leaving(self.alloc, how)?) else {
@@ -171,7 +171,7 @@ impl<'a> ClusterCases<'a> {
         Ok(())
     }
 
-    /// `fail NODE CALL COUNT` tells the count-th call of this kind of a node's disk to fail.
+    /// `fail NODE CALL COUNT` sets the count-th next call of this kind of a node's disk to fail.
     fn fail(&self, words: &str, answer: &mut String) {
         let (node, words) = parted(words);
         let (call, count) = parted(words);
@@ -203,12 +203,12 @@ impl<'a> ClusterCases<'a> {
     }
 }
 
-// The words of `flush NODE`.
+// The move in the words of `flush NODE`.
 fn flush(words: &str) -> Option<Move> {
     Some(Move::Flush(member(words)?))
 }
 
-// Answers a command that is none.
+// Adds the answer to a line that is no command.
 fn told_bad(answer: &mut String) -> Told {
     bad(answer);
     Ok(())

@@ -1,4 +1,4 @@
-//! Disks in memory that nodes have, and by which a test still lets calls fail and says what a stop leaves.
+//! Disks in memory that nodes have, while a test can still set calls to fail and choose what a stop leaves.
 
 ghost use Rattle.std.specs.Prelude.{◌≡◌, [], All, IfOk};
 
@@ -18,7 +18,7 @@ pub enum Leaving {
     Torn(u8),
 }
 
-/// What a test keeps of a disk.
+/// The part of a disk that a test keeps.
 pub struct Grip {
     alloc: Global,
     switch: Switch,
@@ -36,7 +36,7 @@ impl Drop for Grip {
 }
 
 impl Grip {
-    /// No call fails, and a stop leaves what a read gives.
+    /// A grip that sets no call to fail, and with which a stop leaves what a read gives.
     pub fn new(alloc: Global) -> Result<Grip, AllocError> {
         Ok(Grip {
             alloc,
@@ -45,7 +45,7 @@ impl Grip {
         })
     }
 
-    /// An empty disk.
+    /// An empty disk of this grip.
     pub fn disk(&self) -> Result<GrippedDisk, AllocError>
         ensures { IfOk result (λ gripped. ⟦<MemDisk as Disk>⟧.device.content gripped.disk ≡ []) }
     {
@@ -57,18 +57,18 @@ impl Grip {
         })
     }
 
-    /// Tells a call to fail: the count-th of its kind from now on. Says whether one more can be told.
+    /// Sets a call to fail: the count-th next one of its kind. Gives whether one more can be set.
     pub fn fail(&self, call: CallKind, count: u64) -> bool {
         self.switch.fail(call, count).is_ok()
     }
 
-    /// Says what stops leave from now on.
+    /// Chooses what stops leave from now on.
     pub fn leave(&self, leaving: Leaving) {
         self.leaving.set(leaving);
     }
 }
 
-/// So many grips.
+/// A list of so many grips.
 pub fn new_grips(alloc: Global, count: u16) -> Result<Vec<Grip>, AllocError> {
     let mut grips = Vec::new(alloc);
     for _ in 0..count {
@@ -88,7 +88,7 @@ pub fn disks_of(alloc: Global, grips: &[Grip], count: usize) -> Result<Vec<Gripp
     Ok(disks)
 }
 
-/// A disk of which a grip is kept.
+/// A disk on which a test has a grip.
 pub struct GrippedDisk {
     alloc: Global,
     disk: MemDisk,
@@ -106,7 +106,7 @@ impl Drop for GrippedDisk {
 }
 
 impl GrippedDisk {
-    // Chooses what the next stop leaves. Where memory is refused that is what a read gives.
+    // Chooses what the next stop leaves. If an allocation fails that is what a read gives.
     fn choose(&mut self)
         ensures history { self.new.disk.history ≡ self.old.disk.history }
         ensures faults { self.new.disk.faults ≡ self.old.disk.faults }
@@ -116,7 +116,7 @@ impl GrippedDisk {
         }
     }
 
-    // What the next stop is to leave, if not what a read gives.
+    // What the next stop will leave; None where that is what a read gives.
     fn chosen(&self) -> Result<Option<Vec<u8>>, AllocError> {
         match self.leaving.get() {
             Leaving::Read => Ok(None),

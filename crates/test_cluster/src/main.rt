@@ -1,5 +1,5 @@
-//! The tests of several nodes of one committee in one process, which lists of moves move. Case files, whose cases each have a
-//! cluster of their own.
+//! The tests of several nodes of one committee in one process, driven by lists of moves. They are files of cases; each case has a cluster
+//! of its own.
 #![tactic(auto)]
 
 mod cases;
@@ -20,7 +20,7 @@ use std::sync::Wait;
 use std::thread::Threads;
 use test_cases::{Ending, Player, names_of};
 
-/// Batches that a member holds at most: so few that a case can come to one more.
+/// How many batches a member may hold: so few that a case can try one more.
 pub const BATCHES: u64 = 2;
 
 fn main(rt: HostRuntime) -> ExitCode {
@@ -36,7 +36,7 @@ fn main(rt: HostRuntime) -> ExitCode {
     }
 }
 
-/// Plays the files of these names; says whether there is one, and each has commands that were answered as expected.
+/// Plays the files with these names; gives whether there is one, and all commands had the expected answers.
 fn tested<R>(rt: &R, settings: &Settings, names: &[String]) -> Result<bool, Ending>
 where
     R: Files<File = File> + Print + AllocGlobal + Threads + Wait + Sync,
@@ -73,7 +73,7 @@ where
     player.end()
 }
 
-/// Plays each title and command. The loop owns nothing, since what a loop owns costs the proof at each way out of it.
+/// Plays each title and command. The loop owns nothing, since everything that a loop owns makes the proof more expensive at each exit.
 fn play_each<R, I, W>(
     rt: &R,
     player: &mut Player<I, W>,

@@ -1,4 +1,4 @@
-//! The moves of a cluster, from the words of their commands. None where the words aren't those of a move.
+//! The moves of a cluster, from the words of commands. None where the words aren't a move's.
 
 use crate::disks::Leaving;
 use cluster::Move;
@@ -8,10 +8,10 @@ use std::alloc::{AllocError, Global};
 use test_cases::bytes_of;
 use wire::{Author, Coin, Message, Signature, Wave};
 
-/// A signature of nobody.
+/// A signature that is good for nobody.
 pub const UNSIGNED: Signature = Signature([0; 64]);
 
-/// The texts before and after the first blank; where there is none, the whole one and nothing.
+/// The texts before and after the first blank; the whole text and nothing where there is no blank.
 pub fn parted(text: &str) -> (&str, &str) {
     text.split_once(' ').unwrap_or((text, ""))
 }
@@ -44,7 +44,7 @@ pub fn coin(words: &str) -> Option<Move> {
     })
 }
 
-/// `NODE from SENDER MESSAGE`, with the message as a script has it, or `unsigned LABEL` for a header with a bad signature.
+/// `NODE from SENDER MESSAGE`, where the message is written as in a script, or is `unsigned LABEL` for a header with a bad signature.
 pub fn gift(alloc: Global, labels: &Labels, words: &str) -> Result<Option<Move>, AllocError> {
     let (to, rest) = words.split_once(" from ").unwrap_or(("", ""));
     let (sender, rest) = parted(rest);
@@ -84,7 +84,7 @@ fn unsigned(labels: &Labels, label: &str) -> Result<Message, FormError> {
     Ok(Message::Header(header))
 }
 
-/// What a stop leaves: `keep`, which nothing stands for too, `lose`, or `tear BYTE` with two digits.
+/// What a stop leaves: `keep`, which is also the default, `lose`, or `tear BYTE` with two digits.
 pub fn leaving(alloc: Global, words: &str) -> Result<Option<Leaving>, AllocError> {
     match words {
         "" | "keep" => Ok(Some(Leaving::Read)),

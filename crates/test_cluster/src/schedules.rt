@@ -1,4 +1,4 @@
-//! Schedules: lists of moves that are drawn. `oracles/schedules.py` says how, and plays them by plain rules.
+//! Schedules: lists of moves that are drawn at random. `oracles/schedules.py` defines them, and plays them by plain rules.
 
 mod dishonest;
 mod draws;
@@ -15,7 +15,7 @@ use sim_members::Settings;
 use std::alloc::Global;
 use test_cases::{Told, bad};
 
-/// How many schedules are played, of how many moves each, where they begin, and the depth of the committee.
+/// How many schedules are played, how many moves each has, the start value of the random numbers, and the depth of the committee.
 #[derive(Clone, Copy)]
 struct Task {
     count: u64,
@@ -24,12 +24,12 @@ struct Task {
     depth: u64,
 }
 
-/// `schedules COUNT MOVES START DEPTH`, with as many dishonest members as are tolerated: tells what the moves come to.
+/// `schedules COUNT MOVES START DEPTH`, with as many dishonest members as are tolerated: shows the results of the moves.
 pub fn play_tolerated(alloc: Global, words: &str, answer: &mut String) -> Told {
     play_all(alloc, Honest::Three, words, answer)
 }
 
-/// `broken COUNT MOVES START DEPTH`: the same with one more.
+/// `broken COUNT MOVES START DEPTH`: the same with one more dishonest member.
 pub fn play_broken(alloc: Global, words: &str, answer: &mut String) -> Told {
     play_all(alloc, Honest::Two, words, answer)
 }
@@ -48,7 +48,7 @@ fn play_all(alloc: Global, honest: Honest, words: &str, answer: &mut String) -> 
     Ok(())
 }
 
-/// `COUNT MOVES START DEPTH`.
+/// The task in the words `COUNT MOVES START DEPTH`.
 fn task_of(words: &str) -> Option<Task> {
     let (count, words) = words.split_once(' ')?;
     let (moves, words) = words.split_once(' ')?;
@@ -61,7 +61,7 @@ fn task_of(words: &str) -> Option<Task> {
     })
 }
 
-/// Plays the schedule of this number.
+/// Plays the schedule with this number.
 fn play(
     alloc: Global,
     settings: &Settings,
@@ -70,7 +70,8 @@ fn play(
     number: u64,
     report: &mut Report,
 ) -> Told {
-    let mut schedule = Schedule::new(alloc, settings, honest, task.start.wrapping_add(number))?;
+    let start = task.start.wrapping_add(number);
+    let mut schedule = Schedule::new(alloc, settings, honest, task.depth, start)?;
     move_all(&mut schedule, task.moves, report)?;
     report.end(&schedule);
     Ok(())

@@ -1,4 +1,4 @@
-//! What is told of answers. Where memory is refused it is cut short, and then isn't as expected.
+//! How answers are shown. If an allocation fails the text is cut short, and then isn't as expected.
 
 use cluster::{Applied, ClusterError};
 use sim_script::Labels;
@@ -6,7 +6,7 @@ use std::fmt::Display;
 use test_cases::put;
 use wire::{Digest, Header, ParentReference, genesis_digest};
 
-/// Tells what a move is answered.
+/// Adds the answer to a move.
 pub fn tell_move(answer: &mut String, outcome: Result<Applied, ClusterError>) {
     match outcome {
         Ok(applied) => tell_applied(answer, applied),
@@ -28,7 +28,7 @@ fn tell_applied(answer: &mut String, applied: Applied) {
     }
 }
 
-/// Tells an error, and why a journal can't be opened.
+/// Adds an error, and why a journal couldn't be opened.
 pub fn tell_error(answer: &mut String, error: ClusterError) {
     put_shown(answer, "error ", &error, "");
     if let ClusterError::Journal(cause) = error {
@@ -37,7 +37,7 @@ pub fn tell_error(answer: &mut String, error: ClusterError) {
     put(answer, "\n");
 }
 
-/// Tells the round, the parents and the batches of a proposal.
+/// Adds the round, the parents and the batches of a proposal.
 pub fn tell_proposal(
     answer: &mut String,
     labels: &Labels,
@@ -74,7 +74,7 @@ fn tell_label(answer: &mut String, label: Option<&str>) {
     put(answer, label.unwrap_or("unlabelled"));
 }
 
-/// Tells the order that a node gave out.
+/// Adds the order that a node gave out.
 pub fn tell_order(answer: &mut String, labels: &Labels, order: Option<&[Digest]>) {
     put(answer, "order");
     match order {
@@ -91,7 +91,7 @@ fn tell_certificates(answer: &mut String, labels: &Labels, digests: &[Digest]) {
     }
 }
 
-/// Tells how many outputs a node put out.
+/// Adds how many outputs a node put out.
 pub fn tell_outputs(answer: &mut String, outputs: Option<u64>) {
     match outputs {
         Some(count) => put_shown(answer, "outputs ", &count, "\n"),
@@ -99,8 +99,7 @@ pub fn tell_outputs(answer: &mut String, outputs: Option<u64>) {
     }
 }
 
-// Adds what this is shown as, between two parts.
-/// Puts a value between two texts.
+/// Adds a value between two texts.
 pub fn put_shown<T: Display>(answer: &mut String, before: &str, shown: &T, after: &str) {
     let _ = write!(answer, "{before}{shown}{after}");
 }

@@ -14,13 +14,13 @@ use std::thread::{self, Threads};
 use test_cases::put;
 use wire::{Author, Message};
 
-// How often a gate looks for the flag that it waits for, before it opens without it.
+// How often a gate looks for the flag that it waits for, until it opens without it.
 const LOOKS: u64 = 10_000_000;
 
 /// Nodes in memory.
 type Nodes<'a> = Cluster<'a, HashSign, MemDisk, HashVerify>;
 
-// A gate that raises a flag in one of its passes, and in the first one waits until another flag is up. It says how often it was passed.
+// A gate that raises a flag in one of its passes, and in the first one waits until another flag is raised. It counts its passes.
 #[derive(Drop)]
 struct FlagGate<'f> {
     passes: u64,
@@ -29,7 +29,7 @@ struct FlagGate<'f> {
     raises_in: u64,
     raises: &'f AtomicBool,
     awaits: &'f AtomicBool,
-    // Raised where a flag was waited for in vain.
+    // Raised if a gate has waited for its flag in vain.
     missed: &'f AtomicBool,
 }
 
@@ -73,7 +73,7 @@ fn gate<'f>(
     }
 }
 
-/// Runs two nodes whose gates wait for one another, so that each needs a thread of its own.
+/// Runs two nodes whose gates wait for each other, so that each needs a thread of its own.
 pub fn meet<R>(rt: &R, alloc: Global, settings: &Settings, answer: &mut String)
 where
     R: Threads + Wait + Sync,
@@ -88,7 +88,7 @@ where
     }
 }
 
-// Whether each gate was passed once, raised its flag and found the other one up.
+// Whether each gate was passed once, raised its flag and found the other one raised.
 fn have_met<R>(rt: &R, alloc: Global, settings: &Settings) -> Result<bool, ClusterError>
 where
     R: Threads + Wait + Sync,
@@ -116,8 +116,8 @@ fn count_of(count: &AtomicU64) -> u64 {
     count.load(Ordering::SeqCst)
 }
 
-/// `circulate TURNS` gives each of four nodes its own header, which is not flushed, and lets them run for so many turns, the others from
-/// node 0's second turn on. Tells how many outputs each node then has, and how many of these the others know.
+/// `circulate TURNS` gives each of four nodes its own header, without flushing it, and lets them run for so many turns, the others from
+/// node 0's second turn on. Shows how many outputs each node then has, and how many of these the others know.
 pub fn circulate<R>(rt: &R, alloc: Global, settings: &Settings, words: &str, answer: &mut String)
 where
     R: Threads + Wait + Sync,
@@ -165,7 +165,7 @@ fn give_own(nodes: &mut Nodes<'_>, node: Author) -> Result<(), ClusterError>
     Ok(())
 }
 
-// How many outputs a node has, and in how many deliveries of one to another node that knows it.
+// Shows how many outputs a node has, and in how many deliveries of one of them to another node that one knows it.
 fn tell_known(
     nodes: &mut Nodes<'_>,
     node: Author,
@@ -250,7 +250,7 @@ fn add<'f>(gates: &mut Vec<FlagGate<'f>>, gate: FlagGate<'f>) -> Result<(), Clus
     }
 }
 
-// The first so many nodes, each over an empty disk in memory.
+// The first `count` nodes, each on an empty disk in memory.
 fn nodes<'a>(alloc: Global, settings: &'a Settings, count: usize) -> Result<Nodes<'a>, ClusterError>
     ensures { IfOk result (λ nodes. length nodes.members ≡ count) }
 {
