@@ -70,15 +70,11 @@ def headers():
 
 
 class Remembering(histories.Node):
-    """A node that looks once for what a certificate reaches, as the parents of what is held are there, and for its round from above."""
+    """A node that looks once for what a certificate reaches: the parents of what is held are there."""
 
     def __init__(self):
         super().__init__(DEPTH, histories.Committee([1] * len(MEMBERS)))
         self.pasts = {}
-
-    def round(self):
-        full = (round_ for round_ in range(max(self.certificates)[0], -1, -1) if self.is_full(round_))
-        return 1 + next(full)
 
     def past(self, certificate):
         if certificate.label not in self.pasts:
@@ -89,8 +85,8 @@ class Remembering(histories.Node):
 class Rules:
     """What a member's node answers behind what it took. The rules of oracles/histories.py are those of the member OWN there."""
 
-    def __init__(self, own, headers, events, kind):
-        self.own, self.headers, self.node = own, headers, kind()
+    def __init__(self, own, headers, events):
+        self.own, self.headers, self.node = own, headers, Remembering()
         for event in events:
             word, _ = self.take(*event)
             assert word.startswith('new')
@@ -124,9 +120,6 @@ class Rules:
 class Member:
     """A node over its runs: what is settled of all that it took, and all that it put out."""
 
-    # What it answers by.
-    kind = Remembering
-
     def __init__(self, own, headers):
         self.own, self.headers, self.settled, self.outputs, self.order = own, headers, [], [], []
         # The messages that it took, but those that a stop lost, or whose outputs it lost.
@@ -135,14 +128,10 @@ class Member:
 
     def begin(self):
         """A run on what is settled."""
-        self.accepted, self.firm = self.rules(), self.rules()
+        self.accepted, self.firm = Rules(self.own, self.headers, self.settled), Rules(self.own, self.headers, self.settled)
         self.pending, self.waiting, self.synced = [], [], 0
         self.failed = None
         self.collect()
-
-    def rules(self):
-        """The rules behind what is settled."""
-        return Rules(self.own, self.headers, self.settled, self.kind)
 
     def take_in(self, sender, message):
         if self.failed:
@@ -185,13 +174,10 @@ class Member:
 
     def collect(self):
         """Reads the order, and puts out what waits for nothing any more."""
-        self.see(self.firm.order())
-        self.release()
-
-    def see(self, order):
-        """The order is never taken back."""
+        order = self.firm.order()
         assert order[:len(self.order)] == self.order
         self.order = order
+        self.release()
 
     def release(self):
         self.outputs += [output for ticket, output in self.waiting if ticket <= self.synced]

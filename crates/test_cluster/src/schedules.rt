@@ -70,8 +70,7 @@ fn play(
     number: u64,
     report: &mut Report,
 ) -> Told {
-    let start = task.start.wrapping_add(number);
-    let mut schedule = Schedule::new(alloc, settings, honest, task.depth, start)?;
+    let mut schedule = Schedule::new(alloc, settings, honest, task.start.wrapping_add(number))?;
     move_all(&mut schedule, task.moves, report)?;
     report.end(&schedule);
     Ok(())

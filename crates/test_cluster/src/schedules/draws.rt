@@ -2,18 +2,16 @@
 
 ghost use Rattle.std.specs.Prelude.{◌<◌, IfSome};
 
-/// The state of a linear congruential generator, of which 48 bits count.
+/// The state of a linear congruential generator, of which 48 bits are used.
 #[derive(Clone, Copy)]
 pub struct Draws {
     state: u64,
 }
 
 impl Draws {
-    /// Before the first number of the schedule of this start value.
+    /// The state before the first number.
     pub fn from(start: u64) -> Draws {
-        Draws {
-            state: start.wrapping_mul(11_400_714_819_323_198_485) % (1 << 48),
-        }
+        Draws { state: start }
     }
 
     /// A number below this one.
@@ -26,7 +24,7 @@ impl Draws {
         (self.state >> 17) % limit
     }
 
-    /// A place in a list of this length. Where it is empty there is none, and nothing is drawn.
+    /// A place in a list of this length. For an empty list there is none, and no number is drawn.
     pub fn place(&mut self, length: usize) -> Option<usize>
         ensures { IfSome result (λ place. place < length) }
     {

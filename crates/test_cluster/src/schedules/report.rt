@@ -1,4 +1,4 @@
-//! What the moves of schedules come to.
+//! The results of the moves of schedules.
 
 use super::schedule::{Answered, Schedule};
 use crate::telling::tell_move;
@@ -9,11 +9,11 @@ use test_cases::{Told, put};
 use validator::Refusal;
 use wire::Author;
 
-/// Counts over moves, and a sum over all that they were answered.
+/// Counts of moves, and a sum over all their answers.
 #[derive(Drop)]
 pub struct Report {
     alloc: Global,
-    /// How many moves were answered so, by their kinds and answers.
+    /// How many moves had which answer, by their kinds and answers.
     counts: BTreeMap<String, u64>,
     line: String,
     sum: u64,
@@ -23,18 +23,11 @@ pub struct Report {
     growths: u64,
     longest: usize,
     grown: u64,
-    /// In how many schedules came to pass what is marked.
-    unlike: u64,
-    skipped: u64,
-    dishonest: u64,
-    risen: u64,
     wrong: u64,
-    /// The start value of the first schedule in which something was wrong.
-    first_wrong: Option<u64>,
 }
 
 impl Report {
-    /// Before the first move.
+    /// The report before the first move.
     pub fn new(alloc: Global) -> Report {
         Report {
             alloc,
@@ -47,12 +40,7 @@ impl Report {
             growths: 0,
             longest: 0,
             grown: 0,
-            unlike: 0,
-            skipped: 0,
-            dishonest: 0,
-            risen: 0,
             wrong: 0,
-            first_wrong: None,
         }
     }
 
@@ -89,20 +77,17 @@ impl Report {
         Ok(())
     }
 
-    /// A node's order grew.
+    /// Counts that a node's order grew.
     pub fn grow(&mut self) {
         increase(&mut self.growths);
     }
 
-    /// Of two orders none begins the other, or one was taken back, in the schedule of this start value.
-    pub fn go_wrong(&mut self, start: u64) {
+    /// Counts that of two orders neither is a prefix of the other.
+    pub fn disagree(&mut self) {
         increase(&mut self.wrong);
-        if self.first_wrong.is_none() {
-            self.first_wrong = Some(start);
-        }
     }
 
-    /// Counts what a schedule came to.
+    /// Counts the result of a schedule.
     pub fn end(&mut self, schedule: &Schedule<'_>) {
         self.lost = self.lost.saturating_add(schedule.lost);
         let mut any = false;
@@ -114,14 +99,12 @@ impl Report {
                 self.sum = added(self.sum, &digest.0);
             }
         }
-        count_if(&mut self.grown, any);
-        count_if(&mut self.unlike, schedule.marks.unlike);
-        count_if(&mut self.skipped, schedule.marks.skipped);
-        count_if(&mut self.dishonest, schedule.marks.dishonest);
-        count_if(&mut self.risen, schedule.marks.risen);
+        if any {
+            increase(&mut self.grown);
+        }
     }
 
-    /// Tells all of it.
+    /// Shows the whole report.
     pub fn tell(&self, start: u64, answer: &mut String) {
         let _ = writeln!(answer, "start {start}");
         for (line, count) in &self.counts {
@@ -133,24 +116,8 @@ impl Report {
         tell_count(answer, "growths of orders", self.growths);
         tell_count(answer, "longest order", self.longest as u64);
         tell_count(answer, "schedules with orders", self.grown);
-        tell_count(
-            answer,
-            "schedules with orders of unlike length",
-            self.unlike,
-        );
-        tell_count(answer, "schedules with waves skipped", self.skipped);
-        tell_count(answer, "schedules with dishonest leaders", self.dishonest);
-        tell_count(answer, "schedules with floors risen", self.risen);
         tell_count(answer, "sum", self.sum);
-        self.tell_wrong(answer);
-    }
-
-    fn tell_wrong(&self, answer: &mut String) {
-        let wrong = self.wrong;
-        let _ = match self.first_wrong {
-            Some(start) => writeln!(answer, "wrong {wrong}, first in the schedule from {start}"),
-            None => writeln!(answer, "wrong {wrong}"),
-        };
+        tell_count(answer, "wrong", self.wrong);
     }
 }
 
@@ -162,12 +129,6 @@ fn increase(count: &mut u64) {
     *count = count.saturating_add(1);
 }
 
-fn count_if(count: &mut u64, holds: bool) {
-    if holds {
-        increase(count);
-    }
-}
-
 // FNV-1a of 64 bits.
 fn added(sum: u64, bytes: &[u8]) -> u64 {
     bytes.iter().fold(sum, |sum, byte| {
@@ -175,7 +136,7 @@ fn added(sum: u64, bytes: &[u8]) -> u64 {
     })
 }
 
-// What a move was answered, without how many there were.
+// Adds the answer to a move, without the numbers in it.
 fn put_short(line: &mut String, outcome: Result<Applied, ClusterError>) {
     match outcome {
         Ok(Applied::Took { new: true, .. }) => put(line, "took new"),
