@@ -1,4 +1,4 @@
--- What the programs that compare two histories test.
+-- What the programs test that compare two histories.
 use Rattle.std.specs.Prelude.{◌≡◌, ℕ, Bool, true, List, slice_get}
 use Rattle.std.specs.List.{list_all}
 use Rattle.std.specs.Option.{option_map_or}
@@ -7,17 +7,17 @@ use Rattle.spec_model.specs.Admitting.{same_header}
 use Rattle.spec_model.specs.Slots.{Slots, slots_of}
 use Rattle.spec_model.specs.Words.{Certificate}
 
--- where both fill a slot, they have one header there
+-- where both fill a slot, both have the same header there
 abbrev pub has_one_header : Slots → Slots → ℕ → ℕ → Bool
 has_one_header one other round author =
     option_map_or (λ c. option_map_or (λ d. same_header c.header d.header) (other round author) true) (one round author) true
 
--- in each slot that the certificates of one fill
+-- in each slot that the certificates of one node fill, both have the same header if both fill it
 abbrev pub have_one_header : List Certificate → List Certificate → Bool
 have_one_header one other =
     list_all (λ c. has_one_header (slots_of one) (slots_of other) c.header.round c.header.author.0) one
 
--- a number has the same key and the same stake in both
+-- a member has the same key and the same stake in both committees
 pub record IsSameMember (one other : Charter) (member : ℕ) : Type 0 where
   pub key : slice_get one.keys member ≡ slice_get other.keys member
   pub stake : slice_get one.stakes member ≡ slice_get other.stakes member

@@ -40,7 +40,7 @@ impl Accords {
         }
     }
 
-    /// Carries out a command, and adds the lines that it answers.
+    /// Carries out a command, and adds the lines of its answer.
     pub fn obey(&mut self, command: &str, answer: &mut String) -> Result<(), AllocError> {
         match self.run(command, answer) {
             Ok(()) => Ok(()),
@@ -61,7 +61,7 @@ impl Accords {
         }
     }
 
-    /// The depth, and after it the stakes, parted by commas.
+    /// The depth, and after it the stakes, separated by commas.
     fn gather(&mut self, words: &str) -> Result<(), FormError> {
         let (depth, stakes) = parted(words, ' ');
         self.depth = depth.parse().unwrap_or(0);
@@ -84,7 +84,7 @@ impl Accords {
         play_words(self.alloc, committee, &self.made, words)
     }
 
-    /// Plays a history, and tells what it and the one before it have in common.
+    /// Plays a history, and shows what it and the one before it have in common.
     fn follow(&mut self, words: &str, answer: &mut String) -> Result<(), FormError> {
         let next = self.play(words)?;
         if let Some(last) = &self.last {

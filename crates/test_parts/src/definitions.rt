@@ -1,6 +1,6 @@
-//! The tests of the definitions: scripts over the plain programs, whose contracts the definitions are; and those of the
-//! validator: histories of events through its steps, with the sums over them that `oracles/histories.py` computes, and for
-//! the first events beside the plain program of what a node keeps.
+//! The tests of the definitions: scripts over the reference implementations, whose contracts are the definitions. And those of the
+//! validator: histories of events, with the sums that `oracles/histories.py` computes over its steps; the first events are also played
+//! through the reference implementation of the tables.
 
 mod beside;
 mod keeping;
@@ -16,7 +16,7 @@ pub use played::{Played, coin};
 pub use validating::Gathered;
 pub use weighing::{committee_of, label_genesis};
 
-/// Each law, which has no condition.
+/// Calls each law; none has a precondition.
 pub fn laws_hold() {
     spec_laws::one_vote();
     spec_laws::one_certificate();

@@ -1,5 +1,5 @@
-//! The tests of all that needs no disk: of the messages and of the parts of a validator, of the definitions, and of the
-//! validator. Case files over the public surface of their crates, a file for each crate or program that made it.
+//! The tests of everything that needs no disk: the messages and the parts of a validator, the definitions, and the validator itself. The
+//! cases work on the public surface of these crates; they are in files, one for each crate or for each program that drew them.
 #![tactic(auto)]
 
 mod accords;
@@ -23,15 +23,15 @@ use test_cases::{Ending, Player, Told, names_of};
 enum About {
     /// The messages and the parts of a validator.
     Parts,
-    /// The plain programs, whose contracts the definitions are.
+    /// The reference implementations, whose contracts are the definitions.
     Definitions,
-    /// A validator, and for its first events the plain program beside it.
+    /// A validator, and the reference implementation for its first events.
     Validator,
-    /// Pairs of histories of one committee, by the plain programs.
+    /// Pairs of histories of one committee, through the reference implementations.
     Accords,
 }
 
-/// What the cases are put to.
+/// What the commands of the cases work on.
 #[derive(Drop)]
 struct Cases {
     about: About,
@@ -59,7 +59,7 @@ impl Cases {
         self.validator.begin()
     }
 
-    /// `parts`, `validator` and `accords` begin a case of these, and any other command one of the definitions.
+    /// The first command `parts`, `validator` or `accords` starts a case of that kind, any other command one of the definitions.
     fn obey(&mut self, rt: &HostRuntime, command: &str, answer: &mut String) -> Told {
         match self.about {
             About::Parts => self.parts.obey(command, answer),
@@ -75,8 +75,8 @@ impl Cases {
     }
 }
 
-/// Begins the argument after which those files are named along whose events tables are restored; it ends with the number of
-/// events after which they are, each time.
+/// The prefix of an argument that ends with a number of events. For the files that are named after it, tables are restored along their
+/// histories, each time after so many events.
 const RESTORED_AFTER: &str = "restored-after=";
 
 fn main(rt: HostRuntime) -> ExitCode {
@@ -87,7 +87,7 @@ fn main(rt: HostRuntime) -> ExitCode {
     }
 }
 
-/// Plays the files that the arguments name; says whether there is one, and each has commands that were answered as expected.
+/// Plays the files that the arguments name; gives whether there is one, and each has commands, all answered as expected.
 fn tested(rt: &HostRuntime) -> Result<bool, Ending> {
     let names = names_of(rt, rt.alloc())?;
     let mut right = !names.is_empty();
@@ -105,7 +105,7 @@ fn tested(rt: &HostRuntime) -> Result<bool, Ending> {
     Ok(has_enough(rt, events > 0, &counts)? && right)
 }
 
-/// Restores tables along the events of the file of this name, each time after so many, and says whether all were alike.
+/// Restores tables along the histories of the file with this name, each time after so many events, and gives whether all were alike.
 fn are_alike(
     rt: &HostRuntime,
     name: &str,
@@ -124,7 +124,7 @@ fn are_alike(
     Ok(alike)
 }
 
-/// Tells at how many states tables were restored, where any had to be, and says whether at enough.
+/// Shows at how many states tables were restored, if they had to be, and gives whether that was often enough.
 fn has_enough(rt: &HostRuntime, restores: bool, counts: &Counts) -> Result<bool, Ending> {
     if !restores {
         return Ok(true);
@@ -135,7 +135,7 @@ fn has_enough(rt: &HostRuntime, restores: bool, counts: &Counts) -> Result<bool,
     Ok(counts.are_enough())
 }
 
-/// Plays the file of this name.
+/// Plays the file with this name.
 fn is_right(rt: &HostRuntime, name: &str) -> Result<bool, Ending> {
     let text = fs::read(rt, name)?;
     let mut player = Player::new(rt.alloc(), name, text.as_slice(), io::writer(rt));
@@ -152,7 +152,7 @@ where
     play_each(rt, player, &mut cases)
 }
 
-/// Plays each title and command. The loop owns nothing, since what a loop owns costs the proof at each way out of it.
+/// Plays each title and command. The loop owns nothing, since everything that a loop owns makes the proof more expensive at each exit.
 fn play_each<I, W>(
     rt: &HostRuntime,
     player: &mut Player<I, W>,

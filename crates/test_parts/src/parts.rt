@@ -1,5 +1,5 @@
-//! The tests of the messages, of the committee, of what tests and counts messages, of what makes batches and lets
-//! certificates wait, and of what a validator orders by: votes, batches, the DAG, the commit rule and the segments.
+//! The tests of the messages, of the committee, of the checks of messages, of counting votes, making batches and letting certificates wait,
+//! and of what a validator orders by: votes, batches, the DAG, the commit rule and the segments.
 
 mod certificates;
 mod committees;
@@ -25,7 +25,7 @@ use tables::Tables;
 use words::Told;
 pub use words::{list, parted, whether};
 
-/// What the commands are put to.
+/// What the commands of a case work on.
 #[derive(Drop)]
 pub struct Parts {
     tables: Tables,
@@ -33,7 +33,7 @@ pub struct Parts {
 }
 
 impl Parts {
-    /// As before the first case.
+    /// The state before the first case.
     pub fn new(alloc: Global) -> Parts {
         Parts {
             tables: Tables::new(alloc),
@@ -47,7 +47,7 @@ impl Parts {
         self.ordering.begin();
     }
 
-    /// Carries out a command, and adds the lines that it answers.
+    /// Carries out a command, and adds the lines of its answer.
     pub fn obey(&mut self, command: &str, answer: &mut String) -> Told {
         let (name, words) = parted(command, ' ');
         if is_ordering(name) {

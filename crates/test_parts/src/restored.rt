@@ -1,5 +1,5 @@
-//! The tests of tables that are restored. Each history of a case file is played by a member's tables. After every so many
-//! events these are taken apart and restored; both then take the events up to the next such place, and have to be alike.
+//! The tests of restoring tables. Each history of a file of cases is played by a member. Whenever it has taken so many events, its tables
+//! are taken apart and restored in a second member; both then take the events up to the next such place, and have to be alike.
 
 mod alike;
 mod counts;

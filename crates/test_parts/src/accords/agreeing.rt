@@ -1,4 +1,4 @@
-//! Whether two nodes with their histories are of one committee, and whether one of their orders begins the other.
+//! Whether two nodes with their histories are of one committee, and whether the order of one is a prefix of the other's.
 
 ghost use Rattle.std.specs.Prelude.{◌≡◌, ◌↔◌, IsTrue, IfOk, true};
 ghost use Rattle.std.specs.Option.{option_map_or};
@@ -23,17 +23,17 @@ use wire::{Certificate, Digest, HeaderBody};
 /// What two nodes with their histories have in common.
 #[derive(Drop)]
 pub struct Agreed {
-    /// They are of one committee, and neither their slots nor their coins contradict one another.
+    /// The nodes are of one committee, and neither their slots nor their coins contradict one another.
     pub premises: bool,
-    /// One of the orders begins the other.
+    /// One of the orders is a prefix of the other.
     pub agrees: bool,
-    /// The order of the one.
+    /// The order of the first.
     pub one: Vec<Digest>,
-    /// The order of the other.
+    /// The order of the second.
     pub other: Vec<Digest>,
 }
 
-/// A slot has this header, if it is filled.
+/// Whether a slot, if it is filled, has this header.
 fn has_header(certificates: &[Certificate], round: u64, author: u16, header: &HeaderBody) -> bool
     ensures { result ≡ option_map_or (λ c. same_header header.now c.header) (slots_of certificates.now round author) true }
 {
@@ -43,7 +43,7 @@ fn has_header(certificates: &[Certificate], round: u64, author: u16, header: &He
     }
 }
 
-/// A slot that both fill has one header in both.
+/// Whether a slot that both have filled has the same header in both.
 fn has_one_header(one: &[Certificate], other: &[Certificate], round: u64, author: u16) -> bool
     ensures { result ≡ accords.has_one_header (slots_of one.now) (slots_of other.now) round author }
 {
@@ -53,7 +53,7 @@ fn has_one_header(one: &[Certificate], other: &[Certificate], round: u64, author
     }
 }
 
-/// So has the slot of a certificate.
+/// Whether the slot of a certificate, if both have filled it, has the same header in both.
 fn has_one_at(one: &[Certificate], other: &[Certificate], certificate: &Certificate) -> bool
     ensures { result ≡ accords.has_one_header (slots_of one.now) (slots_of other.now) certificate.now.header.round certificate.now.header.author.0 }
 {
@@ -61,7 +61,7 @@ fn has_one_at(one: &[Certificate], other: &[Certificate], certificate: &Certific
     has_one_header(one, other, header.round.number(), header.author.0)
 }
 
-/// No slot of some certificates contradicts the same slot of others.
+/// Whether no slot of some certificates contradicts the same slot of others.
 fn have_one_header(one: &[Certificate], other: &[Certificate]) -> bool
     ensures { result ≡ accords.have_one_header one.now other.now }
 {
@@ -69,7 +69,7 @@ fn have_one_header(one: &[Certificate], other: &[Certificate]) -> bool
         .all(|certificate| has_one_at(one, other, certificate))
 }
 
-/// The slots of two nodes don't contradict one another.
+/// Whether the slots of two nodes don't contradict one another.
 fn slots_agree<S: Sign>(alloc: Global, one: &Past<S>, other: &Past<S>) -> Result<bool, AllocError>
     ensures { IfOk result (λ found. IsTrue found ↔ HaveOneHeader (holdings.slots (node_view S.scheme one.now.node.now) one.now.history.now) (holdings.slots (node_view S.scheme other.now.node.now) other.now.history.now)) }
 {
@@ -78,7 +78,7 @@ fn slots_agree<S: Sign>(alloc: Global, one: &Past<S>, other: &Past<S>) -> Result
     Ok(have_one_header(&first, &second))
 }
 
-/// Nor do their coins.
+/// Whether the coins of two nodes don't contradict one another.
 fn waves_agree(alloc: Global, one: &[Event], other: &[Event]) -> Result<bool, AllocError>
     ensures { IfOk result (λ found. IsTrue found ↔ Agree (histories.coins one.now) (histories.coins other.now)) }
 {
@@ -86,7 +86,7 @@ fn waves_agree(alloc: Global, one: &[Event], other: &[Event]) -> Result<bool, Al
     Ok(coins_agree(&first, &second))
 }
 
-/// They are of one committee, and neither their slots nor their coins contradict one another.
+/// Whether two nodes are of one committee, and neither their slots nor their coins contradict one another.
 fn are_of_one<S: Sign>(alloc: Global, one: &Past<S>, other: &Past<S>) -> Result<bool, AllocError>
     ensures { IfOk result (λ found. IsTrue found ↔ AreOfOne (node_view S.scheme one.now.node.now) (node_view S.scheme other.now.node.now) one.now.history.now other.now.history.now) }
 {
@@ -102,7 +102,7 @@ fn are_of_one<S: Sign>(alloc: Global, one: &Past<S>, other: &Past<S>) -> Result<
 /// What two nodes with their histories have in common.
 ///
 /// # Errors
-/// When memory runs out.
+/// `AllocError` where an allocation failed.
 pub fn agree<S: Sign>(alloc: Global, one: &Past<S>, other: &Past<S>) -> Result<Agreed, AllocError>
     ensures premises { IfOk result (λ found. IsTrue found.premises ↔ AreOfOne (node_view S.scheme one.now.node.now) (node_view S.scheme other.now.node.now) one.now.history.now other.now.history.now) }
     ensures agrees { IfOk result (λ found. IsTrue found.agrees ↔ Agree (holdings.order (node_view S.scheme one.now.node.now) one.now.history.now) (holdings.order (node_view S.scheme other.now.node.now) other.now.history.now)) }

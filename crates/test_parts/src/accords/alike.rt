@@ -1,4 +1,4 @@
-//! Committees, headers, and lists of which one begins the other.
+//! Whether two committees or headers are the same, and whether one of two lists is a prefix of the other.
 
 ghost use Rattle.std.specs.Prelude.{◌≡◌, ◌↔◌, IsTrue, slice_get};
 ghost use Rattle.spec_accord.specs.Accord.{Agree};
@@ -9,7 +9,7 @@ ghost use Rattle.test_parts.specs.Accords as accords;
 use committee::Committee;
 use wire::{Author, Digest, HeaderBody};
 
-/// A number has the same key in two committees.
+/// Whether the member of a number has the same key in two committees.
 fn same_key(one: &Committee, other: &Committee, member: Author) -> bool
     ensures { IsTrue result ↔ (slice_get one.now.keys member.0 ≡ slice_get other.now.keys member.0) }
 {
@@ -20,7 +20,7 @@ fn same_key(one: &Committee, other: &Committee, member: Author) -> bool
     }
 }
 
-/// It has the same stake in both.
+/// Whether the member of a number has the same stake in two committees.
 fn same_stake(one: &Committee, other: &Committee, member: Author) -> bool
     ensures { IsTrue result ↔ (slice_get one.now.stakes member.0 ≡ slice_get other.now.stakes member.0) }
 {
@@ -31,14 +31,14 @@ fn same_stake(one: &Committee, other: &Committee, member: Author) -> bool
     }
 }
 
-/// It has both.
+/// Whether the member of a number has the same key and the same stake in two committees.
 fn same_member(one: &Committee, other: &Committee, member: Author) -> bool
     ensures { IsTrue result ↔ accords.IsSameMember one.now other.now member.0 }
 {
     same_key(one, other, member) && same_stake(one, other, member)
 }
 
-/// The members of two committees are the same, with the same stakes.
+/// Whether the members of two committees are the same, with the same stakes.
 fn same_members(one: &Committee, other: &Committee) -> bool
     ensures { IsTrue result ↔ ((one.now.keys ≡ other.now.keys) × (one.now.stakes ≡ other.now.stakes)) }
 {
@@ -55,7 +55,7 @@ fn same_members(one: &Committee, other: &Committee) -> bool
     true
 }
 
-/// Two committees are the same.
+/// Whether two committees are the same.
 pub fn same_committee(one: &Committee, other: &Committee) -> bool
     ensures { IsTrue result ↔ (one.now ≡ other.now) }
 {
@@ -65,7 +65,7 @@ pub fn same_committee(one: &Committee, other: &Committee) -> bool
         && same_members(one, other)
 }
 
-/// Two headers are the same.
+/// Whether two headers are the same.
 pub fn same_header(one: &HeaderBody, other: &HeaderBody) -> bool
     ensures { result ≡ admitting.same_header one.now other.now }
 {
@@ -74,28 +74,28 @@ pub fn same_header(one: &HeaderBody, other: &HeaderBody) -> bool
             && one.parents.as_slice() == other.parents.as_slice())
 }
 
-/// One list of coins begins another.
+/// Whether one list of coins is a prefix of another.
 fn coins_begin(one: &[u64], other: &[u64]) -> bool
     ensures { IsTrue result ↔ Begins one.now other.now }
 {
     other.starts_with(one)
 }
 
-/// One of two begins the other.
+/// Whether one of two lists of coins is a prefix of the other.
 pub fn coins_agree(one: &[u64], other: &[u64]) -> bool
     ensures { IsTrue result ↔ Agree one.now other.now }
 {
     coins_begin(one, other) || coins_begin(other, one)
 }
 
-/// One list of digests begins another.
+/// Whether one list of digests is a prefix of another.
 fn digests_begin(one: &[Digest], other: &[Digest]) -> bool
     ensures { IsTrue result ↔ Begins one.now other.now }
 {
     other.starts_with(one)
 }
 
-/// One of two begins the other.
+/// Whether one of two lists of digests is a prefix of the other.
 pub fn digests_agree(one: &[Digest], other: &[Digest]) -> bool
     ensures { IsTrue result ↔ Agree one.now other.now }
 {

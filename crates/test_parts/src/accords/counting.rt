@@ -42,7 +42,7 @@ struct Decided {
     floor: u64,
 }
 
-/// The ledger of certificates and coins.
+/// What the definitions call a ledger: the certificates and the coins of a history.
 fn ledger<'a>(played: &'a Played, certificates: &'a [Certificate], coins: &'a [u64]) -> Ledger<'a> {
     Ledger {
         committee: &played.node.committee,
@@ -76,12 +76,12 @@ impl<'a> Side<'a> {
         ledger(self.played, &self.decided.certificates, &self.decided.coins)
     }
 
-    /// A leader up to the last one that is directly committed isn't committed.
+    /// Whether a leader up to the last one that is directly committed isn't committed.
     fn skips(&self) -> bool {
         (self.decided.leaders.len() as u64) < last_wave(&self.ledger())
     }
 
-    /// The leader of a wave is committed.
+    /// Whether the leader of a wave is committed.
     fn commits(&self, wave: u64) -> bool {
         let first = wave.saturating_mul(2).saturating_sub(1);
         self.decided
@@ -90,7 +90,7 @@ impl<'a> Side<'a> {
             .any(|leader| leader.header.round.number() == first)
     }
 
-    /// A wave is directly committed here, and at the other only through a later leader.
+    /// Whether some wave is directly committed here, and at the other node only through a later leader.
     fn is_before(&self, other: &Side) -> bool {
         let (here, there) = (self.ledger(), other.ledger());
         for wave in 1..here.coins.len() as u64 + 1 {
@@ -101,7 +101,7 @@ impl<'a> Side<'a> {
         false
     }
 
-    /// A certificate up to a floor is held here, and not by the other.
+    /// Whether a certificate at or below a floor is held here, and not by the other node.
     fn holds_more(&self, other: &Side, floor: u64) -> bool {
         self.decided.certificates.iter().any(|certificate| {
             let round = certificate.header.round.number();
@@ -110,12 +110,12 @@ impl<'a> Side<'a> {
     }
 }
 
-/// A wave is directly committed by one ledger, and not by the other.
+/// Whether a wave is directly committed in one ledger, and not in the other.
 fn is_before_at(here: &Ledger, there: &Ledger, wave: u64) -> bool {
     is_directly_committed(here, wave) && !is_directly_committed(there, wave)
 }
 
-/// The slot of a certificate isn't filled.
+/// Whether the slot of a certificate isn't filled.
 fn lacks(certificates: &[Certificate], certificate: &Certificate) -> bool {
     let (round, author) = (
         certificate.header.round.number(),
@@ -124,7 +124,7 @@ fn lacks(certificates: &[Certificate], certificate: &Certificate) -> bool {
     slot(certificates, round, author).is_none()
 }
 
-/// Of which kinds two histories are.
+/// For each kind whether two histories are of it.
 fn kinds(one: Side, other: Side, agreed: &Agreed) -> [bool; 9] {
     let floor = one.decided.floor.min(other.decided.floor);
     let (first, second) = (agreed.one.len(), agreed.other.len());
@@ -156,7 +156,7 @@ fn line(one: Side, other: Side, agreed: &Agreed, answer: &mut String) -> Result<
     writeln!(answer, "floors {first} {second}")
 }
 
-/// Adds the first four bytes of the SHA-256 of an order's digests, one after the other.
+/// Adds the first four bytes of the SHA-256 of an order's digests, in their order.
 fn write_sum(order: &[Digest], answer: &mut String) -> Result<(), AllocError> {
     let mut hasher = Sha256::new();
     for digest in order {

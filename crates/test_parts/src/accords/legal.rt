@@ -1,4 +1,4 @@
-//! Whether a history is legal, by the plain program of admission.
+//! Whether a history is legal, by the reference implementation of admission.
 
 ghost use Rattle.spec_model.specs.Nodes.{node_view};
 ghost use Rattle.spec_model.specs.States.{whole};
@@ -12,7 +12,7 @@ use sigface::Sign;
 use std::alloc::{AllocError, Global};
 use wire::{Batch, Certificate, Digest, Header, Vote};
 
-/// A node and its history, with no order: it takes long to compute, and whether an event is new doesn't depend on it.
+/// A node and its history without the order, which takes long to compute and doesn't matter for whether an event is new.
 struct Unordered<'a, S: Sign> {
     past: Past<'a, S>,
 }
@@ -73,7 +73,7 @@ impl<'a, S: Sign> Held for Unordered<'a, S> {
     }
 }
 
-/// The last of some events is new at those before it.
+/// Whether the last of some events is new after those before it.
 pub fn is_last_new<S: Sign>(
     alloc: Global,
     node: &Node<S>,

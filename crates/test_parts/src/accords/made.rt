@@ -1,4 +1,4 @@
-//! The headers of the pairs that follow.
+//! The headers that the pairs of histories are made of.
 
 use crate::definitions::label_genesis;
 use crate::parts::parted;
@@ -6,7 +6,7 @@ use sim_script::{Form, FormError, Labels, Proposed, define_header};
 use std::alloc::Global;
 use wire::Author;
 
-/// Members whose genesis certificates may be named.
+/// The number of members whose genesis certificates have labels.
 const MEMBERS: u16 = 16;
 
 /// The headers, each under its round and its author.
@@ -23,7 +23,7 @@ impl Made {
         }
     }
 
-    /// The headers of these words, of which each stands after its parents.
+    /// The headers of these words, in which each follows its parents.
     pub fn read(alloc: Global, words: &str) -> Result<Made, FormError> {
         let mut labels = Labels::new(alloc);
         label_genesis(alloc, &mut labels, MEMBERS)?;
@@ -33,7 +33,7 @@ impl Made {
         Ok(Made { labels })
     }
 
-    /// The header of a round and an author, as 3.1.
+    /// The header with this label, its round and its author: `3.1`.
     pub fn header(&self, label: &str) -> Option<&Proposed> {
         self.labels.header(label)
     }
@@ -57,7 +57,7 @@ fn add(alloc: Global, labels: &mut Labels, word: &str) -> Result<(), FormError> 
     define_header(alloc, labels, &form)
 }
 
-/// The labels of the certificates of these authors in the round below.
+/// The labels of the certificates of these authors in the round below this one.
 fn labels_of(alloc: Global, round: u64, authors: &str) -> Result<String, FormError> {
     let below = round.saturating_sub(1);
     let mut text = String::new(alloc);

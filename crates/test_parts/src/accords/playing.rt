@@ -20,18 +20,18 @@ pub struct Played {
     alloc: Global,
     /// The node.
     pub node: Node<HashSign>,
-    /// Its history.
+    /// The history of the node.
     pub history: Vec<Event>,
-    /// Each event passed the checks, and was new.
+    /// Whether each event passed the checks and was new.
     pub legal: bool,
     waves: u64,
     votes: VoteEntries,
 }
 
-/// The signature under all votes; no signature is looked at, since a history may be legal whatever its signatures.
+/// The signature of all votes. No signature is verified, since a history may be legal whatever its signatures are.
 const SIGNATURE: Signature = Signature([0; 64]);
 
-/// The history of these words, after the member's number.
+/// The history of these words, of which the first is the member's number.
 pub fn play_words(
     alloc: Global,
     committee: Committee,
@@ -52,7 +52,7 @@ pub fn play_words(
     Ok(played)
 }
 
-/// An empty history, and the votes of the members from the node on who are a quorum.
+/// An empty history, and the votes of a quorum: the members from the node on.
 fn begun(alloc: Global, node: Node<HashSign>) -> Result<Played, AllocError> {
     let votes = votes_of(alloc, &voters_from(&node))?;
     Ok(Played {
@@ -65,7 +65,7 @@ fn begun(alloc: Global, node: Node<HashSign>) -> Result<Played, AllocError> {
     })
 }
 
-/// The members from a node on, and then from 0, as few as are a quorum.
+/// A quorum: as few members as it takes, from the node on, and after the last one from 0 on.
 fn voters_from(node: &Node<HashSign>) -> MemberSet {
     let size = node.size();
     let mut voters = MemberSet::none();
@@ -77,7 +77,7 @@ fn voters_from(node: &Node<HashSign>) -> MemberSet {
     voters
 }
 
-/// The member of a place after another.
+/// The member so many places after another one, where the first member follows the last.
 fn after(own: u16, place: u16, size: u16) -> u16
     requires { 0 < size }
     ensures { result < size }
@@ -85,7 +85,7 @@ fn after(own: u16, place: u16, size: u16) -> u16
     ((u64::from(own) + u64::from(place)) % u64::from(size)) as u16
 }
 
-/// The votes of these members, rising.
+/// The votes of these members, in ascending order.
 fn votes_of(alloc: Global, voters: &MemberSet) -> Result<VoteEntries, AllocError> {
     let mut votes = VoteEntries::new(alloc);
     for member in 0..MAX_MEMBERS {
@@ -137,7 +137,7 @@ impl Played {
         Ok(self.take(self.node.own, Message::Certificate(certificate))?)
     }
 
-    /// Takes an own header, and then votes on it until they are a quorum, in the order in which the members follow the node.
+    /// Takes an own header, and then votes on it until they are a quorum, of the node itself and the members after it in order.
     fn make(&mut self, proposed: &Proposed) -> Result<(), FormError> {
         let header = proposed.header.try_clone()?;
         self.take(self.node.own, Message::Header(header))?;
@@ -174,7 +174,7 @@ impl Played {
     }
 }
 
-/// A member has one of these votes.
+/// Whether a member has one of these votes.
 fn is_among(votes: &VoteEntries, voter: Author) -> bool {
     votes.as_slice().iter().any(|vote| vote.voter == voter)
 }

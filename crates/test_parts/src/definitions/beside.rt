@@ -1,4 +1,4 @@
-//! The tables of a node beside its history: what both answer an event, and what both hold and decide after it.
+//! The tables of a node next to its history: what both answer to an event, and what both hold and decide after it.
 
 use crate::definitions::looking::proposal_line;
 use crate::definitions::played::{Played, tell_kind};
@@ -31,14 +31,14 @@ pub fn same(
 
 // ---- answers
 
-/// An answer, with what is put out.
+/// The text of an answer, with its outputs.
 pub fn told(played: &Played, found: &Admission) -> Result<String, AllocError> {
     let mut text = String::new(played.alloc);
     tell(played, found, &mut text)?;
     Ok(text)
 }
 
-/// Adds an answer, with what is put out.
+/// Adds an answer, with its outputs.
 pub fn tell(played: &Played, found: &Admission, text: &mut String) -> Result<(), AllocError> {
     tell_kind(found, text)?;
     match found {
@@ -55,7 +55,7 @@ fn lacks_parents(found: &Admission) -> bool {
     matches!(found, Admission::Refused(Refusal::MissingParents))
 }
 
-/// Compares what the last event was answered with what the tables, which haven't taken it, answer.
+/// Compares the answer of the history to its last event with that of the tables, which haven't taken the event.
 pub fn compare_answers(
     played: &Played,
     found: &Admission,
@@ -78,7 +78,7 @@ fn answer_by_tables(played: &Played, event: &Event) -> Result<String, AllocError
     told(played, &found)
 }
 
-/// What tables answer events one after the other, from none on.
+/// What tables that are empty at first answer to each of these events.
 pub fn answers_by_tables(played: &Played, events: &[Event]) -> Result<String, AllocError> {
     let mut tables = fresh(played.alloc, &played.node)?;
     let mut text = String::new(played.alloc);
@@ -88,7 +88,7 @@ pub fn answers_by_tables(played: &Played, events: &[Event]) -> Result<String, Al
     Ok(text)
 }
 
-/// Adds what tables answer an event, and gives those after it.
+/// Adds the answer of the tables to an event, and gives the tables after it.
 fn answer_next(
     played: &Played,
     tables: Tables,
@@ -101,7 +101,7 @@ fn answer_next(
     }
 }
 
-/// Adds what tables answer an event, and gives whether it is new.
+/// Adds the answer of the tables to an event, and gives whether it is new.
 fn tell_next(
     played: &Played,
     tables: &Tables,
@@ -145,7 +145,7 @@ fn decided<H: Held>(
     Ok(text)
 }
 
-/// Compares what no floor takes out, and the proposal.
+/// Compares what is kept below the floor too, and the proposal.
 pub fn compare_held(played: &Played, answer: &mut String) -> Result<(), AllocError> {
     let (alloc, node) = (played.alloc, &played.node);
     let proposal = propose(alloc, node, &played.history)?;
@@ -181,7 +181,7 @@ fn add_batches<H: Held>(played: &Played, held: &H, text: &mut String) -> Result<
     Ok(())
 }
 
-/// A batch, the one that its digest finds, whether it was named, and who acknowledged it.
+/// A batch, the one that its digest finds, whether a header named it, and who acknowledged it.
 fn batch_line<H: Held>(
     played: &Played,
     held: &H,

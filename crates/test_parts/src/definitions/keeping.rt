@@ -1,4 +1,4 @@
-//! What the tables of a node have, beside what is kept of its history.
+//! What a node's tables keep, next to what its history says that they keep.
 
 use crate::definitions::beside::same;
 use crate::definitions::played::Played;
@@ -11,11 +11,11 @@ use ref_order::slots::slot;
 use std::alloc::AllocError;
 use wire::{Certificate, Digest, Header, Vote, header_digest};
 
-/// What is kept of a round, for an author or voter.
+/// What is kept of a round and an author or voter.
 #[derive(Drop)]
 struct Kept {
     vote: Option<Digest>,
-    /// The own header's, where the author is the node itself.
+    /// The digest of the own header, where the author is the node itself.
     header: Option<Digest>,
     counted: Option<Vote>,
     certificate: Option<Certificate>,
@@ -63,7 +63,7 @@ fn add_kept(played: &Played, kept: &Kept, text: &mut String) -> Result<(), Alloc
     certificate_line(&played.labels, kept.certificate.as_ref(), text)
 }
 
-/// What is kept of a round, for an author or voter.
+/// A heading with the round and the author or voter, and what is kept of them.
 fn text_of(played: &Played, round: u64, author: u16, kept: &Kept) -> Result<String, AllocError> {
     let mut text = format!(in played.alloc; "round {round}, author {author}\n")?;
     add_kept(played, kept, &mut text)?;

@@ -59,7 +59,7 @@ pub fn member(word: &str) -> u16 {
     word.parse().unwrap_or(65535)
 }
 
-/// What a command looks at.
+/// What a command is about.
 #[derive(Clone, Copy)]
 enum About {
     State,
@@ -69,8 +69,8 @@ enum About {
     Certificates,
 }
 
-/// The names of the commands that look at each of these, parted by blanks; any other looks at certificates. The proof of a
-/// table costs less than that of an arm for each name.
+/// For each of these the names of the commands that are about it, separated by blanks; all other commands are about certificates. A table
+/// costs less proof time than a match arm for each name.
 const NAMES: [(About, &str); 4] = [
     (About::State, "floor counts propose given"),
     (
@@ -133,7 +133,7 @@ fn look_at(
     }
 }
 
-/// What a round has.
+/// What the certificates of a round show.
 fn look_in(
     played: &Played,
     view: &View,
@@ -167,7 +167,7 @@ fn look_for(
     }
 }
 
-/// Whether the certificate of a slot was given out.
+/// Whether the certificate of a slot may be given out.
 fn given_line(
     played: &Played,
     view: &View,
@@ -236,7 +236,7 @@ fn slot_line(
     )
 }
 
-/// Whether one certificate is a parent of another or reaches it.
+/// Whether one certificate is a parent of another, or reachable from it.
 fn paths(
     played: &Played,
     view: &View,
@@ -286,7 +286,7 @@ fn leaders_now(
     }
 }
 
-/// The leader of a wave, or those up to it or newer than it.
+/// The leader of a wave, or the leaders up to it or after it.
 fn leaders_of(
     played: &Played,
     ledger: &Ledger,
@@ -311,7 +311,7 @@ fn tops(ledger: &Ledger, answer: &mut String) -> Result<(), AllocError> {
     }
 }
 
-/// The order and the floor of certificates and coins.
+/// The order and the floor that certificates and coins decide.
 fn by_ledger(played: &Played, ledger: &Ledger, answer: &mut String) -> Result<(), AllocError> {
     let floor = floor_by(ledger);
     write!(answer, "floor {floor}, order")?;
@@ -325,7 +325,7 @@ fn proposal(played: &Played, answer: &mut String) -> Result<(), AllocError> {
     proposal_line(&played.labels, found, answer)
 }
 
-/// A header that is proposed, or that none is.
+/// The header that is proposed, or that none is.
 pub fn proposal_line(
     labels: &Labels,
     found: Option<Header>,

@@ -1,4 +1,4 @@
-//! A history that grows by commands, and what was put out.
+//! A history that grows by commands, and its outputs.
 
 use crate::definitions::beside::{
     answers_by_tables, compare_answers, compare_held, compare_states, same, tell,
@@ -23,7 +23,7 @@ use sim_script::{
 use std::alloc::{AllocError, Global};
 use wire::{Author, Coin, Message, Wave};
 
-/// A line that goes out once so many events are settled.
+/// An output's line, which may be shown once so many events are settled.
 #[derive(Drop)]
 struct Waiting {
     ticket: usize,
@@ -37,7 +37,7 @@ struct Counts {
     states: u64,
 }
 
-/// The history of one node, with its tables beside it, and with what was put out.
+/// The history of one node, its tables, and its outputs.
 #[derive(Drop)]
 pub struct Played {
     pub alloc: Global,
@@ -49,9 +49,9 @@ pub struct Played {
     waiting: Vec<Waiting>,
     collected: usize,
     settled: usize,
-    /// Outputs are told with each answer, in place of waiting.
+    /// Whether outputs are shown with each answer, instead of once the event is settled.
     tells: bool,
-    /// Events are gathered, and answered later.
+    /// Whether events are gathered first and answered later.
     gathers: bool,
 }
 
@@ -117,12 +117,12 @@ impl Played {
         }
     }
 
-    /// Another node, whose tables are as before any event.
+    /// Starts with another node, whose tables are those before any event.
     fn begin_with(&mut self, setting: Setting) -> Result<(), AllocError> {
         let (depth, batches) = match setting {
             Setting::Depth(depth) => (depth, BATCHES),
             Setting::Batches(most) => (DEPTH, most),
-            // Stakes have a word of these tests' own, and there is no journal.
+            // Stakes are set by a command that only these tests have, and there is no journal.
             Setting::Stakes(_) | Setting::FirstVersion => (DEPTH, BATCHES),
         };
         self.node = node_with(self.alloc, depth, batches)?;
@@ -135,7 +135,7 @@ impl Played {
         Ok(self.take(sender, message, answer)?)
     }
 
-    /// Takes a message, where it passes the checks; what is only gathered isn't checked.
+    /// Takes a message if it passes the checks. A message that is only gathered isn't checked.
     fn take(
         &mut self,
         sender: Author,
@@ -171,7 +171,7 @@ impl Played {
         self.admitted(&found, answer)
     }
 
-    /// Tells what was answered, and how many events there are then.
+    /// Shows the answer to an event, and how many events there are then.
     fn admitted(&mut self, found: &Admission, answer: &mut String) -> Result<(), AllocError> {
         match found {
             Admission::New(outputs) => self.accepted("new", outputs, answer),
@@ -191,7 +191,7 @@ impl Played {
         self.put_out(ticket, list, answer)
     }
 
-    /// Lets the tables follow the history by its last event, and compares both.
+    /// Applies the last event of the history to the tables, and compares both.
     fn follow(&mut self, answer: &mut String) -> Result<(), AllocError> {
         if let Some(event) = self.history.last() {
             let tables = self.tables.try_clone(self.alloc)?;
@@ -258,7 +258,7 @@ impl Played {
         writeln!(answer, "voted {label}")
     }
 
-    /// Answers the events that were gathered, one after the other.
+    /// Answers each of the events that were gathered.
     fn answer_all(&mut self, answer: &mut String) -> Result<(), AllocError> {
         let events = std::mem::replace(&mut self.history, Vec::new(self.alloc));
         let by_tables = answers_by_tables(self, &events)?;
@@ -305,7 +305,7 @@ impl Played {
         Ok(())
     }
 
-    /// A command of these tests alone.
+    /// Carries out a command that only these tests have.
     fn run_own(&mut self, words: &[&str], answer: &mut String) -> Result<(), FormError> {
         match words {
             [name] => Ok(self.run_word(name, words, answer)?),
@@ -322,7 +322,7 @@ impl Played {
         }
     }
 
-    /// A command of one word.
+    /// Carries out a command of one word.
     fn run_word(
         &mut self,
         name: &str,
@@ -350,7 +350,7 @@ impl Played {
         Ok(())
     }
 
-    /// Carries out a command, and adds the lines that it answers.
+    /// Carries out a command, and adds the lines of its answer.
     pub fn obey(&mut self, command: &str, answer: &mut String) -> Result<(), AllocError> {
         match self.run_line(command, answer) {
             Ok(()) => Ok(()),
@@ -369,7 +369,7 @@ impl Played {
     }
 }
 
-/// Adds an answer, without what is put out.
+/// Adds an answer, without its outputs.
 pub fn tell_kind(found: &Admission, answer: &mut String) -> Result<(), AllocError> {
     match found {
         Admission::New(_) => line("new", answer),

@@ -89,7 +89,7 @@ fn of_digest(
     yes_or_no(is_so, answer)
 }
 
-/// The worker of a batch that may be named, and whether it is held.
+/// The worker of a batch that may be named, and whether the batch is held.
 fn to_name_line(played: &Played, batch: &Batch, answer: &mut String) -> Result<(), AllocError> {
     let Some(found) = to_name(&played.node, &past(played), batch) else {
         return line("none", answer);
@@ -99,7 +99,7 @@ fn to_name_line(played: &Played, batch: &Batch, answer: &mut String) -> Result<(
     writeln!(answer, "worker {worker}, held {is_held}")
 }
 
-/// The labels of batches, parted by commas.
+/// The labels of batches, separated by commas.
 pub fn named(
     labels: &Labels,
     list: &[BatchReference],
@@ -123,7 +123,7 @@ fn reference(word: &str) -> BatchReference {
     }
 }
 
-/// Batches of these bytes as digests, put in their places one after the other.
+/// References with these bytes as digests, each inserted at its place in the list of those before.
 fn in_place(played: &Played, places: &[&str], answer: &mut String) -> Result<(), AllocError> {
     let mut found = Vec::new(played.alloc);
     for place in places {
@@ -157,7 +157,7 @@ pub fn votes(played: &Played, words: &[&str], answer: &mut String) -> Result<(),
     }
 }
 
-/// The own vote for an author in a round, or the counted vote of a voter.
+/// The node's own vote for an author in a round, or the counted vote of a voter.
 fn in_history(
     played: &Played,
     how: &str,
@@ -307,7 +307,7 @@ fn kept_slot_line(
     label_line(&played.labels, found.as_ref(), answer)
 }
 
-/// Whether what the node proposes passes the checks, its signature too.
+/// Whether the header that the node proposes passes the checks, that of its signature too.
 pub fn passes(played: &Played, answer: &mut String) -> Result<(), AllocError> {
     match propose(played.alloc, &played.node, &played.history)? {
         None => line("none", answer),

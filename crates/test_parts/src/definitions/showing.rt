@@ -1,4 +1,4 @@
-//! Values as a case file has them.
+//! Values in the form that a file of cases has.
 
 use ref_order::slots::digest_of;
 use sim_script::Labels;
@@ -43,12 +43,12 @@ pub fn yes_or_no(is_so: bool, answer: &mut String) -> Result<(), AllocError> {
     answer.push_str(if is_so { "yes\n" } else { "no\n" })
 }
 
-/// A word, and a line's end.
+/// Adds a word and a newline.
 pub fn line(word: &str, answer: &mut String) -> Result<(), AllocError> {
     writeln!(answer, "{word}")
 }
 
-/// A mark, and a word after it.
+/// Adds a mark, and a word after it.
 pub fn add(mark: &str, word: &str, answer: &mut String) -> Result<(), AllocError> {
     answer.push_str(mark)?;
     answer.push_str(word)
@@ -79,7 +79,7 @@ pub fn order(labels: &Labels, digests: &[Digest], answer: &mut String) -> Result
     answer.push_str("\n")
 }
 
-/// The voters, parted by commas.
+/// The voters, separated by commas.
 fn voters(entries: &[VoteEntry], answer: &mut String) -> Result<(), AllocError> {
     let mut mark = ' ';
     for entry in entries {
@@ -115,7 +115,7 @@ pub fn certificate_line(
     voters(certificate.votes.as_slice(), answer)
 }
 
-/// An output, as `collect` shows it.
+/// An output in the form that `collect` shows.
 fn output(labels: &Labels, output: &Output, answer: &mut String) -> Result<(), AllocError> {
     let (kind, label) = match output {
         Output::Batch(batch) => ("batch", batch_label(labels, &batch_digest(batch))),

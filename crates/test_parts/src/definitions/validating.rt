@@ -1,4 +1,4 @@
-//! The lines of a case, which are played once all are there.
+//! The lines of a case, which are played once all of them are read.
 
 mod asking;
 mod beside;
@@ -41,7 +41,7 @@ impl Gathered {
         }
     }
 
-    /// Plays what was gathered, from the genesis on.
+    /// Plays the gathered lines, from the genesis on.
     fn play(&self, way: Way, answer: &mut String) -> Result<(), FormError> {
         let stakes = self.stakes.as_str();
         let node = Node {
@@ -60,9 +60,8 @@ impl Gathered {
         self.stakes.push_str("1,1,1,1")
     }
 
-    /// `depth`, `batches` and `stakes` set up the committee, `play` plays the lines, `loads` plays them with a validator that
-    /// is loaded anew wherever they have the records of its checkpoint, `bodies` tells of memory; any other line is one of
-    /// them.
+    /// `depth`, `batches` and `stakes` set up the committee; `play` plays the gathered lines; `loads` plays them with a validator that is
+    /// loaded anew wherever the lines give the records of its checkpoint; `bodies` measures memory. Any other line is gathered.
     pub fn obey(
         &mut self,
         rt: &HostRuntime,
@@ -97,7 +96,7 @@ impl Gathered {
         self.lines.push_str("\n")
     }
 
-    /// Tells of so many batches of so many transactions what they take of the process's memory.
+    /// Shows how much of the process's memory so many batches of so many transactions take.
     fn tell_bodies(
         &self,
         rt: &HostRuntime,

@@ -1,14 +1,14 @@
-//! A committee whose members weigh.
+//! A committee whose members have stakes.
 
 use committee::{Committee, CommitteeError};
 use sim_script::{Form, FormError, Labels, define_header, member_list};
 use std::alloc::Global;
 use wire::Author;
 
-/// Members whose genesis certificates have labels in every case.
+/// The number of members whose genesis certificates have labels in every case.
 const LABELLED: u16 = 4;
 
-/// A committee of as many members as there are stakes, parted by commas, who sign with the test pair.
+/// A committee of as many members as there are stakes, separated by commas; all sign with the test key pair.
 pub fn committee_of(
     alloc: Global,
     stakes: &str,
@@ -27,7 +27,7 @@ pub fn committee_of(
     }
 }
 
-/// How many words stand between commas.
+/// How many words there are between the commas.
 fn count_of(words: &str) -> u16 {
     let mut count = 1u16;
     for byte in words.as_bytes() {
@@ -38,7 +38,7 @@ fn count_of(words: &str) -> u16 {
     count
 }
 
-/// Labels the genesis certificates of so many members.
+/// Gives labels to the genesis certificates of so many members.
 pub fn label_genesis(alloc: Global, labels: &mut Labels, members: u16) -> Result<(), FormError> {
     for member in LABELLED..members {
         let name = format!(in alloc; "g{member}")?;

@@ -1,4 +1,4 @@
-//! Certificates as words say them: without batches and votes.
+//! Certificates that words describe, without batches and votes.
 
 ghost use Rattle.std.specs.Prelude.{◌≡◌};
 ghost use Rattle.wire.specs.Digests.{header_digest_of, certificate_digest_of};
@@ -11,7 +11,7 @@ use wire::{
     ParentReferences, Round, VoteEntries, certificate_digest, header_digest,
 };
 
-// The parents of a header by these authors, in the round below: the digests that are held, and else one of zeros.
+// The parents of a header by these authors in the round below: the digest that the DAG holds, or one of zeros if it holds none.
 fn parents_of(
     alloc: Global,
     dag: &Dag,
@@ -35,7 +35,7 @@ fn parents_of(
     Ok(parents)
 }
 
-/// The certificate of a round and author over those of these authors.
+/// The certificate of a round and an author whose parents are by these authors.
 pub fn certificate_of(
     alloc: Global,
     dag: &Dag,

@@ -13,7 +13,7 @@ fn add_stakes(text: &mut String, stakes: &[u64]) -> Told {
     text.push_str("]\n")
 }
 
-/// The committee of members with these stakes, whose file has this line, too, or why it is none.
+/// The committee of members with these stakes, from a file that also has this line; or why the file is refused.
 pub fn committee_of(
     alloc: Global,
     stakes: &[u64],

@@ -5,7 +5,7 @@ use std::alloc::Global;
 use wire::WireError;
 use wire_read::FrameReader;
 
-/// Tells the bodies that the piece makes whole, and whether nothing has come of the next frame then.
+/// Shows the bodies of the frames that this piece completes, and whether the reader then has nothing of the next frame.
 pub fn feed(reader: &mut FrameReader, piece: &[u8], answer: &mut String) -> Told {
     match reader.feed(piece) {
         Ok(bodies) => show_each(&bodies, answer)?,
@@ -21,7 +21,7 @@ fn show_each(bodies: &[Vec<u8>], answer: &mut String) -> Told {
     Ok(())
 }
 
-/// Tells in how many of the first ways to cut the frame it gives its body once and leaves nothing.
+/// Shows in how many of the first ways to cut the frame the reader gives its body once and has nothing left.
 pub fn count_ways(alloc: Global, ways: u64, frame: &[u8], answer: &mut String) -> Told {
     let mut good: u64 = 0;
     for cuts in 0..ways {
@@ -32,7 +32,7 @@ pub fn count_ways(alloc: Global, ways: u64, frame: &[u8], answer: &mut String) -
     list("good", &[good, ways], answer)
 }
 
-/// Whether the frame gives its body once and leaves nothing, cut after each byte whose bit the number has.
+/// Whether the reader gives the frame's body once and has nothing left, where the frame is cut after each byte whose bit is set in `cuts`.
 fn is_one_body(alloc: Global, frame: &[u8], cuts: u64) -> Result<bool, WireError> {
     let (mut reader, mut bodies) = (FrameReader::new(alloc), Vec::new(alloc));
     feed_cut(&mut reader, frame, cuts, &mut bodies)?;
@@ -40,7 +40,7 @@ fn is_one_body(alloc: Global, frame: &[u8], cuts: u64) -> Result<bool, WireError
     Ok(is_one && reader.is_empty())
 }
 
-/// Feeds the frame, cut so.
+/// Feeds the frame in the pieces into which `cuts` divides it.
 fn feed_cut(
     reader: &mut FrameReader,
     frame: &[u8],

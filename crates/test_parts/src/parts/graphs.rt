@@ -1,4 +1,4 @@
-//! A DAG that is put to words one after the other.
+//! A DAG that words change and ask, one after the other.
 
 ghost use Rattle.std.specs.Prelude.{◌≡◌, ◌<◌, length};
 ghost use Rattle.wire.specs.Digests.{header_digest_of, certificate_digest_of};
@@ -11,7 +11,7 @@ use dag::{Added, Dag, DagRefusal, Reads};
 use std::alloc::Global;
 use wire::{Certificate, Digest, Round};
 
-/// Puts a DAG to these words, and tells what it answers.
+/// Carries out these words on a DAG, and shows its answers.
 pub fn graph(alloc: Global, committee: &Committee, words: &str, answer: &mut String) -> Told {
     let mut dag = Dag::new(alloc, committee)?;
     let mut reads = Reads::new();
@@ -46,7 +46,7 @@ fn obey(
     }
 }
 
-// How a certificate comes into a DAG: with its digest, or without it, or by hand after its answer.
+// How a certificate is added to a DAG: without its digest, with it, or by `hold` after `answer` said that it is new.
 #[derive(Clone, Copy, PartialEq, Eq)]
 enum Way {
     Bare,
@@ -91,7 +91,7 @@ fn add(
     write_added(answer, &added)
 }
 
-// Holds a certificate of a member that names a parent, if it is a new one.
+// Holds a certificate if it is new; its author is a member, and it names a parent.
 fn hold(dag: &mut Dag, certificate: Certificate, digest: Digest) -> Result<Added, DagRefusal>
     requires member { certificate.header.author.0 < length dag.old.charter.keys }
     requires named { 0 < length certificate.header.parents }
@@ -104,7 +104,7 @@ fn hold(dag: &mut Dag, certificate: Certificate, digest: Digest) -> Result<Added
     Ok(added)
 }
 
-// Writes what came of a certificate.
+// Shows the answer to a certificate.
 fn write_added(answer: &mut String, added: &Result<Added, DagRefusal>) -> Told {
     match added {
         Ok(added) => writeln!(answer, "{added:?}"),
@@ -112,7 +112,7 @@ fn write_added(answer: &mut String, added: &Result<Added, DagRefusal>) -> Told {
     }
 }
 
-// A change of the DAG, or a word that only looks.
+// Changes the DAG, or looks at it.
 fn change(
     alloc: Global,
     dag: &mut Dag,
@@ -139,7 +139,7 @@ fn change(
     }
 }
 
-// Adds certificates of four members for these rounds, each over the four below; how many rounds are then full.
+// Adds the certificates of four members for these rounds, each with the four below as its parents; shows how many rounds were full then.
 fn full(alloc: Global, dag: &mut Dag, first: u64, last: u64, answer: &mut String) -> Told {
     let mut text = String::new(alloc);
     for round in first..last.saturating_add(1) {
@@ -156,7 +156,7 @@ fn full_round(alloc: Global, dag: &mut Dag, round: u64, text: &mut String) -> To
     Ok(())
 }
 
-// What a DAG says of a certificate that it isn't given.
+// What a DAG answers about a certificate that isn't added to it.
 fn ask(alloc: Global, dag: &Dag, name: &str, numbers: &[u64], answer: &mut String) -> Told {
     let [round, author, parents @ ..] = numbers else {
         return answer.push_str("bad word\n");

@@ -11,7 +11,7 @@ pub fn make(alloc: Global, author: u64, worker: u64, maker: &mut Option<BatchMak
     Ok(())
 }
 
-/// Pushes a transaction, and tells the batch that is given, or the refusal.
+/// Pushes a transaction, and shows the batch that is given out, or the refusal.
 pub fn push(maker: &mut Option<BatchMaker>, transaction: &[u8], answer: &mut String) -> Told {
     match maker {
         Some(maker) => match maker.push(transaction) {
@@ -22,7 +22,7 @@ pub fn push(maker: &mut Option<BatchMaker>, transaction: &[u8], answer: &mut Str
     }
 }
 
-/// Seals the open batch, and tells it.
+/// Seals the open batch, and shows it.
 pub fn seal(maker: &mut Option<BatchMaker>, answer: &mut String) -> Told {
     match maker {
         Some(maker) => tell(maker.seal()?, answer),

@@ -1,4 +1,4 @@
-//! The committee, its signatures, and the tests of the messages that its members send.
+//! The committee, its signatures, and the checks of the messages that its members send.
 
 ghost use Rattle.std.specs.Prelude.{IsTrue};
 ghost use Rattle.wire.specs.declared.keys.Digest.{Digest};
@@ -14,7 +14,7 @@ use std::alloc::{AllocError, Global};
 use test_cases::write_hex;
 use wire::{Author, Digest, Key, Signature};
 
-/// Begins a list of members: the key of each is its number plus 1, 32 times.
+/// Starts a list of members in which the key of each is its number plus 1, 32 times.
 pub fn add_members(text: &mut String, count: u64) -> Told {
     text.push_str("members = [")?;
     for member in 0..count.min(255) as u8 {
@@ -25,7 +25,7 @@ pub fn add_members(text: &mut String, count: u64) -> Told {
     Ok(())
 }
 
-/// Tells the committee of this text.
+/// Shows the committee of this text.
 pub fn read_committee(
     alloc: Global,
     text: &str,
@@ -48,7 +48,7 @@ fn tell_committee(committee: &Committee, answer: &mut String) -> Told {
     list("limits", &[committee.depth(), workers, batches], answer)
 }
 
-/// Tells the key of a member.
+/// Shows the key of a member.
 pub fn show_key(committee: &Option<Committee>, member: u64, answer: &mut String) -> Told {
     match committee {
         Some(committee) => match committee.key(author_of(member)) {
@@ -59,7 +59,7 @@ pub fn show_key(committee: &Option<Committee>, member: u64, answer: &mut String)
     }
 }
 
-/// Tells what the tests of a message answer, with those of signatures and without.
+/// Shows the result of the checks of a message, once with and once without those of its signatures.
 pub fn check_both(
     alloc: Global,
     committee: &Option<Committee>,
@@ -102,7 +102,7 @@ fn key_of(byte: u64) -> Key {
     Key([byte.min(255) as u8; 32])
 }
 
-/// Tells the signature and the key of the signer with the key of 32 such bytes, and whether the verifier takes them.
+/// Shows the signature and the key of the signer with the key of 32 such bytes, and whether the verifier accepts the signature.
 pub fn sign(byte: u64, bytes: &[u8], answer: &mut String) -> Told {
     let (signer, digest) = (HashSign::new(key_of(byte)), digest_of(bytes));
     show(&signer.sign(&digest).0, answer)?;
@@ -111,14 +111,14 @@ pub fn sign(byte: u64, bytes: &[u8], answer: &mut String) -> Told {
     list("taken", &[is_taken as u64], answer)
 }
 
-/// Tells whether the signature after a digest is good for the key of 32 such bytes.
+/// Shows whether the signature after a digest is valid for the key of 32 such bytes.
 pub fn verify(byte: u64, bytes: &[u8], answer: &mut String) -> Told {
     let signature = bytes.last_chunk::<64>().copied().unwrap_or([0; 64]);
     let is_good = HashVerify.verify(&key_of(byte), &digest_of(bytes), &Signature(signature));
     list("good", &[is_good as u64], answer)
 }
 
-// A verifier that takes what is good for the signer's key takes the signer's signatures.
+// Whether the verifier accepts the signer's signature. The contract says that it does if the verifier accepts all good signatures.
 fn takes_its_signature<S: Sign, V: Verify>(signer: &S, verifier: &V, digest: &Digest) -> bool
     requires { (k : Key) (d : Digest) (s : Signature) → IsTrue (S.good k d s) → IsTrue (V.accepts verifier.now k d s) }
     ensures { IsTrue result }

@@ -1,4 +1,4 @@
-//! Messages, and what a validator gives out.
+//! Messages, and the outputs of a validator.
 
 use crate::parts::words::{Told, digest_of, list, show, tell};
 use std::alloc::{AllocError, Global};
@@ -9,17 +9,18 @@ use wire::{
 };
 use wire_read::decode;
 
-/// Reads a message, and says nothing of it.
+/// Decodes a message. This function has no contract.
 pub fn read(alloc: Global, bytes: &[u8]) -> Result<Message, WireError> {
     decode(alloc, bytes)
 }
 
-/// Writes a message, and says nothing of its bytes.
+/// Encodes a message. This function has no contract.
 pub fn written(alloc: Global, message: &Message) -> Result<Vec<u8>, AllocError> {
     encode(alloc, message)
 }
 
-/// Whether these bytes spell the message, as many as are foretold, and spell it after others too.
+/// Whether these bytes are the message's encoding, have the length that was computed before, and are the same if they are appended to
+/// others.
 pub fn is_spelled(alloc: Global, message: &Message, bytes: &[u8]) -> Result<bool, AllocError> {
     let mut twice = written(alloc, message)?;
     let is_spelled = twice.as_slice() == bytes && encoded_len(message) == bytes.len();
@@ -27,14 +28,14 @@ pub fn is_spelled(alloc: Global, message: &Message, bytes: &[u8]) -> Result<bool
     Ok(is_spelled && twice.get(bytes.len()..).unwrap_or(&[]) == bytes)
 }
 
-/// Reads a message and writes it again.
+/// Decodes a message and encodes it again.
 pub fn spelled_again(alloc: Global, bytes: &[u8]) -> Result<&'static str, WireError> {
     let message = read(alloc, bytes)?;
     let is_same = is_spelled(alloc, &message, bytes)?;
     Ok(if is_same { "Ok" } else { "other bytes" })
 }
 
-/// Tells how many proper beginnings are refused as Short, and what the others are.
+/// Shows how many proper prefixes are refused as `Short`, and the results of the others.
 pub fn beginnings(alloc: Global, bytes: &[u8], answer: &mut String) -> Told {
     let mut short: u64 = 0;
     for len in 0..bytes.len() {
@@ -46,8 +47,8 @@ pub fn beginnings(alloc: Global, bytes: &[u8], answer: &mut String) -> Told {
     list("short", &[short], answer)
 }
 
-/// Tells the fields of a message, whether its lists may go on with this number, and its output: of an acknowledgement
-/// to the author of this number.
+/// Shows the fields of a message, whether its lists could go on with this number, and its output; that of an acknowledgement is sent to the
+/// author of this number.
 pub fn message(alloc: Global, number: u64, bytes: &[u8], answer: &mut String) -> Told {
     match read(alloc, bytes) {
         Ok(message) => tell_message(alloc, &message, number.min(255) as u8, answer),
@@ -98,7 +99,7 @@ fn tell_batch(batch: &Batch, answer: &mut String) -> Told {
     show(&batch_digest(batch).0, answer)
 }
 
-/// Tells a header's fields, its digest and its certificate's.
+/// Shows a header's fields, its digest and its certificate's.
 pub fn tell_body(body: &HeaderBody, number: u8, answer: &mut String) -> Told {
     let (author, round) = (body.author.0, body.round.number());
     list("header", &[author as u64, round], answer)?;
@@ -141,7 +142,8 @@ fn entries(name: &str, len: usize, is_empty: bool, follows: bool, answer: &mut S
     list(name, &[len as u64, is_empty as u64, follows as u64], answer)
 }
 
-/// Adds so many of these bytes for each length, as far as the batch has room, tells the batch and gives its message.
+/// Adds a transaction for each length, the first so many of these bytes, as far as the batch has room; shows the batch and gives its
+/// message.
 pub fn fill(
     mut open: OpenBatch,
     lens: &[u64],
@@ -165,7 +167,7 @@ fn push(open: &mut OpenBatch, bytes: &[u8], answer: &mut String) -> Told {
     Ok(())
 }
 
-/// Tells the piece of the order of the digests that these bytes are, as far as it has room.
+/// Shows the piece of the order that these bytes are the digests of, as far as it has room.
 pub fn order(alloc: Global, start: u64, bytes: &[u8], answer: &mut String) -> Told {
     let mut digests = OrderDigests::new(alloc);
     add_digests(&mut digests, bytes, answer)?;

@@ -15,7 +15,7 @@ use wire_read::{
     beginnings_are_short, faults_stay, one_body, one_spelling, one_split, what_follows_is_trailing,
 };
 
-/// Tells the digest of an author's genesis, and the fields and the bytes of its certificate.
+/// Shows the digest of an author's genesis, and the fields and the bytes of its certificate.
 pub fn genesis(alloc: Global, author: u64, answer: &mut String) -> Told {
     show(&genesis_digest(author_of(author)).0, answer)?;
     let certificate = Certificate::genesis(alloc, author_of(author));
@@ -23,7 +23,7 @@ pub fn genesis(alloc: Global, author: u64, answer: &mut String) -> Told {
     show(&written(alloc, &Message::Certificate(certificate))?, answer)
 }
 
-/// Calls each law, and tells the refusals that no case has.
+/// Calls each law, and shows the refusals that no case has.
 pub fn laws(answer: &mut String) -> Told {
     one_spelling();
     one_body();
@@ -48,7 +48,7 @@ pub fn laws(answer: &mut String) -> Told {
     writeln!(answer, "{}", CheckError::Memory)
 }
 
-/// Asks for a vote.
+/// Asks the vote book for a vote.
 pub fn vote(
     book: &mut VoteBook,
     author: u64,
@@ -60,7 +60,7 @@ pub fn vote(
     writeln!(answer, "{voted:?}")
 }
 
-/// Tells who has the vote.
+/// Shows who has the vote.
 pub fn voted(book: &VoteBook, author: u64, round: u64, answer: &mut String) -> Told {
     match book.voted(author_of(author), round_of(round)) {
         Some(header) => show(&header.0, answer),

@@ -1,4 +1,4 @@
-//! What comes before an order, and what is ordered: votes, batches, a DAG, and certificates and coins as they come.
+//! What is needed for an order, and the order: votes, batches, a DAG, and certificates and coins in the order of their arrival.
 
 use crate::parts::committees::committee_of;
 use crate::parts::graphs::graph;
@@ -42,8 +42,7 @@ impl Ordering {
         self.committee = None;
     }
 
-    /// `committee` with its stakes, and after a line what its file has beside them, or what is asked of one: `quorum`, or a
-    /// word of one of the tables, with what is done to that table.
+    /// `committee` gives its stakes and, after `|`, another line of its file; any other name is that of a table, or asks the committee.
     pub fn obey(&mut self, name: &str, words: &str, answer: &mut String) -> Told {
         if name == "committee" {
             return self.read(words, answer);

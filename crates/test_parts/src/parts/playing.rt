@@ -1,4 +1,4 @@
-//! Certificates and coins in the order in which they come, and what they commit.
+//! Certificates and coins in the order of their arrival, and what they commit.
 
 ghost use Rattle.std.specs.Prelude.{◌≡◌, ◌<◌, length};
 ghost use Rattle.wire.specs.Digests.{header_digest_of, certificate_digest_of};
@@ -12,7 +12,7 @@ use std::alloc::{AllocError, Global};
 use tusk::Coins;
 use wire::{Author, Certificate, Digest, Round};
 
-// What a node keeps to order by.
+// What a node keeps in order to decide the order.
 #[derive(Drop)]
 struct Playing<'a> {
     alloc: Global,
@@ -21,11 +21,11 @@ struct Playing<'a> {
     coins: Coins,
     last: Option<u64>,
     previous: Option<(Round, Author)>,
-    // Whether it is told what is read for leaders.
+    // Whether the number of references that are read for each leader is shown.
     counts: bool,
 }
 
-/// Plays these words from the genesis on, and tells what each answers.
+/// Plays these words from the genesis on, and shows the answer to each.
 pub fn play_words(alloc: Global, committee: &Committee, words: &str, answer: &mut String) -> Told {
     let mut playing = Playing {
         alloc,
@@ -106,7 +106,7 @@ impl<'a> Playing<'a> {
         self.commit(&chain, &made, answer)
     }
 
-    // What these leaders order, and before that what each beginning of them does.
+    // For each prefix of this chain of leaders what it adds to the order.
     fn lengthen(&self, chain: &[(Round, Author)]) -> Result<Vec<Lengthening>, AllocError> {
         let mut made = Vec::new(self.alloc);
         for count in 1..chain.len() + 1 {
@@ -115,7 +115,7 @@ impl<'a> Playing<'a> {
         Ok(made)
     }
 
-    // Looks for these leaders in the DAG as it is now, tells what each orders, and takes the last one as committed.
+    // Compares this chain with the one that the DAG gives now, shows what each leader orders, and takes the last one as committed.
     fn commit(
         &mut self,
         chain: &[(Round, Author)],
@@ -142,13 +142,13 @@ impl<'a> Playing<'a> {
         writeln!(answer, "top {top} floor {floor}")
     }
 
-    // Whether these are the leaders that the DAG commits as it is now.
+    // Whether these are the leaders that the DAG, as it is now, commits.
     fn is_found(&self, chain: &[(Round, Author)]) -> Result<bool, AllocError> {
         let again = self.coins.chain_from(self.alloc, &self.dag, self.last)?;
         Ok(again.as_slice() == chain)
     }
 
-    // Takes the leader of a round as committed, with all that is ordered up to it.
+    // Takes the leader of a round as committed, and marks all that is ordered up to it.
     fn take(&mut self, round: Round, all: Option<&Lengthening>) {
         if let Some(all) = all {
             mark(&mut self.dag, all);
@@ -160,7 +160,7 @@ impl<'a> Playing<'a> {
         self.dag.drop_below(floor);
     }
 
-    // Whether each of these leaders orders, asked alone after the one before it, what its beginning has after that one's.
+    // Whether each of these leaders orders, if asked only after the one before it, what its prefix of the chain adds to that one's.
     fn is_alike(
         &self,
         chain: &[(Round, Author)],
@@ -183,7 +183,7 @@ impl<'a> Playing<'a> {
         Ok(place == chain.len())
     }
 
-    // Whether a leader orders these after the one before it.
+    // Whether a leader orders these digests after the leader before it.
     fn orders(
         &self,
         leader: (Round, Author),
@@ -194,7 +194,7 @@ impl<'a> Playing<'a> {
         Ok(digests == Some(alone.as_slice()))
     }
 
-    // What each leader orders: what its beginning has after that of the one before.
+    // Shows what each leader orders: what its prefix of the chain adds to the prefix before it.
     fn tell_orders(&self, made: &[Lengthening], answer: &mut String) -> Told {
         let mut told = 0;
         for one in made {
@@ -209,8 +209,8 @@ impl<'a> Playing<'a> {
         Ok(())
     }
 
-    // How many references are read for each leader: by what its beginning has after that of the one before, and where it is
-    // asked alone after that one.
+    // Shows how many references are read for each leader: those that its prefix of the chain adds, and those that are read if it is asked
+    // only after the leader before it.
     fn tell_reads(
         &self,
         chain: &[(Round, Author)],
@@ -232,7 +232,7 @@ impl<'a> Playing<'a> {
         answer.push_str("\n")
     }
 
-    // The slot of a certificate of this digest.
+    // Shows the slot of the certificate with this digest.
     fn tell_digest(&self, digest: &Digest, answer: &mut String) -> Told {
         for number in self.dag.floor().number()..self.dag.end() {
             for author in 0..self.dag.committee().size() {
@@ -245,7 +245,7 @@ impl<'a> Playing<'a> {
         Ok(())
     }
 
-    // The leaders of the waves from the floor on.
+    // Shows the leaders of the waves from the floor on.
     fn tell_leaders(&self, answer: &mut String) -> Told {
         answer.push_str("leaders")?;
         for wave in 1..self.coins.count() as u64 + 1 {

@@ -1,9 +1,9 @@
-//! The stakes of the members, and what sets of them weigh.
+//! The stakes of the members, and of sets of them.
 
 use crate::parts::words::{Told, author_of, list};
 use committee::{Committee, MAX_MEMBERS, MemberSet};
 
-/// Tells the stake of all members, and how much of it is tolerated.
+/// Shows the stake of all members together, and how much of it may be faulty.
 pub fn show_total(committee: &Option<Committee>, answer: &mut String) -> Told {
     match committee {
         Some(committee) => list("total", &[committee.total(), committee.tolerated()], answer),
@@ -11,7 +11,7 @@ pub fn show_total(committee: &Option<Committee>, answer: &mut String) -> Told {
     }
 }
 
-/// Tells the stake of a member.
+/// Shows the stake of a member.
 pub fn show_stake(committee: &Option<Committee>, member: u64, answer: &mut String) -> Told {
     match committee {
         Some(committee) => match committee.stake(author_of(member)) {
@@ -22,7 +22,7 @@ pub fn show_stake(committee: &Option<Committee>, member: u64, answer: &mut Strin
     }
 }
 
-/// Tells what the members of these numbers weigh.
+/// Shows the stake of the members of these numbers together.
 pub fn weigh(committee: &Option<Committee>, members: &[u64], answer: &mut String) -> Told {
     match committee {
         Some(committee) => list("weight", &[committee.weight(&set_of(members))], answer),
@@ -30,14 +30,14 @@ pub fn weigh(committee: &Option<Committee>, members: &[u64], answer: &mut String
     }
 }
 
-/// Tells whether a number is in the set of the members of these numbers.
+/// Shows whether a number is in the set of the members of these numbers.
 pub fn is_among(number: u64, members: &[u64], answer: &mut String) -> Told {
     let is_among = set_of(members).contains(author_of(number));
     list("among", &[is_among as u64], answer)
 }
 
-/// Tells whether a number is in the union of two sets, in what both have, and in the first one without the other. The first
-/// has so many of these members.
+/// Shows whether a number is in the union of two sets, in their intersection, and in the first one without the second. The first set has
+/// the first `count` of these members, the second one the others.
 pub fn is_in_both(number: u64, count: u64, members: &[u64], answer: &mut String) -> Told {
     let (some, others) = members.split_at(members.len().min(count as usize));
     let others = set_of(others);
@@ -54,7 +54,7 @@ pub fn is_in_both(number: u64, count: u64, members: &[u64], answer: &mut String)
     list("in", &found.map(|is_in| is_in as u64), answer)
 }
 
-// The set of the members of these numbers, without those that no member can have.
+// The set of the members of these numbers, without the numbers that no member can have.
 fn set_of(members: &[u64]) -> MemberSet {
     let mut set = MemberSet::none();
     for member in members {

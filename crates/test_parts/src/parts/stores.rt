@@ -1,4 +1,4 @@
-//! A store of batches that is put to words one after the other.
+//! A store of batches that words change and ask, one after the other.
 
 use crate::parts::words::{Told, author_of, list, member_in, numbers_in, parted};
 use batchstore::BatchStore;
@@ -7,7 +7,7 @@ use sigface::{HashSign, TableSeed};
 use std::alloc::{AllocError, Global};
 use wire::{Author, Batch, BatchReference, Digest, Key, OpenBatch, batch_digest};
 
-// A batch of an author and worker with one transaction, the byte of this number. None where there is no room, which never is.
+// A batch of an author and a worker, with one transaction of this byte.
 fn batch_of(
     alloc: Global,
     author: Author,
@@ -21,7 +21,7 @@ fn batch_of(
     Ok(open.close().ok())
 }
 
-/// Puts a store of a member to these words, and tells what it answers.
+/// Carries out these words on a member's store, and shows its answers.
 pub fn store(alloc: Global, committee: &Committee, words: &str, answer: &mut String) -> Told {
     let (own, words) = parted(words, ':');
     let own = member_in(own);
@@ -55,7 +55,7 @@ fn obey(
     }
 }
 
-// Of the batch of a place: an acknowledgement of it, or what is asked of it.
+// Adds an acknowledgement of the batch with this number, or answers a question about it.
 fn look(
     store: &mut BatchStore,
     name: &str,
@@ -88,7 +88,7 @@ fn put_of(
     put(store, digests, batch, answer)
 }
 
-// Puts one batch each of so many workers of a member, and tells how many are held then.
+// Puts one batch each of so many workers of a member, and shows how many are held then.
 fn many(
     alloc: Global,
     store: &mut BatchStore,
@@ -108,7 +108,7 @@ fn many(
     list("held", &[store.len() as u64], answer)
 }
 
-// How many of the batches that were put stand at the place of their put.
+// Shows how many of the batches are held at the place in which they were put.
 fn all(store: &BatchStore, digests: &[Digest], answer: &mut String) -> Told {
     let mut there: u64 = 0;
     for (place, digest) in digests.iter().enumerate() {
@@ -150,8 +150,8 @@ fn ack(store: &mut BatchStore, digest: Digest, member: Author, answer: &mut Stri
     }
 }
 
-// Of the batch of a digest: whether it is held with a worker, whose it is, whether it is available, and whether named; or
-// that a header names it.
+// Shows of the batch with a digest whether it is held with a worker and who made it, whether it is available, or whether it was named; or
+// marks it as named.
 fn ask(store: &mut BatchStore, name: &str, digest: Digest, answer: &mut String) -> Told {
     match name {
         "get" => get(store, &digest, answer),
@@ -176,7 +176,7 @@ fn get(store: &BatchStore, digest: &Digest, answer: &mut String) -> Told {
     }
 }
 
-// The batches that may be named: of each the place in which it was put first, and its worker.
+// Shows the batches that may be named: the number of the word that put each first, and its worker.
 fn least(alloc: Global, store: &BatchStore, digests: &[Digest], answer: &mut String) -> Told {
     answer.push_str("least")?;
     for reference in store.least_nameable(alloc)? {

@@ -1,4 +1,4 @@
-//! Messages and what tests, counts and makes them.
+//! Messages, and what checks, counts and makes them.
 
 use crate::parts::frames::{count_ways, feed};
 use crate::parts::makers::{make, push, seal};
@@ -18,7 +18,7 @@ use votebook::VoteBook;
 use wire::{OpenBatch, Round, Wave};
 use wire_read::FrameReader;
 
-/// The names, the committee that was read last, and the reader, the vote book, the maker and the waiter of a case.
+/// The named bytes, the committee that was read last, and the reader, the vote book, the maker and the waiter of a case.
 #[derive(Drop)]
 pub struct Tables {
     alloc: Global,
@@ -32,7 +32,7 @@ pub struct Tables {
 }
 
 impl Tables {
-    /// No names, and no committee.
+    /// No named bytes, and no committee.
     pub fn new(alloc: Global) -> Tables {
         Tables {
             alloc,
@@ -46,7 +46,7 @@ impl Tables {
         }
     }
 
-    /// Begins a case. Names, and the committee, stay.
+    /// Begins a case. Named bytes and the committee stay.
     pub fn begin(&mut self) {
         self.reader = FrameReader::new(self.alloc);
         self.book = VoteBook::new(self.alloc);
@@ -54,7 +54,7 @@ impl Tables {
         self.waiting = None;
     }
 
-    /// A command is a name, numbers, and after a colon words that stand for bytes; ` = ` gives bytes a name.
+    /// A command is a name, numbers and, after a colon, words that stand for bytes; ` = ` gives bytes a name.
     pub fn obey(&mut self, command: &str, answer: &mut String) -> Told {
         if let Some(text) = command.strip_prefix("line ") {
             return self.add_line(text);
@@ -65,7 +65,7 @@ impl Tables {
         self.run(command, answer)
     }
 
-    // A line of the committee's file; `\0` stands for the character of this number.
+    // Adds a line to the committee's file; `\0` stands for the byte of this number.
     fn add_line(&mut self, line: &str) -> Told {
         self.text.push_str(if line == "\\0" { "\0" } else { line })?;
         self.text.push_str("\n")
@@ -77,7 +77,7 @@ impl Tables {
         Ok(())
     }
 
-    // Some commands have a list of numbers. The others are told apart by how many they have, and then by their names.
+    // Some commands have a list of numbers. The others are distinguished by how many they have, and then by their names.
     fn put(&mut self, name: &str, numbers: &[u64], bytes: &[u8], answer: &mut String) -> Told {
         match name {
             "weigh" => weigh(&self.committee, numbers, answer),
@@ -190,7 +190,7 @@ impl Tables {
     }
 }
 
-// A command of bytes alone.
+// Carries out a command with bytes and no number.
 fn spell(alloc: Global, name: &str, bytes: &[u8], answer: &mut String) -> Told {
     match name {
         "decode" => tell(spelled_again(alloc, bytes), answer),
@@ -201,7 +201,7 @@ fn spell(alloc: Global, name: &str, bytes: &[u8], answer: &mut String) -> Told {
     }
 }
 
-// A command of a number and bytes.
+// Carries out a command with a number and bytes.
 fn reckon(alloc: Global, name: &str, number: u64, bytes: &[u8], answer: &mut String) -> Told {
     match name {
         "message" => message(alloc, number, bytes, answer),
@@ -216,7 +216,7 @@ fn reckon(alloc: Global, name: &str, number: u64, bytes: &[u8], answer: &mut Str
     }
 }
 
-// The batch of an author and worker, of transactions of these lengths.
+// Shows the batch of an author and a worker, of transactions with these lengths.
 fn batch(alloc: Global, numbers: &[u64], bytes: &[u8], answer: &mut String) -> Told {
     let [author, worker, lens @ ..] = numbers else {
         return bad(answer);

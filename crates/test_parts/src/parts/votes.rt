@@ -24,7 +24,7 @@ fn header_of(alloc: Global, author: Author) -> Header {
     }
 }
 
-// A vote on the header of this body, its signature of 64 such bytes.
+// A vote on the header of this body, with a signature of 64 times this byte.
 fn vote_on(body: &HeaderBody, voter: Author, byte: u8) -> Vote
     ensures digest { result.header.0 ≡ header_digest_of body.now }
     ensures round { result.round ≡ body.now.round }
@@ -40,8 +40,8 @@ fn vote_on(body: &HeaderBody, voter: Author, byte: u8) -> Vote
     }
 }
 
-// A vote as a word says it: the voter's number, and after it `h`, `r` or `a` where the vote names another header, round or
-// author than the one of this body.
+// The vote that a word describes: the voter's number, and after it `h`, `r` or `a` if the vote names another header, round or author than
+// this body's.
 fn vote_of(body: &HeaderBody, word: &str, byte: u8) -> Vote {
     let number = word.trim_end_matches(|c| c == 'h' || c == 'r' || c == 'a');
     let voter = Author(number.parse::<u16>().unwrap_or(0));
@@ -67,7 +67,7 @@ fn vote_of(body: &HeaderBody, word: &str, byte: u8) -> Vote {
     vote
 }
 
-/// Tells what an assembly of a member's header answers each vote, and what it is then.
+/// Shows what an assembly of a member's header answers to each vote, and its state then.
 pub fn assemble(alloc: Global, committee: &Committee, words: &str, answer: &mut String) -> Told {
     let (own, votes) = parted(words, ':');
     let own = member_in(own);
@@ -81,7 +81,8 @@ pub fn assemble(alloc: Global, committee: &Committee, words: &str, answer: &mut 
     tell_assembly(&assembly, committee.size(), answer)
 }
 
-// Gives an assembly the votes of these words, in a loop that owns nothing: what it owns costs the proof at each way out of it.
+// Gives the votes of these words to an assembly. The loop owns nothing, since everything that a loop owns makes the proof more expensive at
+// each exit.
 fn give_each(assembly: &mut Assembly, votes: &str, answer: &mut String) -> Told {
     let mut byte: u8 = 0;
     for word in votes.split_whitespace() {
@@ -92,7 +93,7 @@ fn give_each(assembly: &mut Assembly, votes: &str, answer: &mut String) -> Told 
     Ok(())
 }
 
-// Gives an assembly a vote, at once or in two steps.
+// Gives a vote to an assembly, in one call or in two.
 fn give(assembly: &mut Assembly, vote: Vote, at_once: bool, answer: &mut String) -> Told {
     let added = match at_once {
         true => assembly.add(vote)?,
@@ -116,7 +117,7 @@ fn tell_added(added: &Added, answer: &mut String) -> Told {
     }
 }
 
-// The header's author, and of each vote the voter and the first byte of the signature.
+// Shows the header's author, and of each vote the voter and the first byte of its signature.
 fn tell_certificate(certificate: &Certificate, answer: &mut String) -> Told {
     write!(answer, "complete {} :", certificate.header.author.0)?;
     for vote in certificate.votes.as_slice() {

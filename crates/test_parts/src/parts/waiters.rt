@@ -10,14 +10,14 @@ use waiter::Waiter;
 use wire::{Author, CERTIFICATE_TAG, HEADER_TAG, Key, Message};
 use wire_read::decode;
 
-/// A committee, and what waits.
+/// A committee, and its waiter.
 #[derive(Drop)]
 pub struct Waiting {
     committee: Committee,
     waiter: Waiter,
 }
 
-/// A waiter of nothing, of a committee of four.
+/// An empty waiter, for a committee of four.
 pub fn open(alloc: Global, waiting: &mut Option<Waiting>, answer: &mut String) -> Told {
     let mut text = String::new(alloc);
     add_members(&mut text, 4)?;
@@ -58,7 +58,7 @@ pub fn offer_header(
     put(alloc, waiting, &bytes, answer)
 }
 
-/// Offers the certificates of member 0 of these rounds, and tells how many may wait.
+/// Offers the certificates of member 0 of these rounds, and shows how many the waiter takes.
 pub fn offer_rounds(
     alloc: Global,
     waiting: &mut Option<Waiting>,
@@ -79,7 +79,7 @@ pub fn offer_rounds(
     list("taken", &[taken], answer)
 }
 
-/// Takes the next that is of this author, or of any; tells how many were asked of, and the round and author.
+/// Takes the next ready certificate of this author, or of any; shows how many the waiter asked about, and its round and author.
 pub fn next(waiting: &mut Option<Waiting>, author: Option<u64>, answer: &mut String) -> Told {
     let Some(waiting) = waiting else {
         return bad(answer);
@@ -96,7 +96,7 @@ pub fn next(waiting: &mut Option<Waiting>, author: Option<u64>, answer: &mut Str
     }
 }
 
-/// Tells whether a message from this sender, which passes under a committee, is a certificate that passes under the waiter's.
+/// Shows whether a message from this sender, which passes the checks under a committee, is a certificate that passes under the waiter's.
 pub fn pass(
     alloc: Global,
     committee: &Option<Committee>,
@@ -155,7 +155,7 @@ fn checked(alloc: Global, committee: &Committee, bytes: &[u8]) -> Option<Checked
     recheck(committee, Author(0), message).ok()
 }
 
-// A header's body with no batches and the parents 0, 1 and 2.
+// Adds a header's body with no batches and with the parents 0, 1 and 2.
 fn add_body(bytes: &mut Vec<u8>, slot: (u64, u64)) -> Told {
     bytes.extend_from_slice(&(slot.1.min(3) as u16).to_be_bytes())?;
     bytes.extend_from_slice(&slot.0.to_be_bytes())?;
@@ -167,7 +167,7 @@ fn add_body(bytes: &mut Vec<u8>, slot: (u64, u64)) -> Told {
     Ok(())
 }
 
-// With votes of three members.
+// The bytes of a certificate with the votes of three members.
 fn certificate(alloc: Global, slot: (u64, u64), voter: u64) -> Result<Vec<u8>, AllocError> {
     let mut bytes = Vec::new(alloc);
     bytes.push(CERTIFICATE_TAG)?;

@@ -8,18 +8,18 @@ pub use test_cases::Told;
 use test_cases::{bytes_of, write_hex};
 use wire::{Author, Digest, Round};
 
-/// Bytes that are shown, at most.
+/// The greatest number of bytes that are shown.
 const SHOWN_BYTES: usize = 80;
 
-/// Bytes that have a name.
+/// Bytes that have been given names.
 pub type Names = BTreeMap<String, Vec<u8>>;
 
-/// The texts before and after the first of these marks; where there is none, the whole one and nothing.
+/// The texts before and after the first of these marks; without a mark, the whole text and an empty one.
 pub fn parted(text: &str, mark: char) -> (&str, &str) {
     text.split_once(mark).unwrap_or((text, ""))
 }
 
-/// The member of a number that blanks may stand around, member 0 where there is no number.
+/// The member with this number, which may have blanks around it; member 0 if there is no number.
 pub fn member_in(word: &str) -> Author {
     Author(word.trim().parse::<u16>().unwrap_or(0))
 }
@@ -36,7 +36,7 @@ pub fn numbers_of(alloc: Global, words: &str) -> Result<Option<Vec<u64>>, AllocE
     Ok(Some(numbers))
 }
 
-/// The numbers that stand in a text, each of digits as far as they go.
+/// The numbers in a text: each run of digits is one.
 pub fn numbers_in(alloc: Global, text: &str) -> Result<Vec<u64>, AllocError> {
     let mut numbers = Vec::new(alloc);
     let mut number = None;
@@ -50,7 +50,7 @@ pub fn numbers_in(alloc: Global, text: &str) -> Result<Vec<u64>, AllocError> {
     Ok(numbers)
 }
 
-// A number with a digit more.
+// A number with one more digit.
 fn longer(number: u64, digit: u8) -> u64 {
     let digit = u64::from(digit.saturating_sub(b'0'));
     number.saturating_mul(10).saturating_add(digit)
@@ -63,7 +63,7 @@ fn put(numbers: &mut Vec<u64>, number: Option<u64>) -> Told {
     Ok(())
 }
 
-/// The bytes of these words, one after the other.
+/// The bytes of these words together, in their order.
 pub fn joined(alloc: Global, names: &Names, words: &str) -> Result<Option<Vec<u8>>, AllocError> {
     let mut bytes = Vec::new(alloc);
     for word in words.split_whitespace() {
@@ -78,7 +78,7 @@ pub fn joined(alloc: Global, names: &Names, words: &str) -> Result<Option<Vec<u8
     Ok(Some(bytes))
 }
 
-/// The bytes of a name, or of hexadecimal digits.
+/// The bytes that a name or hexadecimal digits stand for.
 fn part_of(alloc: Global, names: &Names, word: &str) -> Result<Option<Vec<u8>>, AllocError> {
     match names.get(word) {
         Some(named) => Ok(Some(named.clone()?)),
@@ -86,17 +86,17 @@ fn part_of(alloc: Global, names: &Names, word: &str) -> Result<Option<Vec<u8>>, 
     }
 }
 
-/// The author of this number, the greatest one if it is too great.
+/// The author of this number, or the greatest one if the number is too great.
 pub fn author_of(number: u64) -> Author {
     Author(number.min(65_535) as u16)
 }
 
-/// The round of this number, the genesis if it is too great.
+/// The round of this number, or the genesis if the number is too great.
 pub fn round_of(number: u64) -> Round {
     Round::new(number).unwrap_or(Round::genesis())
 }
 
-/// The digest that begins these bytes, of zeros if they are too few.
+/// The first 32 bytes of these as a digest, or zeros if there are fewer.
 pub fn digest_of(bytes: &[u8]) -> Digest {
     Digest(bytes.first_chunk::<32>().copied().unwrap_or([0; 32]))
 }
@@ -109,7 +109,7 @@ pub fn show(bytes: &[u8], answer: &mut String) -> Told {
     answer.push_str("]\n")
 }
 
-/// Adds a line of a name and numbers; of what is true or not, 1 or 0.
+/// Adds a line of a name and numbers; true is shown as 1 and false as 0.
 pub fn list(name: &str, numbers: &[u64], answer: &mut String) -> Told {
     answer.push_str(name)?;
     for number in numbers {
@@ -118,12 +118,12 @@ pub fn list(name: &str, numbers: &[u64], answer: &mut String) -> Told {
     answer.push_str("\n")
 }
 
-/// Adds a line of a name, and of whether it is so.
+/// Adds a line of a name, and `true` or `false`.
 pub fn whether(name: &str, is_so: bool, answer: &mut String) -> Told {
     writeln!(answer, "{name} {is_so}")
 }
 
-/// Adds a line: what came out, or the refusal.
+/// Adds a line with the result or the refusal.
 pub fn tell<T: Display + Drop, E: Display + Drop>(out: Result<T, E>, answer: &mut String) -> Told {
     match out {
         Ok(value) => writeln!(answer, "{value}"),
@@ -131,7 +131,7 @@ pub fn tell<T: Display + Drop, E: Display + Drop>(out: Result<T, E>, answer: &mu
     }
 }
 
-/// Of these authors those who may be members.
+/// The set of those of these authors who may be members.
 pub fn set_of(authors: &[u64]) -> MemberSet {
     let mut set = MemberSet::none();
     for author in authors {
@@ -143,7 +143,7 @@ pub fn set_of(authors: &[u64]) -> MemberSet {
     set
 }
 
-/// Writes who is in a set, after a name.
+/// Adds a name and the members of a set.
 pub fn write_set(answer: &mut String, name: &str, set: &MemberSet) -> Told {
     answer.push_str(name)?;
     for member in 0..MAX_MEMBERS {
@@ -154,12 +154,12 @@ pub fn write_set(answer: &mut String, name: &str, set: &MemberSet) -> Told {
     answer.push_str("\n")
 }
 
-/// Writes a slot, as 3.1.
+/// Adds a slot in the form `3.1`.
 pub fn write_slot(answer: &mut String, slot: &(Round, Author)) -> Told {
     write!(answer, " {}.{}", slot.0.number(), slot.1.0)
 }
 
-/// Says that a command is none.
+/// Adds a line that says that the command is unknown.
 pub fn bad(answer: &mut String) -> Told {
     answer.push_str("bad case\n")
 }

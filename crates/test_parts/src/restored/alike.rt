@@ -10,7 +10,7 @@ use std::alloc::{AllocError, Global};
 use validator::Validator;
 use wire::{Author, Header, Message, Output, Round, encode, encode_output};
 
-/// The first thing in which two validators differ after an event, if any: the length of the order, the floor, the round or the
+/// The first thing in which two validators differ after an event, if there is one: the length of the order, the floor, the round or the
 /// proposal.
 pub fn difference(
     alloc: Global,
@@ -35,7 +35,7 @@ fn difference_of_orders(one: &Sequencer, other: &Sequencer) -> Option<&'static s
     }
 }
 
-/// The first thing in which the tables of two validators with the same floor differ, if any: the order, the coins, the
+/// The first thing in which the tables of two validators with the same floor differ, if there is one: the order, the coins, the
 /// certificates, their parents and marks, the votes, the batches or the own headers.
 pub fn difference_of_tables(one: &Tables, other: &Tables) -> Option<&'static str> {
     let (left, right) = (one.sequencer(), other.sequencer());
@@ -103,8 +103,8 @@ fn marks_differ(one: &Dag, other: &Dag, number: u64) -> bool {
         != other.is_marked(round, Author(author)))
 }
 
-/// Whether a slot above the genesis is marked whose certificate isn't in the order, or the other way round. What is both held
-/// and ordered has a mark, since the marks say what no later leader orders again.
+/// Whether some slot above the genesis is marked though its certificate isn't in the order, or is in the order and not marked. A held
+/// certificate that is ordered has a mark, since later leaders don't order what is marked.
 pub fn marks_differ_from_order(tables: &Tables) -> bool {
     let dag = tables.sequencer().dag();
     (dag.floor().number().max(1)..dag.end()).any(|round| marks_of_round_differ(tables, round))
@@ -119,7 +119,7 @@ fn marks_of_round_differ(tables: &Tables, number: u64) -> bool {
     })
 }
 
-/// Whether the votes of a round up to the one after the last differ.
+/// Whether the votes differ in some round up to the one after the last.
 fn votes_differ(one: &Tables, other: &Tables) -> bool {
     let dag = one.sequencer().dag();
     (dag.floor().number()..dag.end().saturating_add(1)).any(|round| votes_of_round_differ(
@@ -161,14 +161,14 @@ fn headers_differ(one: &Tables, other: &Tables) -> bool {
     false
 }
 
-/// Whether one of two own headers is complete and the other not, or a vote is counted on one of them alone.
+/// Whether just one of two own headers is complete, or just one has a counted vote of some member.
 fn assembly_differs(one: &Assembly, other: &Assembly, size: u16) -> bool {
     one.digest() != other.digest()
         || one.is_complete() != other.is_complete()
         || (0..size).any(|member| one.voted(Author(member)) != other.voted(Author(member)))
 }
 
-/// The round of a number, and the genesis where there is none.
+/// The round of a number, or the genesis if no round has this number.
 fn round_of(number: u64) -> Round {
     Round::new(number).unwrap_or(Round::genesis())
 }
@@ -186,12 +186,12 @@ fn difference_of_proposals(
     }
 }
 
-/// What a validator proposes. The contract of that call is long, so it stands alone.
+/// What a validator proposes. A function of its own, since the contract of this call is long.
 fn proposal(validator: &Validator<'_, HashSign>) -> Result<Option<Header>, AllocError> {
     validator.propose()
 }
 
-/// The bytes of a header's message, and none of no header.
+/// The bytes of a header's message, or nothing where there is no header.
 fn bytes_of_header(alloc: Global, header: Option<Header>) -> Result<Vec<u8>, AllocError> {
     match header {
         None => Ok(Vec::new(alloc)),
@@ -218,7 +218,7 @@ fn same_outputs(alloc: Global, one: &[Output], other: &[Output]) -> Result<bool,
     Ok(left.as_slice() == right.as_slice())
 }
 
-/// Outputs as bytes, one after the other.
+/// Outputs as bytes, in their order.
 fn bytes_of(alloc: Global, outputs: &[Output]) -> Result<Vec<u8>, AllocError> {
     let mut bytes = Vec::new(alloc);
     for output in outputs {

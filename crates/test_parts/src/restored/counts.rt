@@ -1,16 +1,16 @@
-//! How many states tables were restored at, and of which kinds.
+//! How many states tables were restored at, by kind.
 
 use std::alloc::AllocError;
 
-/// How many states there have to be at least: of all, of those with a floor above 0, and of those without a leader.
+/// How many states there have to be at least: of all kinds, of those with a floor above 0, and of those without a leader.
 const LEAST: u64 = 300;
 
 const LEAST_ABOVE: u64 = 100;
 
 const LEAST_WITHOUT_LEADER: u64 = 20;
 
-/// How many states tables were restored at: all, those with a floor above 0, and those without a leader; and how often an
-/// allocation failed for it.
+/// How many states tables were restored at: all, those with a floor above 0, and those without a leader; and how often an allocation failed
+/// while they were restored.
 #[derive(Clone, Copy)]
 pub struct Counts {
     states: u64,
@@ -20,7 +20,7 @@ pub struct Counts {
 }
 
 impl Counts {
-    /// None.
+    /// Counts of 0.
     pub fn new() -> Counts {
         Counts {
             states: 0,
@@ -53,8 +53,8 @@ impl Counts {
             && self.without_leader >= LEAST_WITHOUT_LEADER
     }
 
-    /// Tells of each kind whether there were enough; of one that had too few, how many there were. Then it tells how often
-    /// an allocation failed, if one did.
+    /// Shows for each kind whether there were enough states and, if there were too few, how many. Then shows how often an allocation
+    /// failed, if one did.
     pub fn tell(&self, text: &mut String) -> Result<(), AllocError> {
         tell_one("restored states", self.states, LEAST, text)?;
         tell_one("with a floor above 0", self.above, LEAST_ABOVE, text)?;

@@ -1,4 +1,4 @@
-//! A validator that is made once more from what its tables are taken apart to.
+//! A validator that can be made again from the parts into which its tables are taken apart.
 
 ghost use Rattle.std.specs.Prelude.{◌≡◌, None, IfOk};
 ghost use Rattle.header.specs.Checks.{fault_of, accepts_all};
@@ -14,7 +14,7 @@ use std::alloc::{AllocError, Global};
 use std::marker::Model;
 use validator::{Config, Refusal, Step, Validator};
 
-/// A validator beside its configuration. Contracts see the validator.
+/// A validator and its configuration. Contracts see only the validator.
 pub struct Member<'a, S: Sign> {
     alloc: Global,
     config: &'a Config<S>,
@@ -47,7 +47,7 @@ impl<'a, S: Sign> Model for Member<'a, S> {
 }
 
 impl<'a, S: Sign> Member<'a, S> {
-    /// One that has taken nothing.
+    /// A validator that has taken nothing.
     pub fn new(alloc: Global, config: &'a Config<S>) -> Result<Member<'a, S>, AllocError> {
         let validator = Validator::new(alloc, config)?;
         Ok(Member {
@@ -57,7 +57,7 @@ impl<'a, S: Sign> Member<'a, S> {
         })
     }
 
-    /// One with the same configuration, whose tables are restored from these parts.
+    /// A validator with the same configuration, whose tables are restored from these parts.
     pub fn again(&self, kept: Kept) -> Result<Member<'a, S>, AllocError>
         requires { let node = node_of S.scheme self.now.setting in (state : State) × IsKeptOf node state kept }
     {

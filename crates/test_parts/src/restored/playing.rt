@@ -1,4 +1,4 @@
-//! The events of a case through a member's tables, and through tables that are restored from these.
+//! Plays the events of a case through a member's tables, and through tables that are restored from them.
 
 ghost use Rattle.std.specs.Prelude.{◌≡◌, None};
 ghost use Rattle.header.specs.Checks.{fault_of, accepts_all};
@@ -21,7 +21,7 @@ use std::alloc::{AllocError, Global};
 use validator::{Config, Refusal};
 use wire::{Author, Message, Round};
 
-/// What stands before the title of a case.
+/// The mark before the title of a case.
 const TITLE: &str = "== ";
 
 /// What a case sets up.
@@ -41,7 +41,7 @@ impl Setup {
         })
     }
 
-    /// Reads a line, which sets up something or doesn't.
+    /// Reads a line, which may set up something.
     fn read(&mut self, line: &str) -> Result<(), AllocError> {
         let line = line.strip_prefix("set ").unwrap_or(line);
         let (name, rest) = parted(line, ' ');
@@ -59,7 +59,7 @@ impl Setup {
     }
 }
 
-/// The setting of member 0 of a committee that was set up so.
+/// The setting of member 0 of the committee that a case sets up.
 fn config_of(alloc: Global, setup: &Setup) -> Result<Config<HashSign>, FormError> {
     let committee = committee_of(alloc, setup.stakes.as_str(), setup.depth, setup.batches)?;
     match Config::new(committee, OWN, signer(OWN)) {
@@ -68,8 +68,8 @@ fn config_of(alloc: Global, setup: &Setup) -> Result<Config<HashSign>, FormError
     }
 }
 
-/// Plays each case of a text, counts the states at which tables were restored, each time after so many events, and says
-/// whether all were alike. It tells of each case where something differs the first such line.
+/// Plays each case of a text, and counts the states at which tables were restored, each time after so many events; gives whether all were
+/// alike. For each case in which something differs, the first such line is shown.
 pub fn play_cases(
     alloc: Global,
     text: &str,
@@ -89,7 +89,7 @@ pub fn play_cases(
     Ok(alike)
 }
 
-/// The text up to the next title.
+/// The text before the next title.
 fn first_of(cases: &str) -> &str {
     match cases.split_once(TITLE) {
         None => cases,
@@ -126,22 +126,22 @@ fn play_case(
     }
 }
 
-/// Tells at which line of a case what differs.
+/// Shows at which line of a case something differs.
 fn tell(case: &str, line: &str, differs: &str, answer: &mut String) -> Result<(), AllocError> {
     let (title, _) = parted(case, '\n');
     writeln!(answer, "{title}: {line}: otherwise {differs}")
 }
 
-/// A member that takes the events of a case, and beside it one with tables that were restored from its own.
+/// A member that takes the events of a case, and a second one whose tables were restored from the first one's.
 #[derive(Drop)]
 struct Trial<'c> {
     alloc: Global,
     labels: Labels,
     member: Member<'c, HashSign>,
     restored: Member<'c, HashSign>,
-    /// After so many events tables are restored.
+    /// Tables are restored each time after so many events.
     each: u64,
-    /// How many events come before the next time.
+    /// How many events are left until tables are restored again.
     left: u64,
 }
 
@@ -159,7 +159,7 @@ impl<'c> Trial<'c> {
         })
     }
 
-    /// Plays the lines of a case, and tells the first at which something differs.
+    /// Plays the lines of a case, and shows the first one at which something differs.
     fn play<'t>(
         &mut self,
         case: &'t str,
@@ -176,12 +176,12 @@ impl<'c> Trial<'c> {
         }
     }
 
-    /// In what the tables of both differ.
+    /// In what the tables of the two members differ.
     fn tables_differ(&self) -> Option<&'static str> {
         difference_of_tables(self.member.tables(), self.restored.tables())
     }
 
-    /// A line that defines something, or an event; any other one is passed over.
+    /// A line that defines something, or an event; any other line is skipped.
     fn run(&mut self, line: &str, counts: &mut Counts) -> Result<Option<&'static str>, FormError> {
         match parse(line.as_bytes()) {
             Some(Command::Pack(pack)) => {
@@ -200,7 +200,7 @@ impl<'c> Trial<'c> {
         }
     }
 
-    /// The coin that another member sends, as these cases write it.
+    /// The coin that another member sends, in the form that these cases have.
     fn run_own(
         &mut self,
         line: &str,
@@ -216,7 +216,7 @@ impl<'c> Trial<'c> {
         self.take(sender, &message, counts)
     }
 
-    /// Gives an event to both, and says in what they differ then. Before every so many events the tables are restored.
+    /// Gives an event to both members, and gives in what they differ then. Each time after so many events the tables are restored first.
     fn take(
         &mut self,
         sender: Author,
@@ -241,7 +241,7 @@ impl<'c> Trial<'c> {
         }
     }
 
-    /// Gives an event that passed the checks to both.
+    /// Gives an event that passed the checks to both members.
     fn take_both(
         &mut self,
         one: Checked,
@@ -260,8 +260,8 @@ impl<'c> Trial<'c> {
         }
     }
 
-    /// Compares the tables that were restored before with the member's, and takes these apart and restores them anew. It
-    /// says in what they differ, before or after.
+    /// Compares the tables that were restored last time with the first member's, and takes those apart and restores them anew. Gives in
+    /// what they differ, before or after.
     fn restore(&mut self, counts: &mut Counts) -> Result<Option<&'static str>, FormError> {
         if let Some(differs) = self.tables_differ() {
             return Ok(Some(differs));
@@ -282,7 +282,7 @@ impl<'c> Trial<'c> {
         self.restored_differs()
     }
 
-    /// Restores the tables once more, after an allocation failed for it: they are as they were before.
+    /// Restores the tables again, after an allocation failed and left them as they were.
     fn restore_again(&mut self, counts: &mut Counts) -> Result<Option<&'static str>, FormError> {
         counts.refuse();
         if let Some(differs) = self.tables_differ() {
@@ -293,7 +293,7 @@ impl<'c> Trial<'c> {
         Ok(None)
     }
 
-    /// In what the tables that have just been restored differ from the member's.
+    /// In what the tables that have just been restored differ from the first member's.
     fn restored_differs(&self) -> Result<Option<&'static str>, FormError> {
         if marks_differ_from_order(self.restored.tables()) {
             return Ok(Some("the marks, by the order"));
@@ -304,7 +304,7 @@ impl<'c> Trial<'c> {
         }
     }
 
-    /// In what the validators of both differ after an event.
+    /// In what the validators of the two members differ after an event.
     fn validators_differ(&self) -> Result<Option<&'static str>, FormError> {
         Ok(difference(
             self.alloc,
@@ -331,7 +331,7 @@ impl<'c> Trial<'c> {
     }
 }
 
-/// The floor with this last leader.
+/// The floor of a committee whose last leader is this one.
 fn floor_below(committee: &Committee, last: Option<(Round, Author)>) -> Round {
     let round = match last {
         None => 0,
@@ -353,7 +353,7 @@ fn is_event(command: &Command<'_>) -> bool {
     )
 }
 
-/// A message once more.
+/// A copy of a message.
 fn again(message: &Message) -> Result<Message, AllocError> {
     Ok(match message {
         Message::Batch(batch) => Message::Batch(batch.share()?),

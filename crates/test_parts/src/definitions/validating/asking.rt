@@ -1,4 +1,4 @@
-//! What a validator is asked while lines are played. A line that asks is what has to be told.
+//! What a validator is asked while lines are played. The line that asks is the answer that is expected.
 
 use crate::definitions::looking::{member, number};
 use crate::definitions::showing::{add, header_label, line, order, outputs};
@@ -11,14 +11,14 @@ use std::alloc::{AllocError, Global};
 use validator::{Step, Validator};
 use wire::Output;
 
-/// What came of an event, and whether it was ready before.
+/// What came of the last event, and whether the validator was ready for it.
 #[derive(Drop)]
 pub struct Last {
     pub is_ready: bool,
     pub step: Result<Step, Refusal>,
 }
 
-/// The first words of the lines that ask, and what is otherwise where another line is told.
+/// The first word of each line that asks, and the name of what differs if the answer is another line.
 const ASKED: [(&str, &str); 8] = [
     ("answered", "the answer"),
     ("ready", "whether it was ready"),
@@ -30,7 +30,7 @@ const ASKED: [(&str, &str); 8] = [
     ("proposes", "the proposal"),
 ];
 
-/// What a line of these words asks; none where it doesn't ask.
+/// The name of what a line of these words asks for; none if it doesn't ask.
 pub fn asked(words: &[&str]) -> Option<&'static str> {
     let name = words.first()?;
     for (word, what) in ASKED {
@@ -42,7 +42,7 @@ pub fn asked(words: &[&str]) -> Option<&'static str> {
 }
 
 impl Last {
-    /// Tells `answered`, `ready` or `out` of the event.
+    /// Shows `answered`, `ready` or `out` of the last event.
     pub fn tell(
         &self,
         alloc: Global,
@@ -78,7 +78,7 @@ impl Last {
     }
 }
 
-/// Outputs in a line, parted by semicolons.
+/// Outputs in one line, separated by semicolons.
 fn tell_each(
     alloc: Global,
     labels: &Labels,
@@ -93,7 +93,7 @@ fn tell_each(
     in_one_line(told.as_str(), text)
 }
 
-/// Adds lines as one, parted by semicolons.
+/// Adds these lines as one, separated by semicolons.
 fn in_one_line(lines: &str, text: &mut String) -> Result<(), AllocError> {
     let mut is_first = true;
     for one in lines.lines() {
@@ -103,7 +103,7 @@ fn in_one_line(lines: &str, text: &mut String) -> Result<(), AllocError> {
     Ok(())
 }
 
-/// Tells the `floor`, the `round` or the `order` of a validator.
+/// Shows the `floor`, the `round` or the `order` of a validator.
 pub fn tell_seen(
     labels: &Labels,
     validator: &Validator<'_, HashSign>,
@@ -121,7 +121,7 @@ pub fn tell_seen(
     }
 }
 
-/// Tells the vote of a validator for an author in a round.
+/// Shows the vote of a validator for an author in a round.
 pub fn tell_vote(
     labels: &Labels,
     validator: &Validator<'_, HashSign>,

@@ -1,4 +1,4 @@
-//! The plain program beside a validator: both are given the same events.
+//! The reference implementation of a node's tables next to a validator: both are given the same events.
 
 use crate::definitions::validating::same::{difference, same_answer};
 use header::{Admission, Event, Node, Refusal};
@@ -8,7 +8,7 @@ use std::alloc::{AllocError, Global};
 use validator::{Step, Validator};
 use wire::Header;
 
-/// The tables of a node in lists, and how many events they took.
+/// The tables in lists, and how many events they took.
 #[derive(Drop)]
 pub struct Beside {
     alloc: Global,
@@ -19,7 +19,7 @@ pub struct Beside {
 }
 
 impl Beside {
-    /// Those of a node that took nothing, for so many events.
+    /// Empty tables of a node, which take at most so many events.
     pub fn new(alloc: Global, node: Node<HashSign>, most: u64) -> Result<Beside, AllocError> {
         let tables = fresh(alloc, &node)?;
         Ok(Beside {
@@ -31,17 +31,17 @@ impl Beside {
         })
     }
 
-    /// Whether it takes one more event: it is slow, and takes the first ones alone.
+    /// Whether the tables take one more event. They are slow, so they take only the first ones.
     pub fn goes_on(&self) -> bool {
         self.taken < self.most
     }
 
-    /// How many events it took.
+    /// How many events the tables took.
     pub fn compared(&self) -> u64 {
         self.taken
     }
 
-    /// Takes an event that the validator has taken, and says in what both differ, if they do.
+    /// Takes an event that the validator has taken, and gives in what the two differ, if they do.
     pub fn take(
         &mut self,
         validator: &Validator<'_, HashSign>,
@@ -57,7 +57,7 @@ impl Beside {
         }
     }
 
-    /// Answers an event, and says in what that differs from what the validator did.
+    /// Answers an event, and gives in what that differs from the validator's step, if it does.
     fn answer(
         &mut self,
         event: &Event,
@@ -77,7 +77,7 @@ impl Beside {
         }
     }
 
-    /// Lets the tables follow by a new event.
+    /// Applies a new event to the tables.
     fn follow(&mut self, event: &Event) -> Result<(), AllocError> {
         let tables = self.tables.try_clone(self.alloc)?;
         self.tables = after(self.alloc, &self.node, tables, event)?;

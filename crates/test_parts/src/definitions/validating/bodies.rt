@@ -1,5 +1,5 @@
-//! What the bodies of batches take of the process's memory, as the system tells it. A validator holds a batch and puts it out,
-//! and both have one body: no contract says so, since a contract sees the bytes alone.
+//! How much of the process's memory the bodies of batches take, as the operating system reports it. A validator's table and its output
+//! share one body of each batch; no contract says so, since a contract sees only the bytes.
 
 ghost use Rattle.std.specs.Prelude.{◌≡◌, None};
 ghost use Rattle.header.specs.Checks.{fault_of, accepts_all};
@@ -13,19 +13,19 @@ use std::fs;
 use validator::{Config, Step, Validator};
 use wire::{Batch, MAX_TRANSACTION_BYTES, Message, OpenBatch, Output};
 
-/// Where the system tells of its processes, of this one in `self`.
+/// Where the operating system reports on its processes, on this one under `self`.
 const PROCESSES: &str = "/proc";
 
-/// The place of the number that counts what the process may write to.
+/// The place of the number of pages that the process may write to.
 const WRITABLE: usize = 5;
 
-/// Bytes of a page.
+/// The size of a page, in bytes.
 const PAGE_BYTES: u64 = 4096;
 
-/// How often the bodies are copied, at most, until no room is left that the process had already.
+/// How often the bodies are copied at most, until no memory is left that the process has already been given.
 const ROUNDS: u64 = 16;
 
-/// Bytes of memory that the process may write to, none where the system doesn't tell: it does in numbers of pages.
+/// How many bytes of memory the process may write to, 0 where the operating system doesn't report it. It reports pages.
 fn memory(rt: &HostRuntime) -> u64 {
     let Ok(file) = format!(in rt.alloc(); "{PROCESSES}/self/statm") else {
         return 0;
@@ -37,8 +37,8 @@ fn memory(rt: &HostRuntime) -> u64 {
     pages.parse::<u64>().unwrap_or(0).saturating_mul(PAGE_BYTES)
 }
 
-/// Tells of so many own batches, each of so many transactions of the greatest length, whether memory grows by half of their
-/// bodies or more: where each body is copied, and where a validator takes the batches, and all that it puts out is kept.
+/// Makes so many own batches, each of so many transactions of the greatest length. Shows whether memory grows by half of the size of their
+/// bodies or more, first where each body is copied, then where a validator takes the batches and all of its outputs are kept.
 pub fn tell_bodies(
     rt: &HostRuntime,
     committee: Committee,
@@ -47,7 +47,7 @@ pub fn tell_bodies(
     answer: &mut String,
 ) -> Result<(), FormError> {
     let batches = batches_of(rt.alloc(), count, transactions)?;
-    // The copies stay, so that no room is left that they had.
+    // The copies are kept, so that none of their memory is free again.
     let mut copies = Vec::new(rt.alloc());
     let grown = grows_by_copies(rt, &batches, &mut copies)?;
     writeln!(answer, "copied: grown {grown}")?;
@@ -70,7 +70,7 @@ fn tell_steps(
     Ok(writeln!(answer, "taken, and put out {out}: grown {grown}")?)
 }
 
-/// Own batches, each of other transactions.
+/// Own batches, no two of the same transactions.
 fn batches_of(alloc: Global, count: u64, transactions: u64) -> Result<Vec<Batch>, AllocError> {
     let mut batches = Vec::new(alloc);
     for byte in 0..count.min(255) as u8 {
@@ -80,7 +80,7 @@ fn batches_of(alloc: Global, count: u64, transactions: u64) -> Result<Vec<Batch>
     Ok(batches)
 }
 
-/// An own batch of so many of this transaction.
+/// An own batch of this transaction, so many times.
 fn batch_of(alloc: Global, transaction: &[u8], count: u64) -> Result<Batch, AllocError> {
     let mut open = OpenBatch::new(alloc, OWN, 0)?;
     for _ in 0..count {
@@ -97,7 +97,7 @@ fn fill(open: &mut OpenBatch, transaction: &[u8]) -> Result<(), AllocError> {
     Ok(())
 }
 
-/// Bytes of the bodies of these.
+/// The size of the bodies of these batches together, in bytes.
 fn bytes_of(batches: &[Batch]) -> u64 {
     let mut bytes = 0u64;
     for batch in batches {
@@ -106,8 +106,8 @@ fn bytes_of(batches: &[Batch]) -> u64 {
     bytes
 }
 
-/// Copies the bodies, again and again as long as there is room for them that the process had already; says whether memory has
-/// grown by half of them at last.
+/// Copies the bodies until the memory that the process already had is used up; gives whether memory has grown by half of their size at
+/// last.
 fn grows_by_copies(
     rt: &HostRuntime,
     batches: &[Batch],
@@ -123,7 +123,7 @@ fn grows_by_copies(
     Ok(false)
 }
 
-/// Gives the batches to the validator, and keeps what comes of them; says whether memory has grown by half of their bodies.
+/// Gives the batches to the validator, and keeps what it answers; gives whether memory has grown by half of the size of their bodies.
 fn grows_by_steps(
     rt: &HostRuntime,
     validator: &mut Validator<'_, HashSign>,
@@ -137,7 +137,7 @@ fn grows_by_steps(
     Ok(has_grown(rt, before, batches))
 }
 
-/// Whether memory has grown by half of the bodies of these or more.
+/// Whether memory has grown by half of the size of these batches' bodies or more.
 fn has_grown(rt: &HostRuntime, before: u64, batches: &[Batch]) -> bool {
     memory(rt).saturating_sub(before) >= bytes_of(batches) / 2
 }
@@ -179,7 +179,7 @@ fn step(
     Ok(steps.push(validator.step(checked))?)
 }
 
-/// How many batches new events put out.
+/// How many batches are among the outputs of new events.
 fn put_out(steps: &[Result<Step, Refusal>]) -> u64 {
     let mut count = 0u64;
     for step in steps {

@@ -10,7 +10,7 @@ use sim_script::FormError;
 use std::alloc::{AllocError, Global};
 use validator::{Config, Validator};
 
-/// How many records a checkpoint has to have, and what the sum over them has to be.
+/// How many records a checkpoint is expected to have, and the expected sum over them.
 #[derive(Clone, Copy)]
 pub struct Expected {
     count: u64,
@@ -18,7 +18,7 @@ pub struct Expected {
 }
 
 impl Expected {
-    /// Those of these words.
+    /// The expectation that these words give.
     pub fn of(count: &str, sum: &str) -> Expected {
         Expected {
             count: number(count),
@@ -35,8 +35,7 @@ impl Expected {
     }
 }
 
-/// At how many states a validator was loaded, at how many of them the floor was above 0, and at how many no leader was
-/// committed.
+/// The number of states at which a validator was loaded, and how many of these had a floor above 0, and how many no committed leader.
 #[derive(Clone, Copy)]
 pub struct Loads {
     states: u64,
@@ -45,7 +44,7 @@ pub struct Loads {
 }
 
 impl Loads {
-    /// At none.
+    /// No states.
     pub fn new() -> Loads {
         Loads {
             states: 0,
@@ -64,7 +63,7 @@ impl Loads {
             .saturating_add(u64::from(seen.order.is_empty()));
     }
 
-    /// Tells how many they were.
+    /// Shows how many they were.
     pub fn tell(&self, answer: &mut String) -> Result<(), AllocError> {
         let found = [
             ("loaded", self.states),
@@ -83,7 +82,7 @@ pub fn has_records(
     Ok(expected.is_met(&validator.kept_records()?))
 }
 
-/// The validator that is loaded from the records of this one, if they are loaded.
+/// The validator that is loaded from the records of this one, if loading succeeds.
 pub fn loaded_again<'c>(
     alloc: Global,
     config: &'c Config<HashSign>,

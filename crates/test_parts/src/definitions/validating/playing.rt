@@ -1,4 +1,4 @@
-//! The lines of a case through a validator and, for its first events, through the plain program.
+//! Plays the lines of a case through a validator and, for its first events, through the reference implementation.
 
 ghost use Rattle.std.specs.Prelude.{◌≡◌, None};
 ghost use Rattle.header.specs.Checks.{fault_of, accepts_all};
@@ -26,14 +26,14 @@ use wire::{Author, Header, Message};
 /// How lines are played.
 #[derive(Clone, Copy)]
 pub struct Way {
-    /// So many of the first events are played beside the plain program.
+    /// How many of the first events are played through the reference implementation too.
     most: u64,
-    /// Whether the validator is loaded anew wherever the lines have the records of its checkpoint.
+    /// Whether the validator is loaded anew wherever the lines give the records of its checkpoint.
     loads: bool,
 }
 
 impl Way {
-    /// With the plain program beside the first events, as many as `most`.
+    /// With the reference implementation for as many of the first events as `most`.
     pub fn beside(most: u64) -> Way {
         Way { most, loads: false }
     }
@@ -47,7 +47,7 @@ impl Way {
     }
 }
 
-/// A validator, with what is summed up and counted of it, and with the plain program beside it.
+/// A validator, with the sums and counts over what it did, and with the reference implementation next to it.
 #[derive(Drop)]
 struct Playing<'c> {
     alloc: Global,
@@ -58,12 +58,12 @@ struct Playing<'c> {
     sum: Sum,
     tally: Tally,
     last: Option<Last>,
-    /// At how many states the validator was loaded, where it is.
+    /// At how many states the validator was loaded, where that is to be counted.
     loads: Option<Loads>,
 }
 
-/// Plays these lines from the genesis on. It tells how often each answer came, and what there is at the end; or the first
-/// line at which something differs.
+/// Plays these lines from the genesis on. Shows how often each answer came and what there is at the end, or the first line at which
+/// something differs.
 pub fn play_lines(
     alloc: Global,
     node: Node<HashSign>,
@@ -81,7 +81,7 @@ pub fn play_lines(
     playing.play(lines, answer)
 }
 
-/// The setting of member 0. This call stands alone, too.
+/// The setting of member 0. A function of its own, since the contract of this call is long.
 fn config_of(committee: Committee) -> Result<Config<HashSign>, FormError> {
     match Config::new(committee, OWN, signer(OWN)) {
         None => Err(FormError::BadCommand),
@@ -121,7 +121,7 @@ impl<'c> Playing<'c> {
         Ok(self.tell(answer)?)
     }
 
-    /// Runs a line, and says what is otherwise than it should be, if anything is.
+    /// Runs a line, and gives what differs from what it should be, if anything does.
     fn run(&mut self, line: &str) -> Result<Option<&'static str>, FormError> {
         match parse(line.as_bytes()) {
             Some(Command::Pack(pack)) => {
@@ -140,8 +140,8 @@ impl<'c> Playing<'c> {
         }
     }
 
-    /// A line of these tests alone: a coin that another member sends, what the running sum has to be, what the records of a
-    /// checkpoint have to come to, an event that doesn't pass the checks, or what the validator is asked.
+    /// A line that only these tests have: a coin from another member, the expected running sum, the expected records of a checkpoint, an
+    /// event that doesn't pass the checks, or a question to the validator.
     fn run_own(&mut self, line: &str) -> Result<Option<&'static str>, FormError> {
         let words = words_of(self.alloc, line)?;
         self.run_words(line, &words)
@@ -166,8 +166,8 @@ impl<'c> Playing<'c> {
         }
     }
 
-    /// Compares the records of the validator's checkpoint with what they have to come to. Where it is to be loaded from them
-    /// it goes on as the one that was loaded.
+    /// Compares the records of the validator's checkpoint with what is expected of them. If a validator is to be loaded from them, the test
+    /// goes on with the loaded one.
     fn keep(&mut self, expected: Expected) -> Result<Option<&'static str>, FormError> {
         if !has_records(&self.validator, expected)? {
             return Ok(Some("the records"));
@@ -178,7 +178,7 @@ impl<'c> Playing<'c> {
         }
     }
 
-    /// Loads the validator from its records, counts it, and compares the records of the one that was loaded.
+    /// Loads a validator from the records of the old one, counts it, and compares the records of the new one.
     fn load(
         &mut self,
         mut loads: Loads,
@@ -194,7 +194,7 @@ impl<'c> Playing<'c> {
         Ok(as_told(is_same, "the records of the loaded validator"))
     }
 
-    /// `unchecked`, a number and name, and an event: it doesn't pass the checks, with this error.
+    /// `unchecked`, an error's number and name, and an event: the event fails the checks with this error.
     fn refuse(&self, line: &str) -> Result<Option<&'static str>, FormError> {
         let (sender, message) = self.event_in(line)?;
         match check(self.validator.committee(), &HashVerify, sender, message) {
@@ -203,7 +203,7 @@ impl<'c> Playing<'c> {
         }
     }
 
-    /// The event of a line, after three words.
+    /// The event of a line, from its fourth word on.
     fn event_in(&self, line: &str) -> Result<(Author, Message), FormError> {
         let mut rest = line;
         for _ in 0..3 {
@@ -215,7 +215,7 @@ impl<'c> Playing<'c> {
         }
     }
 
-    /// Asks the validator, and says that this is otherwise where it tells another line.
+    /// Asks the validator, and gives the name of what differs if its answer is another line.
     fn ask(
         &self,
         line: &str,
@@ -248,7 +248,7 @@ impl<'c> Playing<'c> {
         }
     }
 
-    /// Gives an event to the validator, and compares and sums up what comes of it.
+    /// Gives an event to the validator, compares its answer, and adds it to the sum.
     fn take(
         &mut self,
         sender: Author,
@@ -261,7 +261,7 @@ impl<'c> Playing<'c> {
         }
     }
 
-    /// The event for the plain program, as long as that goes on.
+    /// The event for the reference implementation, as long as that takes events.
     fn beside_event(&self, sender: Author, message: &Message) -> Result<Option<Event>, FormError> {
         if !self.beside.goes_on() {
             return Ok(None);
@@ -286,7 +286,7 @@ impl<'c> Playing<'c> {
         Ok(self.compare(is_ready, step, event)?)
     }
 
-    /// What the validator proposes. The contract of that call is long, so it stands alone, as in `seen_of`.
+    /// What the validator proposes. A function of its own, since the contract of this call is long, as in `seen_of`.
     fn proposal(&self) -> Result<Option<Header>, AllocError> {
         self.validator.propose()
     }
@@ -321,8 +321,8 @@ impl<'c> Playing<'c> {
         }
     }
 
-    /// How often each answer came, what there is at the end, and how often the validator was loaded, or how many events were
-    /// compared with the plain program.
+    /// Shows how often each answer came, what there is at the end, and either how often the validator was loaded or how many events were
+    /// compared with the reference implementation.
     fn tell(&self, answer: &mut String) -> Result<(), AllocError> {
         self.tally.tell(answer)?;
         let seen = seen_of(&self.validator);
@@ -343,7 +343,7 @@ impl<'c> Playing<'c> {
     }
 }
 
-/// Nothing where a line says that an event doesn't pass the checks with this error, and else what is otherwise.
+/// Nothing if a line expects this error of the checks, and the name of what differs otherwise.
 fn same_error(
     alloc: Global,
     line: &str,
@@ -353,7 +353,7 @@ fn same_error(
     Ok(as_told(line.strip_prefix(begin.as_str()).is_some(), "the error"))
 }
 
-/// Nothing where it is as it is told, and else what is otherwise.
+/// Nothing if this is as expected, and the name of what differs otherwise.
 fn as_told(is_so: bool, what: &'static str) -> Option<&'static str> {
     match is_so {
         true => None,
@@ -361,7 +361,7 @@ fn as_told(is_so: bool, what: &'static str) -> Option<&'static str> {
     }
 }
 
-/// A message once more.
+/// A copy of a message.
 fn again(message: &Message) -> Result<Message, FormError> {
     Ok(match message {
         Message::Batch(batch) => Message::Batch(batch.share()?),

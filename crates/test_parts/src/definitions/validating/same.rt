@@ -1,4 +1,4 @@
-//! What a validator answers and holds beside what the plain program of its tables does.
+//! What a validator answers and holds, compared with the reference implementation of its tables.
 
 use crate::definitions::validating::seen::seen_of;
 use header::{Admission, Node, Refusal};
@@ -9,7 +9,7 @@ use std::alloc::{AllocError, Global};
 use validator::{Step, Validator};
 use wire::{Author, Digest, Header, Message, Output, Round, encode, encode_output};
 
-/// Outputs as bytes, one after the other.
+/// Outputs as bytes, in their order.
 fn bytes_of(alloc: Global, outputs: &[Output]) -> Result<Vec<u8>, AllocError> {
     let mut bytes = Vec::new(alloc);
     for output in outputs {
@@ -23,7 +23,7 @@ fn same_outputs(alloc: Global, one: &[Output], other: &[Output]) -> Result<bool,
     Ok(one.as_slice() == other.as_slice())
 }
 
-/// Whether a step is what the plain program answers, with the same outputs.
+/// Whether a step is the answer of the reference implementation, with the same outputs.
 pub fn same_answer(
     alloc: Global,
     step: &Result<Step, Refusal>,
@@ -87,7 +87,7 @@ fn difference_but_proposal(
     }
 }
 
-/// Whether the votes of all rounds up to the one after this are the same.
+/// Whether the votes of all rounds are the same, up to the round after this one.
 fn votes_are_same(
     node: &Node<HashSign>,
     validator: &Validator<'_, HashSign>,
@@ -120,7 +120,7 @@ fn same_header(
     Ok(one.as_slice() == other.as_slice())
 }
 
-/// The bytes of a header's message, and none of no header.
+/// The bytes of a header's message, or nothing where there is no header.
 fn bytes_of_header(alloc: Global, header: Option<&Header>) -> Result<Vec<u8>, AllocError> {
     match header {
         None => Ok(Vec::new(alloc)),

@@ -1,5 +1,5 @@
-//! What a validator has ordered, up to where, and for what it voted. The contracts of these calls are long, and each statement of a function
-//! that makes them costs its proof the more; so one small function makes them.
+//! What a validator has ordered, up to which round, and what it voted for. These calls have long contracts, which every further statement
+//! of a calling function makes more expensive to prove; so one small function makes them.
 
 use sigface::HashSign;
 use validator::Validator;
@@ -13,7 +13,7 @@ pub struct Seen<'v> {
     pub round: u64,
 }
 
-/// Those that a validator has now.
+/// The order, the floor and the round that a validator has now.
 pub fn seen_of<'v>(validator: &'v Validator<'_, HashSign>) -> Seen<'v> {
     Seen {
         order: validator.order(),
@@ -22,7 +22,7 @@ pub fn seen_of<'v>(validator: &'v Validator<'_, HashSign>) -> Seen<'v> {
     }
 }
 
-/// The header that has a validator's vote in a round.
+/// The header that a validator voted for in a round and for an author.
 pub fn voted_by(validator: &Validator<'_, HashSign>, round: u64, author: u16) -> Option<Digest> {
     let round = Round::new(round).unwrap_or(Round::genesis());
     validator.voted(Author(author), round)

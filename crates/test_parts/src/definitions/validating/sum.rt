@@ -1,4 +1,4 @@
-//! A running sum over all that a validator answers, puts out, holds and proposes.
+//! A running sum over all that a validator answers, gives out, holds and proposes.
 
 use crate::definitions::validating::seen::seen_of;
 use header::Refusal;
@@ -15,7 +15,7 @@ pub struct Sum {
     value: u64,
 }
 
-/// The number of a refusal, as `docs/FORMATS.md` has it.
+/// The number of a refusal in `docs/FORMATS.md`.
 pub fn number_of(refusal: Refusal) -> u8 {
     match refusal {
         Refusal::Memory => 1,
@@ -36,14 +36,14 @@ pub fn number_of(refusal: Refusal) -> u8 {
 }
 
 impl Sum {
-    /// Over nothing.
+    /// The sum over nothing.
     pub fn new() -> Sum {
         Sum {
             value: 14_695_981_039_346_656_037,
         }
     }
 
-    /// What it comes to.
+    /// The sum as a number.
     pub fn value(&self) -> u64 {
         self.value
     }
@@ -54,7 +54,7 @@ impl Sum {
         }
     }
 
-    /// Adds a record of a checkpoint, with its length before it.
+    /// Adds a record of a checkpoint, after its length.
     pub fn add_record(&mut self, record: &[u8]) {
         self.add(&(record.len() as u64).to_be_bytes());
         self.add(record);
@@ -70,7 +70,7 @@ impl Sum {
         }
     }
 
-    /// Adds what an event is answered, and what there is after it.
+    /// Adds the answer to an event, and the state after it.
     pub fn add_event(
         &mut self,
         validator: &Validator<'_, HashSign>,
@@ -126,7 +126,7 @@ impl Sum {
         }
     }
 
-    /// Adds the round, the floor, how much is ordered, and the votes near the floor and the round.
+    /// Adds the round, the floor, the length of the order, and the votes near the floor and the round.
     fn add_state(&mut self, validator: &Validator<'_, HashSign>) {
         let seen = seen_of(validator);
         self.add(&seen.round.to_be_bytes());

@@ -6,10 +6,10 @@ use std::alloc::AllocError;
 use validator::Step;
 use wire::Output;
 
-/// Refusals have numbers below this one.
+/// The numbers of refusals are below this one.
 const REFUSALS: usize = 15;
 
-/// How often each answer came, and how often a piece of the order and a proposal.
+/// How often each answer came, and how often an output was a piece of the order, and a header was proposed.
 #[derive(Clone, Copy)]
 pub struct Tally {
     new: u64,
@@ -57,14 +57,14 @@ impl Tally {
         }
     }
 
-    /// Counts a proposal, where there is one.
+    /// Counts a proposal, if there is one.
     pub fn count_proposal(&mut self, is_there: bool) {
         if is_there {
             self.proposals = self.proposals.saturating_add(1);
         }
     }
 
-    /// Tells how often each answer came; no refusal that didn't come.
+    /// Shows how often each answer came, without the refusals that never did.
     pub fn tell(&self, answer: &mut String) -> Result<(), AllocError> {
         counts(&[("new", self.new), ("known", self.known)], answer)?;
         self.tell_refused(answer)?;
@@ -84,7 +84,7 @@ impl Tally {
     }
 }
 
-/// A line of words, each with a number after it, parted by commas.
+/// A line of words, each with a number after it, separated by commas.
 pub fn counts(list: &[(&str, u64)], answer: &mut String) -> Result<(), AllocError> {
     let mut mark = "";
     for (word, number) in list {
