@@ -10,8 +10,8 @@ USUAL_EVERY = 1 << 30
 
 CLOSED = 0
 GATE_BYTES, LENGTH_BYTES = 1, 4
-# The kinds of records.
-EVENT, HEAD = 1, 2
+# The kinds of records; batches, votes and own headers stand in a checkpoint.
+EVENT, HEAD, BATCH, VOTE, HEADER = 1, 2, 4, 5, 6
 
 
 def files(journal):
