@@ -1,4 +1,4 @@
-//! Why a transaction isn't taken.
+//! Why a transaction is refused.
 
 ghost use Rattle.std.specs.Prelude.{◌≡◌};
 ghost use Rattle.batchmaker.specs.declared.error.MakeError.TheVariants.{Memory};
@@ -6,7 +6,7 @@ ghost use Rattle.batchmaker.specs.declared.error.MakeError.TheVariants.{Memory};
 use std::alloc::AllocError;
 use thiserror::Error;
 
-/// Why a transaction isn't taken. Printed as its number and its name.
+/// Why a transaction is refused. Printed as its number and its name.
 #[derive(Clone, Copy, Debug, PartialEq, Eq, Error)]
 pub enum MakeError {
     /// An allocation failed.

@@ -1,5 +1,4 @@
-//! The open batch of one worker: transactions are added to it until the next one would pass a batch's limit, or it is
-//! sealed.
+//! The open batch of one worker: transactions are added to it until the next one would exceed a batch's limit, or the batch is sealed.
 #![tactic(auto)]
 
 mod error;

@@ -1,4 +1,4 @@
--- What a store of batches has, and what is true of its batches.
+-- What a store of batches holds, and its invariant.
 use Rattle.std.specs.Prelude.{◌≡◌, ◌≢◌, ℕ, ◌<◌, ◌≤◌, ◌==◌, ◌&&◌, ◌||◌, not, nat_le, Bool, true, false, List, [], length, map, find, fold, filter_map}
 use Rattle.std.specs.Prelude.{Option, Some, None, option_map, All, AllPairs, if◌then◌else◌}
 use Rattle.std.specs.Option.{option_map_or}
@@ -12,8 +12,8 @@ use Rattle.committee.specs.Charter.{Charter, IsCharter, weight, quorum_of}
 use Rattle.committee.specs.Sets.{has}
 use Rattle.batchstore.specs.declared.held.Held.{Held}
 
--- a store: the committee, the number of the validator's own member, and the batches in the order of acceptance, each with
--- the members who acknowledged it and whether an own header named it
+-- a store: the committee, the validator's own number, and the batches in the order of acceptance, each with the members who acknowledged it
+-- and whether an own header named it
 pub record BatchStoreView : Type 0 where
   pub charter : Charter
   pub own : ℕ
@@ -24,7 +24,7 @@ pub record BatchStoreView : Type 0 where
 abbrev pub digest_of : BatchView → Digest
 digest_of batch = record { 0 = batch_digest_of batch }
 
--- what is held of the batch of a digest, among these and in a store
+-- the entry of the batch with this digest, among these and in a store
 abbrev pub found : Digest → List Held → Option Held
 found digest batches = find (λ held. bytes_eq digest.0 (digest_of held.batch).0) batches
 
@@ -51,55 +51,55 @@ has_acked stock digest member = option_map_or (λ held. has held.acknowledged me
 abbrev pub was_named : BatchStoreView → Digest → Bool
 was_named stock digest = option_map_or (λ held. held.named) (held_at stock digest) false
 
--- a member holds an own batch: the validator itself, and who has acknowledged it
+-- a member holds an own batch: the validator itself does, and so does whoever acknowledged it
 abbrev pub holds : BatchStoreView → Digest → ℕ → Bool
 holds stock digest member = (member == stock.own) || has_acked stock digest member
 
--- an own batch is available: the members who hold it are a quorum
+-- an own batch is available: the members who hold it weigh a quorum
 abbrev pub is_available : BatchStoreView → Digest → Bool
 is_available stock digest =
     has_own stock digest && nat_le (quorum_of stock.charter) (weight stock.charter (holds stock digest))
 
 -- ---- what a header may name
 
--- of what is held of a batch, the members who hold it
+-- the members who hold the batch of this entry
 abbrev pub holders : ℕ → Held → ℕ → Bool
 holders own held member = (member == own) || has held.acknowledged member
 
--- those who hold it are a quorum
+-- the members who hold the batch of this entry weigh a quorum
 abbrev pub is_quorate : Charter → ℕ → Held → Bool
 is_quorate charter own held = nat_le (quorum_of charter) (weight charter (holders own held))
 
--- it may be named: it is an own batch, available, and no own header has named it
+-- the batch may be named: it is an own one, available, and no own header has named it yet
 abbrev pub may_be_named : Charter → ℕ → Held → Bool
 may_be_named charter own held = (held.batch.author.0 == own) && (is_quorate charter own held && not held.named)
 
--- a batch as a header names it
+-- the reference by which a header names this batch
 abbrev pub as_reference : BatchView → BatchReference
 as_reference batch = record { digest = digest_of batch; worker = batch.worker }
 
--- one that may be named, as a header names it
+-- the reference by which a header names the batch of this entry, if it may be named
 abbrev pub to_name : Charter → ℕ → Held → Option BatchReference
 to_name charter own held = if may_be_named charter own held then Some (as_reference held.batch) else None
 
--- the batches that may be named, rising by digest
+-- the references of all batches that may be named, sorted by digest
 abbrev pub nameable : BatchStoreView → List BatchReference
 nameable stock = fold placed [] (filter_map (to_name stock.charter stock.own) stock.held)
 
--- ---- what holds of each store
+-- ---- the invariant of every store
 
--- a member may have acknowledged a batch: it is another member, and the batch is an own one
+-- a member may have acknowledged this batch: the member is another one, and the batch is an own one
 pub record MayAck (charter : Charter) (own : ℕ) (held : Held) (member : ℕ) : Type 0 where
   pub ours : held.batch.author.0 ≡ own
   pub inside : member < length charter.keys
   pub other : member ≢ own
 
--- only other members have acknowledged it, and it has members and the mark only where it is an own batch
+-- only other members have acknowledged a batch, and only an own batch has acknowledgements or a mark
 pub record IsHeld (charter : Charter) (own : ℕ) (held : Held) : Type 0 where
   pub acknowledged : (member : ℕ) → has held.acknowledged member ≡ true → MayAck charter own held member
   pub named : held.named ≡ true → held.batch.author.0 ≡ own
 
--- its committee is one, with the own member; no digest stands there twice, and no more batches are held than may be
+-- the committee is sound and has the own member; no digest occurs twice, and there are no more batches than may be held
 pub record IsStock (stock : BatchStoreView) : Type 0 where
   pub charter : IsCharter stock.charter
   pub own : stock.own < length stock.charter.keys

@@ -1,19 +1,19 @@
-//! What a store answers.
+//! What a store of batches answers.
 
-/// What comes of a batch that is put into the store.
+/// The answer to a batch that is put into the store.
 #[derive(Clone, Copy, Debug, PartialEq, Eq)]
 pub enum Put {
     /// The batch is held from now on.
     New,
-    /// It was held already.
+    /// The batch was held already.
     Known,
 }
 
-/// What comes of an acknowledgement.
+/// The answer to an acknowledgement.
 #[derive(Clone, Copy, Debug, PartialEq, Eq)]
 pub enum Acked {
     /// The member is counted from now on.
     New,
-    /// It was counted already, or is the validator itself.
+    /// The member was counted already, or is the validator itself.
     Known,
 }

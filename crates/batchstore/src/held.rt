@@ -1,4 +1,4 @@
-//! What is held of a batch.
+//! What a store holds of a batch.
 
 ghost use Rattle.std.specs.Prelude.{◌≡◌};
 
@@ -14,7 +14,7 @@ pub struct Held {
 }
 
 impl Held {
-    /// A batch that these other members acknowledged, and that an own header named or didn't.
+    /// A batch with the other members who acknowledged it, and whether an own header named it.
     pub fn new(batch: Batch, acknowledged: MemberSet, named: bool) -> Held
         ensures { result ≡ record { batch = batch; acknowledged = acknowledged; named = named } }
     {
@@ -32,14 +32,14 @@ impl Held {
         &self.batch
     }
 
-    /// The other members who acknowledged it.
+    /// The other members who acknowledged the batch.
     pub fn acknowledged(&self) -> MemberSet
         ensures { result ≡ self.now.acknowledged }
     {
         self.acknowledged
     }
 
-    /// Whether an own header named it.
+    /// Whether an own header named the batch.
     pub fn is_named(&self) -> bool
         ensures { result ≡ self.now.named }
     {

@@ -5,12 +5,12 @@ ghost use Rattle.committee.specs.Sets.{has};
 ghost use Rattle.committee.specs.declared.sets.MemberSet.{MemberSet};
 ghost use Rattle.batchstore.specs.Answer.{no_members, with_member};
 
-/// No member is in the set of no member.
+/// The set of no member is empty.
 pub fn nobody_acknowledged()
     ensures { (member : ℕ) → has no_members member ≡ false }
 {}
 
-/// In a set with one member more are that one and those who were in it.
+/// A set with one more member has this member and those that it had.
 pub fn acknowledgements_add_up()
     ensures { (members : MemberSet) (member other : ℕ) → has (with_member members member) other ≡ (has members other || (other == member)) }
 {}

@@ -1,4 +1,4 @@
-//! Why a store refuses what it is given.
+//! Why a store refuses a batch or an acknowledgement.
 
 ghost use Rattle.std.specs.Prelude.{◌≡◌};
 ghost use Rattle.batchstore.specs.declared.refusal.StoreRefusal.TheVariants.{Memory};
@@ -18,7 +18,7 @@ pub enum StoreRefusal {
     /// As many batches are held as the committee allows.
     #[error("3 Full")]
     Full,
-    /// No own batch of the digest is held, or who acknowledges it is no member.
+    /// No own batch with this digest is held, or whoever acknowledges it is no member.
     #[error("4 NotOurs")]
     NotOurs,
 }

@@ -23,13 +23,13 @@ use std::collections::BTreeMap;
 use std::marker::Model;
 use wire::{Author, Batch, BatchReference, Digest, MAX_BATCHES, batch_digest};
 
-/// The batches that one member of a committee holds. Contracts see the committee, the own member's number, and the
-/// batches in the order of acceptance, each with the other members who acknowledged it and whether an own header named it.
+/// The batches that one member of a committee holds. Contracts see the committee, the member's number, and the batches in the order of
+/// acceptance, each with the other members who acknowledged it and whether an own header named it.
 pub struct BatchStore<'a> {
     committee: &'a Committee,
     own: Author,
     held: Table,
-    // The workers of the batches that may be named, by the batch digest.
+    // The batches that may be named: the worker of each, by the batch's digest.
     nameable: BTreeMap<Digest, u16>,
 }
 
@@ -55,7 +55,7 @@ impl<'a> Model for BatchStore<'a> {
     ghost invariant = { λ s. IsKept (record { charter = s.committee.now; own = s.own.0; held = s.held }) s.nameable.entries };
 }
 
-// Whether the own member and these others make a quorum.
+// Whether the own member together with these others weighs a quorum.
 fn is_quorum(committee: &Committee, own: Author, others: &MemberSet) -> bool
     requires { own.0 < MAX_MEMBERS }
     ensures { result ≡ nat_le (quorum_of committee.now) (weight committee.now (λ member. (member == own.0) || has others.now member)) }
@@ -65,7 +65,7 @@ fn is_quorum(committee: &Committee, own: Author, others: &MemberSet) -> bool
     committee.weight(&holders) >= committee.quorum()
 }
 
-// Whether an own batch may be named with these members, and may not without them.
+// Whether an own batch may be named when these members hold it, and might not before.
 fn becomes_nameable(
     committee: &Committee,
     own: Author,
@@ -80,7 +80,7 @@ fn becomes_nameable(
         && is_quorum(committee, own, acknowledged)
 }
 
-// The first batches of a list by digest, as many as a header may name.
+// The first batches of a list, by digest, as many as a header may name.
 fn first_references(
     alloc: Global,
     nameable: &BTreeMap<Digest, u16>,
@@ -105,7 +105,7 @@ fn may_be_named(committee: &Committee, own: Author, held: &Held) -> bool
     held.batch.author() == own && (is_quorum(committee, own, &held.acknowledged) && !held.named)
 }
 
-// Lists a batch with its worker, if it may be named.
+// Adds a batch with its worker to the list, if the batch may be named.
 fn list_one(
     committee: &Committee,
     own: Author,
@@ -122,7 +122,7 @@ fn list_one(
     Ok(())
 }
 
-// The workers of those of these batches that may be named, by the batch digest.
+// The workers of those of these batches that may be named, by the batches' digests.
 fn nameable_among(
     alloc: Global,
     committee: &Committee,
@@ -142,7 +142,7 @@ fn nameable_among(
 }
 
 impl<'a> BatchStore<'a> {
-    /// A store without a batch, of the member of this number. Its table begins its hashes at the seed.
+    /// An empty store of the member with this number. Its table hashes with this seed.
     pub fn new(
         alloc: Global,
         committee: &'a Committee,
@@ -161,8 +161,8 @@ impl<'a> BatchStore<'a> {
         }
     }
 
-    /// The store of these batches, in the order of acceptance, each beside its digest. Its table begins its hashes at the seed.
-    /// `AllocError` where an allocation failed.
+    /// The store with these batches, in the order of acceptance, each with its digest. Its table hashes with this seed. On `AllocError` an
+    /// allocation failed.
     pub fn restore(
         alloc: Global,
         committee: &'a Committee,
@@ -185,7 +185,7 @@ impl<'a> BatchStore<'a> {
         })
     }
 
-    /// Holds a batch from now on, if it is a new one. It computes its digest, and does what `put_digested` does.
+    /// Adds a batch, if it is new. It computes the batch's digest, and then does what `put_digested` does.
     pub fn put(&mut self, batch: Batch) -> Result<Put, StoreRefusal>
         ensures known { (result ≡ Ok Put.Known) ↔ IsTrue (is_known self.old batch) }
         ensures same { result ≡ Ok Put.Known → self.new ≡ self.old }
@@ -199,10 +199,10 @@ impl<'a> BatchStore<'a> {
         self.put_digested(digest, batch)
     }
 
-    /// Holds a batch of this digest from now on, if it is a new one.
+    /// Adds a batch with this digest, if it is new.
     ///
     /// # Errors
-    /// What `answer` answers, or `Memory` where an allocation failed. They change nothing.
+    /// The refusals of `answer`, or `Memory` where an allocation failed. None changes anything.
     pub fn put_digested(&mut self, digest: Digest, batch: Batch) -> Result<Put, StoreRefusal>
         requires { digest ≡ digest_of batch }
         ensures known { (result ≡ Ok Put.Known) ↔ IsTrue (is_known self.old batch) }
@@ -223,11 +223,10 @@ impl<'a> BatchStore<'a> {
         }
     }
 
-    /// What comes of a batch of this digest: the batch that is held already, or none where it is new.
+    /// The answer to a batch with this digest: the batch that is held already, or None where it is new.
     ///
     /// # Errors
-    /// `DigestClash` where another batch is held under its digest, `Full` where none is and as many are held as the committee
-    /// allows.
+    /// `DigestClash` where another batch is held under its digest; `Full` where none is, and as many are held as the committee allows.
     pub fn answer(&self, digest: &Digest, batch: &Batch) -> Result<Option<&Batch>, StoreRefusal>
         requires { digest.now ≡ digest_of batch.now }
         ensures ok { IfOk result (λ held. answer self.now batch.now ≡ Ok (option_copied held)) }
@@ -256,8 +255,7 @@ impl<'a> BatchStore<'a> {
         self.held.len() >= self.committee.batches() as usize
     }
 
-    /// Holds a batch of this digest, which is new, from now on. `AllocError` where an allocation failed: nothing has changed
-    /// then.
+    /// Adds a new batch with this digest. On `AllocError` an allocation failed, and nothing has changed.
     pub fn hold(&mut self, digest: Digest, batch: Batch) -> Result<(), AllocError>
         requires digested { digest ≡ digest_of batch }
         requires new { answer self.old batch ≡ Ok None }
@@ -273,7 +271,7 @@ impl<'a> BatchStore<'a> {
         Ok(())
     }
 
-    // What is held of the batch of this digest.
+    // What is held of the batch with this digest.
     fn at(&self, digest: &Digest) -> Option<&Held>
         ensures { option_copied result ≡ held_at self.now digest.now }
     {
@@ -283,7 +281,7 @@ impl<'a> BatchStore<'a> {
         }
     }
 
-    // The same, with its place.
+    // What is held of the batch with this digest, and its place.
     fn find(&self, digest: &Digest) -> Option<(usize, &Held)>
         ensures held { option_map (λ found. found.1.now) result ≡ held_at self.now digest.now }
         ensures place { IfSome result (λ found. slice_get self.now.held found.0 ≡ Some found.1.now) }
@@ -291,7 +289,7 @@ impl<'a> BatchStore<'a> {
         self.held.find(digest)
     }
 
-    /// Whether the batch of this digest is held, with this worker.
+    /// Whether the batch with this digest is held, with this worker.
     pub fn holds(&self, digest: &Digest, worker: u16) -> bool
         ensures { result ≡ has_with self.now digest.now worker }
     {
@@ -301,7 +299,7 @@ impl<'a> BatchStore<'a> {
         }
     }
 
-    /// The batch of this digest, if it is held.
+    /// The batch with this digest, if it is held.
     pub fn get(&self, digest: &Digest) -> Option<&Batch>
         ensures { option_copied result ≡ batch_in self.now digest.now }
     {
@@ -311,11 +309,11 @@ impl<'a> BatchStore<'a> {
         }
     }
 
-    /// Counts that a member holds the own batch of this digest.
+    /// Counts that a member holds the own batch with this digest.
     ///
     /// # Errors
-    /// `NotOurs` where the author is no member or no own batch of the digest is held, `Memory` where an allocation
-    /// failed. They change nothing.
+    /// `NotOurs` where the author is no member or no own batch with the digest is held; `Memory` where an allocation failed. Neither
+    /// changes anything.
     pub fn ack(&mut self, author: Author, digest: &Digest) -> Result<Acked, StoreRefusal>
         ensures not_ours { IsErrOf result StoreRefusal.NotOurs ↔ IsTrue (not (is_member self.old author.0 && has_own self.old digest.now)) }
         ensures known { (result ≡ Ok Acked.Known) ↔ IsTrue (has_own self.old digest.now && holds self.old digest.now author.0) }
@@ -337,7 +335,7 @@ impl<'a> BatchStore<'a> {
         }
     }
 
-    /// Whether this member holds the own batch of this digest, or none where no own batch of the digest is held.
+    /// Whether this member holds the own batch with this digest; None where no own batch with the digest is held.
     pub fn acked(&self, author: Author, digest: &Digest) -> Option<bool>
         ensures { result ≡ (if has_own self.now digest.now then Some (holds self.now digest.now author.0) else None) }
     {
@@ -347,7 +345,7 @@ impl<'a> BatchStore<'a> {
         }
     }
 
-    // The same, with the place of the batch.
+    // As `acked`, with the place of the batch.
     fn acked_at(&self, author: Author, digest: &Digest) -> Option<(usize, bool)>
         ensures acked { option_map (λ found. found.1) result ≡ (if has_own self.now digest.now then Some (holds self.now digest.now author.0) else None) }
         ensures place { IfSome result (λ found. slice_get self.now.held found.0 ≡ held_at self.now digest.now) }
@@ -360,7 +358,7 @@ impl<'a> BatchStore<'a> {
         Some((place, acked))
     }
 
-    // Counts a member more that holds the own batch of this digest, which is at this place.
+    // Counts one more member that holds the own batch with this digest, which is at this place.
     fn count(&mut self, author: Author, digest: &Digest, place: usize) -> Result<(), StoreRefusal>
         requires member { author.0 < length self.old.charter.keys }
         requires ours { IsTrue (has_own self.old digest.now) }
@@ -383,7 +381,7 @@ impl<'a> BatchStore<'a> {
         Ok(())
     }
 
-    /// Whether the own batch of this digest is available: the members who hold it are a quorum.
+    /// Whether the own batch with this digest is available: the members who hold it weigh a quorum.
     pub fn available(&self, digest: &Digest) -> bool
         ensures { result ≡ is_available self.now digest.now }
     {
@@ -396,7 +394,7 @@ impl<'a> BatchStore<'a> {
         }
     }
 
-    /// Marks the own batches that an own header names. It takes no memory.
+    /// Marks the own batches that an own header names. The call allocates no memory.
     pub fn name(&mut self, batches: &[BatchReference])
         ensures { self.new ≡ with_names self.old batches.now }
     {
@@ -420,7 +418,7 @@ impl<'a> BatchStore<'a> {
         self.held.set_mark(place);
     }
 
-    /// Whether an own header has named the batch of this digest.
+    /// Whether an own header has named the batch with this digest.
     pub fn named(&self, digest: &Digest) -> bool
         ensures { result ≡ was_named self.now digest.now }
     {
@@ -430,7 +428,7 @@ impl<'a> BatchStore<'a> {
         }
     }
 
-    /// The batches that a header may name, rising by digest: the first `MAX_BATCHES` of them. `AllocError` where an
+    /// The references to the batches that a header may name, sorted by digest: the first `MAX_BATCHES` of them. On `AllocError` an
     /// allocation failed.
     pub fn least_nameable(&self, alloc: Global) -> Result<Vec<BatchReference>, AllocError>
         ensures { IfOk result (λ batches. batches.items ≡ take MAX_BATCHES (nameable self.now)) }
@@ -445,7 +443,7 @@ impl<'a> BatchStore<'a> {
         self.committee
     }
 
-    /// The batch that was accepted as the one of this place, from 0 on, if so many are held.
+    /// The batch at this place in the order of acceptance, counted from 0; None where there are fewer.
     pub fn batch_at(&self, place: usize) -> Option<&Batch>
         ensures { option_copied result ≡ option_map (λ (held : Held). held.batch) (slice_get self.now.held place) }
     {
@@ -455,7 +453,7 @@ impl<'a> BatchStore<'a> {
         }
     }
 
-    /// What is held of the batch that was accepted as the one of this place, from 0 on, if so many are held.
+    /// What is held of the batch at this place in the order of acceptance, counted from 0; None where there are fewer.
     pub fn nth(&self, place: usize) -> Option<&Held>
         ensures { option_copied result ≡ slice_get self.now.held place }
     {
@@ -469,8 +467,8 @@ impl<'a> BatchStore<'a> {
         self.held.len()
     }
 
-    /// What holds of each store: its committee is one with the own member, no digest stands there twice, no more batches
-    /// are held than may be, and only own ones have members or the mark. The call does nothing.
+    /// What holds of every store: its committee is sound and has the own member, no digest occurs twice, there are no more batches than may
+    /// be held, and only own ones have acknowledgements or a mark. The call does nothing.
     pub fn limits_hold(&self)
         ensures { IsStock self.now }
     {

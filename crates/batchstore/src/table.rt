@@ -15,10 +15,10 @@ use std::alloc::{AllocError, Global};
 use std::marker::Model;
 use wire::Digest;
 
-/// What is held of the batches, in the order of acceptance; contracts see that list.
+/// The batches of a store, in the order of acceptance; contracts see this list.
 #[derive(Drop)]
 pub(crate) struct Table {
-    // By the batch digest, in the order of acceptance.
+    // By the batches' digests, in the order of acceptance.
     batches: IndexMap<Digest, Held, TableSeed>,
 }
 
@@ -35,7 +35,7 @@ impl Model for Table {
     ghost invariant = { λ t. All IsUnderItsDigest t.batches.entries };
 }
 
-// Gives the batch at this place these members.
+// Sets the members who acknowledged the batch at this place.
 fn write_members(batches: &mut IndexMap<Digest, Held, TableSeed>, place: usize, members: MemberSet)
     ensures { (before : Held) → slice_get (values batches.old) place ≡ Some before → batches.new.entries ≡ set_value_at batches.old.entries place (record before { acknowledged = members }) }
 {
@@ -44,7 +44,7 @@ fn write_members(batches: &mut IndexMap<Digest, Held, TableSeed>, place: usize, 
     }
 }
 
-// Gives the batch at this place the mark.
+// Marks the batch at this place.
 fn write_mark(batches: &mut IndexMap<Digest, Held, TableSeed>, place: usize)
     ensures { (before : Held) → slice_get (values batches.old) place ≡ Some before → batches.new.entries ≡ set_value_at batches.old.entries place (record before { named = true }) }
 {
@@ -62,7 +62,7 @@ impl Table {
         }
     }
 
-    // The table of these batches, of which no two have one digest.
+    // The table of these batches, no two of which have the same digest.
     pub(crate) fn restore(
         alloc: Global,
         seed: TableSeed,
@@ -83,7 +83,7 @@ impl Table {
         self.batches.len()
     }
 
-    // What is held of the batch that was accepted as the one of this place, from 0 on.
+    // What is held of the batch at this place in the order of acceptance, counted from 0.
     pub(crate) fn at(&self, place: usize) -> Option<&Held>
         ensures { option_copied result ≡ slice_get self.now place }
     {
@@ -93,7 +93,7 @@ impl Table {
         }
     }
 
-    // What is held of the batch of this digest, with its place.
+    // What is held of the batch with this digest, and its place.
     pub(crate) fn find(&self, digest: &Digest) -> Option<(usize, &Held)>
         ensures held { option_map (λ it. it.1.now) result ≡ found digest.now self.now }
         ensures place { IfSome result (λ it. slice_get self.now it.0 ≡ Some it.1.now) }
@@ -104,7 +104,7 @@ impl Table {
         }
     }
 
-    // Holds a batch after the others, whose digest none of them has.
+    // Adds a batch at the end. No other has its digest.
     pub(crate) fn push(&mut self, digest: Digest, held: Held) -> Result<(), AllocError>
         requires digested { digest ≡ digest_of held.batch }
         requires new { found digest self.old ≡ None }
@@ -115,7 +115,7 @@ impl Table {
         Ok(())
     }
 
-    // Gives the batch at this place these members.
+    // Sets the members who acknowledged the batch at this place.
     pub(crate) fn set_members(&mut self, place: usize, members: MemberSet)
         requires { place < length self.old }
         ensures { (before : Held) → slice_get self.old place ≡ Some before → self.new ≡ slice_set self.old place (record before { acknowledged = members }) }
@@ -123,7 +123,7 @@ impl Table {
         write_members(&mut self.batches, place, members);
     }
 
-    // Gives the batch at this place the mark.
+    // Marks the batch at this place.
     pub(crate) fn set_mark(&mut self, place: usize)
         requires { place < length self.old }
         ensures { (before : Held) → slice_get self.old place ≡ Some before → self.new ≡ slice_set self.old place (record before { named = true }) }

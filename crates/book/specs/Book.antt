@@ -1,4 +1,4 @@
--- The book: the state that a run began with, what it accepted, what of that was taken and settled, and what may go out.
+-- The book: the state with which a run began, what it accepted, what of that was taken and settled, and which outputs may leave.
 use Rattle.std.specs.Prelude.{◌≡◌, ◌⊎◌, ⊤, ℕ, ◌+◌, ◌≤◌, List, [], ◌∷◌, ◌++◌, length, map, take, drop, Option, Some, None, IfSome, Bool, true, false, IsTrue, ◌<◌, All, if◌then◌else◌}
 use Rattle.spec_model.specs.Admitting.{is_new, IsLegal, IsTaken}
 use Rattle.spec_model.specs.Giving.{kept, MayGive}
@@ -26,27 +26,27 @@ use Rattle.book.specs.Queue.{length_at, TicketsRise, settled_head}
 
 -- what contracts see of a book
 pub record BookView (S : Type 0) : Type 0 where
-  -- what its validator is set up with, and its tables
+  -- the setting and the tables of the validator in the book
   pub validator : validator.ValidatorView S
-  -- the records that were accepted and not taken, oldest first
+  -- the records that were accepted and aren't taken yet, oldest first
   pub pending : List (List ℕ)
-  -- the outputs that were not released, oldest first
+  -- the outputs that weren't released yet, oldest first
   pub queue : List Waiting
   -- how many records were accepted, taken and settled
   pub accepted : ℕ
   pub taken : ℕ
   pub settled : ℕ
-  -- where a rewriting is in flight: it settles so many of the accepted records
+  -- the rewriting in flight, if there is one, by how many of the accepted records it settles
   pub rewriting : Option ℕ
-  -- how long the order is after the settled records, and how long it is from which ticket on
+  -- the length of the order after the settled records, and its later lengths, each with the ticket from which on it has them
   pub ordered : ℕ
   pub reached : List Reached
-  -- whether it is down, as where a device call failed
+  -- whether the book is down, for example because a device call failed
   pub down : Bool
 
 -- ---- runs
 
--- a run: its base, which is the state that it began with, and the events that it accepted, took for the disk and settled
+-- a run: the state with which it began (its base), and the events that it accepted, took for the disk and settled
 pub record Run : Type 0 where
   pub base : State
   pub accepted : History
@@ -57,7 +57,7 @@ pub record Run : Type 0 where
 abbrev pub run_on : State → Run
 run_on base = record { base = base; accepted = []; taken = []; settled = [] }
 
--- the state after all that a run accepted, after the first of these events, and after what is settled
+-- the state after all events that a run accepted, after the first `count` of them, and after the settled ones
 abbrev pub state_in : Node → Run → State
 state_in node run = after_all node run.base run.accepted
 
@@ -67,7 +67,7 @@ state_to node count run = after_all node run.base (take count run.accepted)
 abbrev pub settled_in : Node → Run → State
 settled_in node run = after_all node run.base run.settled
 
--- with one more event accepted; with so many of the accepted ones taken, or settled
+-- the same run with one more event accepted; with the first `count` accepted events taken; or settled
 abbrev pub with_accepted : Run → Event → Run
 with_accepted run event = record run { accepted = run.accepted ++ event ∷ [] }
 
@@ -77,30 +77,30 @@ with_taken run count = record run { taken = take (length run.taken + count) run.
 abbrev pub with_settled : Run → ℕ → Run
 with_settled run count = record run { settled = take (length run.settled + count) run.taken }
 
--- with all that it accepted taken
+-- the same run with all accepted events taken
 abbrev pub with_all_taken : Run → Run
 with_all_taken run = record run { taken = run.accepted }
 
--- and settled
+-- the same run with all accepted events taken and settled
 abbrev pub with_all_settled : Run → Run
 with_all_settled run = record run { taken = run.accepted; settled = run.accepted }
 
--- an output goes out after events from a state on, which are legal: they put it out, and it may be given out at each legal history
--- that keeps the state, with these events
+-- an output goes out after legal events from a base on: the events put it out, and it may be given out at each legal history that keeps the
+-- base, followed by these events
 pub record GoesOutAfter (node : Node) (base : State) (events : History) (output : Output) : Type 0 where
   pub legal : IsLegalAfter node base events
   pub put : WasPutOutAfter node base events output
   pub may : (history : History) → IsLegal node history → kept node history ≡ base → MayGive node (history ++ events) output
 
--- an output that waits goes out after the events that its ticket counts
+-- a waiting output may go out after the accepted events that its ticket counts
 pub record IsDue (node : Node) (run : Run) (waiting : Waiting) : Type 0 where
   pub within : waiting.ticket ≤ length run.accepted
   pub goes_out : GoesOutAfter node run.base (take waiting.ticket run.accepted) waiting.output
 
--- A book stands at a run. What is settled was taken, and what was taken was accepted, in that order, and all of it is legal after the
--- base; the validator stands at the state after it; the pending records are those of what was accepted and not taken; the numbers are
--- the lengths; a rewriting settles no fewer than are settled, and no more than are taken; each output goes out after what its ticket counts,
--- and tickets don't fall; and the lengths of the order are those after so many events.
+-- A book stands at a run: its contents are those that the run gives. The settled events are a prefix of the taken ones, these of the
+-- accepted ones, all legal after the base. The validator holds the state after them; the pending records are those of accepted events that
+-- aren't taken; the numbers are the lengths of these lists. A rewriting settles at least what is settled, and at most what is taken. Each
+-- output may go out after the events that its ticket counts, and tickets never fall. The lengths of the order are the true ones.
 pub record Stands {S : Type 0} (node : Node) (run : Run) (book : BookView S) : Type 0 where
   pub legal : IsLegalAfter node run.base run.accepted
   pub at : validator.AreAtSound node book.validator.tables (state_in node run)
@@ -117,7 +117,7 @@ pub record Stands {S : Type 0} (node : Node) (run : Run) (book : BookView S) : T
   pub lengths : (count : ℕ) → length run.settled ≤ count → count ≤ length run.accepted → length_at count book.ordered book.reached ≡ length (state_to node count run).order
   pub tickets : All (λ reached. reached.ticket ≤ length run.accepted) book.reached
 
--- ---- what comes of an event
+-- ---- what an event changes
 
 -- a new event is accepted: its record is pending, and its outputs wait for it
 pub record TakesNew {S : Type 0} (node : Node) (before later : BookView S) (event : Event) : Type 0 where
@@ -133,7 +133,7 @@ pub record TakesNew {S : Type 0} (node : Node) (before later : BookView S) (even
   pub rewriting : later.rewriting ≡ before.rewriting
   pub down : later.down ≡ before.down
 
--- a known one changes nothing but that its outputs wait for all that was accepted
+-- a known event changes nothing, but its outputs wait until all accepted events are settled
 pub record TakesKnown {S : Type 0} (node : Node) (before later : BookView S) (event : Event) : Type 0 where
   pub taken_by : IsTaken node event
   pub outputs : List Output
@@ -141,18 +141,18 @@ pub record TakesKnown {S : Type 0} (node : Node) (before later : BookView S) (ev
   pub stands : (run : Run) → Stands node run before → Stands node run later
   pub is : later ≡ record before { queue = before.queue ++ ticketed before.accepted outputs }
 
--- an event would be new, and the run has accepted as much as it may
+-- the event would be new, but the run has accepted as many as it may
 abbrev pub IsFull : {S : Type 0} → Node → Run → BookView S → Event → Type 0
 IsFull node run book event = IsTrue (is_new (answered node (state_in node run) event)) × (book.accepted ≡ MAX_ACCEPTED)
 
--- the run may accept more, or the event wouldn't be new at a state at which the validator stands
+-- the run may accept more events, or this one isn't new at the state that the validator holds
 abbrev pub HasPlace : {S : Type 0} → Node → BookView S → Event → Type 0
 HasPlace node book event = (book.accepted < MAX_ACCEPTED) ⊎ IsOld
   where
     IsOld : Type 0
     IsOld = (state : State) × validator.AreAtSound node book.validator.tables state × (is_new (answered node state event) ≡ false)
 
--- why an event may be refused: memory, a book that is down, a full run, or what admission answers
+-- why an event may be refused: an allocation failed, the book is down, the run is full, or admission refuses it
 abbrev pub MayRefuse : {S : Type 0} → Node → Run → BookView S → Event → Refusal → Type 0
 MayRefuse node run book event Memory = ⊤
 MayRefuse node run book event Down = book.down ≡ true
@@ -161,7 +161,7 @@ MayRefuse node run book event refusal = answered node (state_in node run) event 
 
 -- ---- what goes out
 
--- what may go out now
+-- the output that may leave now, if there is one
 abbrev pub releasable : {S : Type 0} → BookView S → Option Output
 releasable book = if book.down then None else settled_head book.settled book.queue
 
@@ -173,38 +173,38 @@ pub record IsCheckpoint (node : Node) (state : State) (records : List (List ℕ)
   pub is : checkpoint.state_in node kept ≡ state
   pub are : records ≡ configuration_of Second node.charter node.own ∷ state_records kept
 
--- at each run at which the book stands they are one of the state after all that was accepted
+-- for each run at which the book stands, these records are a checkpoint of the state after all accepted events
 abbrev pub IsCheckpointOfAll : {S : Type 0} → Node → BookView S → List (List ℕ) → Type 0
 IsCheckpointOfAll node book records = (run : Run) → Stands node run book → IsCheckpoint node (state_in node run) records
 
--- what these records settle at a run: a group has those that were taken first of what isn't settled, and what a rewriting wrote is a
--- checkpoint of the state after so many events
+-- what these records settle in a run: those of a group are the first that are taken and not settled; those of a rewriting are a checkpoint
+-- of the state after as many events as it settles
 abbrev pub Settles : Node → Run → Option ℕ → List (List ℕ) → Type 0
 Settles node run None records = Begins records (map record_of (drop (length run.settled) run.taken))
 Settles node run (Some count) records = IsCheckpoint node (state_to node count run) records
 
--- a run after a group of so many records is settled, or a rewriting, which settles what was taken when it began
+-- the run after a group of this many records is settled, or after a rewriting is, which settles what was taken when it began
 abbrev pub settled_by : Run → Option ℕ → ℕ → Run
 settled_by run None count = with_settled run count
 settled_by run (Some all) count = record run { settled = take all run.taken }
 
--- how many are settled then: a rewriting settles up to its number
+-- how many records are settled then: with a rewriting, all up to its number
 abbrev pub settled_to : Option ℕ → ℕ → ℕ
 settled_to None count = count
 settled_to (Some all) count = all
 
--- at a run at which the book stands these records are what is settled next: a rewriting in flight comes before all groups
+-- at some run at which the book stands, these records are the next to be settled; a rewriting in flight comes before all groups
 abbrev pub SettlesNext : {S : Type 0} → Node → BookView S → List (List ℕ) → Type 0
 SettlesNext node book records = (run : Run) × Stands node run book × Settles node run book.rewriting records
 
 -- an output goes out after the settled events that its ticket counts, and may be given out at each legal history that keeps the base,
--- with all that is settled
+-- followed by all settled events
 pub record GoesOutSettled (node : Node) (run : Run) (output : Output) : Type 0 where
   pub ticket : ℕ
   pub settled : ticket ≤ length run.settled
   pub goes_out : GoesOutAfter node run.base (take ticket run.accepted) output
   pub may : (history : History) → IsLegal node history → kept node history ≡ run.base → MayGive node (history ++ run.settled) output
 
--- a book stands at each run at which it stood before
+-- a book stands at each run at which the earlier book stood
 abbrev pub StandsAsBefore : {S : Type 0} → Node → BookView S → BookView S → Type 0
 StandsAsBefore node before later = (run : Run) → Stands node run before → Stands node run later

@@ -8,7 +8,7 @@ use Rattle.journal.specs.declared.layout.TheConstants.{MAX_JOURNAL_BYTES}
 use Rattle.book.specs.Book.{BookView, Run, Stands, with_taken, with_settled}
 use Rattle.book.specs.Pending.{IsLongestBeginning, all_records}
 
--- no rewriting is in flight, and at a run at which the book stands these groups, oldest first, have the records that were taken and aren't
+-- no rewriting is in flight, and at some run at which the book stands these groups, oldest first, have the records that are taken and not
 -- settled
 pub record AreInFlight {S : Type 0} (node : Node) (book : BookView S) (groups : List (List (List ℕ))) : Type 0 where
   pub alone : book.rewriting ≡ None
@@ -16,7 +16,7 @@ pub record AreInFlight {S : Type 0} (node : Node) (book : BookView S) (groups : 
   pub stands : Stands node run book
   pub are : map record_of (drop (length run.settled) run.taken) ≡ all_records groups
 
--- a book stands at a run, whatever that is
+-- there is a run at which the book stands
 abbrev pub StandsSomewhere : {S : Type 0} → Node → BookView S → Type 0
 StandsSomewhere node book = (run : Run) × Stands node run book
 
@@ -28,8 +28,8 @@ RewritesOnlyDown book = (book.rewriting ≡ None) ⊎ (book.down ≡ true)
 abbrev pub HasRoomFor : List (List ℕ) → List ℕ → Type 0
 HasRoomFor group old = length old + length (group_bytes group) ≤ MAX_JOURNAL_BYTES
 
--- The longest beginning of the pending records that fits a group is taken, has room after what a disk has, is written there, and is
--- settled: the book stands at each run at which it stood, with these taken and settled. So many records they are.
+-- One round of take, append and settle: the longest prefix of the pending records that fits a group is taken, has room on the disk, is
+-- written there, and is settled. The book stands at each run at which it stood before, with these `count` records taken and settled.
 pub record Flushes {S : Type 0} (node : Node) (before later : BookView S) (old new : List ℕ) (count : ℕ) : Type 0 where
   pub group : List (List ℕ)
   pub takes : IsLongestBeginning before.pending group later.pending
@@ -40,21 +40,21 @@ pub record Flushes {S : Type 0} (node : Node) (before later : BookView S) (old n
   pub is : later ≡ record before { pending = later.pending; taken = before.taken + length group; settled = before.settled + length group; ordered = later.ordered; reached = later.reached }
   pub stands : (run : Run) → Stands node run before → Stands node (with_settled (with_taken run (length group)) (length group)) later
 
--- that beginning is taken and stays in flight, alone, and the book is down
+-- the longest prefix of the pending records that fits a group is taken and stays in flight, alone, and the book is down
 pub record GoesDown {S : Type 0} (node : Node) (before later : BookView S) : Type 0 where
   pub group : List (List ℕ)
   pub takes : IsLongestBeginning before.pending group later.pending
   pub is : later ≡ record before { pending = later.pending; taken = before.taken + length group; down = true }
   pub way : AreInFlight node later (group ∷ [])
 
--- so it goes down, and there was no room after these bytes for what it took, or there was
+-- the book goes down so because there was no room after these bytes for the group
 abbrev pub FindsNoRoom : {S : Type 0} → Node → BookView S → BookView S → List ℕ → Type 0
 FindsNoRoom node before later old = (down : GoesDown node before later) × (HasRoomFor down.group old → ⊥)
 
 abbrev pub FailsWithRoom : {S : Type 0} → Node → BookView S → BookView S → List ℕ → Type 0
 FailsWithRoom node before later old = (down : GoesDown node before later) × HasRoomFor down.group old
 
--- what a stop leaves stands for the records of this file, or for these and the longest beginning of what was pending
+-- what a stop leaves is read as the records of this file, or as these and the longest prefix of the pending ones that fits a group
 abbrev pub IsWithOrWithout : List (List ℕ) → List ℕ → List ℕ → Type 0
 IsWithOrWithout pending file left = (stands left ≡ stands file) ⊎ IsWith
   where

@@ -3,7 +3,7 @@ use Rattle.std.specs.Prelude.{◌≡◌, ◌⊎◌, ℕ, ◌≤◌, List, [], �
 use Rattle.journal.specs.declared.layout.TheConstants.{LENGTH_BYTES, MAX_GROUP_BYTES, MAX_GROUP_RECORDS}
 use Rattle.journal.specs.Format.{FitsGroup, body_len, body_bytes}
 
--- room for the length of a body, and then the body of these records, which are so many, within the limits of a group
+-- a draft of a group: room for the length of a body, and then the body of these `count` records, within the limits of a group
 pub record IsDraft (bytes : List ℕ) (count : ℕ) : Type 0 where
   pub records : List (List ℕ)
   pub not_many : length records ≤ MAX_GROUP_RECORDS
@@ -13,7 +13,7 @@ pub record IsDraft (bytes : List ℕ) (count : ℕ) : Type 0 where
   pub written : bytes ≡ front ++ body_bytes records
   pub counts : count ≡ length records
 
--- the group and the rest are the records, the group fits, and with the next record it wouldn't
+-- the records are the group and then the rest; the group fits, and with the next record it would not
 pub record IsLongestBeginning (records group rest : List (List ℕ)) : Type 0 where
   pub parts : records ≡ group ++ rest
   pub fits : FitsGroup group

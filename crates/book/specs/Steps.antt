@@ -16,42 +16,42 @@ use Rattle.book.specs.Checkpoints.{SettlesAll}
 use Rattle.book.specs.InFlight.{Flushes, GoesDown}
 use Rattle.book.specs.Pending.{IsLongestBeginning}
 
--- the run of a world: its base is what is kept of the history that the world's run began with
+-- the run of a world: its base is the state kept of the history with which the world's run began
 abbrev pub run_of : Node → World → Run
 run_of node world = record { base = kept node world.began; accepted = world.accepted; taken = taken_in world; settled = world.settled }
 
--- a rewriting that settles so many of the accepted events: these are those that were settled before and those of the first group in flight,
--- and it is in flight until that group is durable
+-- a rewriting settles `count` of the accepted events: those that were settled before it and those of the first group in flight. It is in
+-- flight until that group is durable
 pub record IsRewritingTo (world : World) (count : ℕ) : Type 0 where
   pub some : 1 ≤ length world.groups
   pub counts : length world.settled + length (first_of world.groups) ≡ count
   pub until_durable : (world.rewriting ≡ None) ↔ (1 ≤ world.durable)
 
--- the rewriting of a book is that of its world
+-- the rewriting of a book is the one of its world
 abbrev pub IsRewriting : World → Option ℕ → Type 0
 IsRewriting world None = world.rewriting ≡ None
 IsRewriting world (Some count) = IsRewritingTo world count
 
--- a book is that of a world: it stands at its run, what that began with is legal, its rewriting is that of the world, and what it queues
--- waits there
+-- a book belongs to a world: it stands at the world's run, that began with a legal history, both have the same rewriting, and the outputs
+-- that the book queues wait in the world
 pub record IsOf {S : Type 0} (node : Node) (world : World) (book : BookView S) : Type 0 where
   pub began : IsLegal node world.began
   pub stands : Stands node (run_of node world) book
   pub rewriting : IsRewriting world book.rewriting
   pub waits : All (Contains world.waiting) book.queue
 
--- a move leads from a world to one whose book this is
+-- a move leads from a world to one to which this book belongs
 pub record Moves {S : Type 0} (node : Node) (world : World) (move : Move) (book : BookView S) : Type 0 where
   pub next : World
   pub step : IsStep node world move next
   pub is_of : IsOf node next book
 
--- an event, new or known, is accepted there
+-- accepting an event, new or known, is a step of the world
 abbrev pub AcceptIsAStep : Type 0 → Type 0
 AcceptIsAStep S = (node : Node) (world : World) (before later : BookView S) (event : Event) → IsOf node world before
     → TakesNew node before later event ⊎ TakesKnown node before later event → Moves node world (accept event) later
 
--- a group that is taken, also before another one is settled, is the last one in flight there
+-- a group that is taken becomes the last one in flight, also where an earlier one isn't settled yet
 pub record TakesAfter {S : Type 0} (node : Node) (world : World) (group : List (List ℕ)) (later : BookView S) : Type 0 where
   pub moves : Moves node world (take_to (length (taken_in world) + length group)) later
   pub events : History
@@ -63,21 +63,21 @@ TakeIsAStep S = (node : Node) (world : World) (before later : BookView S) (group
     → IsLongestBeginning before.pending group later.pending → later ≡ record before { pending = later.pending; taken = before.taken + length group }
     → TakesAfter node world group later
 
--- the first group in flight in the world, once it is written to its end, is settled there: one that has these records, or, where the book has
--- a rewriting in flight, the one of that, whatever records it wrote
+-- settling is a step of the world that settles its first group in flight once that is durable. The records are the group's; during a
+-- rewriting they may be any, since the group is the one that the rewriting settles
 abbrev pub SettleIsAStep : Type 0 → Type 0
 SettleIsAStep S = (node : Node) (world : World) (before later : BookView S) (records : List (List ℕ)) → IsOf node world before → 1 ≤ world.durable
     → (before.rewriting ≡ None → map record_of (first_of world.groups) ≡ records) → Stands node (settled_by (run_of node world) before.rewriting (length records)) later
     → later.rewriting ≡ None → later.queue ≡ before.queue → Moves node world settle later
 
--- what is released goes out there
+-- releasing an output is a step of the world in which it goes out
 abbrev pub ReleaseIsAStep : Type 0 → Type 0
 ReleaseIsAStep S = (node : Node) (world : World) (before later : BookView S) (output : Output) → IsOf node world before → releasable before ≡ Some output
     → later ≡ record before { queue = drop 1 before.queue } → Stands node (run_of node world) later
     → (ticket : ℕ) × Moves node world (release (record { ticket = ticket; output = output })) later
 
--- a round of one owner that settled a group: it is taken, the four device calls are made, and it is settled. A disk that had these bytes
--- before then has those
+-- a round of a single owner that settles a group: it is taken, the four device calls are made, and it is settled. A disk that had the old
+-- bytes has the new ones then
 pub record FlushesThere {S : Type 0} (node : Node) (world : World) (count : ℕ) (old new : List ℕ) (later : BookView S) : Type 0 where
   pub next : World
   pub leads : Leads node world (take_to count ∷ device_call ∷ device_call ∷ device_call ∷ device_call ∷ settle ∷ []) next
@@ -89,26 +89,25 @@ abbrev pub FlushIsSteps : Type 0 → Type 0
 FlushIsSteps S = (node : Node) (moves : List Move) (world : World) (before later : BookView S) (old new : List ℕ) (count : ℕ) → IsNode node → IsRun node moves world → IsOf node world before
     → world.groups ≡ [] → Flushes node before later old new count → FlushesThere node world (length world.settled + count) old new later
 
--- a round that took the book down: the group is taken, and stays in flight; the device calls that were made before the failure come
--- after that
+-- a round that takes the book down: the group is taken and stays in flight; any device calls before the failure come after that
 abbrev pub FailIsAStep : Type 0 → Type 0
 FailIsAStep S = (node : Node) (world : World) (before later : BookView S) → IsOf node world before → (down : GoesDown node before later) → TakesAfter node world down.group later
 
--- all that was accepted is taken for a checkpoint of these bytes, whose rewriting is then in flight; the book may be down after it, as where
--- the rewriting failed
+-- all accepted events are taken for a checkpoint with these bytes, whose rewriting is then in flight. The book may be down after that, as
+-- it is where the rewriting failed
 abbrev pub TakeAllIsAStep : Type 0 → Type 0
 TakeAllIsAStep S = (node : Node) (moves : List Move) (world : World) (before later : BookView S) (spare : Spare) (bytes : List ℕ) → IsNode node → IsRun node moves world → IsOf node world before
     → world.groups ≡ [] → world.spare ≡ Some spare → IsCheckpointOf node (spare.generation + 1) (kept node (world.began ++ world.accepted)) bytes
     → later ≡ record before { pending = []; taken = before.accepted; rewriting = Some before.accepted; down = later.down } → Moves node world (take_all bytes) later
 
--- what a journal writes of these records after the first gate can be the checkpoint of a node with keys of 32 bytes, of this generation
+-- a journal can write a checkpoint of these records, of this generation, for a node with keys of 32 bytes
 pub record CanWrite (node : Node) (generation : ℕ) (snapshot : List (List ℕ)) : Type 0 where
   pub keys : AreKeys node
   pub generation_fits : generation < 2 ^ 64
   pub packs : CanPack snapshot
   pub are_bytes : AreBytes (bytes_for generation snapshot)
 
--- a checkpoint of one owner that was settled: all is taken, the eight device calls of the rewriting are made, and it is settled
+-- a checkpoint of a single owner that is settled: all is taken, the eight device calls of the rewriting are made, and it is settled
 pub record CheckpointsThere {S : Type 0} (node : Node) (world : World) (spare : Spare) (bytes : List ℕ) (later : BookView S) : Type 0 where
   pub next : World
   pub leads : Leads node world (take_all bytes ∷ (spare_calls 8 ++ settle ∷ [])) next

@@ -1,4 +1,4 @@
-//! The book.
+//! The book: the value under a node's lock.
 
 ghost use Rattle.std.specs.Prelude.{◌≡◌, ◌+◌, ◌≤◌, ◌<◌, ◌^◌, ◌++◌, ◌∷◌, [], None, length, IfErr, OnOk, OnErr};
 ghost use Rattle.std.specs.VecDeque.{deque_len, deque_capacity};
@@ -21,26 +21,26 @@ use std::marker::Model;
 use validator::{Refusal, Step, Validator};
 use wire::{Digest, Output};
 
-/// Records that one run may accept.
+/// How many records one run may accept.
 pub const MAX_ACCEPTED: u64 = 1 << 48;
 
-/// The limit of a run in numbers.
+/// The limit of a run, as a number.
 pub fn limits_in_numbers()
     ensures accepted { MAX_ACCEPTED ≡ 2 ^ 48 }
 {}
 
-/// What an accepted event is answered.
+/// The answer to an event that was accepted, or was known.
 #[derive(Clone, Copy, Debug, PartialEq, Eq)]
 pub struct Receipt {
-    /// How many records were accepted in this run, with this one if it is new. The event's outputs go out
-    /// once so many are settled.
+    /// How many records were accepted in this run, this event's included if it is new. The event's outputs may leave once so many are
+    /// settled.
     pub ticket: u64,
     /// Whether the event is new; else it is known.
     pub new: bool,
 }
 
-/// The value under the lock. Since the run's start so many records were accepted, so many of these taken, and so many
-/// settled; those that weren't taken are pending.
+/// The value under the lock: a validator, and how many records it accepted since the run's start, how many of these were taken, and how
+/// many are settled. The records that weren't taken are pending.
 pub struct Book<'a, S: Sign> {
     alloc: Global,
     validator: Validator<'a, S>,
@@ -50,9 +50,9 @@ pub struct Book<'a, S: Sign> {
     accepted: u64,
     taken: u64,
     settled: u64,
-    // How long the order is after the settled records.
+    // The length of the order after the settled records.
     ordered: u64,
-    // Where a rewriting is in flight: how many of the accepted records it settles.
+    // How many of the accepted records the rewriting in flight settles, if there is one.
     rewriting: Option<u64>,
     down: bool,
 }
@@ -133,7 +133,7 @@ impl<'a, S: Sign> Book<'a, S> {
         }
     }
 
-    /// Its validator, which stands at all that was accepted.
+    /// The book's validator, which is in the state after all accepted events.
     pub fn validator(&self) -> &Validator<'a, S>
         ensures { result.now ≡ self.now.validator }
     {
@@ -147,12 +147,11 @@ impl<'a, S: Sign> Book<'a, S> {
         self.validator.committee()
     }
 
-    /// Takes an event, which passed the checks under the book's committee. A new one gets a record, which is
-    /// pending from now on; its outputs, and those of a known event, go out once all that was accepted is settled. A
-    /// refusal changes nothing.
+    /// Accepts an event, which passed the checks under the book's committee. A new event gets a record, which is pending from now on. The
+    /// outputs of a new or known event may leave once all records accepted so far are settled. A refusal changes nothing.
     pub fn accept(&mut self, event: Checked) -> Result<Receipt, Refusal>
         requires passed { fault_of self.old.validator.setting.charter accepts_all event ≡ None }
-        // It answers Down exactly where the book is down.
+        // The error is Down exactly where the book is down.
         ensures down { IsErrOf result Refusal.Down ↔ IsTrue self.old.down }
         ensures new { IfOk result (λ receipt. receipt.new ≡ true → TakesNew (node_of S.scheme self.old.validator.setting) self.old self.new event) }
         ensures known { IfOk result (λ receipt. receipt.new ≡ false → TakesKnown (node_of S.scheme self.old.validator.setting) self.old self.new event) }
@@ -210,7 +209,7 @@ impl<'a, S: Sign> Book<'a, S> {
         }
     }
 
-    // Whether an event would be new, and the run can accept no more.
+    // Whether an event would be new although the run can accept no more.
     fn has_no_place(&self, event: &Checked) -> bool
         requires passed { fault_of self.now.validator.setting.charter accepts_all event.now ≡ None }
         ensures full { let node = node_of S.scheme self.now.validator.setting in result ≡ true → (run : Run) → Stands node run self.now → IsFull node run self.now event.now }
@@ -220,15 +219,15 @@ impl<'a, S: Sign> Book<'a, S> {
         self.accepted == MAX_ACCEPTED && self.validator.is_new(event)
     }
 
-    /// Takes the longest beginning of the pending records that fits a group; `None` where nothing is pending. `AllocError` where an
-    /// allocation failed: nothing was taken then.
+    /// Takes the longest prefix of the pending records that fits a group; `None` where nothing is pending. On `AllocError` an allocation
+    /// failed, and nothing was taken.
     pub fn take(&mut self) -> Result<Option<Group>, AllocError>
         ensures none { IfOk result (λ group. IsNone group ↔ (self.old.pending ≡ [])) }
         ensures group { IfOk result (λ group. IfSome group (λ group. IsLongestBeginning self.old.pending group self.new.pending)) }
         ensures taken { IfOk result (λ group. IfSome group (λ group. self.new ≡ record self.old { pending = self.new.pending; taken = self.old.taken + length group })) }
         ensures stands { let node = node_of S.scheme self.old.validator.setting in IfOk result (λ group. IfSome group (λ group. (run : Run) → Stands node run self.old
             → Stands node (with_taken run (length group)) self.new)) }
-        // It has the records of exactly the events that are taken.
+        // The group has the records of exactly the events that are taken.
         ensures records { IfOk result (λ group. IfSome group (λ group. (run : Run) → Stands (node_of S.scheme self.old.validator.setting) run self.old
             → group ≡ map record_of (drop (length run.taken) (with_taken run (length group)).taken))) }
         ensures nothing { IfOk result (λ group. IsNone group → self.new ≡ self.old) }
@@ -248,15 +247,15 @@ impl<'a, S: Sign> Book<'a, S> {
         !self.pending.is_empty()
     }
 
-    /// Takes all that was accepted, for a checkpoint of the state after it, with which a journal is rewritten. The rewriting is then in
-    /// flight, until `settle` says that it is on the disk; groups may be taken meanwhile. `AllocError` where an allocation failed:
-    /// nothing was taken then.
+    /// Takes all accepted records, for a checkpoint of the state after them, with which the journal is to be rewritten. The rewriting is in
+    /// flight until `settle` says that it is on the disk; groups may be taken meanwhile. On `AllocError` an allocation failed, and nothing
+    /// was taken.
     pub fn take_all(&mut self) -> Result<Snapshot, AllocError>
         // No group is in flight, and no other rewriting.
         requires free { self.old.taken ≡ self.old.settled }
         requires none { self.old.rewriting ≡ None }
         ensures snapshot { let node = node_of S.scheme self.old.validator.setting in IfOk result (λ snapshot. Describes node self.old.validator.tables snapshot) }
-        // At each run at which it stands it is a checkpoint of all that was accepted.
+        // At each run at which the book stands, this is a checkpoint of all accepted events.
         ensures checkpoint { let node = node_of S.scheme self.old.validator.setting in IfOk result (λ snapshot. IsCheckpointOfAll node self.old snapshot) }
         ensures writable { IfOk result CanBeWritten }
         ensures taken { OnOk result (self.new ≡ record self.old { pending = []; taken = self.old.accepted; rewriting = Some self.old.accepted }) }
@@ -272,8 +271,8 @@ impl<'a, S: Sign> Book<'a, S> {
         Ok(snapshot)
     }
 
-    /// Says that records are on the disk: those of a rewriting in flight, which settles what was taken when it began; where there is none,
-    /// those that were taken first of what isn't settled.
+    /// Says that records are on the disk: those of the rewriting in flight, which settles what was taken when it began; or, if there is
+    /// none, the first records that are taken and not settled.
     pub fn settle(&mut self, synced: Synced)
         requires { SettlesNext (node_of S.scheme self.old.validator.setting) self.old synced }
         ensures stands { let node = node_of S.scheme self.old.validator.setting in (run : Run) → Stands node run self.old
@@ -287,12 +286,12 @@ impl<'a, S: Sign> Book<'a, S> {
         self.ordered = leave_to(&mut self.reached, self.settled, self.ordered);
     }
 
-    /// The first output, if all the records that it rests on are settled and the book isn't down.
+    /// The first output, if its ticket is settled and the book isn't down.
     pub fn release(&mut self) -> Option<Output>
         ensures output { result ≡ releasable self.old }
         ensures queue { self.new ≡ (if is_some result then record self.old { queue = drop 1 self.old.queue } else self.old) }
         ensures stands { let node = node_of S.scheme self.old.validator.setting in StandsAsBefore node self.old self.new }
-        // What it gives may be given out after what is settled.
+        // The output may be given out after the settled events.
         ensures goes_out { let node = node_of S.scheme self.old.validator.setting in IfSome result (λ output. (run : Run) → Stands node run self.old
             → GoesOutSettled node run output) }
     {
@@ -306,7 +305,7 @@ impl<'a, S: Sign> Book<'a, S> {
         dequeue(&mut self.queue)
     }
 
-    /// Takes the book down, as where a device call failed or the journal is full. From now on nothing is accepted or released.
+    /// Takes the book down, because a device call failed or the journal is full. From now on it accepts and releases nothing.
     pub fn fail(&mut self)
         ensures down { self.new ≡ record self.old { down = true } }
         ensures stands { let node = node_of S.scheme self.old.validator.setting in StandsAsBefore node self.old self.new }
@@ -329,14 +328,14 @@ impl<'a, S: Sign> Book<'a, S> {
         self.accepted
     }
 
-    /// How many of these were taken.
+    /// How many of the accepted records were taken.
     pub fn taken(&self) -> u64
         ensures { result ≡ self.now.taken }
     {
         self.taken
     }
 
-    /// How many of these are settled.
+    /// How many of the accepted records are settled.
     pub fn settled(&self) -> u64
         ensures { result ≡ self.now.settled }
     {
@@ -350,7 +349,7 @@ impl<'a, S: Sign> Book<'a, S> {
         self.rewriting.is_some()
     }
 
-    /// The validator's round, after all that was accepted.
+    /// The validator's round after all accepted events.
     pub fn round_now(&self) -> u64
         ensures { let node = node_of S.scheme self.now.validator.setting in (run : Run) → Stands node run self.now
             → result ≡ round_in node (state_in node run) }
@@ -358,8 +357,8 @@ impl<'a, S: Sign> Book<'a, S> {
         self.validator.round()
     }
 
-    /// The order after the settled records, from this place on: the digests of the certificates that are ordered. It is empty past
-    /// its end.
+    /// The order after the settled records, from this place on: the digests of the ordered certificates. The list is empty where the place
+    /// is past the order's end.
     ///
     /// # Errors
     /// `Down` where the book is down, `Memory` where an allocation failed.
@@ -382,7 +381,7 @@ impl<'a, S: Sign> Book<'a, S> {
     }
 }
 
-// How many are settled, where so many were, after so many records more, or by a rewriting.
+// How many records are settled after so many more were written, or after the rewriting was.
 fn settled_with(rewriting: Option<u64>, settled: u64, records: u64) -> u64
     requires { rewriting ≡ None → settled + records < 2 ^ 64 }
     ensures { result ≡ settled_to rewriting (settled + records) }
@@ -393,7 +392,7 @@ fn settled_with(rewriting: Option<u64>, settled: u64, records: u64) -> u64
     }
 }
 
-// Puts the record of an event after the others, and makes room for its outputs and for how long the order then is.
+// Adds the record of an event, and makes room for its outputs and for a new length of the order.
 fn make_room(
     pending: &mut Pending,
     queue: &mut VecDeque<Queued>,

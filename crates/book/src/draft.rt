@@ -17,7 +17,7 @@ use std::marker::Model;
 /// Records that will be a group. Contracts see them.
 #[derive(Drop)]
 pub(crate) struct Draft {
-    // Room for the length of the body, and then the body.
+    // Room for the length of the body, and then the body so far.
     bytes: Vec<u8>,
     count: u64,
     ghost drafted: { IsDraft bytes.items count } by { one_draft bytes.items count },
@@ -32,7 +32,7 @@ impl Model for Draft {
 }
 
 impl Draft {
-    /// One without a record. `AllocError` where an allocation failed.
+    /// A draft without a record. On `AllocError` an allocation failed.
     pub(crate) fn new(alloc: Global) -> Result<Draft, AllocError>
         ensures { IfOk result (λ draft. draft ≡ []) }
     {
@@ -41,14 +41,14 @@ impl Draft {
         Ok(Draft { bytes, count: 0 })
     }
 
-    /// Whether it has no record.
+    /// Whether the draft has no record.
     pub(crate) fn is_empty(&self) -> bool
         ensures { IsTrue result ↔ (self.now ≡ []) }
     {
         self.count == 0
     }
 
-    /// Whether a record of this length fits after the others.
+    /// Whether a record of this length still fits.
     pub(crate) fn has_room(&self, len: usize) -> bool
         requires { LENGTH_BYTES + len ≤ MAX_GROUP_BYTES }
         ensures { (bytes : List ℕ) → length bytes ≡ len → (IsTrue result ↔ FitsGroup (self.now ++ bytes ∷ [])) }
@@ -56,12 +56,11 @@ impl Draft {
         if self.count == MAX_GROUP_RECORDS as u64 {
             return false;
         }
-        // As much stands before the body as stands before the record.
+        // The length field before the body is as long as the one before the record, so both cancel out.
         self.bytes.len() + len <= MAX_GROUP_BYTES
     }
 
-    /// Puts the record of an event, which has this length, after the others, among which it fits. `AllocError` where an allocation
-    /// failed: nothing has changed then.
+    /// Adds the record of an event, which has this length and fits. On `AllocError` an allocation failed, and nothing has changed.
     pub(crate) fn put(&mut self, event: &Checked, len: usize) -> Result<(), AllocError>
         requires len { len ≡ length (record_bytes event.now) }
         requires short { LENGTH_BYTES + len ≤ MAX_GROUP_BYTES }
@@ -82,7 +81,7 @@ impl Draft {
         }
     }
 
-    /// Takes its last record away, which has this length.
+    /// Takes the last record away, which has this length.
     pub(crate) fn take_back(&mut self, len: usize)
         requires { (others : List (List ℕ)) × (last : List ℕ) × (self.old ≡ others ++ last ∷ []) × (length last ≡ len) }
         ensures { (others : List (List ℕ)) (last : List ℕ) → self.old ≡ others ++ last ∷ [] → self.new ≡ others }
@@ -91,7 +90,7 @@ impl Draft {
         self.count -= 1;
     }
 
-    /// The group of its records, which are some. Where an allocation failed, the draft is handed back.
+    /// The group of the draft's records, of which there is at least one. If an allocation fails, the draft is the error.
     pub(crate) fn close(self) -> Result<Group, Draft>
         requires { FitsGroup self }
         ensures ok { IfOk result (λ group. group ≡ self) }
@@ -108,7 +107,7 @@ impl Draft {
     }
 }
 
-// Puts the length of a body into the room before it.
+// Writes the length of a body into the room before it.
 fn put_len(bytes: &mut Vec<u8>, len: u32)
     requires { LENGTH_BYTES ≤ vec_len bytes.old }
     ensures items { bytes.new.items ≡ to_be_bytes w32 len ++ drop LENGTH_BYTES bytes.old.items }

@@ -1,5 +1,5 @@
-//! The value under the lock: the validator, the records that were accepted and not yet taken, and the
-//! outputs, each with the number of records that it rests on. The same with one owner, who needs no lock.
+//! The value under a node's lock: the validator, the records that were accepted and not yet taken, and the outputs, each with its ticket.
+//! The same for a node with one owner, which needs no lock.
 #![tactic(auto)]
 
 mod book;

@@ -1,4 +1,4 @@
-//! The book of one owner, who takes a group, adds it to the journal and settles it.
+//! The book of a single owner, who takes a group, appends it to the journal and settles it.
 
 mod error;
 
@@ -15,7 +15,7 @@ use std::marker::Model;
 use validator::{Refusal, Validator};
 use wire::{Digest, Output};
 
-/// A book that stands at what its run began with, accepted, took and settled, for an owner who needn't say what that is.
+/// A book that stands at some run, for an owner who need not say which.
 pub struct OwnBook<'a, S: Sign> {
     book: Book<'a, S>,
 }
@@ -75,7 +75,7 @@ impl<'a, S: Sign> OwnBook<'a, S> {
         }
     }
 
-    /// Takes an event, which passed the checks under the book's committee, as the book does.
+    /// Accepts an event, which passed the checks under the book's committee, as `Book::accept` does.
     pub fn accept(&mut self, event: Checked) -> Result<Receipt, Refusal>
         requires passed { fault_of self.old.validator.setting.charter accepts_all event ≡ None }
         ensures down { IsErrOf result Refusal.Down ↔ IsTrue self.old.down }
@@ -93,9 +93,9 @@ impl<'a, S: Sign> OwnBook<'a, S> {
         self.book.accept(event)
     }
 
-    /// Takes the longest beginning of the pending records that fits a group, which is then the last in flight; `None` where
-    /// nothing is pending. Groups are appended in the order in which they were taken. `AllocError` where an allocation failed:
-    /// nothing was taken then.
+    /// Takes the longest prefix of the pending records that fits a group; `None` where nothing is pending. The group is the last one in
+    /// flight then. Groups have to be appended in the order in which they were taken. On `AllocError` an allocation failed, and nothing was
+    /// taken.
     pub fn take(&mut self) -> Result<Option<Group>, AllocError>
         ensures none { IfOk result (λ taken. IsNone taken ↔ (self.old.pending ≡ [])) }
         ensures group { IfOk result (λ taken. IfSome taken (λ group. IsLongestBeginning self.old.pending group self.new.pending)) }
@@ -109,7 +109,7 @@ impl<'a, S: Sign> OwnBook<'a, S> {
         self.book.take()
     }
 
-    /// Settles the first group in flight, or the rewriting with which the book went down.
+    /// Settles the first group in flight, or the rewriting that was in flight when the book went down.
     pub fn settle(&mut self, synced: Synced)
         requires { SettlesNext (node_of S.scheme self.old.validator.setting) self.old synced }
         ensures stands { let node = node_of S.scheme self.old.validator.setting in (run : Run) → Stands node run self.old
@@ -132,7 +132,7 @@ impl<'a, S: Sign> OwnBook<'a, S> {
         self.book.taken() == self.book.settled() && !self.book.is_rewriting()
     }
 
-    /// The next output that may go out.
+    /// The next output that may leave, if there is one.
     pub fn release(&mut self) -> Option<Output>
         ensures output { result ≡ releasable self.old }
         ensures queue { self.new ≡ (if is_some result then record self.old { queue = drop 1 self.old.queue } else self.old) }
@@ -146,7 +146,7 @@ impl<'a, S: Sign> OwnBook<'a, S> {
         self.book.release()
     }
 
-    /// Takes the book down. From now on nothing is accepted or released.
+    /// Takes the book down. From now on it accepts and releases nothing.
     pub fn fail(&mut self)
         ensures down { self.new ≡ record self.old { down = true } }
         ensures way { let node = node_of S.scheme self.old.validator.setting in (groups : List (List (List ℕ))) → AreInFlight node self.old groups
@@ -156,40 +156,39 @@ impl<'a, S: Sign> OwnBook<'a, S> {
         self.book.fail();
     }
 
-    /// One round: takes a group, adds it to the journal and settles it. Answers how many records it has; 0 where nothing is
-    /// pending.
+    /// One round: takes a group, appends it to the journal and settles it. Gives the number of its records; 0 where nothing is pending.
     ///
     /// # Errors
-    /// Each of them, as described there.
+    /// Each of `FlushError`, as described there.
     pub fn flush<D: Disk>(&mut self, journal: &mut Journal<D>) -> Result<u64, FlushError>
         requires alive { IsAlive D.device journal.old }
         // A journal on two disks has its configuration.
         requires begun { IsSome (spare_of journal.old) → D.device.content (disk_of journal.old) ≢ CLOSED ∷ [] }
-        // It takes the longest beginning of the pending records, which is then on the disk and settled.
+        // The flush takes the longest prefix of the pending records that fits a group, which is then on the disk and settled.
         ensures idle { OnOk result (self.old.pending ≡ [] → (result ≡ Ok 0) × (self.new ≡ self.old) × (journal.new ≡ journal.old)) }
         ensures flushed { IfOk result (λ count. self.old.pending ≢ [] → Flushes (node_of S.scheme self.old.validator.setting) self.old self.new (D.device.content (disk_of journal.old)) (D.device.content (disk_of journal.new)) count) }
         ensures way { OnOk result (AreInFlight (node_of S.scheme self.old.validator.setting) self.new []) }
-        // A book that is down, and one with a group in flight, is left as it was, and so is one where memory is refused.
+        // A book that is down, or has a group in flight, is left as it was, and so is any book where an allocation fails.
         ensures down { IsErrOf result FlushError.Down ↔ (IsTrue self.old.down ⊎ (self.old.taken ≢ self.old.settled)) }
         ensures unchanged { IfErr result (λ error. (error ≡ FlushError.Down) ⊎ (error ≡ FlushError.Memory) → (self.new ≡ self.old) × (journal.new ≡ journal.old)) }
-        // Where the journal has no room for it and where the disk fails, what it took stays in flight, and the book is down.
+        // Where the journal has no room for the group, or the disk fails, the group stays in flight and the book is down.
         ensures full { IsErrOf result FlushError.Full → FindsNoRoom (node_of S.scheme self.old.validator.setting) self.old self.new (D.device.content (disk_of journal.old)) }
         ensures full_same { IsErrOf result FlushError.Full → journal.new ≡ journal.old }
         ensures fails { IsErrOf result FlushError.Device → FailsWithRoom (node_of S.scheme self.old.validator.setting) self.old self.new (D.device.content (disk_of journal.old)) }
-        // A stop at any moment leaves the records from before it, with all that it takes or without.
+        // What a stop at any moment leaves is read as the earlier records, with the whole group or without it.
         ensures any_moment { AtEachMoment D.device (disk_of journal.old) (disk_of journal.new) (IsWithOrWithout self.old.pending (D.device.content (disk_of journal.old))) }
-        // The journal is alive exactly where it doesn't answer Device.
+        // The journal can be appended to exactly where the error isn't Device.
         ensures alive { (IsErrOf result FlushError.Device) ⊎ IsAlive D.device journal.new }
         ensures dead { IsErrOf result FlushError.Device → ¬ IsAlive D.device journal.new }
         ensures spare { spare_of journal.new ≡ spare_of journal.old }
-        // It answers Device exactly where the disk has failed.
+        // The error is Device exactly where the disk has failed.
         ensures cause { TellsFault FlushError.Device (D.device.faults (disk_of journal.old)) (D.device.faults (disk_of journal.new)) result }
         ensures setting { self.new.validator.setting ≡ self.old.validator.setting }
     {
         if self.is_down() {
             return Err(FlushError::Down);
         }
-        // A group that the owner took himself may be in flight.
+        // A group that the owner took by `take` may be in flight.
         if !self.is_settled() {
             return Err(FlushError::Down);
         }
@@ -213,36 +212,36 @@ impl<'a, S: Sign> OwnBook<'a, S> {
         }
     }
 
-    /// Takes all that was accepted, rewrites the journal to a checkpoint of it, and settles it. The other disk of the journal's two is
-    /// written, and read from then on. Answers the journal's new generation.
+    /// Takes all accepted records, rewrites the journal to a checkpoint of the state after them, and settles them. The spare disk of the
+    /// journal is written, and is read from then on. Gives the journal's new generation.
     ///
     /// # Errors
-    /// Each of them, as described there.
+    /// Each of `FlushError`, as described there.
     pub fn checkpoint<D: Disk>(&mut self, journal: &mut Journal<D>) -> Result<u64, FlushError>
         requires alive { IsAlive D.device journal.old }
         requires pair { IsSome (spare_of journal.old) }
         // The area that is read has its first group.
         requires begun { tells (D.device.content (disk_of journal.old)) ≡ Some (Some (generation_in journal.old)) }
-        // All that was accepted is settled, and the journal is a checkpoint of it.
+        // All accepted events are settled, and the journal is a checkpoint of the state after them.
         ensures settled { IfOk result (λ generation. Checkpoints (node_of S.scheme self.old.validator.setting) D.device self.old self.new journal.old journal.new) }
         ensures answer { IfOk result (λ generation. generation ≡ generation_in journal.new) }
         ensures way { OnOk result (AreInFlight (node_of S.scheme self.old.validator.setting) self.new []) }
-        // A book that is down, and one with a group in flight, is left as it was, and so is one where memory is refused.
+        // A book that is down, or has a group in flight, is left as it was, and so is any book where an allocation fails.
         ensures down { IsErrOf result FlushError.Down ↔ (IsTrue self.old.down ⊎ (self.old.taken ≢ self.old.settled)) }
         ensures unchanged { IfErr result (λ error. (error ≡ FlushError.Down) ⊎ (error ≡ FlushError.Memory) → (self.new ≡ self.old) × (journal.new ≡ journal.old)) }
-        // Where the journal has no room for the checkpoint and where the disk fails, the rewriting stays in flight, and the book is down.
+        // Where the journal has no room for the checkpoint, or the disk fails, the rewriting stays in flight and the book is down.
         ensures full { IsErrOf result FlushError.Full → FindsNoRoomToRewrite (node_of S.scheme self.old.validator.setting) self.old self.new journal.old }
         ensures full_same { IsErrOf result FlushError.Full → journal.new ≡ journal.old }
         ensures fails { IsErrOf result FlushError.Device → FailsToRewrite (node_of S.scheme self.old.validator.setting) self.old self.new journal.old }
-        // A stop at any moment leaves the records from before it, or the checkpoint.
+        // What a stop at any moment leaves is read as the earlier records, or as the checkpoint.
         ensures any_moment { AtEachMoment D.device (spare_disk journal.old) (rewritten_disk result journal.new) (StandsAsOrForAll (node_of S.scheme self.old.validator.setting) D.device self.old journal.old) }
-        // The disk that was read before is the same, whatever the answer; after an error it still is the one that is read.
+        // The disk that was read before is untouched, whatever the result; after an error it is still the one that is read.
         ensures untouched { untouched_disk result journal.new ≡ disk_of journal.old }
         ensures keeps { OnErr result (HaveKeptPlaces journal.old journal.new) }
-        // The journal is alive exactly where it doesn't answer Device.
+        // The journal can be appended to exactly where the error isn't Device.
         ensures alive { (IsErrOf result FlushError.Device) ⊎ IsAlive D.device journal.new }
         ensures dead { IsErrOf result FlushError.Device → ¬ IsAlive D.device journal.new }
-        // It answers Device exactly where the disk that it writes has failed.
+        // The error is Device exactly where the disk that is written has failed.
         ensures cause { TellsFault FlushError.Device (D.device.faults (spare_disk journal.old)) (D.device.faults (rewritten_disk result journal.new)) result }
         ensures setting { self.new.validator.setting ≡ self.old.validator.setting }
     {
@@ -263,7 +262,7 @@ impl<'a, S: Sign> OwnBook<'a, S> {
     /// Whether the book is down.
     pub fn is_down(&self) -> bool
         ensures value { result ≡ self.now.down }
-        // Where it isn't, no rewriting is in flight.
+        // A book that isn't down has no rewriting in flight.
         ensures up { result ≡ false → self.now.rewriting ≡ None }
     {
         self.book.is_down()
@@ -276,7 +275,7 @@ impl<'a, S: Sign> OwnBook<'a, S> {
         self.book.has_pending()
     }
 
-    /// Its validator, which stands at all that was accepted.
+    /// The book's validator, which is in the state after all accepted events.
     pub fn validator(&self) -> &Validator<'a, S>
         ensures { result.now ≡ self.now.validator }
     {
@@ -290,7 +289,7 @@ impl<'a, S: Sign> OwnBook<'a, S> {
         self.book.committee()
     }
 
-    /// The validator's round, after all that was accepted.
+    /// The validator's round after all accepted events.
     pub fn round_now(&self) -> u64
         ensures { let node = node_of S.scheme self.now.validator.setting in (run : Run) → Stands node run self.now
             → result ≡ round_in node (state_in node run) }
@@ -298,7 +297,7 @@ impl<'a, S: Sign> OwnBook<'a, S> {
         self.book.round_now()
     }
 
-    /// The order after the settled records, from this place on. It is empty past its end.
+    /// The order after the settled records, from this place on. The list is empty where the place is past the order's end.
     ///
     /// # Errors
     /// `Down` where the book is down, `Memory` where an allocation failed.

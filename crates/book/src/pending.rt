@@ -1,4 +1,4 @@
-//! Records that were accepted and not yet taken, group by group.
+//! Records that were accepted and not yet taken, packed into groups.
 
 ghost use Rattle.std.specs.Prelude.{◌≡◌, ◌+◌, ◌≤◌, ◌++◌, ◌∷◌, [], true, false, List, ℕ, length, IsTrue, IsNone, IfOk, IfSome, OnOk, OnErr, ◌↔◌};
 ghost use Rattle.journal.specs.declared.layout.TheConstants.{LENGTH_BYTES, MAX_GROUP_BYTES};
@@ -12,7 +12,7 @@ use std::alloc::{AllocError, Global};
 use std::collections::VecDeque;
 use std::marker::Model;
 
-/// The pending records. Contracts see them, and not where a group ends: it ends where the next record wouldn't fit.
+/// The pending records. Contracts see them without the groups: a group ends where the next record wouldn't fit.
 #[derive(Drop)]
 pub(crate) struct Pending {
     alloc: Global,
@@ -31,7 +31,7 @@ impl Model for Pending {
 }
 
 impl Pending {
-    /// No record.
+    /// No pending records.
     pub(crate) fn new(alloc: Global) -> Pending
         ensures { result ≡ [] }
     {
@@ -48,8 +48,7 @@ impl Pending {
         self.drafts.is_empty()
     }
 
-    /// Puts the record of an event, which has this length, after the others. `AllocError` where an allocation failed: nothing has
-    /// changed then.
+    /// Adds the record of an event, which has this length. On `AllocError` an allocation failed, and nothing has changed.
     pub(crate) fn put(&mut self, event: &Checked, len: usize) -> Result<(), AllocError>
         requires short { LENGTH_BYTES + len ≤ MAX_GROUP_BYTES }
         requires len { len ≡ length (record_of event.now) }
@@ -77,8 +76,8 @@ impl Pending {
         }
     }
 
-    /// Takes the longest beginning that fits a group; `None` where there is no record. `AllocError` where an allocation failed:
-    /// nothing has changed then.
+    /// Takes the longest prefix of the records that fits a group; `None` where there is no record. On `AllocError` an allocation failed,
+    /// and nothing has changed.
     pub(crate) fn take(&mut self) -> Result<Option<Group>, AllocError>
         ensures none { IfOk result (λ group. IsNone group ↔ (self.old ≡ [])) }
         ensures group { IfOk result (λ group. IfSome group (λ group. IsLongestBeginning self.old group self.new)) }
@@ -98,7 +97,7 @@ impl Pending {
     }
 }
 
-// Whether a record of this length fits the last group, if there is one.
+// Whether the last group, if there is one, has room for a record of this length.
 fn last_has_room(drafts: &VecDeque<Draft>, len: usize) -> bool
     requires { LENGTH_BYTES + len ≤ MAX_GROUP_BYTES }
     ensures room { result ≡ true → HasRoom drafts.now.items len }
@@ -110,8 +109,7 @@ fn last_has_room(drafts: &VecDeque<Draft>, len: usize) -> bool
     }
 }
 
-// Puts the record of an event, which has this length, into the last group, which it fits. Where an allocation fails nothing has
-// changed.
+// Adds the record of an event to the last group, which has room for its length. If an allocation fails, nothing has changed.
 fn put_into_last(
     drafts: &mut VecDeque<Draft>,
     event: &Checked,
@@ -131,8 +129,7 @@ fn put_into_last(
     put
 }
 
-// Puts the record of an event, which has this length, into a group of its own after the others. Where an allocation fails nothing
-// has changed.
+// Adds the record of an event, which has this length, as the first of a new group. If an allocation fails, nothing has changed.
 fn put_after(
     alloc: Global,
     drafts: &mut VecDeque<Draft>,

@@ -1,4 +1,4 @@
-//! Outputs that wait for the records that they rest on.
+//! Outputs that wait until their tickets are settled.
 
 ghost use Rattle.std.specs.Prelude.{◌≡◌, ◌+◌, ◌≤◌, ◌<◌, ◌++◌, ◌∷◌, [], All, None, MatchOption, is_some, ℕ};
 ghost use Rattle.std.specs.VecDeque.{deque_len, deque_capacity};
@@ -8,14 +8,14 @@ ghost use Rattle.book.specs.Queue.{queue_of, HasOutput, settled_head};
 use std::collections::VecDeque;
 use wire::Output;
 
-/// The outputs of an event, oldest first. They go out once so many records are settled as the ticket says.
+/// The outputs of an event, oldest first. They may leave once as many records are settled as the ticket says.
 #[derive(Drop)]
 pub struct Queued {
     pub ticket: u64,
     pub outputs: VecDeque<Output>,
 }
 
-/// Puts the outputs of an event at the end, for which there is room.
+/// Adds the outputs of an event at the end of the queue, which has room for them.
 pub(crate) fn enqueue(queue: &mut VecDeque<Queued>, ticket: u64, outputs: Vec<Output>)
     requires room { deque_len queue.old < deque_capacity queue.old }
     requires each { All HasOutput queue.old.items }
@@ -45,7 +45,7 @@ pub(crate) fn dequeue(queue: &mut VecDeque<Queued>) -> Option<Output>
     output
 }
 
-/// Whether there is a first output and so many settled records are enough for it.
+/// Whether there is a first output, and its ticket is among so many settled records.
 pub(crate) fn has_settled_head(queue: &VecDeque<Queued>, settled: u64) -> bool
     requires each { All HasOutput queue.now.items }
     ensures { result ≡ is_some (settled_head settled (queue_of queue.now.items)) }

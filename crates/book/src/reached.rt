@@ -1,4 +1,4 @@
-//! How long the order is from which record on.
+//! How long the order is, by the number of records.
 
 ghost use Rattle.std.specs.Prelude.{◌≡◌, ◌≢◌, ◌<◌, ◌≤◌, ◌++◌, ◌∷◌, [], All, ℕ};
 ghost use Rattle.std.specs.VecDeque.{deque_len, deque_capacity};
@@ -6,14 +6,14 @@ ghost use Rattle.book.specs.Queue.{length_at};
 
 use std::collections::VecDeque;
 
-/// From so many records on the order has this length.
+/// From this ticket on, up to that of the next entry, the order has this length.
 #[derive(Clone, Copy, PartialEq, Eq)]
 pub struct Reached {
     pub ticket: u64,
     pub length: u64,
 }
 
-/// Says at the end, where there is room, that the order has this length from a ticket on, if that is another one than before.
+/// Notes at the end, where there is room, that the order has this length from a ticket on, if the length has changed.
 pub(crate) fn note_order(reached: &mut VecDeque<Reached>, ticket: u64, before: usize, length: usize)
     requires room { deque_len reached.old < deque_capacity reached.old }
     ensures same { length ≡ before → reached.new.items ≡ reached.old.items }
@@ -27,7 +27,7 @@ pub(crate) fn note_order(reached: &mut VecDeque<Reached>, ticket: u64, before: u
     }
 }
 
-/// Leaves away what is reached at so many records, and gives the length there, where it is this one at first.
+/// Removes the entries up to so many records, and gives the length of the order there; `first` is the length before the first entry.
 pub(crate) fn leave_to(reached: &mut VecDeque<Reached>, count: u64, first: u64) -> u64
     ensures length { result ≡ length_at count first reached.old.items }
     ensures later { (later : ℕ) → count ≤ later → length_at later result reached.new.items ≡ length_at later first reached.old.items }

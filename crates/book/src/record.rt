@@ -10,7 +10,7 @@ use std::alloc::AllocError;
 use wire::numbers::two_bytes;
 use wire::{encode_onto, encoded_len};
 
-/// What a record of an event begins with.
+/// The first byte of an event's record: its kind.
 pub const EVENT_RECORD: u8 = 1;
 
 /// The bytes of an event's record before its message: the kind and the sender.
@@ -24,8 +24,8 @@ pub(crate) fn record_len(event: &Checked) -> usize
     EVENT_FRONT_BYTES + encoded_len(event.message())
 }
 
-/// Puts the record of an event, its kind, the sender and the message, with its length before it, after these bytes. `AllocError`
-/// where an allocation failed: a part of it may stand there then.
+/// Adds the record of an event, after its length: its kind, the sender and the message. On `AllocError` an allocation failed, and a part of
+/// the record may have been added.
 pub(crate) fn put_record(bytes: &mut Vec<u8>, event: &Checked, len: usize) -> Result<(), AllocError>
     requires len { len ≡ length (record_of event.now) }
     requires short { LENGTH_BYTES + len ≤ MAX_GROUP_BYTES }

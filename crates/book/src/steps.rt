@@ -1,47 +1,47 @@
-//! That what a book does is a step of its world: laws, each what a function without a body ensures.
+//! What a book does is a step of its world. Each law is what a function without a body ensures.
 
 ghost use Rattle.book.specs.Steps.{AcceptIsAStep, TakeIsAStep, SettleIsAStep, ReleaseIsAStep, FlushIsSteps, FailIsAStep, TakeAllIsAStep, CheckpointIsSteps};
 
 use sigface::Sign;
 
-/// An event that a book takes, new or known, is accepted in its world.
+/// An event that a book accepts, new or known, is accepted in the book's world.
 pub fn accept_is_a_step<S: Sign>()
     ensures { AcceptIsAStep S }
 {}
 
-/// A group that a book takes, also before another one is settled, is taken in its world, after those on their way.
+/// A group that a book takes is taken in the book's world, as the last one in flight, also where an earlier one isn't settled yet.
 pub fn take_is_a_step<S: Sign>()
     ensures { TakeIsAStep S }
 {}
 
-/// What a book settles, a group or a rewriting, is settled in its world, where it is the first in flight and written to its end.
+/// A group or rewriting that a book settles is settled in the book's world, where it is the first in flight and is durable.
 pub fn settle_is_a_step<S: Sign>()
     ensures { SettleIsAStep S }
 {}
 
-/// What a book releases goes out in its world.
+/// An output that a book releases goes out in the book's world.
 pub fn release_is_a_step<S: Sign>()
     ensures { ReleaseIsAStep S }
 {}
 
-/// Where `OwnBook::flush` settles a group with no other in flight, its world takes that group, makes the four device calls and
+/// Where `OwnBook::flush` settles a group with no other in flight, the book's world takes that group, makes the four device calls and
 /// settles it.
 pub fn flush_is_steps<S: Sign>()
     ensures { FlushIsSteps S }
 {}
 
-/// Where it takes the book down, its world takes the group.
+/// Where `OwnBook::flush` takes the book down, the book's world takes the group.
 pub fn fail_is_a_step<S: Sign>()
     ensures { FailIsAStep S }
 {}
 
-/// Where a book takes all for a checkpoint, its world does, also where the book goes down before that is settled.
+/// Where a book takes all for a checkpoint, the book's world does too, also if the book goes down before that is settled.
 pub fn take_all_is_a_step<S: Sign>()
     ensures { TakeAllIsAStep S }
 {}
 
-/// Where `OwnBook::checkpoint` settles all with nothing else in flight, its world takes all, makes the eight device calls of a rewriting
-/// and settles it.
+/// Where `OwnBook::checkpoint` settles all with nothing else in flight, the book's world takes all, makes the eight device calls of a
+/// rewriting and settles it.
 pub fn checkpoint_is_steps<S: Sign>()
     ensures { CheckpointIsSteps S }
 {

@@ -51,7 +51,8 @@ pub entry_at : (headers : AssembliesView) (place : ℕ) (assembled : AssemblyVie
     → (slice_get headers.rounds place ≡ Some (assembled.header.body.round, assembled)) × IsEntry headers assembled.header.body.round assembled
 entry_at headers place assembled is there =
     elim (some_or_none (slice_get headers.rounds place)) [
-      | inr none ↦ absurd (none-some assembled (sym (ap (option_map (λ (entry : ℕ × AssemblyView). entry.1)) none) ∙ sym (slice_get-map (λ (entry : ℕ × AssemblyView). entry.1) headers.rounds place) ∙ sym there))
+      | inr none ↦ absurd (none-some assembled (sym (ap (option_map (λ (entry : ℕ × AssemblyView). entry.1)) none)
+          ∙ sym (slice_get-map (λ (entry : ℕ × AssemblyView). entry.1) headers.rounds place) ∙ sym there))
       | inl found ↦
           let entry = found.0 in
           let same : entry.1 ≡ assembled = same_Some entry.1 assembled
@@ -96,7 +97,8 @@ pub record AreApart (headers : AssembliesView) (found : List VotedHeader) (place
   pub others : All (AreOfOthers headers.own) found
 
 pub none_apart : (headers : AssembliesView) (found : List VotedHeader) → found ≡ [] → AreApart headers found 0
-none_apart headers found is = subst (λ l. AreApart headers l 0) (sym is) (record { entries = refl; each = λ i d within. absurd (omega (arith, within)); others = λ i d within. absurd (omega (arith, within)) })
+none_apart headers found is = subst (λ l. AreApart headers l 0) (sym is)
+    (record { entries = refl; each = λ i d within. absurd (omega (arith, within)); others = λ i d within. absurd (omega (arith, within)) })
 
 pub one_apart : (headers : AssembliesView) (found : List VotedHeader) (place : ℕ) (assembled : AssemblyView) (one : VotedHeader) → IsHeaders headers → AreApart headers found place
     → IsAssembled assembled
@@ -122,7 +124,8 @@ one_apart headers found place assembled one is apart sound there of =
         author = ap (λ (h : Header). h.body.author.0) of.header ∙ its.author;
         voter = of.vote.voter ∙ its.author;
         on = subst (λ (h : Header). IsTrue (is_on h.body one.vote)) (sym of.header) of.vote.on;
-        members = subst (λ (c : Charter). All (λ (e : VoteEntry). e.voter.0 < length c.keys) one.votes.items) its.charter (by_members assembled.header.body.author.0 assembled one.header one.vote one.votes.items sound of);
+        members = subst (λ (c : Charter). All (λ (e : VoteEntry). e.voter.0 < length c.keys) one.votes.items) its.charter
+            (by_members assembled.header.body.author.0 assembled one.header one.vote one.votes.items sound of);
       });
       others = All-push (AreOfOthers headers.own) found one apart.others (subst (λ own. AreOfOthers own one) its.author (of_others assembled.header.body.author.0 assembled one of));
     }

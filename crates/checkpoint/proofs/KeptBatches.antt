@@ -86,7 +86,8 @@ module _ (node : Node) (state : State) (items : List (Digest × Held)) (node_is 
       let size = node_is.charter.size.1 in
       omega (arith, below, size)
 
-  pub same_named : (digest : Digest) → option_map_or (λ (kept : KeptBatch). kept.named) (find (λ (kept : KeptBatch). same_digest (batch_digest kept.batch) digest) (map batch_of items)) false ≡ state.named digest
+  pub same_named : (digest : Digest) → option_map_or (λ (kept : KeptBatch). kept.named)
+      (find (λ (kept : KeptBatch). same_digest (batch_digest kept.batch) digest) (map batch_of items)) false ≡ state.named digest
   same_named digest =
       ap (λ o. option_map_or (λ (kept : KeptBatch). kept.named) o false) (kept_found items digest) ∙ by (found digest (values_of items)) ∙ has_them.named digest
     where
@@ -117,7 +118,8 @@ module _ (node : Node) (state : State) (items : List (Digest × Held)) (node_is 
       let acked : (member : ℕ) → has set member ≡ true → state.acked (digest_of held.batch) member ≡ true =
       λ member is. sym (has_them.acked (digest_of held.batch) member) ∙ ap (λ o. option_map_or (λ (h : Held). has h.acknowledged member) o false) there ∙ is in
       record {
-        few = (let most = few_between (λ (member : ℕ). member) 0 MAX_MEMBERS (members_in set) (members_rise set) (numbers_least (members_in set)) (members_under set) (omega arith) in omega (arith, most));
+        few = (let most = few_between (λ (member : ℕ). member) 0 MAX_MEMBERS (members_in set) (members_rise set) (numbers_least (members_in set)) (members_under set)
+            (omega arith) in omega (arith, most));
         each = All-weaker (λ one. one < MAX_MEMBERS) IsNumber (λ one low. omega (arith, low)) (members_in set) (members_under set);
         rise = pairs_rise (λ one other. nat_lt one other) (members_in set) (members_rise set);
         others = all_by (λ member. member ≢ node.own.0) (members_in set)

@@ -35,7 +35,8 @@ placed places (e ∷ votes) member pairs within =
     let long = length-set places e.voter.0 (Some e.signature) in
     let inside = All-head (λ (x : VoteEntry). x.voter.0 < length places) e votes within in
     let rest = placed after votes member (pairs_rest (Before vote_before) e votes pairs)
-    (all_by (λ (x : VoteEntry). x.voter.0 < length after) votes (λ x is. let below = All-contains (λ (y : VoteEntry). y.voter.0 < length places) votes x (All-tail (λ (y : VoteEntry). y.voter.0 < length places) e votes within) is in omega (arith, below, long))) in
+    (all_by (λ (x : VoteEntry). x.voter.0 < length after) votes (λ x is. let below = All-contains (λ (y : VoteEntry). y.voter.0 < length places) votes x
+    (All-tail (λ (y : VoteEntry). y.voter.0 < length places) e votes within) is in omega (arith, below, long))) in
     elim (cases_Bool (e.voter.0 == member)) [
       | inl here ↦
           let is : e.voter.0 ≡ member = eqb-true e.voter.0 member here in
@@ -76,7 +77,8 @@ module _ (node : Node) (voted : VotedHeader) (by : IsVotedBy node.charter node.o
       let unvoted : get_or first voter None ≡ None =
       get_or-set_other empty voted.vote.voter.0 voter (Some voted.vote.signature) None (λ same. other (same ∙ by.voter)) ∙ no_vote (length node.charter.keys) voter in
       let places : get_or (with_entries first votes) voter None ≡ option_map (λ (e : VoteEntry). e.signature) (find (λ (e : VoteEntry). e.voter.0 == voter) votes) =
-      placed first votes voter votes_pairs (all_by (λ (e : VoteEntry). e.voter.0 < length first) votes (λ e inside. let below = All-contains (λ (x : VoteEntry). x.voter.0 < length node.charter.keys) votes e by.members inside in omega (arith, below, long)))
+      placed first votes voter votes_pairs (all_by (λ (e : VoteEntry). e.voter.0 < length first) votes
+      (λ e inside. let below = All-contains (λ (x : VoteEntry). x.voter.0 < length node.charter.keys) votes e by.members inside in omega (arith, below, long)))
       ∙ ap (option_or (option_map (λ (e : VoteEntry). e.signature) (find (λ (e : VoteEntry). e.voter.0 == voter) votes))) unvoted
       ∙ or_none (option_map (λ (e : VoteEntry). e.signature) (find (λ (e : VoteEntry). e.voter.0 == voter) votes)) in
       found (find (λ (e : VoteEntry). e.voter.0 == voter) votes) refl ∙ ap (option_map with_signature) (sym places)
@@ -175,10 +177,12 @@ module _ (node : Node) (state : State) (items : List VotedHeader) (node_is : IsN
           each = all_by IsVoteEntry v.votes.items (λ e there.
               let below = All-contains (λ (x : VoteEntry). x.voter.0 < length node.charter.keys) v.votes.items e of.members there in
               let other = ne_eqb e.voter.0 node.own.0 (All-contains (λ (x : VoteEntry). x.voter.0 ≢ node.own.0) v.votes.items e others.others there) in
-              let itself = found_itself vote_before (λ (x : VoteEntry). x.voter.0 == e.voter.0) v.votes.items e pairs there (eq-eqb e.voter.0 e.voter.0 refl) (λ y before. numbers_apart y.voter.0 e.voter.0 before) in
+              let itself = found_itself vote_before (λ (x : VoteEntry). x.voter.0 == e.voter.0) v.votes.items e pairs there (eq-eqb e.voter.0 e.voter.0 refl)
+              (λ y before. numbers_apart y.voter.0 e.voter.0 before) in
               let voted_so : kept_vote node (header_of v) e.voter.0 ≡ Some (vote_of v.header e) = rw (other, itself) refl in
               let counts : state.counted round e.voter.0 ≡ Some (vote_of v.header e) =
-              sym (same_counted round e.voter.0) ∙ ap (option_and_then (λ (kept : KeptHeader). kept_vote node kept e.voter.0)) (kept_is round ∙ ap (option_map header_of) (voted_itself v inside)) ∙ voted_so in
+              sym (same_counted round e.voter.0) ∙ ap (option_and_then (λ (kept : KeptHeader). kept_vote node kept e.voter.0))
+              (kept_is round ∙ ap (option_map header_of) (voted_itself v inside)) ∙ voted_so in
               record { voter = omega (arith, below, size); signature = (sound.counted round e.voter.0 (vote_of v.header e) counts).signature });
           rise = others.rise;
         };

@@ -51,7 +51,8 @@ module _ (node : Node) (state : State) (kept : Kept) (of : IsKeptOf node state k
   votes round author = elim (cases_Bool (author == node.own.0)) [
     | inl mine ↦
         let same = eqb-true author node.own.0 mine in
-        rw mine (digest_of (kept_header checkpoint round) ∙ ap (option_map (λ (h : Header). header_digest h.body)) (own_headers round) ∙ sym (of.sound.votes.own round) ∙ ap (state.votes round) (sym same))
+        rw mine (digest_of (kept_header checkpoint round) ∙ ap (option_map (λ (h : Header). header_digest h.body)) (own_headers round) ∙ sym (of.sound.votes.own round)
+        ∙ ap (state.votes round) (sym same))
     | inr other ↦
         rw other (same_votes node state kept.votes.items of.node_is of.sound.votes of.votes_rise of.votes round author (λ same. true≢false (sym (eq-eqb author node.own.0 same) ∙ other)))
   ]

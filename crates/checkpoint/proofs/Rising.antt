@@ -69,7 +69,8 @@ found_itself below test [] x pairs inside passes apart = absurd (Contains-nothin
 found_itself below test (y ∷ xs) x pairs inside passes apart = elim (Contains-cases y xs x inside) [
   | inl same ↦ (let here : test y ≡ true = ap test same ∙ passes in rw here (ap (λ z. Some z) same))
   | inr later ↦
-      (let off = apart y (All-contains (Before below y) xs x (pairs_first (Before below) y xs pairs) later) in rw off (found_itself below test xs x (pairs_rest (Before below) y xs pairs) later passes apart))
+      (let off = apart y (All-contains (Before below y) xs x (pairs_first (Before below) y xs pairs) later) in rw off
+      (found_itself below test xs x (pairs_rest (Before below) y xs pairs) later passes apart))
 ]
 
 -- what is found in a list that is made of another one

@@ -139,7 +139,8 @@ row-find : (round first : ℕ) (row : Row) → OfRow round first row → (k auth
 row-find round first [] of k author is = refl
 row-find round first (None ∷ row) of zero author is =
     none_found (at round author) (in_row row)
-    (λ i d within. let x = row-all round (first + 1) row (row-tail round first None row of) i d within in let least = x.1 in other_author round author (get_or (in_row row) i d) (λ same. omega (arith, same, is, least)))
+    (λ i d within. let x = row-all round (first + 1) row (row-tail round first None row of) i d within in let least = x.1 in other_author round author
+    (get_or (in_row row) i d) (λ same. omega (arith, same, is, least)))
 row-find round first (None ∷ row) of (suc k) author is = row-find round (first + 1) row (row-tail round first None row of) k author (omega (arith, is))
 row-find round first (Some p ∷ row) of zero author is =
     let here = of 0 p refl in
@@ -194,7 +195,8 @@ found_in graph is round author =
     elim (cases_lt round graph.floor) [
       | inl low ↦
           let below : nat_le graph.floor round ≡ false = grind (arith, low, common_steps) in
-          none_found (at round author) (certificates_in graph) (λ j e inside. let least = rows-all graph.floor graph.rounds of j e inside in other_round round author (get_or (certificates_in graph) j e) (λ eq. omega (arith, eq, low, least)))
+          none_found (at round author) (certificates_in graph) (λ j e inside. let least = rows-all graph.floor graph.rounds of j e inside in other_round round author
+          (get_or (certificates_in graph) j e) (λ eq. omega (arith, eq, low, least)))
           ∙ sym (rw below refl)
       | inr high ↦
           let above : nat_le graph.floor round ≡ true = grind (arith, high, common_steps) in

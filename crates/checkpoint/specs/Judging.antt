@@ -1,4 +1,4 @@
--- The tests of what was read, by the floor and the slots that it has, and what they come to.
+-- The tests of the records that were read, given the floor and the slots, and which of them fails first.
 use Rattle.std.specs.Prelude.{◌≡◌, ◌≢◌, ⊤, ℕ, ◌==◌, ◌&&◌, ◌||◌, not, nat_lt, nat_le, Bool, false, List, [], ◌∷◌, map, None, option_map, if◌then◌else◌}
 use Rattle.std.specs.List.{list_any, list_all, position_from}
 use Rattle.std.specs.Option.{option_map_or}
@@ -25,13 +25,13 @@ use Rattle.checkpoint.specs.declared.error.LoadError.TheVariants.{Memory}
 abbrev pub NoneFails : ℕ → List Bool → Type 0
 NoneFails first tests = position_from not first tests ≡ None
 
--- an error other than that memory ran out tells of the first test that fails; the first one of all is that of the record at this place
+-- an error, unless an allocation failed, reports the first test that fails; the first of all tests is that of the record at this place
 abbrev pub TellsFirst : ℕ → List Bool → LoadError → Type 0
 TellsFirst first tests error = error ≢ Memory → option_map at_record (position_from not first tests) ≡ fault_of error
 
--- ---- the tests. With the floor and the slots of a checkpoint they are those of its records
+-- ---- the tests, given a floor and slots; with those of a checkpoint they are the tests of its records
 
--- what slots hold: the listed certificates above the genesis, and the genesis where the floor is 0
+-- the slots of these certificates above the genesis, with the genesis certificates where the floor is 0
 abbrev pub slots_at : Node → ℕ → List Digested → Slots
 slots_at node floor held = λ round author.
     if round == 0 then (if floor == 0 then slots_of (map genesis (numbers (size_of node))) 0 author else None)
@@ -54,7 +54,7 @@ is_header_sound_at node floor slots kept =
     && (list_all (λ entry. nat_lt entry.voter.0 (size_of node)) kept.votes
     && is_completed_well_at node slots kept)))
 
--- a certificate passes the checks, whoever sends it
+-- a certificate passes the checks; these don't depend on who sends it
 abbrev pub passes_itself : Node → Certificate → Bool
 passes_itself node certificate = passes node node.own (message.Certificate certificate)
 
@@ -64,12 +64,12 @@ is_certificate_sound_at node floor slots certificate =
     && (passes_itself node certificate
     && all_held slots floor certificate.header)
 
--- a parent is the certificate of a member in the genesis
+-- a parent is a genesis certificate of a member
 abbrev pub is_of_genesis : Node → ParentReference → Bool
 is_of_genesis node parent =
     option_map_or (λ c. same_digest (certificate_digest c.header) parent.certificate) (slots_of (map genesis (numbers (size_of node))) 0 parent.author.0) false
 
--- ---- what is kept of what was read
+-- ---- what the reader keeps of what it read
 
 -- what is held of a batch is what was read of it
 pub record IsHeldAs (kept : KeptBatch) (held : Held) : Type 0 where
@@ -77,12 +77,12 @@ pub record IsHeldAs (kept : KeptBatch) (held : Held) : Type 0 where
   pub named : held.named ≡ kept.named
   pub acknowledged : (member : ℕ) → has held.acknowledged member ≡ list_any (λ one. one == member) kept.members
 
--- and so of each batch, one by one
+-- what is held of each batch is what was read of it, in order
 abbrev pub AreHeldAs : List KeptBatch → List Held → Type 0
 AreHeldAs [] [] = ⊤
 AreHeldAs (kept ∷ batches) (held ∷ helds) = IsHeldAs kept held × AreHeldAs batches helds
 AreHeldAs _ _ = ⊥
 
--- the vote that is kept beside an own header is the node's own, given again
+-- the vote that is held with an own header is the node's own, signed again
 abbrev pub HasOwnVote : Node → VotedHeader → Type 0
 HasOwnVote node voted = voted.vote ≡ own_vote node voted.header.body

@@ -1,4 +1,4 @@
--- The checkpoint of what a validator's tables keep.
+-- The checkpoint of what a validator's tables hold.
 use Rattle.std.specs.Prelude.{◌≡◌, ◌≢◌, ℕ, IsTrue, List, All, filter, map}
 use Rattle.committee.specs.Charter.{numbers}
 use Rattle.committee.specs.Sets.{has}
@@ -16,15 +16,15 @@ use Rattle.admission.specs.Kept.{IsKeptOf}
 use Rattle.admission.specs.declared.kept.Kept.{Kept}
 use Rattle.admission.specs.declared.kept.VotedHeader.{VotedHeader}
 
--- the members of a set below a number, by rising number
+-- the members of a set below a number, sorted by number
 unfoldable pub members_below : MemberSet → ℕ → List ℕ
 members_below set count = filter (has set) (numbers count)
 
--- all of them
+-- the members of a set, sorted by number
 abbrev pub members_in : MemberSet → List ℕ
 members_in set = members_below set MAX_MEMBERS
 
--- what is held of a batch, as a checkpoint has it; its digest isn't written, since it follows
+-- a held batch as a checkpoint has it; its digest isn't written, since it can be computed
 abbrev pub keep_of : Held → KeptBatch
 keep_of held = record { named = held.named; members = members_in held.acknowledged; batch = held.batch }
 
@@ -35,11 +35,11 @@ batch_of entry = keep_of entry.1
 abbrev pub vote_of : Slot × Digest → KeptVote
 vote_of entry = record { author = entry.0.author; round = entry.0.round; header = entry.1 }
 
--- an own header with the votes of others. The own vote isn't written: the node gives it again
+-- an own header with the others' votes. The node's own vote isn't written, since the node can sign it again
 abbrev pub header_of : VotedHeader → KeptHeader
 header_of voted = record { header = voted.header; votes = voted.votes.items }
 
--- a certificate without its digest, which follows
+-- a certificate as a checkpoint has it: its digest isn't written, since it can be computed
 abbrev pub certificate_of : Certificate × Digest → Certificate
 certificate_of entry = entry.0
 
@@ -53,14 +53,14 @@ checkpoint_of kept = record {
   coins = kept.coins;
 }
 
--- the votes on an own header are those of others, and rise by voter
+-- the votes on an own header are those of others, sorted by voter, and no voter occurs twice
 pub record AreOfOthers (own : ℕ) (voted : VotedHeader) : Type 0 where
   pub rise : IsTrue (votes_rise voted.votes.items)
   pub others : All (λ entry. entry.voter.0 ≢ own) voted.votes.items
 
 -- ---- laws
 
--- What is kept of a sound state has a checkpoint that a node writes, and it is that state.
+-- What the tables hold of a sound state has a checkpoint that a node writes, and that checkpoint is the state.
 abbrev pub CheckpointIsState : Type 0
 CheckpointIsState = (node : Node) (state : State) (kept : Kept) → IsKeptOf node state kept → All (AreOfOthers node.own.0) kept.headers.items
     → IsWritten node (checkpoint_of kept) × (state_in node (checkpoint_of kept) ≡ state)

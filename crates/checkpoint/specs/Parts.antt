@@ -1,4 +1,4 @@
--- What a validator's tables are taken apart to.
+-- The parts of a validator's tables from which its checkpoint is written.
 use Rattle.std.specs.Prelude.{◌≡◌, ℕ, ◌==◌, nat_lt, not, Bool, IsTrue, List, filter, map, Some, None, slice_index_or}
 use Rattle.wire.specs.declared.header.Header.{Header}
 use Rattle.wire.specs.declared.header.Vote.{Vote}
@@ -8,20 +8,20 @@ use Rattle.spec_model.specs.Words.{Certificate, Digest}
 use Rattle.dag.specs.Graph.{DagView, certificates_in}
 use Rattle.certify.specs.Assembled.{AssemblyView, Places, is_on, votes_in}
 
--- the votes of others than a member
+-- a vote on a header is not this member's
 abbrev pub is_other : ℕ → VoteEntry → Bool
 is_other own entry = not (entry.voter.0 == own)
 
 abbrev pub other_votes : ℕ → Places → List VoteEntry
 other_votes own places = filter (is_other own) (votes_in places)
 
--- a vote is a member's on the header of an assembly, in which it is counted
+-- this vote is the member's counted vote on the header of an assembly
 pub record IsCountedBy (own : ℕ) (assembled : AssemblyView) (vote : Vote) : Type 0 where
   pub voter : vote.voter.0 ≡ own
   pub on : IsTrue (is_on assembled.header.body vote)
   pub counted : slice_index_or assembled.places own None ≡ Some vote.signature
 
--- a header, a vote and votes are those of an assembly, with the vote of a member apart
+-- these are the header of an assembly, the vote of this member on it, and the votes of the others
 pub record AreOf (own : ℕ) (assembled : AssemblyView) (its : Header) (mine : Vote) (others : List VoteEntry) : Type 0 where
   pub header : its ≡ assembled.header
   pub vote : IsCountedBy own assembled mine
@@ -33,10 +33,10 @@ pub record AreOf (own : ℕ) (assembled : AssemblyView) (its : Header) (mine : V
 abbrev pub digested : Certificate → Certificate × Digest
 digested certificate = (certificate, certificate_digest certificate.header)
 
--- one above the genesis
+-- a certificate is above the genesis
 abbrev pub is_above : Certificate → Bool
 is_above certificate = nat_lt 0 certificate.header.round
 
--- those of a DAG above the genesis, with their digests
+-- the certificates of a DAG above the genesis, with their digests
 abbrev pub above_genesis : DagView → List (Certificate × Digest)
 above_genesis graph = map digested (filter is_above (certificates_in graph))

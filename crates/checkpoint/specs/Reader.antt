@@ -14,14 +14,14 @@ use Rattle.spec_checkpoint.specs.Records.{state_records}
 use Rattle.checkpoint.specs.declared.error.LoadError.{LoadError}
 use Rattle.checkpoint.specs.declared.error.LoadError.TheVariants.{Memory, Unsound, UnsoundWhole}
 
--- a reader: the node whose records they are, with its signer, and the records that came so far
+-- a reader of a checkpoint: the node whose records they are, with its signer, and the records that came so far
 pub record ReaderView (S : Type 0) : Type 0 where
   pub own : Author
   pub charter : Charter
   pub signer : S
   pub records : List (List ℕ)
 
--- the node, with the signatures that its signer gives
+-- the reader's node, which signs as its signer does
 abbrev pub node_of : {S : Type 0} → Scheme S → ReaderView S → Node
 node_of scheme reader = record {
   own = reader.own;
@@ -30,16 +30,17 @@ node_of scheme reader = record {
   sign = scheme.signature_of reader.signer;
 }
 
--- what contracts see of a reader of a node's records
+-- the view of a reader of this node that has got these records
 abbrev pub reader_of : {S : Type 0} → declared.Node S → List (List ℕ) → ReaderView S
 reader_of node records = record { own = node.own; charter = node.committee; signer = node.signer; records = records }
 
--- the node's configuration in the version in which it came, if it did, and what was read after it
+-- the records that came so far: the node's configuration, if its version is known, and then those of what was read
 abbrev pub records_so_far : Node → Option Version → Checkpoint → List (List ℕ)
 records_so_far node None so_far = []
 records_so_far node (Some version) so_far = configuration_of version node.charter node.own ∷ state_records so_far
 
--- What was read is canonical, so its records are those that came. They are counted, and begin with the configuration.
+-- What was read is canonical, so its records are the ones that came. The reader knows how many they are, and the first one is the
+-- configuration.
 pub record IsReading (node : Node) (version : Option Version) (count : ℕ) (so_far : Checkpoint) : Type 0 where
   pub node_is : IsNode node
   pub canonical : IsCanonical node so_far
@@ -50,7 +51,7 @@ pub record IsReading (node : Node) (version : Option Version) (count : ℕ) (so_
 
 -- ---- errors
 
--- the fault that an error tells of
+-- the fault that an error reports; None for a failed allocation
 abbrev pub fault_of : LoadError → Option LoadFault
 fault_of Memory = None
 fault_of (Unsound place) = Some (at_record place)

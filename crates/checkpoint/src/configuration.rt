@@ -16,8 +16,8 @@ use std::alloc::{AllocError, Global};
 use wire::Author;
 use wire::numbers::two_bytes;
 
-/// The version in which bytes are the record of a member's configuration, if they are one. The second version can tell each
-/// committee, the first one those with stakes of 1. `AllocError` where an allocation failed.
+/// The version of a member's configuration that these bytes are, if they are one. The second version can express every committee, the first
+/// one only those where each stake is 1. On `AllocError` an allocation failed.
 pub fn version_of(
     alloc: Global,
     committee: &Committee,
@@ -71,7 +71,7 @@ pub fn configuration_record(
     ensures bytes { IfOk result (λ bytes. bytes.items ≡ configuration_of version committee.now own) }
     ensures len { IfOk result (λ bytes. length bytes.items ≡ size_in version (length committee.now.keys)) }
     ensures shape { IfOk result (λ bytes. shaped_version bytes.items ≡ Some version) }
-    // With a head after it, it fits a group.
+    // The record fits a group together with a head.
     ensures packs { IfOk result (λ bytes. CanPack (bytes.items ∷ [])) }
 {
     committee.limits_hold();
@@ -87,7 +87,7 @@ pub fn configuration_record(
     Ok(bytes)
 }
 
-/// Puts the members' keys after the bytes.
+/// Adds the members' keys to the bytes.
 fn put_keys(bytes: &mut Vec<u8>, committee: &Committee) -> Result<(), AllocError>
     ensures keys { OnOk result (bytes.new.items ≡ bytes.old.items ++ flat_map (λ key. key.0) committee.now.keys) }
     ensures len { OnOk result (length bytes.new.items ≡ length bytes.old.items + length committee.now.keys * KEY_BYTES) }
@@ -101,7 +101,7 @@ fn put_keys(bytes: &mut Vec<u8>, committee: &Committee) -> Result<(), AllocError
     Ok(())
 }
 
-/// Puts the members' stakes after the bytes, where the version has them.
+/// Adds the members' stakes to the bytes, if the version has them.
 fn put_stakes(
     bytes: &mut Vec<u8>,
     version: Version,
@@ -116,7 +116,7 @@ fn put_stakes(
     }
 }
 
-/// Puts the members' stakes after the bytes.
+/// Adds the members' stakes to the bytes.
 fn put_each_stake(bytes: &mut Vec<u8>, committee: &Committee) -> Result<(), AllocError>
     ensures stakes { OnOk result (bytes.new.items ≡ bytes.old.items ++ flat_map (to_be_bytes w32) committee.now.stakes) }
     ensures len { OnOk result (length bytes.new.items ≡ length bytes.old.items + length committee.now.keys * STAKE_BYTES) }

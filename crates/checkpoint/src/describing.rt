@@ -1,4 +1,4 @@
-//! The records of a whole checkpoint: a node's configuration, and what its tables keep.
+//! The records of a whole checkpoint: a node's configuration, and what its tables hold.
 
 ghost use Rattle.std.specs.Prelude.{◌≡◌, IfOk};
 ghost use Rattle.journal.specs.Format.{contents};
@@ -17,8 +17,8 @@ use journal::Version;
 use std::alloc::{AllocError, Global};
 use wire::Author;
 
-/// The records of a member's tables: its configuration in the second version, and what is kept. Where the tables are at a
-/// sound state of that member, a node that reads them back is at it too. `AllocError` where an allocation failed.
+/// The records of a member's tables: its configuration in the second version, and what the tables hold. Where that is a sound state of the
+/// member, a node that reads the records back is in the same state. On `AllocError` an allocation failed.
 pub fn kept_records(alloc: Global, own: Author, tables: &Tables) -> Result<Vec<Vec<u8>>, AllocError>
     ensures { IfOk result (λ rows. (node : Node) (state : State) → node.own ≡ own → IsNode node → IsSound node state → AreAt node state tables.now
         → Describes node tables.now (contents rows.items)) }

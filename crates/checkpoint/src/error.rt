@@ -12,10 +12,10 @@ pub enum LoadError {
     /// An allocation failed.
     #[error("1 Memory")]
     Memory,
-    /// The record at this place in the list, from 0 on, is the first at fault.
+    /// The record at this place in the list, counted from 0, is the first at fault.
     #[error("2 Unsound")]
     Unsound(u64),
-    /// Each record by itself is sound, and the whole isn't.
+    /// Each record is sound by itself, and the whole isn't.
     #[error("3 UnsoundWhole")]
     UnsoundWhole,
 }

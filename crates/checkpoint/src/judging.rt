@@ -1,4 +1,4 @@
-//! Whether what was read is a sound state, and what tables are restored from then.
+//! Whether the records that were read are a sound state, and the parts from which tables are restored then.
 
 mod batches;
 mod certificates;
@@ -32,11 +32,10 @@ use std::alloc::Global;
 use votes::test_votes;
 use wire::{Author, Digest, Round};
 
-/// What tables are restored from, where what was read is a sound state. So many records came, with the configuration.
+/// The parts from which tables are restored, if what was read is a sound state. `count` records came, the configuration included.
 ///
 /// # Errors
-/// `Unsound` of the first record that isn't sound, `UnsoundWhole` where each is and the whole isn't; `Memory` where an allocation
-/// failed.
+/// `Unsound` with the first record that isn't sound, `UnsoundWhole` where each is and the whole isn't; `Memory` where an allocation failed.
 pub fn kept_of<S: Sign>(
     alloc: Global,
     node: &Node<S>,

@@ -1,5 +1,5 @@
-//! Checkpoints. A validator's tables are taken apart to what they keep, and that is written as records; and records are read back to
-//! what tables are restored from.
+//! Checkpoints. The state that a validator's tables hold is written as records, and records are read back to the parts from which tables
+//! are restored.
 #![tactic(auto)]
 
 mod configuration;
@@ -24,12 +24,12 @@ pub use reader::CheckpointReader;
 pub use records::records_of;
 pub use snapshot::snapshot_of;
 
-/// What is kept of a sound state has a checkpoint that a node writes, and it is that state.
+/// What the tables hold of a sound state has a checkpoint that a node writes, and that checkpoint is the state.
 pub fn checkpoint_is_state()
     ensures { CheckpointIsState }
 {}
 
-/// Records that describe tables have no fault, and tables that are loaded from them are at the same state.
+/// Records that describe tables have no fault, and tables that are loaded from them hold the same state.
 pub fn kept_is_loaded()
     ensures { KeptIsLoaded }
 {

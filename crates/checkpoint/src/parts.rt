@@ -1,4 +1,4 @@
-//! What a validator's tables are taken apart to, each read place by place.
+//! The parts of a validator's tables from which a checkpoint is written.
 
 mod assembled;
 mod batches;
@@ -24,7 +24,7 @@ use sequencer::Coins;
 use std::alloc::{AllocError, Global};
 use votes::votes_of;
 
-/// The parts of tables: where these are at a sound state, they are what is kept of it. `AllocError` where an allocation failed.
+/// The parts of these tables; where the tables hold a sound state, the parts are that state's. On `AllocError` an allocation failed.
 pub fn parts_of(alloc: Global, tables: &Tables) -> Result<Kept, AllocError>
     ensures kept { IfOk result (λ kept. (node : Node) (state : State) → IsNode node → IsSound node state → AreAt node state tables.now
         → IsKeptOf node state kept) }

@@ -1,4 +1,4 @@
-//! What the records of a checkpoint's state are read as, one after the other.
+//! What the records of a checkpoint's state decode to, one after the other.
 
 mod batch;
 mod certificate;
@@ -33,18 +33,18 @@ use votebook::Slot;
 use wire::{Certificate, Digest, WireError};
 use wire_read::Reader;
 
-/// What was read so far, as plain data. Contracts see the checkpoint.
+/// What was read so far, as plain data. Contracts see it as a checkpoint.
 #[derive(Drop)]
 pub struct ReadSoFar {
     /// The order.
     pub order: Vec<Digest>,
     /// The batches, in the order of acceptance.
     pub batches: Vec<ReadBatch>,
-    /// The votes for the headers of other authors, rising by round and then by author.
+    /// The votes for other authors' headers, sorted by round and then author.
     pub votes: Vec<(Slot, Digest)>,
-    /// The own headers, rising by round.
+    /// The own headers, sorted by round.
     pub headers: Vec<ReadHeader>,
-    /// The certificates above the genesis, rising by round and then by author.
+    /// The certificates above the genesis, sorted by round and then author.
     pub certificates: Vec<Certificate>,
     /// The values of the coins, that of wave 1 first.
     pub coins: Vec<u64>,
@@ -61,7 +61,7 @@ impl Model for ReadSoFar {
 }
 
 impl ReadSoFar {
-    /// Nothing yet.
+    /// Nothing was read yet.
     pub fn new(alloc: Global) -> ReadSoFar
         ensures { result ≡ blank }
     {
@@ -75,8 +75,8 @@ impl ReadSoFar {
         }
     }
 
-    /// Reads one record more, and answers whether it follows the format. `AllocError` where an allocation failed. Where it
-    /// isn't read, nothing has changed.
+    /// Reads one more record, and gives whether it follows the format. On `AllocError` an allocation failed. A record that isn't read
+    /// changes nothing.
     #[tactic(auto, unfolding(spec_checkpoint::specs::Reading::with_record))]
     pub fn put<S: Sign>(
         &mut self,
@@ -105,7 +105,7 @@ impl ReadSoFar {
         }
     }
 
-    /// Whether the last record is a piece that isn't full, where one more record of this kind comes after it.
+    /// Whether the last record is a piece that isn't full, and a record of this kind would be one more piece.
     pub fn is_cut_short(&self, kind: u8) -> bool
         ensures { result ≡ reading.is_cut_short self.now kind }
     {
@@ -141,7 +141,7 @@ impl ReadSoFar {
         }
     }
 
-    // Reads a piece of the order.
+    // Reads a record with a piece of the order.
     fn put_order(&mut self, alloc: Global, bytes: &[u8]) -> Result<bool, AllocError>
         ensures read { IfOk result (λ put. option_map (λ digests. record self.old { order = self.old.order ++ digests }) (reading.whole (digests_at bytes.now)) ≡ (if put then Some self.new else None)) }
         ensures same { IfOk result (λ put. put ≡ false → self.new ≡ self.old) }
@@ -158,7 +158,7 @@ impl ReadSoFar {
         }
     }
 
-    // Reads a batch.
+    // Reads a record with a batch.
     fn put_batch<S: Sign>(
         &mut self,
         alloc: Global,
@@ -180,7 +180,7 @@ impl ReadSoFar {
         }
     }
 
-    // Reads a vote.
+    // Reads a record with a vote.
     fn put_vote(&mut self, bytes: &[u8]) -> Result<bool, AllocError>
         ensures read { IfOk result (λ put. option_map (λ kept. record self.old { votes = self.old.votes ++ kept ∷ [] }) (reading.whole (kept_vote_at self.old.votes bytes.now)) ≡ (if put then Some self.new else None)) }
         ensures same { IfOk result (λ put. put ≡ false → self.new ≡ self.old) }
@@ -197,7 +197,7 @@ impl ReadSoFar {
         }
     }
 
-    // Reads an own header.
+    // Reads a record with an own header.
     fn put_header<S: Sign>(
         &mut self,
         alloc: Global,
@@ -219,7 +219,7 @@ impl ReadSoFar {
         }
     }
 
-    // Reads a certificate.
+    // Reads a record with a certificate.
     fn put_certificate(&mut self, alloc: Global, bytes: &[u8]) -> Result<bool, AllocError>
         ensures read { IfOk result (λ put. option_map (λ kept. record self.old { certificates = self.old.certificates ++ kept ∷ [] }) (reading.whole (kept_certificate_at self.old.certificates bytes.now)) ≡ (if put then Some self.new else None)) }
         ensures same { IfOk result (λ put. put ≡ false → self.new ≡ self.old) }
@@ -236,7 +236,7 @@ impl ReadSoFar {
         }
     }
 
-    // Reads a piece of the coins.
+    // Reads a record with a piece of the coins.
     fn put_coins(&mut self, alloc: Global, bytes: &[u8]) -> Result<bool, AllocError>
         ensures read { IfOk result (λ put. option_map (λ coins. record self.old { coins = self.old.coins ++ coins }) (reading.whole (coins_at bytes.now)) ≡ (if put then Some self.new else None)) }
         ensures same { IfOk result (λ put. put ≡ false → self.new ≡ self.old) }
@@ -264,7 +264,7 @@ pub fn kind_of(bytes: &[u8]) -> u8
     }
 }
 
-/// What all of the bytes are read as, if they follow the format and none is left.
+/// The value that was read, if the bytes follow the format and none is left.
 fn whole<T: Drop>(read: Result<T, WireError>, reader: &Reader) -> Result<Option<T>, AllocError>
     ensures { (text : Read T) → Gives (λ x. (x, reader.now)) read text → IfOk result (λ found. found ≡ reading.whole text) }
 {
@@ -280,7 +280,7 @@ fn whole<T: Drop>(read: Result<T, WireError>, reader: &Reader) -> Result<Option<
     }
 }
 
-/// So too of a list.
+/// The list that was read, if the bytes follow the format and none is left.
 fn whole_list<T: Drop>(
     read: Result<Vec<T>, WireError>,
     reader: &Reader,
@@ -299,7 +299,7 @@ fn whole_list<T: Drop>(
     }
 }
 
-/// So too of a vote.
+/// The vote that was read, if the bytes follow the format and none is left.
 fn whole_vote(
     read: Result<(Slot, Digest), WireError>,
     reader: &Reader,

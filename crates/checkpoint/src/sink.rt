@@ -1,4 +1,4 @@
-//! What takes the records of a checkpoint.
+//! Where the records of a checkpoint go.
 
 ghost use Rattle.std.specs.Prelude.{◌≡◌, ◌++◌, ◌∷◌, [], IfOk, OnOk};
 ghost use Rattle.journal.specs.Drafts.{whole};
@@ -6,17 +6,18 @@ ghost use Rattle.journal.specs.Drafts.{whole};
 use journal::SnapshotDraft;
 use std::alloc::{AllocError, Global};
 
-/// What takes the records of a checkpoint, one after the other, each in parts. So they go straight where they are wanted.
+/// Where the records of a checkpoint go, one after the other, each in parts. So a record can be written straight to its place, without a
+/// copy.
 pub trait RecordSink {
     ghost use Rattle.std.specs.Prelude.{List, ℕ};
 
-    // Its records so far.
+    // The records so far.
     ghost records: { Self → List (List ℕ) };
 
-    // It takes such a record.
+    // Which records can be added.
     ghost fits: { List ℕ → Type 0 };
 
-    /// Puts a record of these parts after the others. `AllocError` where an allocation failed.
+    /// Adds a record that is given in parts. On `AllocError` an allocation failed.
     fn put(&mut self, alloc: Global, parts: &[&[u8]]) -> Result<(), AllocError>
         requires { fits (whole parts.now) }
         ensures { OnOk result (records self.new ≡ records self.old ++ whole parts.now ∷ []) };
@@ -49,7 +50,7 @@ impl RecordSink for Vec<Vec<u8>> {
     }
 }
 
-/// The bytes of the parts of a record, one after the other.
+/// The bytes of a record that is given in parts.
 fn joined(alloc: Global, parts: &[&[u8]]) -> Result<Vec<u8>, AllocError>
     ensures { IfOk result (λ bytes. bytes.items ≡ whole parts.now) }
 {
@@ -60,7 +61,7 @@ fn joined(alloc: Global, parts: &[&[u8]]) -> Result<Vec<u8>, AllocError>
     Ok(bytes)
 }
 
-/// Puts a record that is one piece after the others.
+/// Adds a record that is given as one part.
 pub fn put_row<S: RecordSink>(alloc: Global, sink: &mut S, row: &[u8]) -> Result<(), AllocError>
     requires { S.fits row.now }
     ensures { OnOk result (S.records sink.new ≡ S.records sink.old ++ row.now ∷ []) }

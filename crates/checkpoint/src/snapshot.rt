@@ -16,8 +16,8 @@ use journal::{Snapshot, SnapshotDraft, Version};
 use std::alloc::{AllocError, Global};
 use wire::Author;
 
-/// The checkpoint of a member's tables: its configuration in the second version, and what is kept. At each sound state of
-/// that member at which the tables are, a node that reads it back is at that state too. `AllocError` where an allocation failed.
+/// The checkpoint of a member's tables: its configuration in the second version, and what the tables hold. Where that is a sound state of
+/// the member, a node that reads the checkpoint back is in the same state. On `AllocError` an allocation failed.
 pub fn snapshot_of(alloc: Global, own: Author, tables: &Tables) -> Result<Snapshot, AllocError>
     requires { (node : Node) × (state : State) × StandFor own tables.now node state }
     ensures { IfOk result (λ snapshot. (node : Node) (state : State) → node.own ≡ own → IsNode node → IsSound node state → AreAt node state tables.now

@@ -152,13 +152,15 @@ module _ {S D : Type 0} (scheme : Scheme S) (device : Device D) where
       went_on (Err Memory) is comes =
           let some = is.memory refl world stands in
           makes_some_on (node_of scheme one.setting) Comes (Does (node_of scheme one.setting) device cluster.accepts request some.0)
-          (λ deed does. does_come device cluster Comes (node_of scheme one.setting) own_charter request some.0 deed does (λ event asked taken passed. comes event asked refl passed)) world one other some.1
+          (λ deed does. does_come device cluster Comes (node_of scheme one.setting) own_charter request some.0 deed does
+          (λ event asked taken passed. comes event asked refl passed)) world one other some.1
       went_on (Err NoSuchNode) is comes = same_on (node_of scheme one.setting) Comes world one other stands (is.same refl)
       went_on (Err NoSuchOutput) is comes = absurd (is.never refl)
       went_on (Err (Journal cause)) is comes = gone_on (node_of scheme one.setting) Comes world one other stands (is.lost tt).1.gone
 
     -- an act
-    act_come : (own : Node) → own.charter ≡ cluster.charter → (act : Act) → ((event : Event) → Contains (taken_by_acts (act ∷ [])) event → fault_of cluster.charter cluster.accepts event ≡ None → Comes event)
+    act_come : (own : Node) → own.charter ≡ cluster.charter → (act : Act)
+        → ((event : Event) → Contains (taken_by_acts (act ∷ [])) event → fault_of cluster.charter cluster.accepts event ≡ None → Comes event)
         → (deed : Deed S D) → DoesAct own device cluster.accepts act deed → AllCome Comes deed.moves
     act_come own charter (take event applied) comes deed does =
         takes_come device cluster Comes own charter event applied deed does (λ taken passed. comes event (taken_here taken) passed)
@@ -381,7 +383,8 @@ module _ {S D : Type 0} (scheme : Scheme S) (device : Device D) (cluster : Clust
 
       -- ---- a move was applied
 
-      module _ (step : moves.Move) (answer : Result Applied ClusterError) (is_moved : one.doing ≡ moved step answer) (applied : IsApplied scheme device cluster.accepts one.before step one.later answer) where
+      module _ (step : moves.Move) (answer : Result Applied ClusterError) (is_moved : one.doing ≡ moved step answer)
+          (applied : IsApplied scheme device cluster.accepts one.before step one.later answer) where
         module _ (honest : cluster.honest (actor step).0 ≡ true) (taken : may_have_taken answer ≡ true) where
           both : (cluster.honest (actor step).0 && may_have_taken answer) ≡ true
           both = λ i. honest i && taken i
@@ -394,13 +397,15 @@ module _ {S D : Type 0} (scheme : Scheme S) (device : Device D) (cluster : Clust
           outside_is : (event : Event) → handed_in cluster.honest one.before step ≡ Some event → Contains (outside_at cluster.honest one.before one.doing) event
           outside_is event handed =
               subst (λ (d : Doing). Contains (outside_at cluster.honest one.before d) event) (sym is_moved)
-              (subst (λ (l : List Event). Contains l event) (sym (cond-true (cluster.honest (actor step).0 && may_have_taken answer) (option_to_list (handed_in cluster.honest one.before step)) [] both))
+              (subst (λ (l : List Event). Contains l event) (sym (cond-true (cluster.honest (actor step).0 && may_have_taken answer)
+              (option_to_list (handed_in cluster.honest one.before step)) [] both))
               (subst (λ (o : Option Event). Contains (option_to_list o) event) (sym handed) (Contains-first [] event)))
 
           asked_came : (event : Event) → event_asked (asked_in one.before step) ≡ event ∷ [] → fault_of cluster.charter cluster.accepts event ≡ None → CameIn event
           asked_came event asked passed = elim (source cluster one.before step event asked) [
             | inl sent ↦
-                let is_fair = sent_fair device scheme cluster are.worlds one.before are.stand value are_members (fair_only are.worlds are.have) sent.from sent.honest sent.place event.message sent.is in
+                let is_fair = sent_fair device scheme cluster are.worlds one.before are.stand value are_members
+                (fair_only are.worlds are.have) sent.from sent.honest sent.place event.message sent.is in
                 record { passed = passed; within = within event inside; unforged = inl is_fair.0; coin = is_fair.1 }
             | inr handed ↦ outside_came event (outside_is event handed) inside passed
           ]

@@ -29,16 +29,16 @@ use Rattle.cluster.specs.declared.moves.Request.{Request}
 use Rattle.cluster.specs.declared.moves.Request.TheVariants.{Take, Round, Stop}
 use Rattle.diskmodel.specs.Disk.{Device}
 
--- what a desk did: the world in which it stood before, the moves of that world, and the desk before and after
+-- what a desk did: the world at which it was, that world's moves, and the desk before and after
 pub record Deed (S D : Type 0) : Type 0 where
   pub world : World
   pub moves : List Move
   pub before : DeskView S D
   pub later : DeskView S D
 
--- ---- an event is given
+-- ---- an event comes in
 
--- a desk that is up took it, as new or as known
+-- a desk that is up accepted the event, as new or as known
 pub record IsTaken {S D : Type 0} (node : Node) (accepts : Accepts) (event : Event) (ticket : ℕ) (new : Bool) (deed : Deed S D) : Type 0 where
   pub passed : fault_of node.charter accepts event ≡ None
   pub up : deed.before.book.down ≡ false
@@ -47,7 +47,7 @@ pub record IsTaken {S D : Type 0} (node : Node) (accepts : Accepts) (event : Eve
   pub counted : ticket ≡ deed.later.book.accepted
   pub by : deed.moves ≡ accept event ∷ []
 
--- it refused it, as admission does or because it is down, and stayed as it was
+-- the desk refused the event, as admission does or because it is down, and didn't change
 pub record IsRefused {S D : Type 0} (node : Node) (accepts : Accepts) (event : Event) (why : Refusal) (deed : Deed S D) : Type 0 where
   pub passed : fault_of node.charter accepts event ≡ None
   pub not_memory : why ≢ refusal.Memory
@@ -56,7 +56,7 @@ pub record IsRefused {S D : Type 0} (node : Node) (accepts : Accepts) (event : E
   pub same : deed.later ≡ deed.before
   pub by : deed.moves ≡ []
 
--- it failed a check before, the first one that it fails
+-- the event failed a check; this is the first one that it fails
 pub record IsUnchecked {S D : Type 0} (node : Node) (accepts : Accepts) (event : Event) (error : CheckError) (deed : Deed S D) : Type 0 where
   pub fault : fault_of node.charter accepts event ≡ Some error
   pub same : deed.later ≡ deed.before
@@ -70,7 +70,7 @@ TakesIn node accepts event other deed = ⊥
 
 -- ---- a round
 
--- a desk that is up wrote and settled so many records, all that fit a group; none where nothing was pending
+-- a desk that is up wrote and settled this many records, the longest prefix of the pending ones that fits a group; none if none was pending
 pub record IsSettled {S D : Type 0} (node : Node) (device : Device D) (count : ℕ) (deed : Deed S D) : Type 0 where
   pub up : deed.before.book.down ≡ false
   pub idle : deed.before.book.pending ≡ [] → (count ≡ 0) × (deed.later ≡ deed.before) × (deed.moves ≡ [])
@@ -87,7 +87,8 @@ pub record IsTakenDown {S D : Type 0} (node : Node) (device : Device D) (error :
   pub count : ℕ
   pub by : deed.moves ≡ take_to count ∷ []
 
--- the round failed: Down exactly where the desk was down, which it then left as it was, as did want of memory; else it went down
+-- the round failed. Down is reported exactly where the desk was down already; then, and where an allocation failed, the desk didn't change.
+-- After any other error it is down
 pub record IsFault {S D : Type 0} (node : Node) (device : Device D) (error : FlushError) (deed : Deed S D) : Type 0 where
   pub was_down : (error ≡ flush.Down) ↔ (deed.before.book.down ≡ true)
   pub unchanged : (error ≡ flush.Down) ⊎ (error ≡ flush.Memory) → (deed.later ≡ deed.before) × (deed.moves ≡ [])
@@ -98,7 +99,7 @@ MakesRound node device (Settled count) deed = IsSettled node device count deed
 MakesRound node device (Fault error) deed = IsFault node device error deed
 MakesRound node device other deed = ⊥
 
--- a round's answer where the disk failed
+-- a round was answered that the disk failed
 abbrev pub IsDeviceFault : Applied → Type 0
 IsDeviceFault (Fault flush.Device) = ⊤
 IsDeviceFault other = ⊥
@@ -113,7 +114,7 @@ pub record HasFailed {S D : Type 0} (device : Device D) (before later : MemberVi
 
 -- ---- a stop
 
--- how many events a journal of these bytes has, which are its records but for the configuration's
+-- how many events a journal with these bytes has: its records without the configuration's
 abbrev pub events_among : Result (List Record) ℕ → ℕ
 events_among (Ok records) = length records - 1
 events_among (Err place) = 0
@@ -121,7 +122,7 @@ events_among (Err place) = 0
 abbrev pub events_in : List ℕ → ℕ
 events_in bytes = events_among (stands bytes)
 
--- the machine stopped and left one of the outcomes of its disk, on which the node was opened, with so many events
+-- the machine stopped and left one of its disk's outcomes, on which the node was opened again; its journal has this many events
 pub record IsReopened {S D : Type 0} (node : Node) (device : Device D) (count : ℕ) (deed : Deed S D) : Type 0 where
   pub found : List ℕ
   pub left : device.outcome (disk_of deed.before.journal) found
@@ -133,19 +134,19 @@ abbrev pub Stops : {S D : Type 0} → Node → Device D → Applied → Deed S D
 Stops node device (Reopened count) deed = IsReopened node device count deed
 Stops node device other deed = ⊥
 
--- ---- each of them, and what goes out after it
+-- ---- all requests, and what goes out after them
 
--- what a desk did at a request that was answered so
+-- what a desk did at a request with this answer
 abbrev pub Does : {S D : Type 0} → Node → Device D → Accepts → Request → Applied → Deed S D → Type 0
 Does node device accepts (Take sender given) applied deed = TakesIn node accepts (record { sender = sender; message = given }) applied deed
 Does node device accepts Round applied deed = MakesRound node device applied deed
 Does node device accepts Stop applied deed = Stops node device applied deed
 
--- or it did nothing
+-- the desk did nothing, or did this
 abbrev pub OrNothing : {S D : Type 0} → (Deed S D → Type 0) → Deed S D → Type 0
 OrNothing Done deed = ((deed.moves ≡ []) × (deed.later ≡ deed.before)) ⊎ Done deed
 
--- a desk did this in its world, by moves of that by which nothing goes out
+-- a desk did this, by moves of its world by which nothing goes out
 pub record HasMoved {S D : Type 0} (node : Node) (device : Device D) (Done : Deed S D → Type 0) (world : World) (before later : DeskView S D) : Type 0 where
   pub moves : List Move
   pub does : Done (record { world = world; moves = moves; before = before; later = later })
@@ -154,7 +155,7 @@ pub record HasMoved {S D : Type 0} (node : Node) (device : Device D) (Done : Dee
   pub at : IsAt node device to later
   pub quiet : to.given ≡ world.given
 
--- A member's desk did this, and then all went out that may: the member stands at the world to which that led.
+-- A member's desk did this, and then all that may go out went out. The member is now at the world to which this led.
 pub record Makes {S D : Type 0} (node : Node) (device : Device D) (Done : Deed S D → Type 0) (world : World) (before later : MemberView S D) : Type 0 where
   pub desk : DeskView S D
   pub middle : DeskView S D
@@ -166,7 +167,7 @@ pub record Makes {S D : Type 0} (node : Node) (device : Device D) (Done : Deed S
   pub collected : HasCollected node device moved.to middle next before.out later.out
   pub stands : StandsAt node device collected.to later
 
--- An allocation failed: nothing had happened, or the desk did this, and what goes out after it waits in the desk from some output on.
+-- An allocation failed: the desk did nothing, or did this, and some of the outputs that may then go out still wait at the desk.
 pub record MakesSome {S D : Type 0} (node : Node) (device : Device D) (Done : Deed S D → Type 0) (world : World) (before later : MemberView S D) : Type 0 where
   pub desk : DeskView S D
   pub middle : DeskView S D
@@ -183,23 +184,23 @@ abbrev pub IsJournal : ClusterError → Type 0
 IsJournal (errors.Journal cause) = ⊤
 IsJournal other = ⊥
 
--- for want of memory or a fault of the disk
+-- the error says that a journal could not be opened because an allocation or the disk failed
 abbrev pub IsJournalFault : ClusterError → Type 0
 IsJournalFault (errors.Journal cause) = IsNoRefusal cause
 IsJournalFault other = ⊥
 
--- a disk counted a failure more than this one has
+-- at some later moment this disk has counted more failures
 abbrev pub CountsMore : {D : Type 0} → Device D → D → Type 0
 CountsMore {D} device disk = (later : D) × (device.faults disk < device.faults later)
 
--- a node is gone: what it gave out stays
+-- a node is gone; what it gave out stays on record
 pub record IsGone {S D : Type 0} (before later : MemberView S D) : Type 0 where
   pub gone : later.desk ≡ None
   pub setting : later.setting ≡ before.setting
   pub out : later.out ≡ before.out
 
--- A node whose machine stopped is gone. One that stood at a world was refused for want of memory or a fault of the disk alone, a fault only
--- where its disk counted a failure.
+-- After a stop the node could not be opened, and is gone. If it was at a world before, an allocation or the disk failed, and the disk only
+-- where it counted a failure.
 pub record IsLost {S D : Type 0} (node : Node) (disks : Device D) (error : ClusterError) (before later : MemberView S D) : Type 0 where
   pub gone : IsGone before later
   pub desk : DeskView S D
@@ -209,18 +210,18 @@ pub record IsLost {S D : Type 0} (node : Node) (disks : Device D) (error : Clust
 
 -- ---- what becomes of a request
 
--- What became of a member to which a request was made, by its answer.
+-- What became of a member after a request, by the answer.
 pub record Became {S D : Type 0} (node : Node) (device : Device D) (accepts : Accepts) (request : Request) (before later : MemberView S D) (answer : Result Applied ClusterError) : Type 0 where
-  -- its desk did what was asked, and then all went out that may
+  -- the member's desk did what was asked, and then all that may go out went out
   pub ok : IfOk answer (λ applied. (world : World) → StandsAt node device world before → Makes node device (Does node device accepts request applied) world before later)
-  -- an allocation failed, before or after it
+  -- an allocation failed, before or after the desk did what was asked
   pub memory : IsErrOf answer errors.Memory → (world : World) → StandsAt node device world before
       → (applied : Applied) × MakesSome node device (Does node device accepts request applied) world before later
-  -- a round answers Device only where the disk counted a failure
+  -- a round reports Device only where the disk counted a failure
   pub fault : request ≡ Round → IfOk answer (λ applied. IsDeviceFault applied → HasFailed device before later)
   -- a node that could not be opened after a stop is gone
   pub lost : IfErr answer (λ error. IsJournal error → (request ≡ Stop) × IsLost node device error before later)
-  -- one that is gone is asked in vain
+  -- a request to a node that is gone changes nothing
   pub gone : IsErrOf answer errors.NoSuchNode ↔ (before.desk ≡ None)
   pub same : IsErrOf answer errors.NoSuchNode → later ≡ before
   pub never : IsErrOf answer errors.NoSuchOutput → ⊥

@@ -1,5 +1,5 @@
--- Moves that were applied to a cluster one after the other, and threads in which its members ran, what is assumed of these, and what its honest
--- members then agree on.
+-- Moves that were applied to a cluster, and threads in which its members ran, one after the other; what is assumed of them; and what the
+-- honest members then agree on.
 use Rattle.std.specs.Prelude.{◌≡◌, ◌≢◌, ℕ, ◌&&◌, Bool, true, false, List, [], ◌∷◌, ◌++◌, map, flat_map, ⊤, Option, Some, None, All, Contains, Result, Ok, Err, option_map, if◌then◌else◌}
 use Rattle.std.specs.List.{list_any, AllZip}
 use Rattle.std.specs.Option.{option_map_or, option_to_list}
@@ -33,12 +33,12 @@ use Rattle.sigface.specs.Scheme.{Scheme}
 
 -- ---- what was done with a cluster
 
--- a move was applied, and answered so; or the members ran in threads for so many turns, each with these acts, its last one first
+-- a move was applied, with this answer; or the members ran in threads for this many turns, each with its acts, the newest first
 pub data Doing : Type 0 where
   moved : Move → Result Applied ClusterError → Doing
   ran : ℕ → List (List Act) → Doing
 
--- that, with the members before it and after it
+-- one thing that was done, with the members before and after it
 pub record Stage (S D : Type 0) : Type 0 where
   pub before : List (MemberView S D)
   pub doing : Doing
@@ -48,14 +48,14 @@ pub record Stage (S D : Type 0) : Type 0 where
 abbrev pub HasRunBy : {S D : Type 0} → Scheme S → Device D → Accepts → ℕ → List Act → MemberView S D → MemberView S D → Type 0
 HasRunBy scheme device accepts turns acts before later = (run : HasRun scheme device accepts turns before later) × (run.acts ≡ acts)
 
--- each of these did, with the acts at its place
+-- each of these members ran in a thread, with the acts at its place
 abbrev pub HaveRunBy : {S D : Type 0} → Scheme S → Device D → Accepts → ℕ → List (List Act) → List (MemberView S D) → List (MemberView S D) → Type 0
 HaveRunBy scheme device accepts turns [] [] [] = ⊤
 HaveRunBy scheme device accepts turns (acts ∷ all) (one ∷ before) (other ∷ later) =
     HasRunBy scheme device accepts turns acts one other × HaveRunBy scheme device accepts turns all before later
 HaveRunBy scheme device accepts turns all before later = ⊥
 
--- it was done
+-- this was done, and led from some members to others
 abbrev pub IsDone : {S D : Type 0} → Scheme S → Device D → Accepts → List (MemberView S D) → Doing → List (MemberView S D) → Type 0
 IsDone scheme device accepts before (moved move answer) later = IsApplied scheme device accepts before move later answer
 IsDone scheme device accepts before (ran turns acts) later = HaveRunBy scheme device accepts turns acts before later
@@ -68,34 +68,34 @@ StagesLead scheme device accepts first (stage ∷ stages) last =
 
 -- ---- what honest members took
 
--- the event that a move gives to the node that it moves, if it gives one
+-- the event that a request hands to a node, if it hands one in
 abbrev pub event_asked : Option Request → List Event
 event_asked (Some (Take sender given)) = record { sender = sender; message = given } ∷ []
 event_asked other = []
 
--- a node that answers so took what it was given
+-- with this answer a node accepted the event that it was given
 abbrev pub was_taken : Applied → Bool
 was_taken (Took ticket new) = true
 was_taken other = false
 
--- one whose cluster answers so did, or may have: want of memory may come after it
+-- with this answer of the cluster the node accepted the event, or may have: an allocation may have failed after that
 abbrev pub may_have_taken : Result Applied ClusterError → Bool
 may_have_taken (Ok applied) = was_taken applied
 may_have_taken (Err errors.Memory) = true
 may_have_taken other = false
 
--- the events that it took by these acts
+-- the events that a member accepted by these acts
 abbrev pub taken_by_acts : List Act → List Event
 taken_by_acts [] = []
 taken_by_acts (take event applied ∷ acts) = (if was_taken applied then event ∷ [] else []) ++ taken_by_acts acts
 taken_by_acts (round applied ∷ acts) = taken_by_acts acts
 
--- and the honest ones of these members in threads
+-- the events that the honest ones of these members accepted in threads
 abbrev pub taken_in_threads : {S D : Type 0} → (ℕ → Bool) → List (MemberView S D) → List (List Act) → List Event
 taken_in_threads honest (member ∷ members) (acts ∷ all) = (if honest member.setting.own.0 then taken_by_acts acts else []) ++ taken_in_threads honest members all
 taken_in_threads honest members all = []
 
--- the events that honest members took, or may have
+-- the events that honest members accepted, or may have accepted
 abbrev pub taken_at : {S D : Type 0} → (ℕ → Bool) → List (MemberView S D) → Doing → List Event
 taken_at honest before (moved move answer) = if honest (actor move).0 && may_have_taken answer then event_asked (asked_in before move) else []
 taken_at honest before (ran turns acts) = taken_in_threads honest before acts
@@ -105,11 +105,11 @@ taken_in honest stages = flat_map (λ stage. taken_at honest stage.before stage.
 
 -- ---- what is assumed
 
--- of the texts of headers and certificates in the events that honest members took, no two different ones share a digest
+-- no two different texts of headers or certificates in the events that honest members accepted share a digest
 abbrev pub HaveNoClashTaken : {S D : Type 0} → (ℕ → Bool) → List (Stage S D) → Type 0
 HaveNoClashTaken honest stages = HaveNoClash (λ body. Contains (bodies_in (taken_in honest stages)) body)
 
--- the event that a move hands in from outside, if it hands one in: what an honest member put out, and is delivered, is none of these
+-- the event that a move brings from outside, if it does: what is delivered of an honest member's outputs isn't from outside
 abbrev pub handed_in : {S D : Type 0} → (ℕ → Bool) → List (MemberView S D) → Move → Option Event
 handed_in honest members (Deliver from output to) =
     if honest from.0 then None else option_map (λ message. record { sender = from; message = message }) (message_at members from output)
@@ -117,41 +117,41 @@ handed_in honest members (Give to sender given) = Some (record { sender = sender
 handed_in honest members (Coin own coin) = Some (record { sender = own; message = message.Coin coin })
 handed_in honest members other = None
 
--- those of the taken events that came from outside: of members in threads all, since nothing says who put out what is heard there
+-- the accepted events that came from outside: for members in threads these are all, since nothing says who put out what they heard
 abbrev pub outside_at : {S D : Type 0} → (ℕ → Bool) → List (MemberView S D) → Doing → List Event
 outside_at honest before (moved move answer) = if honest (actor move).0 && may_have_taken answer then option_to_list (handed_in honest before move) else []
 outside_at honest before (ran turns acts) = taken_in_threads honest before acts
 
--- the member of a number signed this digest in one of the outputs that it put out
+-- the member with this number signed this digest in one of its outputs
 abbrev pub signed_by : {S D : Type 0} → List (MemberView S D) → Author → Digest → Bool
 signed_by members number digest =
     option_map_or (λ member. list_any (λ output. option_map_or (same_digest digest) (signed_by_giver (put_out output)) false) member.out.outputs) (at members number) false
 
--- no vote of an honest member in a message is forged: of each good one, that member signed the digest in an output that it put out
+-- no vote of an honest member in a message is forged: where its signature is good, that member signed the digest in one of its outputs
 abbrev pub NoneForged : {S D : Type 0} → spec.Cluster → List (MemberView S D) → Message → Type 0
 NoneForged cluster members message = (vote : Signed) → Contains (signed_in message) vote → cluster.honest vote.signer.0 ≡ true
     → is_signed cluster.charter cluster.accepts vote.signer vote.digest vote.signature ≡ true → signed_by members vote.signer vote.digest ≡ true
 
--- Of what honest members took from outside, and passed the checks, no vote is forged, where the outputs are those after it, and a coin has
--- its wave's one value.
+-- In whatever honest members accepted from outside, and passed the checks, no vote is forged by the outputs after this stage, and each coin
+-- has the one value of its wave.
 abbrev pub IsFairStage : {S D : Type 0} → spec.Cluster → (ℕ → ℕ) → Stage S D → Type 0
 IsFairStage cluster value stage = (event : Event) → Contains (outside_at cluster.honest stage.before stage.doing) event → fault_of cluster.charter cluster.accepts event ≡ None
     → NoneForged cluster stage.later event.message × HasCoin value event.message
 
--- ---- where the honest members stand
+-- ---- at which worlds the honest members are
 
--- the member of a number is among these, is set up as this node, and stands at this world
+-- the member with this number is in the list, has the setting of this node, and is at this world
 pub record StandsAmong {S D : Type 0} (scheme : Scheme S) (device : Device D) (members : List (MemberView S D)) (number : Author) (own : Node) (world : World) : Type 0 where
   pub member : MemberView S D
   pub is : at members number ≡ Some member
   pub set_up : node_of scheme member.setting ≡ own
   pub stands : StandsAt own device world member
 
--- the world in which a node's runs begin on one disk
+-- the world in which the runs of a node on one disk begin
 abbrev pub first_world : Node → World
 first_world own = run_on (alone_on (first_bytes own)) [] []
 
--- a member of the committee is among these, is set up as the cluster says, and stands where its runs begin: so `new` leaves each one
+-- a member of the committee is in the list, has the setting that the cluster says, and is where its runs begin, as `new` leaves each one
 pub record BeginsAmong {S D : Type 0} (scheme : Scheme S) (device : Device D) (members : List (MemberView S D)) (cluster : spec.Cluster) (number : Author) : Type 0 where
   pub member : MemberView S D
   pub is : at members number ≡ Some member
@@ -160,15 +160,15 @@ pub record BeginsAmong {S D : Type 0} (scheme : Scheme S) (device : Device D) (m
   pub runs : IsRun (node_of scheme member.setting) [] (first_world (node_of scheme member.setting))
   pub begins : StandsAt (node_of scheme member.setting) device (first_world (node_of scheme member.setting)) member
 
--- ---- what they agree on
+-- ---- what the members agree on
 
--- of any two honest members' longest given orders one begins the other
+-- of any two honest members' longest orders given out one is a prefix of the other
 abbrev pub HonestOrdersAgree : {S D : Type 0} → (ℕ → Bool) → List (MemberView S D) → Type 0
 HonestOrdersAgree {S} {D} honest members = (number also : Author) (one other : MemberView S D) → honest number.0 ≡ true → honest also.0 ≡ true
     → at members number ≡ Some one → at members also ≡ Some other → Agree one.out.order other.out.order
 
--- The honest members stand at worlds to which runs of theirs led, by which nothing came in that isn't fair. Where no two different texts that
--- they settled share a digest, these are agreed, and so are their orders.
+-- The honest members are at worlds reached by runs of theirs, in which everything that came in was fair. If no two different texts that
+-- they settled share a digest, the worlds agree, and so do the orders.
 pub record AreInAccord {S D : Type 0} (scheme : Scheme S) (device : Device D) (members : List (MemberView S D)) (cluster : spec.Cluster) (value : ℕ → ℕ) : Type 0 where
   pub worlds : spec.Worlds
   pub have : spec.HaveRun cluster (ComesFair cluster value worlds) worlds
@@ -176,9 +176,9 @@ pub record AreInAccord {S D : Type 0} (scheme : Scheme S) (device : Device D) (m
   pub agreed : NoTwoTexts cluster worlds → AreAgreed cluster worlds
   pub orders : NoTwoTexts cluster worlds → HonestOrdersAgree cluster.honest members
 
--- Whichever members are honest: where these began as a cluster does, the others weigh no more than is tolerated, and moves and threads led
--- to these members, whatever each move was answered, by which nothing was taken that isn't fair, the honest ones are in accord; and where
--- no two different texts in what these took share a digest, their orders agree.
+-- Whichever members are honest: assume that they began as a cluster does, that the others weigh no more than is tolerated, that moves and
+-- threads led from there to these members, with any answers, and that all that honest members accepted was fair. Then the honest members
+-- are in accord; and if no two different texts in what they accepted share a digest, their orders agree.
 abbrev pub GivenOrdersAgree : {S D : Type 0} → Scheme S → Device D → Accepts → List (MemberView S D) → Type 0
 GivenOrdersAgree {S} {D} scheme device accepts members = (cluster : spec.Cluster) (value : ℕ → ℕ) (first : List (MemberView S D)) (stages : List (Stage S D)) → cluster.accepts ≡ accepts
     → ((number : Author) → cluster.honest number.0 ≡ true → BeginsAmong scheme device first cluster number) → FewFaulty cluster
@@ -187,7 +187,7 @@ GivenOrdersAgree {S} {D} scheme device accepts members = (cluster : spec.Cluster
 
 -- ---- a cluster that was opened and moved
 
--- the member of a number is among these, and is set up as the cluster says
+-- the member with this number is in the list, and has the setting that the cluster says
 pub record IsAmong {S D : Type 0} (scheme : Scheme S) (members : List (MemberView S D)) (cluster : spec.Cluster) (number : Author) : Type 0 where
   pub member : MemberView S D
   pub is : at members number ≡ Some member
@@ -199,10 +199,11 @@ abbrev pub move_in : Doing → Option Move
 move_in (moved move answer) = Some move
 move_in (ran turns acts) = None
 
--- Moves led to these members from new ones with these settings, which are there and have given nothing out. Whichever of them are honest:
--- where the others weigh no more than is tolerated, the moves were fair, and no two different texts in what honest ones took share a digest,
--- the orders that these gave out agree.
-pub record ArePlayed {S D : Type 0} (scheme : Scheme S) (device : Device D) (accepts : Accepts) (settings : List (ConfigView S)) (disks : List D) (moves : List Move) (members : List (MemberView S D)) : Type 0 where
+-- These moves led to the members from new ones with these settings, which were all there and had given nothing out. Whichever of them are
+-- honest: if the others weigh no more than is tolerated, the moves were fair, and no two different texts in what honest ones accepted share
+-- a digest, then the orders that the honest ones gave out agree.
+pub record ArePlayed {S D : Type 0} (scheme : Scheme S) (device : Device D) (accepts : Accepts) (settings : List (ConfigView S)) (disks : List D) (moves : List Move)
+    (members : List (MemberView S D)) : Type 0 where
   pub first : List (MemberView S D)
   pub set_up : map (λ member. member.setting) first ≡ settings
   pub on : AllZip (IsOn device) disks first

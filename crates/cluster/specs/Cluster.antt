@@ -1,4 +1,4 @@
--- What contracts see of a cluster, and what a move is of it.
+-- What contracts see of a cluster, and what a move does to it.
 use Rattle.std.specs.Prelude.{◌≡◌, ◌≢◌, ◌⊎◌, ⊤, ℕ, ◌==◌, Bool, true, false, List, map, is_some, slice_get, Option, Some, None, AllPairs, Result, Err, option_map, option_and_then}
 use Rattle.std.specs.List.{find}
 use Rattle.std.specs.Option.{option_map_or}
@@ -33,9 +33,9 @@ named number member = member.setting.own.0 == number.0
 abbrev pub at : {S D : Type 0} → List (MemberView S D) → Author → Option (MemberView S D)
 at members number = find (λ member. named number member) members
 
--- ---- what a move is
+-- ---- what a move asks
 
--- the node that a move moves
+-- the node to which a move happens
 abbrev pub actor : Move → Author
 actor (Deliver node output to) = to
 actor (Give to sender given) = to
@@ -43,11 +43,11 @@ actor (Coin node coin) = node
 actor (Flush node) = node
 actor (Stop node) = node
 
--- the message in the output of this number that a node put out, if there is one
+-- the message in the output that a node put out under this number, if there is one
 abbrev pub message_at : {S D : Type 0} → List (MemberView S D) → Author → ℕ → Option Message
 message_at members node output = option_and_then (λ member. option_and_then message_of (slice_get member.out.outputs output)) (at members node)
 
--- what a move asks of the node that it moves: nothing where there is no such output to deliver
+-- what a move asks of its node; None where there is no such output to deliver
 abbrev pub asked_in : {S D : Type 0} → List (MemberView S D) → Move → Option Request
 asked_in members (Deliver from output to) = option_map (λ message. Take from message) (message_at members from output)
 asked_in members (Give to sender given) = Some (Take sender given)
@@ -55,36 +55,36 @@ asked_in members (Coin node coin) = Some (Take node (message.Coin coin))
 asked_in members (Flush node) = Some Round
 asked_in members (Stop node) = Some request.Stop
 
--- A request was made to the member of a number, if there is one: it becomes another one, of which this holds. All other members are as
--- they were, and what each is set up with stays.
+-- A request was made to the member with this number, if there is one. That member became another one, in the way that `Becomes` says; all
+-- other members are unchanged, and so is every setting.
 pub record IsAsked {S D : Type 0} (Becomes : MemberView S D → MemberView S D → Type 0) (number : Author) (before later : List (MemberView S D)) (answer : Result Applied ClusterError) : Type 0 where
   pub there : (one : MemberView S D) → at before number ≡ Some one → (other : MemberView S D) × (at later number ≡ Some other) × Becomes one other
   pub nobody : at before number ≡ None → (answer ≡ Err errors.NoSuchNode) × (later ≡ before)
   pub others : (other : Author) → other ≢ number → at later other ≡ at before other
   pub settings : map (λ member. member.setting) later ≡ map (λ member. member.setting) before
 
--- A move was applied, whatever it was answered: what it asks was asked of the node that it moves; and where it asks nothing, nothing happened.
+-- A move was applied, with whatever answer: what it asks was asked of its node, and where it asks nothing, nothing changed.
 pub record IsApplied {S D : Type 0} (scheme : Scheme S) (device : Device D) (accepts : Accepts) (before : List (MemberView S D)) (step : Move)
     (later : List (MemberView S D)) (answer : Result Applied ClusterError) : Type 0 where
   pub asked : (request : Request) → asked_in before step ≡ Some request
       → IsAsked (λ one other. Became (node_of scheme one.setting) device accepts request one other answer) (actor step) before later answer
   pub not_asked : asked_in before step ≡ None → later ≡ before
 
--- ---- what a move is refused
+-- ---- why a move is refused
 
--- there is a member of this number, and it isn't gone
+-- there is a member with this number, and it isn't gone
 abbrev pub has_member : {S D : Type 0} → List (MemberView S D) → Author → Bool
 has_member members number = option_map_or (λ member. is_some member.desk) (at members number) false
 
 abbrev pub IsThere : {S D : Type 0} → List (MemberView S D) → Author → Type 0
 IsThere members number = has_member members number ≡ true
 
--- the node that a move moves isn't there, or there is none whose output is to be delivered
+-- the move's node isn't there, or there is no node whose output is to be delivered
 abbrev pub LacksNode : {S D : Type 0} → List (MemberView S D) → Move → Type 0
 LacksNode members (Deliver node output to) = (IsThere members to → ⊥) ⊎ (at members node ≡ None)
 LacksNode members move = IsThere members (actor move) → ⊥
 
--- that has put out no message of this number
+-- the node whose output is to be delivered has put out no message under this number
 abbrev pub LacksOutput : {S D : Type 0} → List (MemberView S D) → Move → Type 0
 LacksOutput members (Deliver node output to) = IsThere members to × (at members node ≢ None) × (message_at members node output ≡ None)
 LacksOutput members move = ⊥
@@ -100,6 +100,6 @@ IsDelivery move = ⊥
 abbrev pub AreOfOne : {S : Type 0} → List (ConfigView S) → Type 0
 AreOfOne settings = AllPairs (λ one other. one.charter ≡ other.charter) settings
 
--- no two of them have one number
+-- no two of these settings have the same number
 abbrev pub AreDistinct : {S : Type 0} → List (ConfigView S) → Type 0
 AreDistinct settings = AllPairs (λ one other. one.own.0 ≢ other.own.0) settings

@@ -1,4 +1,4 @@
--- What goes out, a step at a time.
+-- How outputs go out, step by step.
 use Rattle.std.specs.Prelude.{◌≡◌, ℕ, List, [], ◌∷◌, ◌++◌, map}
 use Rattle.desk.specs.AtWorld.{IsAt, LeadsTo}
 use Rattle.desk.specs.Desk as desk
@@ -10,7 +10,7 @@ use Rattle.spec_world.specs.World.{World, Waiting}
 use Rattle.cluster.specs.Member.{GivenOutView, HasPutOut, HasKept}
 use Rattle.diskmodel.specs.Disk.{Device}
 
--- that went out, the whole settled order among it
+-- this is what went out in a world, and the whole settled order is part of it
 pub record IsWhole (node : Node) (world : World) (given : GivenOutView) : Type 0 where
   pub out : HasPutOut node world given
   pub whole : given.order ≡ order node (settled_in world)
@@ -31,7 +31,7 @@ pub record IsReleasedNext {S D : Type 0} (node : Node) (device : Device D) (desk
   pub step : (world : World) → IsAt node device world desk
       → (ticket : ℕ) × LeadsTo node device world (release (record { ticket = ticket; output = waiting.output }) ∷ []) next
 
--- and some outputs did, one after the other
+-- some outputs went out, one after the other
 pub record HasReleased {S D : Type 0} (node : Node) (device : Device D) (world : World) (desk next : desk.DeskView S D) (before later : GivenOutView) : Type 0 where
   pub went : List Waiting
   pub kept : HasKept desk next before later went

@@ -7,7 +7,7 @@ use Rattle.wire.specs.declared.output_bytes.TheConstants.{TO_ALL}
 use Rattle.wire.specs.declared.message.Message.TheVariants as message
 use Rattle.wire.specs.declared.output.Output.TheVariants as output
 
--- the message that an output is, if it is one: a piece of the order is none
+-- the output as a message, if it is one; a piece of the order is none
 abbrev pub message_of : Output → Option Message
 message_of (output.Batch batch) = Some (message.Batch batch)
 message_of (output.Ack to ack) = Some (message.BatchAck ack)
@@ -16,7 +16,7 @@ message_of (output.Vote vote) = Some (message.Vote vote)
 message_of (output.Certificate certificate) = Some (message.Certificate certificate)
 message_of (output.Order start digests) = None
 
--- an output is for a member: it names it, or is for all
+-- an output is for a member: it names the member as receiver, or is for all
 abbrev pub IsFor : Output → Author → Type 0
 IsFor output member = (receiver_of output ≡ member.0) ⊎ (receiver_of output ≡ TO_ALL)
 

@@ -14,45 +14,45 @@ use Rattle.cluster.specs.declared.moves.Applied.{Applied}
 use Rattle.diskmodel.specs.Disk.{Device}
 use Rattle.sigface.specs.Scheme.{Scheme}
 
--- ---- what comes
+-- ---- what a member hears
 
--- a message on its way is that of an output, whose receiver it has; none where the output is for all
+-- a message in flight is that of an output, with the output's receiver; None where the output is for all
 pub record IsSent (receiver : Option Author) (event : Event) : Type 0 where
   pub output : Output
   pub message : message_of output ≡ Some event.message
   pub named : (to : Author) → receiver ≡ Some to → receiver_of output ≡ to.0
   pub unnamed : receiver ≡ None → receiver_of output ≡ TO_ALL
 
--- what comes to a member is of another one, and is the message of an output that is for it
+-- what reaches a member comes from another one, and is the message of an output that is for this member
 pub record IsHeard (own : Author) (event : Event) : Type 0 where
   pub output : Output
   pub message : message_of output ≡ Some event.message
   pub for_it : IsFor output own
   pub other : event.sender.0 ≢ own.0
 
--- ---- what is done
+-- ---- what a member does
 
--- what a thread does with its node, and what that is answered: it gives it a message from its sender, or lets it make a round
+-- one act of a thread, and its answer: the node gets a message from its sender, or makes a round
 pub data Act : Type 0 where
   take : Event → Applied → Act
   round : Applied → Act
 
--- what that is to its desk
+-- what this act does to the desk
 abbrev pub DoesAct : {S D : Type 0} → Node → Device D → Accepts → Act → Deed S D → Type 0
 DoesAct node device accepts (take event applied) deed = TakesIn node accepts event applied deed
 DoesAct node device accepts (round applied) deed = MakesRound node device applied deed
 
--- a member does that in each world at which it stands, and then all goes out that may
+-- a member does this act, in each world at which it is, and then all that may go out goes out
 abbrev pub HasActed : {S D : Type 0} → Scheme S → Device D → Accepts → Act → MemberView S D → MemberView S D → Type 0
 HasActed scheme device accepts act before later = (world : World) → StandsAt (node_of scheme before.setting) device world before
     → Makes (node_of scheme before.setting) device (DoesAct (node_of scheme before.setting) device accepts act) world before later
 
--- it does all of these, the last one first in the list
+-- a member does all of these acts, the newest of which comes first in the list
 abbrev pub HaveActed : {S D : Type 0} → Scheme S → Device D → Accepts → List Act → MemberView S D → MemberView S D → Type 0
 HaveActed scheme device accepts [] before later = later ≡ before
 HaveActed {S} {D} scheme device accepts (act ∷ acts) before later = (middle : MemberView S D) × HaveActed scheme device accepts acts before middle × HasActed scheme device accepts act middle later
 
--- what a member takes has come to it
+-- what a member accepts has reached it
 abbrev pub Hears : Author → Act → Type 0
 Hears own (take event applied) = IsHeard own event
 Hears own (round applied) = ⊤
@@ -63,7 +63,7 @@ rounds_in [] = 0
 rounds_in (take event applied ∷ acts) = rounds_in acts
 rounds_in (round applied ∷ acts) = rounds_in acts + 1
 
--- A member ran in a thread for so many turns: unless it is gone it made a round in each, and beside these it took what had come to it.
+-- A member ran in a thread for this many turns: it made one round in each, unless it is gone, and accepted messages that had reached it.
 -- Nothing else happened to it, and it did not stop.
 pub record HasRun {S D : Type 0} (scheme : Scheme S) (device : Device D) (accepts : Accepts) (turns : ℕ) (before later : MemberView S D) : Type 0 where
   pub setting : later.setting ≡ before.setting

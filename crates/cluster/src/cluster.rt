@@ -15,8 +15,8 @@ use std::thread::Threads;
 use validator::Config;
 use wire::{Author, Digest, Header, Message, Output};
 
-/// Several nodes of one committee, each with its own disk and of its own number there, by which moves name it. It is for tests
-/// of a committee: what its nodes put out is kept, so that it grows with its moves.
+/// Several nodes of one committee, each on its own disk; moves name a node by its number in the committee. It is for testing a committee:
+/// it records all that its nodes put out, so it grows with every move.
 pub struct Cluster<'a, S: Sign, D: StopDisk, V: Verify> {
     alloc: Global,
     verifier: V,
@@ -74,13 +74,13 @@ impl<'a, S: Sign, D: StopDisk + Drop, V: Verify + Drop> Cluster<'a, S, D, V> {
         requires distinct { AreDistinct configs.now }
         ensures settings { IfOk result (λ cluster. map (λ member. member.setting) cluster.members ≡ configs.now) }
         ensures verifier { IfOk result (λ cluster. cluster.verifier ≡ verifier) }
-        // Each of them stands where its runs begin, before any move.
+        // Each member is where its runs begin, before any move.
         ensures runs { IfOk result (λ cluster. All (λ member. IsRun (node_of S.scheme member.setting) [] (first_world (node_of S.scheme member.setting))) cluster.members) }
         ensures begins { IfOk result (λ cluster. All (λ member. StandsAt (node_of S.scheme member.setting) D.device (first_world (node_of S.scheme member.setting)) member) cluster.members) }
         ensures up { IfOk result (λ cluster. All (λ member. member.desk ≢ None) cluster.members) }
-        // Each has the disk at its place, as far as its count of failures tells.
+        // The disk of each member has counted as many failures as the disk at its place in the list.
         ensures disks { IfOk result (λ cluster. AllZip (IsOn D.device) disks.items cluster.members) }
-        // An empty disk is refused for want of memory or a fault alone, a fault only where one of the disks counted a failure.
+        // On empty disks the only errors are a failed allocation and a failed disk, and the second only where a disk counted a failure.
         ensures errors { IfErr result (λ error. (error ≡ ClusterError.Memory) ⊎ IsJournalFault error) }
         ensures device { IsErrOf result (ClusterError.Journal JournalError.Device) → (disk : D) × Contains disks.items disk × CountsMore D.device disk }
     {
@@ -97,17 +97,17 @@ impl<'a, S: Sign, D: StopDisk + Drop, V: Verify + Drop> Cluster<'a, S, D, V> {
         })
     }
 
-    /// Makes a move. What the node that moves may put out then is put out and numbered, from 0 over all its runs.
+    /// Makes a move. What the moved node may then put out is put out and numbered, from 0 over all its runs.
     ///
     /// # Errors
-    /// `NoSuchNode` and `NoSuchOutput`, which change nothing. `Journal` where a stopped node could not be opened: it is gone
-    /// from then on, and what it put out can still be delivered. `Memory` where an allocation failed, also after the move:
-    /// what could not be put out then waits in the node.
+    /// `NoSuchNode` and `NoSuchOutput` change nothing. `Journal` where a stopped node could not be opened: it is gone from then on, and
+    /// what it put out can still be delivered. `Memory` where an allocation failed, also after the move: what could not be put out then
+    /// waits in the node.
     pub fn apply(&mut self, step: Move) -> Result<Applied, ClusterError>
-        // The node that moves does just this in its world, and what may go out after it goes out. All others are as they were.
+        // The moved node does just this in its world, and what may go out after it goes out. All other nodes are unchanged.
         ensures applied { IsApplied S.scheme D.device (V.accepts self.old.verifier) self.old.members step self.new.members result }
         ensures verifier { self.new.verifier ≡ self.old.verifier }
-        // A node that no move names, or that is gone, and an output that there isn't, are refused so exactly.
+        // A node that doesn't exist or is gone, and an output that doesn't exist, are reported exactly where the move names one.
         ensures no_node { IsErrOf result ClusterError.NoSuchNode ↔ LacksNode self.old.members step }
         ensures no_output { IsErrOf result ClusterError.NoSuchOutput ↔ LacksOutput self.old.members step }
         ensures unchanged { IfErr result (λ error. (error ≡ ClusterError.NoSuchNode) ⊎ (error ≡ ClusterError.NoSuchOutput) → self.new ≡ self.old) }
@@ -116,7 +116,7 @@ impl<'a, S: Sign, D: StopDisk + Drop, V: Verify + Drop> Cluster<'a, S, D, V> {
         self.ask(node, request)
     }
 
-    /// The header that a node proposes after all that it accepted. None where it proposes none.
+    /// The header that a node proposes after all accepted events. None where it proposes none.
     ///
     /// # Errors
     /// `NoSuchNode` where there is no such node, or it is gone; `Memory` where an allocation failed.
@@ -131,8 +131,8 @@ impl<'a, S: Sign, D: StopDisk + Drop, V: Verify + Drop> Cluster<'a, S, D, V> {
         }
     }
 
-    /// The longest order that a node gave out over all its runs, also where it is gone by now; None where there is no such
-    /// node. It takes no memory.
+    /// The longest order that a node gave out over all its runs, also if the node is gone by now. None where there is no such node. The
+    /// call allocates no memory.
     pub fn given_order(&self, node: Author) -> Option<&[Digest]>
         ensures some { IfSome result (λ digests. (member : MemberView S D) × (at self.now.members node ≡ Some member) × (digests.now ≡ member.out.order)) }
         ensures none { IsNone result ↔ (at self.now.members node ≡ None) }
@@ -153,7 +153,7 @@ impl<'a, S: Sign, D: StopDisk + Drop, V: Verify + Drop> Cluster<'a, S, D, V> {
         }
     }
 
-    /// The output of this number that a node put out; None where there is none.
+    /// The output that a node put out under this number. None where there is none.
     pub fn output(&self, node: Author, number: u64) -> Option<&Output>
         ensures { option_copied result ≡ option_and_then (λ member. slice_get member.out.outputs number) (at self.now.members node) }
     {
@@ -163,14 +163,14 @@ impl<'a, S: Sign, D: StopDisk + Drop, V: Verify + Drop> Cluster<'a, S, D, V> {
         }
     }
 
-    /// Runs all nodes, each in a thread of its own, with the gate at its place. So many times a thread passes its gate, gives its
-    /// node what came for it, lets it make one round, and sends what it then puts out to its receivers. What it had put out before
-    /// is not sent. It returns once all threads have ended.
+    /// Runs all nodes, each in a thread of its own, with the gate at its place. In each of `turns` turns a thread passes its gate, gives
+    /// its node the messages that came for it, lets the node make one round, and sends what the node then puts out to its receivers. What
+    /// was put out before the call is not sent. The call returns once all threads have ended.
     ///
     /// # Errors
-    /// `Memory` where a thread was refused, or an allocation outside a round failed; the cluster is gone then. A round that wants memory
-    /// settles nothing, and the next one tries again. The other threads still make their turns, so no gate may wait without
-    /// limit for another thread.
+    /// `Memory` where a thread couldn't be made, or an allocation outside a round failed; the cluster is gone then. A round in which an
+    /// allocation fails settles nothing, and the next one tries again. The other threads still make all their turns, so no gate may wait
+    /// without limit for another thread.
     pub fn run_threads<R, G>(
         self,
         rt: &R,
@@ -184,9 +184,9 @@ impl<'a, S: Sign, D: StopDisk + Drop, V: Verify + Drop> Cluster<'a, S, D, V> {
         D: Send,
         V: Sync,
         requires gates { vec_len gates ≡ length self.members }
-        // Each node made a round in each turn, took messages that others' outputs are, for it, and did not stop. That anything
-        // comes to it, and that its sender put it out, no clause says: `orders_agree` asks of what is heard here what it asks of messages
-        // from outside.
+        // Each node made a round in each turn, accepted messages of others' outputs that are for it, and did not stop. No clause says that
+        // any message reaches it, nor that the sender put that message out: `orders_agree` asks of what is heard here what it asks of
+        // messages from outside.
         ensures ran { IfOk result (λ later. AllZip (HasRun S.scheme D.device (V.accepts self.entry.verifier) turns) self.entry.members later.members) }
         ensures done { IfOk result (λ later. (acts : List (List Act)) × IsDone S.scheme D.device (V.accepts self.entry.verifier) self.entry.members (ran turns acts) later.members) }
         ensures verifier { IfOk result (λ later. later.verifier ≡ self.entry.verifier) }
@@ -205,21 +205,21 @@ impl<'a, S: Sign, D: StopDisk + Drop, V: Verify + Drop> Cluster<'a, S, D, V> {
         })
     }
 
-    // The member of this number.
+    // The member with this number.
     fn member(&self, node: Author) -> Option<&Member<'a, S, D>>
         ensures { option_copied result ≡ at self.now.members node }
     {
         self.members.iter().find(|member| member.own() == node)
     }
 
-    // The place of the member of this number.
+    // The place of the member with this number.
     fn place_of(&self, node: Author) -> Option<usize>
         ensures { result ≡ position (λ member. named node member) self.now.members }
     {
         self.members.iter().position(|member| member.own() == node)
     }
 
-    // Whether there is a member of this number that isn't gone.
+    // Whether there is a member with this number that isn't gone.
     fn is_there(&self, node: Author) -> bool
         ensures { result ≡ has_member self.now.members node }
     {
@@ -229,7 +229,7 @@ impl<'a, S: Sign, D: StopDisk + Drop, V: Verify + Drop> Cluster<'a, S, D, V> {
         }
     }
 
-    // The node that a move moves, and what it asks of it.
+    // The node that a move moves, and what the move asks of it.
     fn asked(&self, step: Move) -> Result<(Author, Request), ClusterError>
         ensures ok { IfOk result (λ asked. (asked.0 ≡ actor step) × (asked_in self.now.members step ≡ Some asked.1)) }
         ensures no_node { IsErrOf result ClusterError.NoSuchNode ↔ (IsDelivery step × LacksNode self.now.members step) }
@@ -274,7 +274,7 @@ impl<'a, S: Sign, D: StopDisk + Drop, V: Verify + Drop> Cluster<'a, S, D, V> {
         })
     }
 
-    // The message in this output of a member.
+    // The message in an output of a member.
     fn message_from(&self, node: Author, output: u64) -> Result<Message, ClusterError>
         ensures ok { IfOk result (λ message. message_at self.now.members node output ≡ Some message) }
         ensures no_node { IsErrOf result ClusterError.NoSuchNode ↔ (at self.now.members node ≡ None) }
@@ -293,7 +293,7 @@ impl<'a, S: Sign, D: StopDisk + Drop, V: Verify + Drop> Cluster<'a, S, D, V> {
         }
     }
 
-    // Makes a request to the member of this number.
+    // Makes a request to the member with this number.
     fn ask(&mut self, number: Author, request: Request) -> Result<Applied, ClusterError>
         ensures asked { IsAsked (λ one other. Became (node_of S.scheme one.setting) D.device (V.accepts self.old.verifier) request one other result) number self.old.members self.new.members result }
         ensures verifier { self.new.verifier ≡ self.old.verifier }

@@ -41,7 +41,7 @@ impl Model for GivenOut {
 impl GivenOut {
     ghost use Rattle.std.specs.Prelude.{◌≡◌, length, slice_get, [], Some, None, IfSome, IsNone};
 
-    /// Nothing was given out.
+    /// A member that has given nothing out.
     pub(crate) fn new(alloc: Global) -> GivenOut
         ensures outputs { result.outputs ≡ [] }
         ensures order { result.order ≡ [] }
@@ -52,7 +52,7 @@ impl GivenOut {
         }
     }
 
-    /// The output of this number; None where there are no more so many.
+    /// The output with this number. None where the member has put out fewer.
     pub(crate) fn output(&self, number: u64) -> Option<&Output>
         ensures some { IfSome result (λ output. slice_get self.now.outputs number ≡ Some output.now) }
         ensures none { IsNone result → slice_get self.now.outputs number ≡ None }
@@ -60,7 +60,7 @@ impl GivenOut {
         self.outputs.get(number as usize)
     }
 
-    /// How many outputs.
+    /// How many outputs were put out.
     pub(crate) fn outputs(&self) -> u64
         ensures { result ≡ length self.now.outputs }
     {
@@ -75,8 +75,8 @@ impl GivenOut {
     }
 }
 
-/// Reads the settled order, and then takes all outputs that may go out. Where the desk is down nothing goes out.
-/// `AllocError` where an allocation failed: what goes out after that waits in the desk.
+/// Reads the settled order, and then takes all outputs that may go out. Nothing goes out where the desk is down. On `AllocError` an
+/// allocation failed, and what has not gone out waits in the desk.
 pub(crate) fn collect<S: Sign, D: StopDisk>(
     desk: &mut Desk<'_, S, D>,
     given: &mut GivenOut,
@@ -97,7 +97,7 @@ pub(crate) fn collect<S: Sign, D: StopDisk>(
     release_all(desk, given)
 }
 
-// Reads the settled order after what was given out of it.
+// Reads the part of the settled order that was not given out yet.
 fn read_order<S: Sign, D: StopDisk>(
     desk: &Desk<'_, S, D>,
     given: &mut GivenOut,
@@ -115,7 +115,7 @@ fn read_order<S: Sign, D: StopDisk>(
     }
 }
 
-// Takes all outputs that may go out, after the settled order.
+// Takes all outputs that may go out, once the settled order was read.
 fn release_all<S: Sign, D: StopDisk>(
     desk: &mut Desk<'_, S, D>,
     given: &mut GivenOut,
@@ -134,7 +134,7 @@ fn release_all<S: Sign, D: StopDisk>(
     Ok(())
 }
 
-// Takes the next output, if it may go out. Says whether there was one.
+// Takes the next output, if it may go out. Gives whether there was one.
 fn release_next<S: Sign, D: StopDisk>(
     desk: &mut Desk<'_, S, D>,
     given: &mut GivenOut,

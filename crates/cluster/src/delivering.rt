@@ -1,4 +1,4 @@
-//! The message that an output is, and whose it is.
+//! Outputs as messages, and whom they are for.
 
 ghost use Rattle.std.specs.Prelude.{◌≡◌, ◌≢◌, ◌⊎◌, None, IfOk, IfSome, IsNone, OnErr};
 ghost use Rattle.wire.specs.Outputs as wire;
@@ -8,8 +8,8 @@ ghost use Rattle.cluster.specs.Outputs.{message_of};
 use std::alloc::AllocError;
 use wire::{Author, Message, Output};
 
-/// The message in an output, once more; None of a piece of the order, which is for the host alone. A batch's body isn't
-/// copied. `AllocError` where an allocation failed.
+/// A copy of the message in an output. None for a piece of the order, which is for the host only. A batch's body is shared, not copied. On
+/// `AllocError` an allocation failed.
 pub(crate) fn message_in(output: &Output) -> Result<Option<Message>, AllocError>
     ensures message { IfOk result (λ message. message ≡ message_of output.now) }
     ensures some { OnErr result (message_of output.now ≢ None) }
@@ -28,7 +28,7 @@ pub(crate) fn message_in(output: &Output) -> Result<Option<Message>, AllocError>
     Ok(Some(message))
 }
 
-/// A message once more. A batch's body isn't copied. `AllocError` where an allocation failed.
+/// A copy of a message. A batch's body is shared, not copied. On `AllocError` an allocation failed.
 pub(crate) fn message_again(message: &Message) -> Result<Message, AllocError>
     ensures { IfOk result (λ again. again ≡ message.now) }
 {
@@ -42,7 +42,7 @@ pub(crate) fn message_again(message: &Message) -> Result<Message, AllocError>
     })
 }
 
-/// Whom an output is for, if it is for one member; None where it is for all others, or is no message.
+/// The one member that an output is for. None where it is for all others, or is no message.
 pub(crate) fn receiver_of(output: &Output) -> Option<Author>
     ensures some { IfSome result (λ to. to.0 ≡ wire.receiver_of output.now) }
     ensures none { IsNone result → (wire.receiver_of output.now ≡ TO_ALL) ⊎ (message_of output.now ≡ None) }

@@ -10,16 +10,16 @@ use thiserror::Error;
 /// Why a move of a cluster failed. Printed as its number and its name.
 #[derive(Clone, Copy, Debug, PartialEq, Eq, Error)]
 pub enum ClusterError {
-    /// Memory was refused. Nothing that was released is lost.
+    /// An allocation failed. No released output is lost.
     #[error("1 Memory")]
     Memory,
-    /// No node has this number, or its reopening failed.
+    /// No node has this number, or the node could not be opened after a stop.
     #[error("2 NoSuchNode")]
     NoSuchNode,
-    /// The node has put out no output of this number, or it is one of its order.
+    /// The node has put out no output with this number, or that output is a piece of its order.
     #[error("3 NoSuchOutput")]
     NoSuchOutput,
-    /// A node could not be opened; where that came of a stop it is gone from then on.
+    /// A node could not be opened. If that was after a stop, the node is gone from then on.
     #[error("4 Journal")]
     Journal(JournalError),
 }

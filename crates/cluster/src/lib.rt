@@ -1,4 +1,4 @@
-//! Several nodes of one committee in one process, each over its own disk, moved by a list of moves.
+//! Several nodes of one committee in one process, each on its own disk, moved by a list of moves.
 #![tactic(auto)]
 
 mod agreeing;

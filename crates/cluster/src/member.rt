@@ -13,7 +13,7 @@ use std::marker::Model;
 use validator::Config;
 use wire::{Author, Digest, Header, Message, Output};
 
-/// A node, its settings, and what it gave out. Its desk is gone once a reopening failed.
+/// A node, its settings, and what it gave out. The desk is gone once it could not be opened again.
 pub(crate) struct Member<'a, S: Sign, D: StopDisk> {
     config: &'a Config<S>,
     desk: Option<Desk<'a, S, D>>,
@@ -57,7 +57,7 @@ impl<'a, S: Sign, D: StopDisk> Member<'a, S, D> {
     ghost use Rattle.cluster.specs.Member.{StandsAt, IsOn, Proposes};
     ghost use Rattle.cluster.specs.declared.moves.Request.TheVariants.{Take, Round, Stop};
 
-    /// Opens a node on a disk. It gave nothing out.
+    /// Opens a node on a disk. It has given nothing out yet.
     ///
     /// # Errors
     /// Those of the opening.
@@ -69,7 +69,7 @@ impl<'a, S: Sign, D: StopDisk> Member<'a, S, D> {
     where
         D: Drop,
         ensures setting { IfOk result (λ member. member.setting ≡ config.now) }
-        // On an empty disk it stands where its runs begin.
+        // On an empty disk the member is where its runs begin.
         ensures begins { let node = node_of S.scheme config.now in IfOk result (λ member. D.device.content disk ≡ [] → StandsAt node D.device (first_world node) member) }
         ensures runs { IfOk result (λ member. IsRun (node_of S.scheme member.setting) [] (first_world (node_of S.scheme member.setting))) }
         ensures up { IfOk result (λ member. member.desk ≢ None) }
@@ -91,14 +91,14 @@ impl<'a, S: Sign, D: StopDisk> Member<'a, S, D> {
         }
     }
 
-    /// Its number in the committee.
+    /// The member's number in the committee.
     pub(crate) fn own(&self) -> Author
         ensures { result ≡ self.now.setting.own }
     {
         self.config.own()
     }
 
-    /// The output of this number that it put out; None where there is none.
+    /// The output that the member put out under this number; None where there is none.
     pub(crate) fn output(&self, number: u64) -> Option<&Output>
         ensures some { IfSome result (λ output. slice_get self.now.out.outputs number ≡ Some output.now) }
         ensures none { IsNone result → slice_get self.now.out.outputs number ≡ None }
@@ -106,28 +106,28 @@ impl<'a, S: Sign, D: StopDisk> Member<'a, S, D> {
         self.given.output(number)
     }
 
-    /// How many it put out.
+    /// How many outputs the member put out.
     pub(crate) fn outputs(&self) -> u64
         ensures { result ≡ length self.now.out.outputs }
     {
         self.given.outputs()
     }
 
-    /// Whether it isn't gone.
+    /// Whether the member still has a node: it is gone after a stop from which it couldn't be opened.
     pub(crate) fn is_there(&self) -> bool
         ensures { result ≡ is_some self.now.desk }
     {
         self.desk.is_some()
     }
 
-    /// The longest order that it gave out.
+    /// The longest order that the member gave out.
     pub(crate) fn order(&self) -> &[Digest]
         ensures { result.now ≡ self.now.out.order }
     {
         self.given.order()
     }
 
-    /// The header that it proposes after all that it accepted. None where it proposes none.
+    /// The header that the member proposes after all accepted events; None where it proposes none.
     ///
     /// # Errors
     /// `NoSuchNode` where it is gone; `Memory` where an allocation failed.
@@ -142,11 +142,11 @@ impl<'a, S: Sign, D: StopDisk> Member<'a, S, D> {
         }
     }
 
-    /// Answers a request, and then takes what it puts out.
+    /// Answers a request, and then collects what may go out.
     ///
     /// # Errors
-    /// `NoSuchNode` where it is gone; `Journal` where it can't be opened after a stop: it is gone then. `Memory` where an allocation
-    /// failed, also after what was asked was done.
+    /// `NoSuchNode` where it is gone; `Journal` where it can't be opened after a stop, and is gone from then on; `Memory` where an
+    /// allocation failed, possibly after the request was carried out.
     pub(crate) fn answer<V: Verify>(
         &mut self,
         alloc: Global,
@@ -164,7 +164,7 @@ impl<'a, S: Sign, D: StopDisk> Member<'a, S, D> {
         }
     }
 
-    /// Gives it a message, and then takes what it puts out.
+    /// Gives the node a message, and then collects what may go out.
     ///
     /// # Errors
     /// `NoSuchNode` where it is gone; `Memory` where an allocation failed.
@@ -185,7 +185,7 @@ impl<'a, S: Sign, D: StopDisk> Member<'a, S, D> {
         Ok(applied)
     }
 
-    /// Lets it make one round, and then takes what it puts out.
+    /// Lets the node make one round, and then collects what may go out.
     ///
     /// # Errors
     /// `NoSuchNode` where it is gone; `Memory` where an allocation failed after the round.
@@ -201,7 +201,7 @@ impl<'a, S: Sign, D: StopDisk> Member<'a, S, D> {
         Ok(applied)
     }
 
-    // Stops its machine, opens it again, and then takes what it puts out. The errors are those of `answer`.
+    // Stops the node's machine, opens the node again, and then collects what may go out. The errors are those of `answer`.
     fn stop(&mut self, alloc: Global) -> Result<Applied, ClusterError>
     where
         D: Drop,

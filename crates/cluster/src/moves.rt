@@ -1,26 +1,26 @@
-//! The moves of a cluster, and what they are answered.
+//! The moves of a cluster, and how they are answered.
 
 use desk::FlushError;
 use header::CheckError;
 use validator::Refusal;
 use wire::{Author, Coin, Message};
 
-/// What is done with a cluster.
+/// A move of a cluster.
 #[derive(Debug, Drop)]
 pub enum Move {
-    /// The output of this number that the node put out is given to another one, with the node as its sender.
+    /// The output that a node put out under this number is delivered to another node, with the first one as its sender.
     Deliver {
         node: Author,
         output: u64,
         to: Author,
     },
-    /// A message is given to a node, from this sender. A node's own host gives it its own events.
+    /// A message comes to a node from this sender. A node's own events are given by its own host.
     Give {
         to: Author,
         sender: Author,
         message: Message,
     },
-    /// A coin is handed in.
+    /// A coin comes to a node from its host.
     Coin {
         node: Author,
         coin: Coin,
@@ -31,30 +31,30 @@ pub enum Move {
     Stop(Author),
 }
 
-/// What a move asks of the node that it moves.
+/// What a move asks of its node.
 #[derive(Debug, Drop)]
 pub enum Request {
-    /// To take a message from this sender.
+    /// To accept a message from this sender.
     Take { sender: Author, message: Message },
     /// To make one round.
     Round,
-    /// Its machine stops, and it is opened again.
+    /// To stop its machine and be opened again.
     Stop,
 }
 
-/// What a move is answered.
+/// The answer to a move.
 #[derive(Clone, Copy, Debug, PartialEq, Eq)]
 pub enum Applied {
-    /// The event was accepted: so many records were accepted in this run then, and whether it was new; else it was known.
+    /// The event was accepted, as new or as known. The ticket is how many records were accepted in this run by then.
     Took { ticket: u64, new: bool },
-    /// The node refused the event, which changed nothing.
+    /// The node refused the event, and nothing changed.
     Refused(Refusal),
-    /// The message fails this check, the first one that it fails.
+    /// The message fails a check; this is the first one that it fails.
     Unchecked(CheckError),
-    /// So many records were written and settled.
+    /// This many records were written and settled.
     Settled(u64),
     /// The round failed.
     Fault(FlushError),
-    /// The node was opened again, on so many events.
+    /// The node was opened again, on a journal with this many events.
     Reopened(u64),
 }

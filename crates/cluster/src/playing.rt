@@ -1,4 +1,4 @@
-//! A cluster that is opened and moved by a list of moves.
+//! A cluster that is opened and then moved by a list of moves.
 
 use crate::cluster::Cluster;
 use crate::error::ClusterError;
@@ -16,13 +16,13 @@ impl<'a, S: Sign, D: StopDisk + Drop, V: Verify + Drop> Cluster<'a, S, D, V> {
     ghost use Rattle.cluster.specs.Applying.{Stage, StagesLead, move_in, ArePlayed};
     ghost use Rattle.cluster.specs.Cluster.{AreOfOne, AreDistinct};
 
-    /// Opens a node for each of these settings, each on the empty disk at its place, and applies the moves, one after the other, whatever
-    /// each is answered. Of the orders that any two honest nodes gave out one then begins the other, whichever nodes are honest, where the
-    /// others weigh no more than is tolerated, what honest ones took from outside had no forged vote of an honest one and no second value
-    /// of a wave's coin, and no two different texts of headers and certificates that they took share a digest.
+    /// Opens a node for each of these settings, each on the empty disk at its place, and applies the moves in turn, whatever their answers.
+    /// Then, whichever nodes are honest: if the others weigh no more than is tolerated, what honest nodes accepted from outside had no
+    /// forged vote of an honest node and no second value of a wave's coin, and no two different texts of headers and certificates that they
+    /// accepted share a digest, of the orders that any two honest nodes gave out one is a prefix of the other.
     ///
     /// # Errors
-    /// Those of `new`. A move's error ends nothing.
+    /// Those of `new`. The error of a move ends nothing.
     pub fn play(
         alloc: Global,
         configs: &'a [Config<S>],
@@ -45,7 +45,7 @@ impl<'a, S: Sign, D: StopDisk + Drop, V: Verify + Drop> Cluster<'a, S, D, V> {
         Ok(cluster)
     }
 
-    // Applies these moves, one after the other, whatever each is answered.
+    // Applies these moves in turn, whatever their answers.
     fn apply_all(&mut self, moves: Vec<Move>)
         ensures verifier { self.new.verifier ≡ self.old.verifier }
         ensures applied { (stages : List (Stage S D)) × (map (λ stage. move_in stage.doing) stages ≡ map (λ move. Some move) moves.items) × StagesLead S.scheme D.device (V.accepts self.old.verifier) self.old.members stages self.new.members }

@@ -1,4 +1,4 @@
-//! Messages on their way from one node's thread to another's: the router, and the inboxes that it fills.
+//! Messages in flight from one node's thread to another's: the router, and the inboxes that it fills.
 
 ghost use Rattle.std.specs.Prelude.{◌≡◌, true, Some, IfOk};
 ghost use Rattle.cluster.specs.Outputs.{message_of};
@@ -12,11 +12,11 @@ use std::mem;
 use std::sync::{Mutex, Wait};
 use wire::{Author, Message, Output};
 
-/// A message on its way: that of an output. Contracts see it with its sender.
+/// A message in flight, which is that of an output. Contracts see it with its sender.
 #[derive(Drop)]
 pub(crate) struct Envelope {
     sender: Author,
-    // None where it is for all others.
+    // The one receiver. None where the message is for all others.
     receiver: Option<Author>,
     message: Message,
 }
@@ -33,7 +33,7 @@ impl Model for Envelope {
 }
 
 impl Envelope {
-    /// The message of an output of this sender.
+    /// The envelope for an output of this sender.
     pub(crate) fn new(sender: Author, output: &Output, message: Message) -> Envelope
         requires { message_of output.now ≡ Some message }
         ensures { result ≡ record { sender = sender; message = message } }
@@ -45,7 +45,7 @@ impl Envelope {
         }
     }
 
-    /// Whether it is for this node: another one sent it, to this one or to all.
+    /// Whether the envelope is for this node: another node sent it, to this one or to all.
     pub(crate) fn is_for(&self, node: Author) -> bool
         ensures { result ≡ true → IsHeard node self.now }
     {
@@ -56,7 +56,7 @@ impl Envelope {
         is_named && self.sender != node
     }
 
-    /// Who sent it.
+    /// The node that sent the message.
     pub(crate) fn sender(&self) -> Author
         ensures { result ≡ self.now.sender }
     {
@@ -75,7 +75,7 @@ impl Envelope {
         message
     }
 
-    // The envelope once more.
+    // A copy of the envelope.
     fn again(&self) -> Result<Envelope, AllocError>
         ensures { IfOk result (λ again. again ≡ self.now) }
     {
@@ -87,7 +87,7 @@ impl Envelope {
     }
 }
 
-/// What has come for a node and was not yet taken.
+/// The messages that came for a node and weren't taken yet.
 pub(crate) struct Inbox {
     alloc: Global,
     owner: Author,
@@ -105,7 +105,7 @@ impl Drop for Inbox {
 }
 
 impl Inbox {
-    /// Nothing has come for this node.
+    /// An empty inbox of this node.
     pub(crate) fn new(alloc: Global, owner: Author) -> Inbox {
         Inbox {
             alloc,
@@ -114,7 +114,7 @@ impl Inbox {
         }
     }
 
-    /// All that has come, in its order. The box is empty then.
+    /// All messages that came, in their order. The inbox is empty after that.
     pub(crate) fn take<R: Wait>(&self, rt: &R) -> Vec<Envelope> {
         let mut envelopes = self.envelopes.lock(rt);
         mem::replace(&mut *envelopes, Vec::new(self.alloc))
@@ -126,7 +126,7 @@ impl Inbox {
     }
 }
 
-/// Puts each envelope into the inboxes that it is for, until nobody can send one any more. `AllocError` where an allocation failed.
+/// Puts each envelope into the inboxes that it is for, until all senders are gone. On `AllocError` an allocation failed.
 pub(crate) fn route<R: Wait>(
     rt: &R,
     envelopes: Receiver<Envelope>,

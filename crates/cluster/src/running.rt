@@ -15,7 +15,7 @@ use std::alloc::{AllocError, Global};
 use std::sync::Wait;
 use std::thread::Threads;
 
-// What all threads share: the inboxes in the order of the members, and how many turns each makes.
+// What all threads share: the inboxes, in the order of the members, and how many turns each thread makes.
 #[derive(Drop)]
 struct Shared<'o, R, V> {
     rt: &'o R,
@@ -49,8 +49,8 @@ where
     }
 }
 
-/// Runs each member in a thread of its own for so many turns, and carries their messages in this one. `AllocError` where an allocation
-/// failed, or a thread.
+/// Runs each member in a thread of its own for so many turns, and routes their messages in this thread. On `AllocError` an allocation
+/// failed, or a thread couldn't be made.
 pub(crate) fn run_members<'a, R, S, D, V, G>(
     rt: &R,
     alloc: Global,
@@ -87,7 +87,7 @@ where
     all_members(alloc, ended)
 }
 
-// A box for each member.
+// An inbox for each member.
 fn inboxes_of<S: Sign, D: StopDisk>(
     alloc: Global,
     members: &[Member<'_, S, D>],
@@ -99,7 +99,7 @@ fn inboxes_of<S: Sign, D: StopDisk>(
     Ok(inboxes)
 }
 
-// The members, each with its place, its gate and a way to the router.
+// The members, each with its place, its gate and its channel to the router.
 fn workers_of<'a, S: Sign, D: StopDisk + Drop, G: Gate + Drop>(
     alloc: Global,
     members: Vec<Member<'a, S, D>>,

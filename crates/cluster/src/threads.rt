@@ -1,4 +1,4 @@
-//! Jobs that are done in threads, one for each.
+//! Jobs that are done in threads, one thread for each job.
 
 ghost use Rattle.std.specs.Prelude.{IfOk};
 ghost use Rattle.std.specs.List.{AllZip};
@@ -12,7 +12,7 @@ use std::thread::{self, Promise, Scope, Threads};
 
 /// What does a job.
 pub(crate) trait Runner<R: Wait, J, X> {
-    /// What is so of a job and what came of it.
+    /// How a job's result is related to the job.
     ghost ran: { Self → J → X → Type 0 };
 
     /// Does the job.
@@ -20,7 +20,7 @@ pub(crate) trait Runner<R: Wait, J, X> {
         ensures { ran self.now job result };
 }
 
-// That a job was done.
+// The promise of a thread that did a job.
 struct Ran<R, O, J> {
     runtime: PhantomData<R>,
     runner: Snapshot<O>,
@@ -41,8 +41,8 @@ impl<R: Wait, O: Runner<R, J, X>, J, X> Promise<X> for Ran<R, O, J> {
     ghost kept_by = { λ ran result. O.ran ran.runner.value ran.job.value result };
 }
 
-/// Does each job in a thread of its own, and something else in this one. Gives what came of them in their order, once all threads have
-/// ended. `AllocError` where an allocation failed, or a thread, or what is done in this one answers it.
+/// Does each job in a thread of its own, and something else in this one. Gives the results in the order of the jobs, once all threads have
+/// ended. On `AllocError` an allocation failed, a thread couldn't be made, or the work in this thread reported it.
 pub(crate) fn run_in_threads<R, O, J, X, B>(
     rt: &R,
     alloc: Global,
@@ -69,7 +69,7 @@ where
     )
 }
 
-// Starts a thread for the last of the jobs, and in the same way for those before it. After that comes what is done in this thread.
+// Starts a thread for the last job, and then in the same way for the jobs before it. After that the work of this thread is done.
 fn run_each<'s, E, R, O, J, X, B>(
     scope: &Scope<'s, E>,
     rt: &'s R,

@@ -26,7 +26,7 @@ use std::alloc::Global;
 use validator::{Config, Refusal};
 use wire::{Author, Message};
 
-/// Checks a message and gives it to a desk. Only want of memory is an error, which changes nothing.
+/// Checks a message and gives it to a desk. Only a failed allocation is an error, and changes nothing.
 pub(crate) fn offer<S: Sign, D: StopDisk, V: Verify>(
     desk: &mut Desk<'_, S, D>,
     verifier: &V,
@@ -74,7 +74,7 @@ fn hand_in<S: Sign, D: StopDisk>(
 pub(crate) fn round<S: Sign, D: StopDisk>(desk: &mut Desk<'_, S, D>) -> Applied
     ensures moved { let node = node_of S.scheme desk.old.book.validator.setting in (world : World) → IsAt node D.device world desk.old
         → HasMoved node D.device (MakesRound node D.device result) world desk.old desk.new }
-    // It answers Device only where the disk counted a failure.
+    // The answer is that the disk failed only where the disk counted a failure.
     ensures device { IsDeviceFault result → D.device.faults (disk_of desk.old.journal) < D.device.faults (disk_of desk.new.journal) }
     ensures setting { desk.new.book.validator.setting ≡ desk.old.book.validator.setting }
     ensures spare { spare_of desk.new.journal ≡ spare_of desk.old.journal }
@@ -85,7 +85,7 @@ pub(crate) fn round<S: Sign, D: StopDisk>(desk: &mut Desk<'_, S, D>) -> Applied
     }
 }
 
-/// Stops the machine, counts the events of what that left, and opens the node on it.
+/// Stops the machine, counts the events in the journal that is left, and opens the node on it.
 ///
 /// # Errors
 /// Those of an opening.
@@ -98,9 +98,9 @@ pub(crate) fn restart<'a, S: Sign, D: StopDisk + Drop>(
     ensures setting { IfOk result (λ opened. opened.0.book.validator.setting ≡ config.now) }
     ensures opened { IfOk result (λ opened. (found : List ℕ) × D.device.outcome (disk_of desk.entry.journal) found
         × IsOpened (node_of S.scheme config.now) D.device (alone found) opened.0 × (opened.1 ≡ events_in found)) }
-    // It answers Device only where the disk counted a failure.
+    // The error is Device only where the disk counted a failure.
     ensures device { IsErrOf result JournalError.Device → CountsMore D.device (disk_of desk.entry.journal) }
-    // What a stop leaves of a node in its world is refused for want of memory or a fault of the disk alone.
+    // What a stop leaves of a node in its world can be opened, unless an allocation or the disk fails.
     ensures refused { IfErr result (λ error. (world : World) → IsAt (node_of S.scheme config.now) D.device world desk.entry → IsNoRefusal error) }
 {
     let mut disk = desk.into_disk();
@@ -112,7 +112,7 @@ pub(crate) fn restart<'a, S: Sign, D: StopDisk + Drop>(
     }
 }
 
-// How many events a disk's journal has, after the record of the configuration.
+// How many events a disk's journal has: its records without the configuration's.
 fn count_events<D: StopDisk + Drop>(alloc: Global, disk: D) -> Result<(u64, D), JournalError>
     ensures same { IfOk result (λ counted. stands (D.device.content counted.1) ≡ stands (D.device.content disk)) }
     ensures count { IfOk result (λ counted. counted.0 ≡ events_in (D.device.content disk)) }

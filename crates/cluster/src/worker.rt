@@ -13,8 +13,8 @@ use diskmodel::{Gate, StopDisk};
 use sigface::{Sign, Verify};
 use std::sync::Wait;
 
-/// A member with what its thread needs: its place among the others, its gate, the way to the router, and how many of its outputs are
-/// not to be sent any more.
+/// A member with what its thread needs: its place among the members, its gate, its channel to the router, and how many of its outputs were
+/// sent or need not be.
 pub(crate) struct Worker<'a, S: Sign, D: StopDisk, G> {
     place: usize,
     pub(crate) member: Member<'a, S, D>,
@@ -36,7 +36,7 @@ impl<'a, S: Sign, D: StopDisk + Drop, G: Drop> Drop for Worker<'a, S, D, G> {
 }
 
 impl<'a, S: Sign, D: StopDisk + Drop, G: Gate + Drop> Worker<'a, S, D, G> {
-    /// What the member put out before is not sent.
+    /// A worker that doesn't send what its member put out before.
     pub(crate) fn new(
         place: usize,
         member: Member<'a, S, D>,
@@ -55,15 +55,15 @@ impl<'a, S: Sign, D: StopDisk + Drop, G: Gate + Drop> Worker<'a, S, D, G> {
         }
     }
 
-    /// Its place.
+    /// The member's place.
     pub(crate) fn place(&self) -> usize {
         self.place
     }
 
-    /// Makes so many turns.
+    /// Makes this many turns.
     ///
     /// # Errors
-    /// `Memory` where an allocation failed, here or to the router.
+    /// `Memory` where an allocation failed, in this thread or in the router.
     pub(crate) fn run<R: Wait, V: Verify>(
         mut self,
         rt: &R,
@@ -86,7 +86,7 @@ impl<'a, S: Sign, D: StopDisk + Drop, G: Gate + Drop> Worker<'a, S, D, G> {
         Ok(member)
     }
 
-    // Passes its gate, takes what stands in its box, makes a round, and sends what went out.
+    // Passes the gate, takes what is in the inbox, makes a round, and sends what went out.
     fn turn<R: Wait, V: Verify>(
         &mut self,
         rt: &R,
@@ -101,7 +101,7 @@ impl<'a, S: Sign, D: StopDisk + Drop, G: Gate + Drop> Worker<'a, S, D, G> {
         self.send_new(rt)
     }
 
-    // Sends the outputs that were not sent.
+    // Sends the outputs that weren't sent yet.
     fn send_new<R: Wait>(&mut self, rt: &R) -> Result<(), ClusterError>
         ensures { self.new.member ≡ self.old.member }
     {
@@ -113,7 +113,7 @@ impl<'a, S: Sign, D: StopDisk + Drop, G: Gate + Drop> Worker<'a, S, D, G> {
         Ok(())
     }
 
-    // Sends the message in an output, if it has one.
+    // Sends the message in an output, if the output has one.
     fn send<R: Wait>(&self, rt: &R, number: u64) -> Result<(), ClusterError> {
         let Some(output) = self.member.output(number) else {
             return Ok(());
@@ -131,7 +131,7 @@ impl<'a, S: Sign, D: StopDisk + Drop, G: Gate + Drop> Worker<'a, S, D, G> {
     }
 }
 
-// Gives a member all that came for it.
+// Gives a member all messages that came for it.
 fn take_all<S: Sign, D: StopDisk, V: Verify>(
     member: &mut Member<'_, S, D>,
     verifier: &V,
@@ -145,7 +145,7 @@ fn take_all<S: Sign, D: StopDisk, V: Verify>(
     Ok(())
 }
 
-// Gives it one message. One that is gone takes none.
+// Gives a member one message. A member that is gone takes none.
 fn take_one<S: Sign, D: StopDisk, V: Verify>(
     member: &mut Member<'_, S, D>,
     verifier: &V,
@@ -164,7 +164,7 @@ fn take_one<S: Sign, D: StopDisk, V: Verify>(
     Ok(())
 }
 
-// Lets a member make a round. One that is gone makes none.
+// Lets a member make a round. A member that is gone makes none.
 fn make_round<S: Sign, D: StopDisk>(member: &mut Member<'_, S, D>) -> Result<(), ClusterError>
     ensures { OnOk result ((accepts : Accepts) → HasRun S.scheme D.device accepts 1 member.old member.new) }
 {

@@ -1,4 +1,4 @@
--- What a DAG answers a certificate: of the tests in their order the first that applies decides.
+-- What a DAG answers to a certificate: the first test that applies decides.
 use Rattle.std.specs.Prelude.{not, Result, Ok, Err, if◌then◌else◌}
 use Rattle.std.specs.Option.{option_map_or}
 use Rattle.spec_model.specs.Admitting.{same_header}
@@ -11,14 +11,14 @@ use Rattle.dag.specs.declared.answers.Added.TheVariants.{New, Known}
 use Rattle.dag.specs.declared.refusal.DagRefusal.{DagRefusal}
 use Rattle.dag.specs.declared.refusal.DagRefusal.TheVariants.{TooOld, CertConflict, DigestClash, MissingParents}
 
--- where the certificate's slot holds this one already
+-- the answer to a certificate whose slot holds one already
 abbrev pub held_answer : Certificate → Certificate → Result Added DagRefusal
 held_answer held certificate =
     if not (same_digest (certificate_digest held.header) (certificate_digest certificate.header)) then Err CertConflict
     else if same_header held.header certificate.header then Ok Known
     else Err DigestClash
 
--- where it holds nothing
+-- the answer to a certificate whose slot holds nothing
 abbrev pub free_answer : DagView → Certificate → Result Added DagRefusal
 free_answer graph certificate = if not (all_held (slots_in graph) graph.floor certificate.header) then Err MissingParents else Ok New
 

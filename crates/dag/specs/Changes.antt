@@ -1,12 +1,12 @@
--- What a DAG is after a change.
+-- How a DAG changes.
 use Rattle.std.specs.Prelude.{◌≡◌, ◌≤◌, ℕ, ◌+◌, ◌==◌, ◌&&◌, ◌||◌, nat_lt, max, Bool, false, [], ◌∷◌, is_some, None, if◌then◌else◌}
 use Rattle.std.specs.Option.{option_or}
 use Rattle.spec_model.specs.Slots.{slots_of}
 use Rattle.spec_model.specs.Words.{Certificate}
 use Rattle.dag.specs.Graph.{DagView, slots_in, marked_in, end_in}
 
--- one certificate more is held, in a slot that held nothing, and it has no mark; rows are made up to its round, which is the next
--- one at most
+-- a certificate was added without a mark, to a slot that held nothing; rows were added up to its round, which is at most one above the last
+-- row
 pub record IsWith (before after : DagView) (certificate : Certificate) : Type 0 where
   pub charter : after.charter ≡ before.charter
   pub floor : after.floor ≡ before.floor
@@ -16,7 +16,7 @@ pub record IsWith (before after : DagView) (certificate : Certificate) : Type 0 
   pub end : end_in after ≡ max (end_in before) (certificate.header.round + 1)
   pub near : certificate.header.round ≤ max (end_in before) (before.floor + 1)
 
--- what these authors' slots of a round hold has a mark
+-- the certificates that these authors have in a round are marked now
 pub record IsMarked (before after : DagView) (round : ℕ) (authors : ℕ → Bool) : Type 0 where
   pub charter : after.charter ≡ before.charter
   pub floor : after.floor ≡ before.floor
@@ -25,7 +25,7 @@ pub record IsMarked (before after : DagView) (round : ℕ) (authors : ℕ → Bo
   pub marked : (r a : ℕ) → marked_in after r a ≡ (marked_in before r a || ((r == round) && (authors a && is_some (slots_in before r a))))
   pub end : end_in after ≡ end_in before
 
--- nothing below a round is held
+-- everything below a round was dropped
 pub record IsDropped (before after : DagView) (round : ℕ) : Type 0 where
   pub charter : after.charter ≡ before.charter
   pub floor : after.floor ≡ max before.floor round

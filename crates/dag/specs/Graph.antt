@@ -9,13 +9,13 @@ use Rattle.spec_model.specs.Holdings.{all_held}
 use Rattle.spec_model.specs.Slots.{Slots, certificate_digest, is_of_slot, is_parent, reaches}
 use Rattle.spec_model.specs.Words.{Author, Certificate, Digest, ParentReference}
 
--- a certificate that is held, and whether it is marked: it lies in the history of a committed leader
+-- a certificate in its slot, and its mark: whether it lies in the history of a committed leader
 pub record Placed : Type 0 where
   pub certificate : Certificate
   pub marked : Bool
 
--- a DAG: the committee, the lowest round that is kept, the round of the last committed leader, or 1 where there is none, and
--- of each round from the floor up to the last that ever held a certificate what its members' slots hold
+-- a DAG: the committee; the floor, which is the lowest round that is kept; its base, which is the round of the last committed leader, or 1
+-- where there is none; and for each round from the floor on what its members' slots hold
 pub record DagView : Type 0 where
   pub charter : Charter
   pub floor : ℕ
@@ -26,32 +26,32 @@ pub record DagView : Type 0 where
 abbrev pub size_in : DagView → ℕ
 size_in graph = length graph.charter.keys
 
--- what rows that begin with a round have at a round and author
+-- the entry at this round and author, in rows that begin with the floor's
 abbrev pub row_at : {X : Type 0} → ℕ → List (List (Option X)) → ℕ → ℕ → Option X
 row_at floor rounds round author =
     if nat_le floor round then option_and_then (λ row. option_and_then (λ held. held) (slice_get row author)) (slice_get rounds (round - floor)) else None
 
--- what a slot holds, with its mark
+-- the certificate in a slot, with its mark
 abbrev pub placed_at : DagView → ℕ → ℕ → Option Placed
 placed_at graph round author = row_at graph.floor graph.rounds round author
 
--- what each slot holds
+-- the certificate in each slot
 abbrev pub slots_in : DagView → Slots
 slots_in graph round author = option_map (λ placed. placed.certificate) (placed_at graph round author)
 
--- the certificate of a slot is marked
+-- the certificate in a slot is marked
 abbrev pub marked_in : DagView → ℕ → ℕ → Bool
 marked_in graph round author = option_map_or (λ placed. placed.marked) (placed_at graph round author) false
 
--- what the slots of a row hold, rising by author
+-- the entries of a row, sorted by author
 abbrev pub held_in : {X : Type 0} → List (Option X) → List X
 held_in row = filter_map (λ slot. slot) row
 
--- the certificates, rising by round and then by author
+-- the certificates, sorted by round and then author
 abbrev pub certificates_in : DagView → List Certificate
 certificates_in graph = map (λ placed. placed.certificate) (flat_map held_in graph.rounds)
 
--- the round after the last that has a row
+-- the round after the last row
 abbrev pub end_in : DagView → ℕ
 end_in graph = graph.floor + length graph.rounds
 
@@ -59,47 +59,46 @@ end_in graph = graph.floor + length graph.rounds
 abbrev pub count_in : DagView → ℕ → ℕ
 count_in graph round = option_map_or (λ row. count_by is_some row) (if nat_le graph.floor round then slice_get graph.rounds (round - graph.floor) else None) 0
 
--- what the authors weigh who have certificates of a round
+-- the weight of the authors who have certificates of a round
 abbrev pub stake_in : DagView → ℕ → ℕ
 stake_in graph round = weight graph.charter (λ author. is_some (slots_in graph round author))
 
--- the digest of what a slot holds
+-- the digest of the certificate in a slot
 abbrev pub digest_in : DagView → ℕ → ℕ → Option Digest
 digest_in graph round author = option_map (λ c. certificate_digest c.header) (slots_in graph round author)
 
--- the parent that the certificate of a slot names at a place, by its author and digest
+-- the parent at this place in the certificate of a slot, by author and digest
 abbrev pub parent_in : DagView → ℕ → ℕ → ℕ → Option (Author × Digest)
 parent_in graph round author place =
     option_and_then (λ c. option_map (λ (parent : ParentReference). (parent.author, parent.certificate)) (slice_get c.header.parents place)) (slots_in graph round author)
 
--- what is held in a slot has what another one holds as a parent
+-- the certificate in one slot has the certificate in another slot as a parent
 abbrev pub has_parent_in : DagView → ℕ → ℕ → ℕ → ℕ → Bool
 has_parent_in graph round author below parent =
     option_map_or (λ child. option_map_or (λ c. is_parent c child) (slots_in graph below parent) false) (slots_in graph round author) false
 
--- what is held in a slot reaches what another one holds
+-- the certificate in one slot reaches the certificate in another slot
 abbrev pub reaches_in : DagView → ℕ → ℕ → ℕ → ℕ → Bool
 reaches_in graph round author below other =
     option_map_or (λ start. option_map_or (reaches (size_in graph) (slots_in graph) start) (slots_in graph below other) false) (slots_in graph round author) false
 
--- what slots of a round hold, whose authors pass, has what a slot of the round below holds as a parent
+-- the certificate in a slot of the round below is a parent of some certificate of this round whose author passes
 abbrev pub is_parent_of : DagView → ℕ → ℕ → (ℕ → Bool) → ℕ → Bool
 is_parent_of graph round below passes other =
     list_any (λ author. passes author && has_parent_in graph round author below other) (numbers (size_in graph))
 
--- how many references to parents the certificate of a slot names
+-- how many references to parents the certificate in a slot has
 abbrev pub references_at : DagView → ℕ → ℕ → ℕ
 references_at graph round author = option_map_or (λ c. length c.header.parents) (slots_in graph round author) 0
 
--- how many references those of a round name whose authors pass
+-- how many references to parents the certificates of a round have whose authors pass
 abbrev pub references_of : DagView → ℕ → (ℕ → Bool) → ℕ
 references_of graph round passes = sum_by (λ author. cond (passes author) (references_at graph round author) 0) (numbers (size_in graph))
 
--- ---- what holds of each DAG
+-- ---- the invariant of every DAG
 
--- its committee is one, the floor is below the round of the last committed leader, no row is past the greatest round and each has
--- a slot for each member; the certificates are of their slots and of members, none lies below the floor, and the parents of
--- each are held
+-- the committee of a DAG is sound, and the floor is below the base; no row is past the greatest round, and each has a slot for each member;
+-- each certificate is in its slot, is of a member, is at or above the floor, and has its parents held
 pub record IsGraph (graph : DagView) : Type 0 where
   pub charter : IsCharter graph.charter
   pub low : graph.floor < graph.base

@@ -14,31 +14,31 @@ use Rattle.dag.specs.declared.entry.Entry.{Entry}
 abbrev pub Rows : Type 0
 Rows = List (List (Option Entry))
 
--- what is kept of a slot
+-- the entry in a slot
 abbrev pub entry_at : ℕ → Rows → ℕ → ℕ → Option Entry
 entry_at floor rows round author = row_at floor rows round author
 
 abbrev pub placed_of : Entry → Placed
 placed_of entry = record { certificate = entry.certificate; marked = entry.marked }
 
--- what contracts see of what is kept
+-- what contracts see of these rows
 abbrev pub graph_of : Charter → ℕ → ℕ → Rows → DagView
 graph_of charter floor base rows =
     record { charter = charter; floor = floor; base = base; rounds = map (λ row. map (option_map placed_of) row) rows }
 
--- what an author's slot of the round below a certificate's holds is a parent of it
+-- a certificate has the certificate of this author in the round below as a parent
 abbrev pub has_below : Slots → Certificate → ℕ → Bool
 has_below slots certificate author = option_map_or (λ c. is_parent c certificate) (slots (certificate.header.round - 1) author) false
 
--- what is kept of a slot: a certificate of it with its digest, whose parents are held, and above the floor the set of those whose
--- certificates it has as parents
+-- an entry is well formed: its certificate is of this slot, has the entry's digest and held parents, and above the floor the entry's set
+-- has the authors of these parents
 pub record IsEntry (graph : DagView) (round author : ℕ) (entry : Entry) : Type 0 where
   pub place : is_of_slot round author entry.certificate.header ≡ true
   pub digest : entry.digest ≡ certificate_digest entry.certificate.header
   pub held : all_held (slots_in graph) graph.floor entry.certificate.header ≡ true
   pub parents : graph.floor < round → (other : ℕ) → has entry.parents other ≡ has_below (slots_in graph) entry.certificate other
 
--- the whole: each row has a slot for each member, and no round is past the greatest
+-- the rows are well formed: each has a slot for each member, and no round is past the greatest one
 pub record IsKept (charter : Charter) (floor base : ℕ) (rows : Rows) : Type 0 where
   pub valid : IsCharter charter
   pub low : floor < base

@@ -1,4 +1,4 @@
--- What ties a DAG to admission, and what stays as it was where it changes.
+-- How a DAG agrees with admission, and what doesn't change when a DAG changes.
 use Rattle.std.specs.Prelude.{◌≡◌, ◌≤◌, ◌<◌, ℕ, true, [], Ok, Err, is_some}
 use Rattle.spec_model.specs.Admitting.{certificate_answer, order_outputs}
 use Rattle.spec_model.specs.Nodes.{Node}
@@ -12,7 +12,7 @@ use Rattle.dag.specs.Graph.{DagView, IsGraph, size_in, slots_in, reaches_in}
 use Rattle.dag.specs.declared.answers.Added.TheVariants.{New, Known}
 use Rattle.dag.specs.declared.refusal.DagRefusal.TheVariants.{TooOld, CertConflict, DigestClash, MissingParents}
 
--- a node's state answers a certificate as a DAG does
+-- a node's state answers this certificate as the DAG does
 pub record AnswersAlike (node : Node) (now later : State) (graph : DagView) (certificate : Certificate) : Type 0 where
   pub new : answer graph certificate ≡ Ok New → certificate_answer node now later certificate ≡ admission.New (order_outputs now later)
   pub known : answer graph certificate ≡ Ok Known → certificate_answer node now later certificate ≡ admission.Known []
@@ -21,18 +21,18 @@ pub record AnswersAlike (node : Node) (now later : State) (graph : DagView) (cer
   pub clash : answer graph certificate ≡ Err DigestClash → certificate_answer node now later certificate ≡ admission.Refused refusal.DigestClash
   pub missing : answer graph certificate ≡ Err MissingParents → certificate_answer node now later certificate ≡ admission.Refused refusal.MissingParents
 
--- so it does where it has the DAG's floor and certificates
+-- a DAG with the floor and the certificates of a state answers as admission does
 abbrev pub AnswersAsAdmission : Type 0
 AnswersAsAdmission = (node : Node) (now later : State) (graph : DagView) (certificate : Certificate) → graph.floor ≡ floor_in node now → slots_in graph ≡ now.slots
     → AnswersAlike node now later graph certificate
 
--- whom the certificates reach that were held before a new one came
+-- when a certificate is added, the earlier certificates reach what they reached before
 abbrev pub ReachStays : Type 0
 ReachStays = (before after : DagView) (certificate : Certificate) → IsGraph before → certificate.header.author.0 < size_in before → answer before certificate ≡ Ok New
     → IsWith before after certificate → (round author below other : ℕ) → is_some (slots_in before round author) ≡ true
     → reaches_in after round author below other ≡ reaches_in before round author below other
 
--- and those that are still held where nothing below a round is
+-- when everything below a round is dropped, the remaining certificates reach each other as before
 abbrev pub ReachStaysAbove : Type 0
 ReachStaysAbove = (before after : DagView) (low : ℕ) → IsGraph before → IsDropped before after low → (round author below other : ℕ) → low ≤ below
     → reaches_in after round author below other ≡ reaches_in before round author below other

@@ -1,6 +1,6 @@
--- A set without a member.
+-- The empty set of members.
 use Rattle.committee.specs.declared.sets.MemberSet.{MemberSet}
 
--- the set of nobody
+-- the set without a member
 abbrev pub nobody : MemberSet
 nobody = record { bits = 0 }

@@ -1,6 +1,6 @@
-//! What a DAG answers.
+//! What a DAG answers to a certificate.
 
-/// What comes of a certificate that is added.
+/// The answer to a certificate that isn't refused.
 #[derive(Clone, Copy, Debug, PartialEq, Eq)]
 pub enum Added {
     /// It is held from now on.

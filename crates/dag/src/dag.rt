@@ -33,15 +33,15 @@ use wire::{
     header_digest,
 };
 
-/// The certificates that a validator holds, by round and author, each with who its parents are. Whom one reaches further
-/// down is found by walking down from it. Nothing below the floor is held. Contracts see the committee, the floor, the round
-/// of the last committed leader, and what each slot holds, with its mark.
+/// The certificates that a validator holds, by round and author, each with its parents' authors. What a certificate reaches further down is
+/// found by walking down from it. Nothing below the floor is held. Contracts see the committee, the floor, the round of the last committed
+/// leader, and what each slot holds, with its mark.
 pub struct Dag<'a> {
     alloc: Global,
     committee: &'a Committee,
     floor: Round,
     base: Round,
-    // From the floor on.
+    // The first row is the floor's.
     rows: VecDeque<Row>,
 }
 
@@ -68,7 +68,7 @@ impl<'a> Model for Dag<'a> {
     ghost invariant = { λ d. IsKept d.committee.now d.floor d.base d.rows.items };
 }
 
-// The round of a number.
+// The round with this number.
 fn round_of(number: u64) -> Round
     requires { number ≤ MAX }
     ensures { result ≡ number }
@@ -100,7 +100,7 @@ fn same_header(one: &HeaderBody, other: &HeaderBody) -> bool
             && one.parents.as_slice() == other.parents.as_slice())
 }
 
-// What a certificate of this digest is answered where its slot has this one.
+// The answer to a certificate of this digest where its slot holds this entry.
 fn held_answer(
     held: &Entry,
     certificate: &Certificate,
@@ -120,14 +120,14 @@ fn held_answer(
     }
 }
 
-// The set of nobody.
+// The empty set of members.
 fn nobody() -> MemberSet
     ensures { result ≡ nobody }
 {
     MemberSet::none()
 }
 
-// The certificate of the genesis by an author, as it is kept.
+// The genesis certificate of an author, as an entry.
 fn first_entry(alloc: Global, author: Author) -> Entry
     ensures { result ≡ first author.0 }
 {
@@ -139,7 +139,7 @@ fn first_entry(alloc: Global, author: Author) -> Entry
     }
 }
 
-// The row of the genesis.
+// The row of round 0, with the genesis certificates.
 fn first_row(alloc: Global, size: u16) -> Result<Row, AllocError>
     requires { size ≤ MAX_MEMBERS }
     ensures { IfOk result (λ row. row ≡ map (λ author. Some (first author)) (numbers size)) }
@@ -152,7 +152,7 @@ fn first_row(alloc: Global, size: u16) -> Result<Row, AllocError>
 }
 
 impl<'a> Dag<'a> {
-    /// A DAG with the certificates of the genesis. `AllocError` where an allocation failed.
+    /// A DAG with the genesis certificates. On `AllocError` an allocation failed.
     pub fn new(alloc: Global, committee: &'a Committee) -> Result<Dag<'a>, AllocError>
         ensures charter { IfOk result (λ dag. dag.charter ≡ committee.now) }
         ensures floor { IfOk result (λ dag. dag.floor ≡ 0) }
@@ -174,8 +174,7 @@ impl<'a> Dag<'a> {
         })
     }
 
-    /// A DAG with nothing in it that begins with a round above the genesis. The round of the last committed leader is taken as
-    /// the next one.
+    /// An empty DAG with a floor above 0. The round after the floor is taken as that of the last committed leader.
     pub fn above(alloc: Global, committee: &'a Committee, floor: Round) -> Dag<'a>
         requires positive { 0 < floor }
         requires limit { floor < MAX }
@@ -191,7 +190,7 @@ impl<'a> Dag<'a> {
         }
     }
 
-    /// Holds a certificate from now on, if it is a new one. It computes its digest, and does what `add_digested` does.
+    /// Adds a certificate, if it is new. It computes the certificate's digest, and then does what `add_digested` does.
     pub fn add(&mut self, certificate: Certificate) -> Result<Added, DagRefusal>
         requires member { certificate.header.author.0 < length self.old.charter.keys }
         requires named { 0 < length certificate.header.parents }
@@ -206,10 +205,10 @@ impl<'a> Dag<'a> {
         self.add_digested(certificate, digest)
     }
 
-    /// Holds a certificate of this digest from now on, if it is a new one. It is a member's, and names a parent.
+    /// Adds a certificate with this digest, if it is new. It is of a member, and names at least one parent.
     ///
     /// # Errors
-    /// What `answer` answers; or `Memory` in place of New, where an allocation failed. They change nothing.
+    /// The refusals of `answer`; or `Memory` where the answer would be New and an allocation failed. None changes anything.
     pub fn add_digested(
         &mut self,
         certificate: Certificate,
@@ -231,7 +230,7 @@ impl<'a> Dag<'a> {
         Ok(answer)
     }
 
-    /// What comes of a certificate of this digest: New, or Known where it is held.
+    /// The answer to a certificate with this digest: New, or Known where it is held already.
     ///
     /// # Errors
     /// The first that applies: `TooOld` where its round is low, `CertConflict` where its slot holds a certificate of another
@@ -251,7 +250,7 @@ impl<'a> Dag<'a> {
         }
     }
 
-    // What comes of a certificate with this header whose slot holds nothing.
+    // The answer to a certificate with this header whose slot holds nothing.
     fn free_answer(&self, header: &HeaderBody) -> Result<Added, DagRefusal>
         ensures { result ≡ (if not (all_held (slots_in self.now) self.now.floor header.now) then Err DagRefusal.MissingParents else Ok Added.New) }
     {
@@ -262,14 +261,14 @@ impl<'a> Dag<'a> {
         }
     }
 
-    /// Whether a round is low, so that no certificate of it is taken: that of the genesis, or one at or below a floor above 0.
+    /// Whether a round is low, so that no certificate of it is added: round 0, or a round at or below a floor above 0.
     pub fn is_low(&self, round: Round) -> bool
         ensures { result ≡ is_low self.now.floor round }
     {
         is_low(self.floor, round)
     }
 
-    /// Whether all parents of a header are held. At or below a floor above 0 none is asked for.
+    /// Whether all parents of a header are held. Parents at or below a floor above 0 count as held.
     pub fn has_parents(&self, header: &HeaderBody) -> bool
         ensures { result ≡ all_held (slots_in self.now) self.now.floor header.now }
     {
@@ -278,8 +277,7 @@ impl<'a> Dag<'a> {
             || rows::are_there(&self.rows, self.floor, below, header.parents.as_slice())
     }
 
-    /// Holds a certificate of this digest, which is new, from now on. `AllocError` where an allocation failed: nothing has
-    /// changed then.
+    /// Adds a new certificate with this digest. On `AllocError` an allocation failed, and nothing has changed.
     pub fn hold(&mut self, certificate: Certificate, digest: Digest) -> Result<(), AllocError>
         requires member { certificate.header.author.0 < length self.old.charter.keys }
         requires named { 0 < length certificate.header.parents }
@@ -292,9 +290,9 @@ impl<'a> Dag<'a> {
         self.place(certificate, digest)
     }
 
-    /// Holds a certificate of this digest from now on: of a DAG that is restored, into which certificates come in the order of
-    /// their rounds. None is held of a later round. At or below a floor above 0 no parent is asked for. `AllocError` where an allocation
-    /// failed: nothing has changed then.
+    /// Adds a certificate with this digest to a DAG that is being restored. Certificates come in the order of their rounds, so none of a
+    /// later round is held yet. Parents at or below a floor above 0 count as held. On `AllocError` an allocation failed, and nothing has
+    /// changed.
     pub fn restore(&mut self, certificate: Certificate, digest: Digest) -> Result<(), AllocError>
         requires member { certificate.header.author.0 < length self.old.charter.keys }
         requires named { 0 < length certificate.header.parents }
@@ -311,8 +309,8 @@ impl<'a> Dag<'a> {
         self.place(certificate, digest)
     }
 
-    // Holds a certificate of this digest in a slot that holds nothing. Its parents are held, and nothing that is held names it
-    // as a parent.
+    // Puts a certificate with this digest into a slot that holds nothing. Its parents are held, and no held certificate names it as a
+    // parent.
     fn place(&mut self, certificate: Certificate, digest: Digest) -> Result<(), AllocError>
         requires member { certificate.header.author.0 < length self.old.charter.keys }
         requires named { 0 < length certificate.header.parents }
@@ -339,7 +337,7 @@ impl<'a> Dag<'a> {
         Ok(())
     }
 
-    // The row of a certificate, counted from the floor, and its author.
+    // The row of a certificate, counted from the floor's, and its author.
     fn slot_of(&self, certificate: &Certificate) -> (usize, Author)
         requires { self.now.floor ≤ certificate.now.header.round }
         ensures value { result ≡ (certificate.now.header.round - self.now.floor, certificate.now.header.author) }
@@ -351,7 +349,7 @@ impl<'a> Dag<'a> {
         (place as usize, header.author)
     }
 
-    // The authors of a certificate's parents that are held.
+    // The authors of those parents of a certificate that are held.
     fn held_parents(&self, certificate: &Certificate) -> MemberSet
         requires { 0 < certificate.now.header.round }
         ensures { (author : ℕ) → has result author ≡ has_below (slots_in self.now) certificate.now author }
@@ -365,7 +363,7 @@ impl<'a> Dag<'a> {
         )
     }
 
-    /// What a slot holds.
+    /// The certificate in a slot.
     pub fn get(&self, round: Round, author: Author) -> Option<&Certificate>
         ensures { option_copied result ≡ slots_in self.now round author.0 }
     {
@@ -375,8 +373,7 @@ impl<'a> Dag<'a> {
         }
     }
 
-    /// The certificate at a place, from 0 on, in the order of the rounds and of the authors of each. None from the number of
-    /// certificates on.
+    /// The certificate at a place, counted from 0, in the order of rounds and then authors. None from the number of certificates on.
     pub fn nth(&self, place: usize) -> Option<&Certificate>
         ensures { option_copied result ≡ slice_get (certificates_in self.now) place }
     {
@@ -386,7 +383,7 @@ impl<'a> Dag<'a> {
         }
     }
 
-    /// The digest of what a slot holds.
+    /// The digest of the certificate in a slot.
     pub fn digest(&self, round: Round, author: Author) -> Option<&Digest>
         ensures { option_copied result ≡ digest_in self.now round author.0 }
     {
@@ -396,7 +393,7 @@ impl<'a> Dag<'a> {
         }
     }
 
-    /// Whether what a slot holds is marked.
+    /// Whether the certificate in a slot is marked.
     pub fn is_marked(&self, round: Round, author: Author) -> bool
         ensures { result ≡ marked_in self.now round author.0 }
     {
@@ -416,14 +413,14 @@ impl<'a> Dag<'a> {
         }
     }
 
-    /// The round after the last that has a row: no certificate of it or of a later one is held.
+    /// The round after the last row: no certificate of it or of a later round is held.
     pub fn end(&self) -> u64
         ensures { result ≡ end_in self.now }
     {
         self.floor.number() + self.rows.len() as u64
     }
 
-    /// The lowest round that is kept.
+    /// The floor: the lowest round that is kept.
     pub fn floor(&self) -> Round
         ensures { result ≡ self.now.floor }
     {
@@ -457,15 +454,15 @@ impl<'a> Dag<'a> {
         authors
     }
 
-    /// What the authors weigh who have certificates of a round.
+    /// The weight of the authors who have certificates of a round.
     pub fn stake_at(&self, round: Round) -> u64
         ensures { result ≡ stake_in self.now round }
     {
         self.committee.weight(&self.authors_at(round))
     }
 
-    /// The parent that what a slot holds names at a place, by its author and digest. Where there is one, it is read; a full
-    /// count stays.
+    /// The parent at this place in the certificate of a slot, by author and digest. If there is one, it counts as read; the count stays at
+    /// its greatest number.
     pub fn parent(
         &self,
         round: Round,
@@ -482,14 +479,14 @@ impl<'a> Dag<'a> {
         Some((parent.author, parent.certificate))
     }
 
-    /// The authors whose certificates what a slot holds has as parents.
+    /// The authors of the parents of the certificate in a slot.
     pub fn parents(&self, round: Round, author: Author) -> MemberSet
         ensures { (member : ℕ) → has result member ≡ has_parent_in self.now round author.0 (round - 1) member }
     {
         rows::parents(&self.rows, self.floor, round.number(), author)
     }
 
-    // How many references to parents what a slot holds names.
+    // How many references to parents the certificate in a slot has.
     fn references(&self, round: Round, author: Author) -> u64
         ensures value { result ≡ references_at self.now round author.0 }
         ensures few { result ≤ MAX_PARENTS }
@@ -500,7 +497,7 @@ impl<'a> Dag<'a> {
         }
     }
 
-    // The same as `parents`. All references in what the slot holds count as read.
+    // As `parents`; all references of the certificate count as read.
     fn read_parents(&self, round: Round, author: Author, reads: &mut Reads) -> MemberSet
         requires { reads.old + MAX_PARENTS < 2 ^ 64 }
         ensures parents { (member : ℕ) → has result member ≡ has_parent_in self.now round author.0 (round - 1) member }
@@ -511,8 +508,8 @@ impl<'a> Dag<'a> {
         self.parents(round, author)
     }
 
-    /// The authors whose certificates are parents of what slots of a round hold, of these authors. All references in those
-    /// count as read. This is one step down.
+    /// The authors of the parents of the certificates that these authors have in a round. All references of these certificates count as
+    /// read. This is one step down.
     pub fn parents_of(&self, round: Round, authors: &MemberSet, reads: &mut Reads) -> MemberSet
         requires { reads.old + MAX_ROUND_REFERENCES < 2 ^ 64 }
         ensures parents { (other : ℕ) → has result other ≡ is_parent_of self.now round (round - 1) (has authors.now) other }
@@ -528,7 +525,7 @@ impl<'a> Dag<'a> {
         parents
     }
 
-    // The author alone, where the slot holds something.
+    // The author alone, where the slot holds a certificate; otherwise nobody.
     fn itself(&self, round: Round, author: Author) -> MemberSet
         ensures { (member : ℕ) → has result member ≡ reaches_in self.now round author.0 round member }
     {
@@ -540,7 +537,7 @@ impl<'a> Dag<'a> {
         authors
     }
 
-    /// The authors of a round up to its own whose certificates what a slot holds reaches. It walks down to that round.
+    /// The authors whose certificates of the round `below` are reached from the certificate in a slot. It walks down to that round.
     pub fn reached(&self, round: Round, author: Author, below: Round) -> MemberSet
         requires { below ≤ round }
         ensures { (member : ℕ) → has result member ≡ reaches_in self.now round author.0 below member }
@@ -555,14 +552,14 @@ impl<'a> Dag<'a> {
         authors
     }
 
-    // Whether what a slot holds has what this author's holds as a parent.
+    // Whether the certificate in a slot has this author's certificate of the round below as a parent.
     fn has_parent(&self, round: u64, author: Author, parent: Author) -> bool
         ensures { result ≡ has_parent_in self.now round author.0 (round - 1) parent.0 }
     {
         rows::parents(&self.rows, self.floor, round, author).contains(parent)
     }
 
-    /// The supporters of what a slot holds: those whose certificates of the next round have it as a parent.
+    /// The supporters of the certificate in a slot: the authors whose certificates of the next round have it as a parent.
     pub fn supporters(&self, round: Round, author: Author) -> MemberSet
         ensures { (member : ℕ) → has result member ≡ has_parent_in self.now (round + 1) member round author.0 }
     {
@@ -582,7 +579,7 @@ impl<'a> Dag<'a> {
         rows::unmarked(&self.rows, self.floor, round.number())
     }
 
-    /// Marks what the slots of these authors of a round hold. It takes no memory.
+    /// Marks the certificates that these authors have in a round. The call allocates no memory.
     pub fn mark(&mut self, round: Round, authors: &MemberSet)
         ensures { IsMarked self.old self.new round (has authors.now) }
     {
@@ -594,8 +591,8 @@ impl<'a> Dag<'a> {
         rows::mark(&mut self.rows, (number - floor) as usize, authors);
     }
 
-    /// Holds nothing below a round from now on, if the round is below that of the last committed leader. Of another round
-    /// nothing changes. It takes no memory.
+    /// Drops everything below a round, if the round is below that of the last committed leader; otherwise it changes nothing. The call
+    /// allocates no memory.
     pub fn drop_below(&mut self, round: Round)
         ensures below { round < self.old.base → IsDropped self.old self.new round }
         ensures other { self.old.base ≤ round → self.new ≡ self.old }
@@ -613,7 +610,7 @@ impl<'a> Dag<'a> {
         self.floor = round;
     }
 
-    /// Takes a round as that of the last committed leader, unless one above it was.
+    /// Notes a round as that of the last committed leader, unless a higher one was noted already.
     pub fn commit_to(&mut self, round: Round)
         ensures { self.new ≡ record self.old { base = max self.old.base round } }
     {
@@ -622,8 +619,8 @@ impl<'a> Dag<'a> {
         }
     }
 
-    /// What holds of each DAG: its committee is one, the floor is below the round of the last committed leader, nothing below
-    /// it is held, the certificates are of their slots and of members, and have their parents held. The call does nothing.
+    /// What holds of every DAG: its committee is sound; the floor is below the round of the last committed leader; nothing below the floor
+    /// is held; each certificate is in its slot, is of a member, and has its parents held. The call does nothing.
     pub fn limits_hold(&self)
         ensures { IsGraph self.now }
     {

@@ -1,18 +1,18 @@
-//! What ties a DAG to admission, and what stays where it changes. The calls do nothing: each one's contract is a law.
+//! How a DAG agrees with admission, and what doesn't change when a DAG changes. The calls do nothing: each one's contract is a law.
 
 ghost use Rattle.dag.specs.Laws.{AnswersAsAdmission, ReachStays, ReachStaysAbove};
 
-/// A node's state that has the floor and the certificates of a DAG answers a certificate as the DAG does.
+/// A node's state with the floor and the certificates of a DAG answers a certificate as the DAG does.
 pub fn answers_as_admission()
     ensures { AnswersAsAdmission }
 {}
 
-/// What is held reaches the same where a certificate enters.
+/// When a certificate is added, the earlier certificates reach what they reached before.
 pub fn reach_stays()
     ensures { ReachStays }
 {}
 
-/// What is still held reaches the same of what is still held where nothing below a round is.
+/// When everything below a round is dropped, the remaining certificates reach each other as before.
 pub fn reach_stays_above()
     ensures { ReachStaysAbove }
 {}

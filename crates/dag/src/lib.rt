@@ -1,5 +1,5 @@
-//! The certificates that a validator holds, by round and author: who reaches whom, and which of them lie in the history
-//! of a committed leader.
+//! The certificates that a validator holds, by round and author: which reach which, and which of them lie in the history of a committed
+//! leader.
 #![tactic(auto)]
 
 mod answers;

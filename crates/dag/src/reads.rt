@@ -1,4 +1,4 @@
-//! Counts of what was read.
+//! Counting the references to parents that were read.
 
 ghost use Rattle.std.specs.Prelude.{◌≡◌, ◌+◌, ◌-◌, ◌<◌, ◌^◌, min};
 
@@ -6,10 +6,10 @@ use committee::MAX_MEMBERS;
 use std::marker::Model;
 use wire::MAX_PARENTS;
 
-/// The references to parents, in number, that the certificates of a round have at most: each member has one certificate there.
+/// The greatest number of references to parents in one round: each member has at most one certificate there.
 pub const MAX_ROUND_REFERENCES: u64 = MAX_MEMBERS as u64 * MAX_PARENTS as u64;
 
-/// How many references to parents were read. Contracts see it as that number.
+/// How many references to parents were read. Contracts see this as a number.
 #[derive(Debug, Drop, PartialEq, Eq)]
 pub struct Reads {
     number: u64,
@@ -26,7 +26,7 @@ impl Model for Reads {
 }
 
 impl Reads {
-    /// None was read.
+    /// No reference was read.
     pub fn new() -> Reads
         ensures { result ≡ 0 }
     {

@@ -12,13 +12,13 @@ pub enum DagRefusal {
     /// An allocation failed.
     #[error("1 Memory")]
     Memory,
-    /// Its round is the genesis', or at or below a floor above 0.
+    /// The certificate's round is 0, or at or below a floor above 0.
     #[error("2 TooOld")]
     TooOld,
-    /// Another certificate is held in its slot.
+    /// A certificate of another digest is held in its slot.
     #[error("3 CertConflict")]
     CertConflict,
-    /// One of its digest with another header is held in its slot.
+    /// A certificate of the same digest with another header is held in its slot.
     #[error("4 DigestClash")]
     DigestClash,
     /// A parent isn't held.

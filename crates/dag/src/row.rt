@@ -1,4 +1,4 @@
-//! What is kept of one round.
+//! What a DAG keeps of one round.
 
 ghost use Rattle.std.specs.Prelude.{◌≡◌, ℕ, ◌<◌, ◌^◌, length, None, Some, false, IfOk, is_some, count_by, option_copied, option_map, slice_get, slice_set, replicate};
 ghost use Rattle.committee.specs.Sets.{has};
@@ -12,11 +12,11 @@ use std::alloc::{AllocError, Global};
 use std::marker::Model;
 use wire::Author;
 
-/// What is kept of one round: a slot for each member.
+/// One round: a slot for each member.
 #[derive(Drop)]
 pub struct Row {
     slots: Vec<Option<Entry>>,
-    // Whose certificates have no mark.
+    // The authors whose certificates aren't marked.
     unmarked: MemberSet,
 }
 
@@ -40,7 +40,7 @@ fn mark(slot: &mut Option<Entry>)
     }
 }
 
-// What is held at a place, from 0 on, in the order of the slots.
+// The entry at a place among the filled slots, counted from 0.
 fn nth_held(slots: &[Option<Entry>], place: usize) -> Option<&Entry>
     ensures { option_copied result ≡ slice_get (held_in slots.now) place }
 {
@@ -57,7 +57,7 @@ fn nth_held(slots: &[Option<Entry>], place: usize) -> Option<&Entry>
 }
 
 impl Row {
-    /// A row without a certificate, of so many members.
+    /// A row of this many members, without a certificate.
     pub(crate) fn empty(alloc: Global, size: usize) -> Result<Row, AllocError>
         ensures { IfOk result (λ row. row ≡ replicate size None) }
     {
@@ -71,7 +71,7 @@ impl Row {
         })
     }
 
-    /// What is kept of an author.
+    /// The entry of an author.
     pub(crate) fn get(&self, author: u16) -> Option<&Entry>
         ensures { option_copied result ≡ slot_at self.now author }
     {
@@ -81,7 +81,7 @@ impl Row {
         }
     }
 
-    /// Keeps a certificate of an author, which has no mark.
+    /// Sets the entry of an author, whose certificate isn't marked.
     pub(crate) fn set(&mut self, author: u16, entry: Entry)
         requires within { author < length self.old }
         requires member { author < MAX_MEMBERS }
@@ -92,7 +92,7 @@ impl Row {
         self.unmarked.insert(Author(author));
     }
 
-    /// The authors whose certificates have no mark.
+    /// The authors whose certificates aren't marked.
     pub(crate) fn unmarked(&self) -> MemberSet
         ensures { (author : ℕ) → has result author ≡ is_unmarked self.now author }
     {
@@ -112,14 +112,14 @@ impl Row {
         self.unmarked.remove_all(authors);
     }
 
-    /// What is kept at a place, from 0 on, in the order of the authors.
+    /// The entry at a place, counted from 0, in the order of the authors.
     pub(crate) fn nth(&self, place: usize) -> Option<&Entry>
         ensures { option_copied result ≡ slice_get (held_in self.now) place }
     {
         nth_held(self.slots.as_slice(), place)
     }
 
-    /// How many certificates there are.
+    /// How many certificates the row has.
     pub(crate) fn count(&self) -> usize
         ensures { result ≡ count_by is_some self.now }
     {

@@ -25,7 +25,7 @@ pub(crate) fn row(rows: &VecDeque<Row>, floor: Round, round: u64) -> Option<&Row
     rows.get((round - floor.number()) as usize)
 }
 
-/// What is kept of a round and author.
+/// The entry of a slot.
 pub(crate) fn entry(
     rows: &VecDeque<Row>,
     floor: Round,
@@ -40,7 +40,7 @@ pub(crate) fn entry(
     }
 }
 
-/// What is kept at a place, from 0 on, in the order of the rows and of the authors of each.
+/// The entry at a place, counted from 0, in the order of the rows and then of the authors.
 pub(crate) fn nth(rows: &VecDeque<Row>, place: usize) -> Option<&Entry>
     ensures { option_copied result ≡ slice_get (flat_map held_in rows.now.items) place }
 {
@@ -56,7 +56,7 @@ pub(crate) fn nth(rows: &VecDeque<Row>, place: usize) -> Option<&Entry>
     None
 }
 
-/// The authors whose certificates of a round have no mark.
+/// The authors whose certificates of a round aren't marked.
 pub(crate) fn unmarked(rows: &VecDeque<Row>, floor: Round, round: u64) -> MemberSet
     ensures { (author : ℕ) → has result author ≡ option_map_or (λ entry. not entry.marked) (row_at floor rows.now.items round author) false }
 {
@@ -66,7 +66,7 @@ pub(crate) fn unmarked(rows: &VecDeque<Row>, floor: Round, round: u64) -> Member
     }
 }
 
-// So many rows without a certificate.
+// So many rows without certificates.
 fn empty_rows(alloc: Global, size: usize, count: usize) -> Result<VecDeque<Row>, AllocError>
     ensures { IfOk result (λ rows. rows.items ≡ replicate count (replicate size None)) }
 {
@@ -77,7 +77,7 @@ fn empty_rows(alloc: Global, size: usize, count: usize) -> Result<VecDeque<Row>,
     Ok(rows)
 }
 
-/// Makes rows up to a place.
+/// Adds rows until there is one at this place.
 pub(crate) fn extend(
     alloc: Global,
     rows: &mut VecDeque<Row>,
@@ -97,7 +97,7 @@ pub(crate) fn extend(
     Ok(())
 }
 
-/// Keeps a certificate in a slot, without a mark.
+/// Puts an entry into a slot, without a mark.
 pub(crate) fn put(rows: &mut VecDeque<Row>, place: usize, author: Author, entry: Entry)
     requires row { place < length rows.old.items }
     requires slot { author.0 < length (get_or rows.old.items place []) }
@@ -108,7 +108,7 @@ pub(crate) fn put(rows: &mut VecDeque<Row>, place: usize, author: Author, entry:
     rows[place].set(author.0, entry);
 }
 
-/// Marks the certificates of these authors in a row, if there is one.
+/// Marks the certificates of these authors in the row at a place, if there is one.
 pub(crate) fn mark(rows: &mut VecDeque<Row>, place: usize, authors: &MemberSet)
     requires { All (λ row. length row ≤ 32) rows.old.items }
     ensures { rows.new.items ≡ marked_rows rows.old.items place (has authors.now) }
@@ -118,7 +118,7 @@ pub(crate) fn mark(rows: &mut VecDeque<Row>, place: usize, authors: &MemberSet)
     }
 }
 
-// Whether this is what a header names as a parent.
+// Whether a parent reference names the certificate of this entry.
 fn is_named(held: Option<&Entry>, parent: &ParentReference) -> bool
     ensures { result ≡ names (option_copied held.entry) parent.now }
 {
@@ -128,7 +128,7 @@ fn is_named(held: Option<&Entry>, parent: &ParentReference) -> bool
     }
 }
 
-// Puts the author of a parent into a set, if it is kept.
+// Adds the author of a parent to a set, if the parent is in this entry.
 fn add_kept(held: Option<&Entry>, parent: &ParentReference, authors: &mut MemberSet)
     requires { names (option_copied held) parent.now ≡ true → parent.now.author.0 < MAX_MEMBERS }
     ensures { (author : ℕ) → has authors.new author ≡ (has authors.old author || (names (option_copied held.entry) parent.now && (author == parent.now.author.0))) }
@@ -138,7 +138,7 @@ fn add_kept(held: Option<&Entry>, parent: &ParentReference, authors: &mut Member
     }
 }
 
-/// The authors of those parents of a header that are kept in the round below.
+/// The authors of those parents of a header that are in the round below.
 pub(crate) fn authors_of(
     rows: &VecDeque<Row>,
     floor: Round,
@@ -159,7 +159,7 @@ pub(crate) fn authors_of(
     authors
 }
 
-/// Whether all parents are kept in the round below.
+/// Whether all parents are in the round below.
 pub(crate) fn are_there(
     rows: &VecDeque<Row>,
     floor: Round,
@@ -171,7 +171,7 @@ pub(crate) fn are_there(
     parents.iter().all(|parent| is_named(entry(rows, floor, below, parent.author), parent))
 }
 
-/// The authors of the parents of what is kept of a round and author. At the floor, below which nothing is held, it has none.
+/// The authors of the parents of the entry in a slot. There are none at the floor, below which nothing is held.
 pub(crate) fn parents(rows: &VecDeque<Row>, floor: Round, round: u64, author: Author) -> MemberSet
     ensures { (parent : ℕ) → has result parent ≡ (nat_lt floor round && option_map_or (λ entry. has entry.parents parent) (row_at floor rows.now.items round author.0) false) }
 {
@@ -184,7 +184,7 @@ pub(crate) fn parents(rows: &VecDeque<Row>, floor: Round, round: u64, author: Au
     }
 }
 
-/// Takes out so many rows from the front.
+/// Removes so many rows from the front.
 pub(crate) fn drop_front(rows: &mut VecDeque<Row>, count: usize)
     ensures { rows.new.items ≡ drop count rows.old.items }
 {

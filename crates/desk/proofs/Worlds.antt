@@ -257,7 +257,8 @@ record Begins {D : Type 0} (node : Node) (world : World) (history : History) (jo
   is : next ≡ run_on step.disks history next.given
   beside : IsSome (spare_of journal) → IsBeside next journal
 
-begins_beside : {D : Type 0} (node : Node) (world : World) (moves : List Move) (history : History) (journal : Journal D) (spare : Option (JournalSpare D)) → spare_of journal ≡ spare → generation_in journal < 2 ^ 64
+begins_beside : {D : Type 0} (node : Node) (world : World) (moves : List Move) (history : History) (journal : Journal D) (spare : Option (JournalSpare D))
+    → spare_of journal ≡ spare → generation_in journal < 2 ^ 64
     → IsNode node → (IsSome (spare_of journal) → AreKeys node × HistoriesBeginOnTwo) → IsRun node moves world → IsFoundAgain node world history → Begins node world history journal
 begins_beside node world moves history journal None one small sound keys run again =
     let there = runs_begin_with_what_stands node moves world (areas_in world) history sound run (stops_are_possible node moves world sound run) again.recovered again.stands in
@@ -323,7 +324,8 @@ module _ {S D : Type 0} (node : Node) (device : Device D) where
       let all : world.began ++ world.accepted ≡ history = ap (λ (w : World). w.began ++ w.accepted) same ∙ append-nil history in
       opened_at before desk sound opened moves world run on history (subst (IsLegal node) all (nothing_taken_back node moves world sound run).in_order.legal) is same beside
 
-  restarts : (before : Areas) (desk : DeskView S D) → IsNode node → (IsPair before → AreKeys node × HistoriesBeginOnTwo) → IsOpened node device before desk → (moves : List Move) (world : World) → IsRun node moves world
+  restarts : (before : Areas) (desk : DeskView S D) → IsNode node → (IsPair before → AreKeys node × HistoriesBeginOnTwo) → IsOpened node device before desk
+      → (moves : List Move) (world : World) → IsRun node moves world
       → (history : History) → decoded_in node before ≡ Ok (kept_in node history) → IsFoundAgain node world history → LeadsTo node device world (restart (areas_in world) ∷ []) desk
   restarts before desk sound keys opened moves world run history is again =
       let there = begins_beside node world moves history desk.journal (spare_of desk.journal) refl opened.generation sound (λ some. keys (two_areas before desk.journal opened.disks some)) run again in

@@ -1,4 +1,4 @@
--- A node with one owner: what contracts see of it, and of which run it is.
+-- A node with one owner: what contracts see of it, and to which run it belongs.
 use Rattle.std.specs.Prelude.{◌≡◌, ◌≢◌, ◌⊎◌, ◌<◌, ◌^◌, ℕ, false, List, [], None, Ok}
 use Rattle.diskmodel.specs.Disk.{Device}
 use Rattle.book.specs.Book as book
@@ -17,40 +17,41 @@ use Rattle.spec_model.specs.Nodes.{Node}
 use Rattle.spec_model.specs.States.{State}
 use Rattle.desk.specs.Disks.{AreReadAs, MayLeave, IsOnAsMany}
 
--- its book and its journal
+-- what contracts see of a desk: its book and its journal
 pub record DeskView (S D : Type 0) : Type 0 where
   pub book : book.BookView S
   pub journal : Journal D
 
--- while it is up, its journal can be added to and has its first group, and no group is in flight
+-- while the desk is up, its journal can be appended to and has its first group, and no group is in flight
 pub record IsSound {S D : Type 0} (device : Device D) (desk : DeskView S D) : Type 0 where
   pub alive : desk.book.down ≡ false → IsAlive device desk.journal
   pub begun : desk.book.down ≡ false → HasBegun device desk.journal
   pub settled : desk.book.down ≡ false → desk.book.taken ≡ desk.book.settled
 
--- the state after all that a run took
+-- the state after all events that a run took
 abbrev pub taken_in : Node → book.Run → State
 taken_in node run = after_all node run.base run.taken
 
--- while it is up, its disks have the node's configuration and are read as the state after what is settled, which is all that was taken
+-- while the desk is up, its disks have the node's configuration and decode to the state after the settled events, which are all that were
+-- taken
 pub record IsUp {D : Type 0} (node : Node) (device : Device D) (run : book.Run) (journal : Journal D) : Type 0 where
   pub configured : stands (device.content (disk_of journal)) ≢ Ok []
   pub read_as : AreReadAs node (areas_of device journal) (book.settled_in node run)
   pub settled : run.taken ≡ run.settled
 
--- whatever a stop leaves of its disks is read as the state after what is settled, or after all that was taken
+-- whatever a stop leaves of its disks decodes to the state after the settled events, or after all that were taken
 abbrev pub IsLeft : {D : Type 0} → Node → Device D → book.Run → Journal D → Type 0
 IsLeft node device run journal = (areas : Areas) → MayLeave device journal areas → AreReadAs node areas (book.settled_in node run) ⊎ AreReadAs node areas (taken_in node run)
 
--- A desk is that of a run: the book stands there, and the disks have what is settled. Where it went down, a stop leaves that, or what was in
--- flight too.
+-- A desk belongs to a run: the book stands there, and the disks have what is settled. After the desk went down a stop may leave that with
+-- or without what was in flight.
 pub record IsOf {S D : Type 0} (node : Node) (device : Device D) (run : book.Run) (desk : DeskView S D) : Type 0 where
   pub stands_at : book.Stands node run desk.book
   pub up : desk.book.down ≡ false → IsUp node device run desk.journal
   pub left : IsLeft node device run desk.journal
 
--- it was opened on these areas: it is that of a run that begins with what they are told as, on as many disks, nothing waits, and no rewriting
--- is in flight
+-- a desk was opened on these areas: its run begins with the state that they decode to, on as many disks, with no output waiting and no
+-- rewriting in flight
 pub record IsOpened {S D : Type 0} (node : Node) (device : Device D) (before : Areas) (desk : DeskView S D) : Type 0 where
   pub state : State
   pub told_first : decoded_in node before ≡ Ok state
@@ -63,8 +64,9 @@ pub record IsOpened {S D : Type 0} (node : Node) (device : Device D) (before : A
   pub rewriting : desk.book.rewriting ≡ None
   pub is_of : IsOf node device (book.run_on state) desk
 
--- It was not opened on one disk: the error is what the bytes are told as, unless memory or the disk failed; and what a stop leaves is told as one
--- outcome from before, and is one byte for byte, or has the records of one, or where these are none the configuration alone.
+-- One disk could not be opened: the error is the one that its bytes decode to, unless an allocation or the disk failed. What a stop leaves
+-- decodes to what an outcome from before does, and is one byte for byte, or has the records of one, or only the configuration where these
+-- are none.
 pub record IsNotOpened (node : Node) (error : JournalError) (before : List ℕ) (possible outcome : List ℕ → Type 0) : Type 0 where
   pub tells : error ≢ errors.Device → Tells error (decoded node before)
   pub never_full : error ≢ Full

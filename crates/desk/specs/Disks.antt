@@ -1,4 +1,4 @@
--- What the disks of a journal are read as, and what a stop may leave of them.
+-- What the disks of a journal decode to, and what a stop may leave of them.
 use Rattle.std.specs.Prelude.{◌≡◌, ℕ, List, Some, None, Ok, IsSome}
 use Rattle.diskmodel.specs.Disk.{Device}
 use Rattle.journal.specs.Areas.{Areas, alone, pair, pair_of}
@@ -20,7 +20,7 @@ pub record AreHeld (node : Node) (areas : Areas) (state : State) : Type 0 where
   pub holds : Holds node areas state
   pub newest : IsNewest areas
 
--- areas are read as this state: one is told as it, and two are a journal of the node at it
+-- areas are read as this state: one area decodes to it, and two are a journal of the node at it
 abbrev pub AreReadAs : Node → Areas → State → Type 0
 AreReadAs node (alone bytes) state = decoded node bytes ≡ Ok state
 AreReadAs node (pair first second) state = AreHeld node (pair first second) state
@@ -31,18 +31,18 @@ pub data MayLeave {D : Type 0} (device : Device D) (journal : Journal D) (areas 
   of_two : (spare : Spare D) (live other : List ℕ) → spare_of journal ≡ Some spare → device.outcome (disk_of journal) live → device.outcome spare.disk other
       → areas ≡ pair_of spare.side live other → MayLeave device journal areas
 
--- a stop may leave these areas of disks that aren't open
+-- a stop may leave these areas of disks that aren't opened as a journal
 abbrev pub Leaves : {D : Type 0} → Device D → Store D → Areas → Type 0
 Leaves device (One disk) (alone left) = device.outcome disk left
 Leaves device (Two first second) (pair one other) = device.outcome first one × device.outcome second other
 Leaves device store areas = ⊥
 
--- a journal is on as many disks as these areas are of
+-- a journal is on as many disks as there are areas
 abbrev pub IsOnAsMany : {D : Type 0} → Areas → Journal D → Type 0
 IsOnAsMany (alone bytes) journal = spare_of journal ≡ None
 IsOnAsMany (pair one other) journal = IsSome (spare_of journal)
 
--- the machine of these disks stopped: a read gives what that left, and what may be left is what might have been
+-- the machine of these disks stopped: a read gives what the stop left, which is an outcome from before it, and there are no new outcomes
 pub record HaveStopped {D : Type 0} (device : Device D) (before later : Store D) : Type 0 where
   pub content : Leaves device before (areas_in device later)
   pub outcomes : (areas : Areas) → Leaves device later areas → Leaves device before areas

@@ -14,7 +14,7 @@ use std::marker::Model;
 use validator::{Config, Refusal, Validator};
 use wire::{Digest, Header, Output};
 
-/// A node with one owner: a book, and the journal to which its records go. It answers at once, and nothing waits.
+/// A node with one owner: a book, and the journal to which its records go. Its calls return at once and never wait for another thread.
 pub struct Desk<'a, S: Sign, D: Disk> {
     book: OwnBook<'a, S>,
     journal: Journal<D>,
@@ -82,11 +82,11 @@ impl<'a, S: Sign, D: Disk> Desk<'a, S, D> {
         ensures setting { IfOk result (λ desk. desk.book.validator.setting ≡ config.now) }
         ensures ok { IfOk result (λ desk. IsOpened (node_of S.scheme config.now) D.device (alone (D.device.content disk)) desk) }
         ensures err { IfErr result (λ failed. IsNotOpened (node_of S.scheme config.now) failed.error (D.device.content disk) (D.device.outcome disk) (D.device.outcome failed.disk)) }
-        // Take a world in which a run has just begun with some history. If the disk is read as what is kept of that, the desk stands in
-        // this world. Each legal history begins some run.
+        // Take any world in which a run has just begun with some history. If the disk decodes to the state kept of that history, the desk
+        // is at this world. Each legal history begins some run.
         ensures world { let node = node_of S.scheme config.now in IfOk result (λ desk. (world : World) (history : History) → HasJustBegun node world history
             → decoded node (D.device.content disk) ≡ Ok (kept node history) → IsAt node D.device world desk) }
-        // Its errors, and what a stop at any moment of it leaves.
+        // What the errors say, and what a stop at any moment of the opening may leave.
         ensures opening { IsOpening (node_of S.scheme config.now) D.device (λ desk. disk_of desk.journal) disk result }
     {
         match reopen(alloc, config, disk) {
@@ -98,7 +98,7 @@ impl<'a, S: Sign, D: Disk> Desk<'a, S, D> {
     /// Opens a node on one disk or on two, with a book that has accepted nothing.
     ///
     /// # Errors
-    /// As `reopen_store` answers them. What was given is handed back.
+    /// As `reopen_store` reports them. The disks are handed back.
     pub fn open_store(
         alloc: Global,
         config: &'a Config<S>,
@@ -106,13 +106,14 @@ impl<'a, S: Sign, D: Disk> Desk<'a, S, D> {
     ) -> Result<Desk<'a, S, D>, Failed<JournalError, Store<D>>>
         ensures setting { IfOk result (λ desk. desk.book.validator.setting ≡ config.now) }
         ensures ok { IfOk result (λ desk. IsOpened (node_of S.scheme config.now) D.device (areas_in D.device store) desk) }
-        // Of two disks the one that is read says which generation it has.
+        // Of two disks, the first group of the one that is read names the generation.
         ensures read { IfOk result (λ desk. IsReadIn (node_of S.scheme config.now) D.device store desk.journal) }
-        // Take a world in which a run has just begun with some history, on disks of which the same one is read, in the same generation. If
-        // what was opened is read as what is kept of that history, the desk stands in this world. Each legal history begins such a run.
+        // Take any world in which a run has just begun with some history, on disks of which the same one is read, with the same generation.
+        // If the disks that were opened decode to the state kept of that history, the desk is at this world. Each legal history begins such
+        // a run.
         ensures world { let node = node_of S.scheme config.now in IfOk result (λ desk. (world : World) (history : History) → HasJustBegun node world history
             → (IsSome (spare_of desk.journal) → IsBeside world desk.journal) → decoded_in node (areas_in D.device store) ≡ Ok (kept node history) → IsAt node D.device world desk) }
-        // Its errors, and what a stop at any moment of it leaves.
+        // What the errors say, and what a stop at any moment of the opening may leave.
         ensures opening { IsOpeningOn (node_of S.scheme config.now) D.device (λ desk. store_of desk.journal) store result }
     {
         match reopen_store(alloc, config, store) {
@@ -121,7 +122,7 @@ impl<'a, S: Sign, D: Disk> Desk<'a, S, D> {
         }
     }
 
-    /// Opens a node on two disks, that of the first area and that of the second.
+    /// Opens a node on two disks, given in the order of their areas.
     ///
     /// # Errors
     /// As `reopen_pair` answers them. Both disks are handed back.
@@ -150,7 +151,7 @@ impl<'a, S: Sign, D: Disk> Desk<'a, S, D> {
         }
     }
 
-    // A desk with a new book over what an opening gave.
+    // A desk with a new book, from the validator and the journal that an opening gave.
     fn over(alloc: Global, validator: Validator<'a, S>, journal: Journal<D>) -> Desk<'a, S, D>
         requires alive { IsAlive D.device journal }
         requires begun { HasBegun D.device journal }
@@ -171,7 +172,7 @@ impl<'a, S: Sign, D: Disk> Desk<'a, S, D> {
         Desk { book, journal }
     }
 
-    /// Takes an event, which passed the checks under the node's committee, as the book does.
+    /// Accepts an event, which passed the checks under the node's committee.
     ///
     /// # Errors
     /// The refusals of admission; `Down` exactly where the desk is down. A refusal changes nothing.
@@ -187,7 +188,7 @@ impl<'a, S: Sign, D: Disk> Desk<'a, S, D> {
         ensures err { OnErr result (self.new ≡ self.old) }
         ensures same { self.new.journal ≡ self.old.journal }
         ensures setting { self.new.book.validator.setting ≡ self.old.book.validator.setting }
-        // In the world it is accepted.
+        // In the desk's world this is an accept.
         ensures step { let node = node_of S.scheme self.old.book.validator.setting in OnOk result ((world : World) → IsAt node D.device world self.old
             → LeadsTo node D.device world (accept_event event ∷ []) self.new) }
     {
@@ -195,12 +196,12 @@ impl<'a, S: Sign, D: Disk> Desk<'a, S, D> {
         self.book.accept(event)
     }
 
-    /// One round: takes the longest beginning of the pending records that fits a group, adds it to the journal and settles
-    /// it. Answers how many records it has; 0 where nothing is pending.
+    /// One round: takes the longest prefix of the pending records that fits a group, appends it to the journal and settles it. Gives the
+    /// number of its records; 0 where nothing is pending.
     ///
     /// # Errors
-    /// `Down` exactly where the desk is down, and `Memory`: nothing was changed. `Full` where the journal has no room, and
-    /// `Device` where the disk fails: what was taken stays on the way, and the desk is down.
+    /// `Down` exactly where the desk is down already, and `Memory`: nothing was changed. `Full` where the journal has no room, and `Device`
+    /// where the disk fails: the group stays in flight, and the desk is down.
     pub fn flush(&mut self) -> Result<u64, FlushError>
         ensures idle { OnOk result (self.old.book.pending ≡ [] → (result ≡ Ok 0) × (self.new ≡ self.old)) }
         ensures flushed { IfOk result (λ count. self.old.book.pending ≢ [] → Flushes (node_of S.scheme self.old.book.validator.setting) self.old.book self.new.book (D.device.content (disk_of self.old.journal)) (D.device.content (disk_of self.new.journal)) count) }
@@ -209,19 +210,19 @@ impl<'a, S: Sign, D: Disk> Desk<'a, S, D> {
         ensures full { IsErrOf result FlushError.Full → FindsNoRoom (node_of S.scheme self.old.book.validator.setting) self.old.book self.new.book (D.device.content (disk_of self.old.journal)) }
         ensures full_same { IsErrOf result FlushError.Full → self.new.journal ≡ self.old.journal }
         ensures fails { IsErrOf result FlushError.Device → FailsWithRoom (node_of S.scheme self.old.book.validator.setting) self.old.book self.new.book (D.device.content (disk_of self.old.journal)) }
-        // A stop at any moment leaves the records from before it, with all that it takes or without.
+        // What a stop at any moment leaves is read as the earlier records, with the whole group or without it.
         ensures any_moment { self.old.book.down ≡ false → AtEachMoment D.device (disk_of self.old.journal) (disk_of self.new.journal) (IsWithOrWithout self.old.book.pending (D.device.content (disk_of self.old.journal))) }
         ensures alive { OnOk result (IsAlive D.device self.new.journal) }
-        // Of two disks it writes to one alone.
+        // The spare disk, if there is one, is untouched.
         ensures spare { spare_of self.new.journal ≡ spare_of self.old.journal }
         ensures accepted { self.new.book.accepted ≡ self.old.book.accepted }
-        // It answers Device exactly where the disk has failed.
+        // The error is Device exactly where the disk has failed.
         ensures cause { TellsFault FlushError.Device (D.device.faults (disk_of self.old.journal)) (D.device.faults (disk_of self.new.journal)) result }
         ensures setting { self.new.book.validator.setting ≡ self.old.book.validator.setting }
-        // In the world so many events are taken, the four device calls are made, and they are settled.
+        // In the desk's world so many events are taken, the four device calls are made, and the events are settled.
         ensures steps { let node = node_of S.scheme self.old.book.validator.setting in IfOk result (λ count. self.old.book.pending ≢ [] → (world : World) → IsAt node D.device world self.old
             → LeadsTo node D.device world (take_to (length world.settled + count) ∷ device_call ∷ device_call ∷ device_call ∷ device_call ∷ settle ∷ []) self.new) }
-        // Where the desk goes down they are taken.
+        // Where the desk goes down, the events are taken in its world.
         ensures fails_step { let node = node_of S.scheme self.old.book.validator.setting in IfErr result (λ error. (error ≡ FlushError.Full) ⊎ (error ≡ FlushError.Device) → (world : World) → IsAt node D.device world self.old
             → (count : ℕ) × LeadsTo node D.device world (take_to count ∷ []) self.new) }
     {
@@ -233,16 +234,16 @@ impl<'a, S: Sign, D: Disk> Desk<'a, S, D> {
         self.book.flush(&mut self.journal)
     }
 
-    /// A checkpoint, of a desk on two disks: takes all that was accepted, rewrites the disk that isn't read to the state after it, and
-    /// settles it. The disk is read from then on. Answers the journal's new generation.
+    /// Makes a checkpoint, on two disks: takes all accepted records, rewrites the spare disk to the state after them, and settles them. The
+    /// rewritten disk is read from then on. Gives the journal's new generation.
     ///
     /// # Errors
-    /// `Down` exactly where the desk is down, and `Memory`: nothing was changed. `Full` where the checkpoint is too long for a journal or
-    /// the generation is the last one, and `Device` where the disk fails: all was taken, its rewriting stays in flight, and the desk is
-    /// down.
+    /// `Down` exactly where the desk is down already, and `Memory`: nothing was changed. `Full` where the checkpoint is too long for a
+    /// journal or the generation is the last one, and `Device` where the disk fails: all was taken, the rewriting stays in flight, and the
+    /// desk is down.
     pub fn checkpoint(&mut self) -> Result<u64, FlushError>
         requires pair { IsSome (spare_of self.old.journal) }
-        // All that was accepted is settled, and the journal is a checkpoint of the state after it.
+        // All accepted events are settled, and the journal is a checkpoint of the state after them.
         ensures settled { IfOk result (λ generation. Checkpoints (node_of S.scheme self.old.book.validator.setting) D.device self.old.book self.new.book self.old.journal self.new.journal) }
         ensures answer { IfOk result (λ generation. generation ≡ generation_in self.new.journal) }
         ensures down { IsErrOf result FlushError.Down ↔ IsTrue self.old.book.down }
@@ -250,21 +251,21 @@ impl<'a, S: Sign, D: Disk> Desk<'a, S, D> {
         ensures full { IsErrOf result FlushError.Full → FindsNoRoomToRewrite (node_of S.scheme self.old.book.validator.setting) self.old.book self.new.book self.old.journal }
         ensures full_same { IsErrOf result FlushError.Full → self.new.journal ≡ self.old.journal }
         ensures fails { IsErrOf result FlushError.Device → FailsToRewrite (node_of S.scheme self.old.book.validator.setting) self.old.book self.new.book self.old.journal }
-        // A stop at any moment leaves the records from before it, or a checkpoint of all that was accepted.
+        // What a stop at any moment leaves is read as the earlier records, or as a checkpoint of all accepted events.
         ensures any_moment { self.old.book.down ≡ false → AtEachMoment D.device (spare_disk self.old.journal) (rewritten_disk result self.new.journal) (StandsAsOrForAll (node_of S.scheme self.old.book.validator.setting) D.device self.old.book self.old.journal) }
-        // The disk that was read before is the same, whatever the answer; after an error it still is the one that is read.
+        // The disk that was read before is untouched, whatever the result; after an error it is still the one that is read.
         ensures untouched { untouched_disk result self.new.journal ≡ disk_of self.old.journal }
         ensures keeps { OnErr result (HaveKeptPlaces self.old.journal self.new.journal) }
         ensures alive { OnOk result (IsAlive D.device self.new.journal) }
         ensures accepted { self.new.book.accepted ≡ self.old.book.accepted }
-        // It answers Device exactly where the disk that it writes has failed.
+        // The error is Device exactly where the disk that is written has failed.
         ensures cause { TellsFault FlushError.Device (D.device.faults (spare_disk self.old.journal)) (D.device.faults (rewritten_disk result self.new.journal)) result }
         ensures setting { self.new.book.validator.setting ≡ self.old.book.validator.setting }
-        // In the world of a node whose keys have 32 bytes each all is taken, the eight device calls of a rewriting are made, and it is
-        // settled.
+        // In the desk's world, if the node's keys have 32 bytes each, all is taken, the eight device calls of a rewriting are made, and all
+        // is settled.
         ensures steps { let node = node_of S.scheme self.old.book.validator.setting in OnOk result (AreKeys node → (world : World) → IsAt node D.device world self.old
             → CheckpointsAt node D.device world self.new) }
-        // Where the desk goes down all is taken, unless the generation was the last one.
+        // Where the desk goes down, all is taken in its world, unless the generation was the last one.
         ensures fails_step { let node = node_of S.scheme self.old.book.validator.setting in IfErr result (λ error. (error ≡ FlushError.Full) ⊎ (error ≡ FlushError.Device)
             → AreKeys node → generation_in self.old.journal + 1 < 2 ^ 64 → (world : World) → IsAt node D.device world self.old
             → (bytes : List ℕ) × LeadsTo node D.device world (take_all bytes ∷ []) self.new) }
@@ -278,7 +279,7 @@ impl<'a, S: Sign, D: Disk> Desk<'a, S, D> {
         self.book.checkpoint(&mut self.journal)
     }
 
-    /// The next output that may go out; None where the desk is down.
+    /// The next output that may leave; None where the desk is down.
     pub fn release(&mut self) -> Option<Output>
         ensures output { result ≡ releasable self.old.book }
         ensures queue { self.new.book ≡ (if is_some result then record self.old.book { queue = drop 1 self.old.book.queue } else self.old.book) }
@@ -287,7 +288,7 @@ impl<'a, S: Sign, D: Disk> Desk<'a, S, D> {
             → GoesOutSettled node run output) }
         ensures same { self.new.journal ≡ self.old.journal }
         ensures setting { self.new.book.validator.setting ≡ self.old.book.validator.setting }
-        // In the world it goes out.
+        // In the desk's world the output goes out.
         ensures step { let node = node_of S.scheme self.old.book.validator.setting in IfSome result (λ output. (world : World) → IsAt node D.device world self.old
             → (ticket : ℕ) × LeadsTo node D.device world (release_output (record { ticket = ticket; output = output }) ∷ []) self.new) }
     {
@@ -295,7 +296,7 @@ impl<'a, S: Sign, D: Disk> Desk<'a, S, D> {
         self.book.release()
     }
 
-    /// The order after the settled records, from this place on. It is empty past its end.
+    /// The order after the settled records, from this place on. The list is empty where the place is past the order's end.
     ///
     /// # Errors
     /// `Down` exactly where the desk is down, `Memory` where an allocation failed.
@@ -304,14 +305,14 @@ impl<'a, S: Sign, D: Disk> Desk<'a, S, D> {
             → digests.items ≡ drop from (settled_in node run).order) }
         ensures down { IsErrOf result Refusal.Down ↔ IsTrue self.now.book.down }
         ensures errors { IfErr result (λ refusal. (refusal ≡ Refusal.Down) ⊎ (refusal ≡ Refusal.Memory)) }
-        // In the world the settled order may be read.
+        // In the desk's world the settled order may be read.
         ensures step { let node = node_of S.scheme self.now.book.validator.setting in OnOk result ((world : World) → IsAt node D.device world self.now
             → LeadsTo node D.device world (read_order ∷ []) self.now) }
     {
         self.book.order(from)
     }
 
-    /// The validator's round, after all that was accepted.
+    /// The validator's round after all accepted events.
     pub fn round_now(&self) -> u64
         ensures { let node = node_of S.scheme self.now.book.validator.setting in (run : Run) → Stands node run self.now.book
             → result ≡ round_in node (state_in node run) }
@@ -328,8 +329,8 @@ impl<'a, S: Sign, D: Disk> Desk<'a, S, D> {
         self.book.validator().ready(event)
     }
 
-    /// The header that the node proposes, after all that was accepted. None where its round has an own header, or is past
-    /// `Round::MAX`. `AllocError` where an allocation failed.
+    /// The header that the node proposes after all accepted events. None where the node has an own header of its round, or the round is
+    /// past `Round::MAX`. On `AllocError` an allocation failed.
     pub fn propose(&self) -> Result<Option<Header>, AllocError>
         ensures { let node = node_of S.scheme self.now.book.validator.setting in IfOk result (λ found. (run : Run) → Stands node run self.now.book
             → found ≡ proposed node (state_in node run)) }
@@ -337,7 +338,7 @@ impl<'a, S: Sign, D: Disk> Desk<'a, S, D> {
         self.book.validator().propose()
     }
 
-    /// Whether a round took it down.
+    /// Whether a round or a checkpoint took the desk down.
     pub fn is_down(&self) -> bool
         ensures { result ≡ self.now.book.down }
     {
@@ -351,7 +352,7 @@ impl<'a, S: Sign, D: Disk> Desk<'a, S, D> {
         self.book.committee()
     }
 
-    /// Hands the disk back, of a desk on one. What wasn't settled is lost.
+    /// Gives the disk of a desk on one disk back. What wasn't settled is lost.
     pub fn into_disk(self) -> D
         requires { spare_of self.journal ≡ None }
         ensures { result ≡ disk_of self.entry.journal }
@@ -360,7 +361,7 @@ impl<'a, S: Sign, D: Disk> Desk<'a, S, D> {
         journal.into_disk()
     }
 
-    /// Hands both disks back, of a desk on two: that of the first area, and that of the second. What wasn't settled is lost.
+    /// Gives both disks of a desk on two disks back, in the order of their areas. What wasn't settled is lost.
     pub fn into_disks(self) -> (D, D)
         requires { IsSome (spare_of self.journal) }
         ensures { result ≡ by_area (side_in self.entry.journal) (disk_of self.entry.journal) (spare_disk self.entry.journal) }
@@ -369,7 +370,7 @@ impl<'a, S: Sign, D: Disk> Desk<'a, S, D> {
         journal.into_disks()
     }
 
-    /// Hands back the disk or the disks that it is on. What wasn't settled is lost.
+    /// Gives the disks of a desk back, one or two. What wasn't settled is lost.
     pub fn into_store(self) -> Store<D>
         ensures { result ≡ store_of self.entry.journal }
     {
@@ -377,7 +378,7 @@ impl<'a, S: Sign, D: Disk> Desk<'a, S, D> {
         journal.into_store()
     }
 
-    /// Whether it is on two disks, so that it can make a checkpoint.
+    /// Whether the desk is on two disks, so that it can make checkpoints.
     pub fn is_pair(&self) -> bool
         ensures { IsTrue result ↔ IsSome (spare_of self.now.journal) }
     {
@@ -413,7 +414,7 @@ impl<'a, S: Sign, D: StopDisk> Desk<'a, S, D> {
         ensures setting { IfOk result (λ next. next.book.validator.setting ≡ config.now) }
         ensures ok { IfOk result (λ next. (found : List ℕ) × D.device.outcome (disk_of self.entry.journal) found × IsOpened (node_of S.scheme config.now) D.device (alone found) next) }
         ensures err { IfErr result (λ failed. (found : List ℕ) × D.device.outcome (disk_of self.entry.journal) found × IsNotOpened (node_of S.scheme config.now) failed.error found (D.device.outcome (disk_of self.entry.journal)) (D.device.outcome failed.disk)) }
-        // In the world the machine stops, and what that left is opened.
+        // In the desk's world the machine stops, and what that left is opened.
         ensures steps { let node = node_of S.scheme config.now in IfOk result (λ next. (world : World) → IsAt node D.device world self.entry
             → (moves : List Move) × IsStop world moves × LeadsTo node D.device world moves next) }
         ensures cause { TellsFaultBack D.device (λ next. disk_of next.journal) JournalError.Device (disk_of self.entry.journal) result }
@@ -423,10 +424,10 @@ impl<'a, S: Sign, D: StopDisk> Desk<'a, S, D> {
         Desk::open(alloc, config, disk)
     }
 
-    /// Stops the machine of a node, whether it is on one disk or on two, and opens the node again on what the stop left.
+    /// Stops the machine of a node on one disk or on two, and opens the node again on what the stop left.
     ///
     /// # Errors
-    /// As `reopen_store` answers them. What it was on is handed back.
+    /// As `reopen_store` reports them. The disks are handed back.
     pub fn stop_store(
         self,
         alloc: Global,
@@ -435,9 +436,9 @@ impl<'a, S: Sign, D: StopDisk> Desk<'a, S, D> {
         ensures setting { IfOk result (λ next. next.book.validator.setting ≡ config.now) }
         ensures ok { IfOk result (λ next. (found : Areas) × MayLeave D.device self.entry.journal found × IsOpened (node_of S.scheme config.now) D.device found next) }
         ensures err { IfErr result (λ failed. (stopped : Store D) × HaveStopped D.device (store_of self.entry.journal) stopped × IsOpeningOn (node_of S.scheme config.now) D.device (λ next. store_of next.journal) stopped result) }
-        // What a stop leaves of a run's desk is refused only where memory or a disk fails.
+        // What a stop leaves of a run's desk can be opened, unless an allocation or a disk fails.
         ensures never_refused { IfErr result (λ failed. (run : Run) → IsOf (node_of S.scheme config.now) D.device run self.entry → IsNoRefusal failed.error) }
-        // In the world the machine stops, and what that left is opened.
+        // In the desk's world the machine stops, and what that left is opened.
         ensures steps { let node = node_of S.scheme config.now in IfOk result (λ next. (world : World) → IsAt node D.device world self.entry
             → (moves : List Move) × IsStop world moves × LeadsTo node D.device world moves next) }
         ensures cause { TellsFaultsBack (faults_in D.device) (λ next. store_of next.journal) JournalError.Device (store_of self.entry.journal) result }

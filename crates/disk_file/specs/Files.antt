@@ -1,4 +1,4 @@
--- What clauses see of a disk over a file.
+-- What contracts see of a disk over a file.
 use Rattle.std.specs.Prelude.{◌≡◌, ◌≤◌, Bool, true, false, List, ℕ, length, Result, IsErr, OnOk, OnErr}
 use Rattle.std.specs.Option.{option_map_or}
 use Rattle.diskmodel.specs.declared.disk.DiskFault.{DiskFault}
@@ -6,7 +6,7 @@ use Rattle.disk_file.specs.declared.story.TapeView.{TapeView}
 use Rattle.disk_file.specs.declared.disk.FileDisk.{FileDisk}
 use Rattle.disk_file.specs.Stories.{held, MayLeave}
 
--- the bytes that it was opened with, its calls since, and how often one has failed
+-- the bytes with which it was opened, its calls since, and how often one has failed
 abbrev pub story_of : FileDisk → TapeView
 story_of disk = disk.tape
 
@@ -22,15 +22,15 @@ CanStopAt disk found = MayLeave disk.tape found
 abbrev pub is_down : FileDisk → Bool
 is_down disk = disk.is_down
 
--- how many bytes from the front on can be read: as many as were kept at the opening, until one is written or reading has ended
+-- how many of the first bytes can be read: as many as were kept at the opening, until a byte is written or reading has ended
 abbrev pub readable_in : FileDisk → ℕ
 readable_in disk = option_map_or (λ bytes. length bytes.items) disk.mirror 0
 
--- all of it can be read
+-- all bytes of the file can be read
 abbrev pub IsReadable : FileDisk → Type 0
 IsReadable disk = length (content_of disk) ≤ readable_in disk
 
--- once a call has failed each one fails, and no other takes it down
+-- once a call has failed, all later ones fail, and only a failed call has this effect
 pub record StaysDown {T : Type 0} (old new : FileDisk) (result : Result T DiskFault) : Type 0 where
   pub fails : is_down old ≡ true → IsErr result
   pub falls : OnErr result (is_down new ≡ true)

@@ -1,4 +1,4 @@
--- What the record of a file says.
+-- The record of a file: its bytes at first, and its calls.
 use Rattle.std.specs.Prelude.{◌≡◌, ℕ, ◌+◌, List, [], ◌∷◌, ◌++◌, length}
 use Rattle.diskmodel.specs.declared.call.Call.{Call}
 use Rattle.diskmodel.specs.Outcomes.{State, AreBytes, state, IsOutcome, IsOutcomeSince}
@@ -6,37 +6,37 @@ use Rattle.diskmodel.specs.Disk.{GoesOn}
 use Rattle.diskmodel.specs.Kept.{Keeps}
 use Rattle.disk_file.specs.declared.story.TapeView.{TapeView}
 
--- a file that begins with these bytes
+-- the record of a file that has these bytes at first
 abbrev pub begun : List ℕ → TapeView
 begun bytes = record { first = bytes; calls = []; faults = 0 }
 
--- before any call the file was found to go on with these bytes
+-- before any call, the file was found to continue with these bytes
 abbrev pub with_more : List ℕ → TapeView → TapeView
 with_more bytes story = record story { first = story.first ++ bytes }
 
--- before any call the file was found to go on with so many bytes
+-- before any call, the file was found to continue with this many bytes
 pub record GoesOnFor (count : ℕ) (old new : TapeView) : Type 0 where
   pub bytes : List ℕ
   pub is : new ≡ with_more bytes old
   pub are_bytes : AreBytes bytes
   pub long : length bytes ≡ count
 
--- one call more has failed
+-- one more call has failed
 abbrev pub failing : TapeView → TapeView
 failing story = record story { faults = story.faults + 1 }
 
--- there is this call more
+-- one more call was recorded
 pub record Adds (call : Call) (old new : TapeView) : Type 0 where
   pub first : new.first ≡ old.first
   pub calls : new.calls ≡ old.calls ++ call ∷ []
   pub faults : new.faults ≡ old.faults
 
--- there are the same calls
+-- the recorded calls are unchanged
 pub record SameCalls (old new : TapeView) : Type 0 where
   pub first : new.first ≡ old.first
   pub calls : new.calls ≡ old.calls
 
--- what the calls come to
+-- the state that the calls lead to
 abbrev pub reached : TapeView → State
 reached story = state story.first story.calls
 
@@ -48,11 +48,11 @@ held story = (reached story).content
 abbrev pub MayLeave : TapeView → List ℕ → Type 0
 MayLeave story found = IsOutcome story.first story.calls found
 
--- the clock goes on, which counts the calls
+-- the clock goes on; it counts the calls
 abbrev pub TimePasses : TapeView → TapeView → Type 0
 TimePasses old new = GoesOn (length old.calls) (length new.calls) (IsOutcomeSince old.first old.calls) (IsOutcomeSince new.first new.calls) (MayLeave new)
 
--- the calls were made within the file, and what a read gives is among what a stop may leave
+-- the calls were made within the file, and what a read gives is a possible outcome of a stop
 abbrev pub IsSound : TapeView → Type 0
 IsSound story =
     let s : State = reached story in

@@ -17,27 +17,26 @@ use std::io;
 use std::os::unix::fs::FileExt;
 use std::rt::Files;
 
-/// How much of a file is read at a time that isn't kept, in bytes.
+/// How many bytes are read at a time of the part of a file that isn't kept in memory.
 const WINDOW_BYTES: usize = 1 << 16;
 
-/// A disk over a regular file, which it has alone: no other can open the file as a disk until this one is dropped.
+/// A disk over a regular file, which it locks: nobody else can open the file as a disk until this one is dropped.
 ///
-/// Once a call has failed each later one fails too: open the file again. The length is kept and never asked for. The bytes are
-/// read when the file is opened, and a read answers from these, or from as many of the first ones as were kept, until the end of
-/// reading is told, or the first write, which give up their memory: from then on a read of one byte or more fails. So no memory
-/// grows with what is written.
+/// Once a call has failed, all later ones fail too: open the file again. The length is kept, so the system is never asked for it. The bytes
+/// are read when the file is opened, and reads are served from them, or from as many of the first ones as were kept. The first write, and
+/// `end_reading`, free this memory: after that a read of one byte or more fails. So memory doesn't grow with what is written.
 ///
-/// The contracts speak of a record, which no memory holds: the bytes that were read at the opening, and the calls since. What a
-/// read gives and what a stop may leave is what the model of a disk makes of that record. That the real file is so is the
-/// premise, which nothing here proves:
-/// - Each method makes the call of the system that it records, which has to be read in the code, and that call does what its name
-///   says: a write that succeeds has put these bytes at this place, a cut has set the length, and one that fails has done any part
-///   of that.
-/// - A sync that succeeds has made the bytes and the length durable on the device. What is read at the opening, after a sync, is
-///   durable too. Where a sync has failed some systems answer the next one as if it had made up for that: start the machine anew
-///   then before the file is opened again.
-/// - Nobody else writes the file. Its lock holds off other disks, and nothing else.
-/// - What the next opening reads, whatever ended this disk, is among what a stop may leave.
+/// The contracts are about a record that is in no memory: the bytes that were read at the opening, and the calls since. What a read gives
+/// and what a stop may leave is what the model of a disk says for that record. That the real file behaves so is a premise, which nothing
+/// here proves:
+/// - Each method makes the system call that it records, which has to be checked by reading the code, and that call does what its name says:
+///   a successful write has put these bytes at this place, a successful cut has set the length, and a failed call has had any part of its
+///   effect.
+/// - A successful sync has made the bytes and the length durable on the device. What is read at the opening, after a sync, is durable too.
+///   After a failed sync some systems let the next one succeed although data was lost: restart the machine then, before the file is opened
+///   again.
+/// - Nobody else writes the file. Its lock keeps off other disks only.
+/// - What the next opening reads, however this disk ended, is something that a stop may leave.
 pub struct FileDisk {
     file: File,
     tape: Tape,
@@ -64,12 +63,12 @@ impl Drop for FileDisk {
 impl FileDisk {
     ghost use Rattle.disk_file.specs.Files.{story_of, content_of, CanStopAt, is_down, readable_in, IsReadable, StaysDown};
 
-    /// Opens the file at this path for one owner; where there is nothing an empty one is made. The file and its folder are synced
-    /// before it is read, so that it is there after a power cut and all that was read is durable.
+    /// Opens the file at this path for one owner; a file that isn't there is created empty. The file and its folder are synced before the
+    /// file is read, so that it survives a power cut and everything read is durable.
     ///
     /// # Errors
-    /// `NotAFile` where something else than a regular file is there, as a folder or a link; `InUse` where another process has the
-    /// file as a disk, or another disk of this one; `Memory` where its bytes, or the record, find none; else `Device`.
+    /// `NotAFile` where there is something other than a regular file, such as a folder or a link; `InUse` where another process, or another
+    /// disk of this one, has the file as a disk; `Memory` where an allocation for its bytes or the record failed; otherwise `Device`.
     pub fn open<R: Files<File = File>>(
         rt: &R,
         alloc: Global,
@@ -87,11 +86,11 @@ impl FileDisk {
         Ok(FileDisk::begin(alloc, file, bytes)?)
     }
 
-    /// The same, but of the bytes that are read only so many of the first ones are kept, or all, if there are no more. A read past them
-    /// fails. It is for a file of which no more than its front is asked for, as the older one of a journal's two: the rest takes no memory.
+    /// As `open`, but of the bytes that are read only the first `keep` are kept in memory, and a read past them fails. This is for a file
+    /// of which only the front is needed, such as the older one of a journal's two, so that the rest takes no memory.
     ///
     /// # Errors
-    /// As `open`.
+    /// Those of `open`.
     pub fn open_front<R: Files<File = File>>(
         rt: &R,
         alloc: Global,
@@ -119,7 +118,7 @@ impl FileDisk {
         })
     }
 
-    /// The disk over a synced file that holds these bytes.
+    /// The disk over a synced file with these bytes.
     fn begin(alloc: Global, file: File, bytes: Vec<u8>) -> Result<FileDisk, AllocError>
         ensures story { IfOk result (λ disk. story_of disk ≡ begun bytes.items) }
         ensures up { IfOk result (λ disk. is_down disk ≡ false) }
@@ -146,7 +145,7 @@ impl FileDisk {
         DiskFault
     }
 
-    /// Fails once a call has failed.
+    /// Fails if a call has failed before.
     fn fail_if_down(&mut self) -> Result<(), DiskFault>
         ensures ok { OnOk result ((self.new ≡ self.old) × (is_down self.old ≡ false)) }
         ensures err { OnErr result (story_of self.new ≡ failing (story_of self.old)) }
@@ -203,7 +202,7 @@ impl Disk for FileDisk {
         ensures cause { HasCause (story_of self.old).faults (story_of self.new).faults result }
         ensures calls { (story_of self.new).calls ≡ (story_of self.old).calls }
 
-        // It fails only after another failure.
+        // The call fails only after an earlier failure.
         ensures down { StaysDown self.old self.new result }
         ensures succeeds { is_down self.old ≡ false → result ≡ Ok (length (content_of self.old)) }
         ensures unchanged { OnOk result (self.new ≡ self.old) }
@@ -221,7 +220,7 @@ impl Disk for FileDisk {
         ensures cause { HasCause (story_of self.old).faults (story_of self.new).faults result }
         ensures calls { (story_of self.new).calls ≡ (story_of self.old).calls }
 
-        // It fails only after another failure, or where a byte was written, reading has ended, or not all of these bytes were kept.
+        // The read fails only after an earlier failure, or if a byte was written, reading has ended, or not all of these bytes were kept.
         ensures down { StaysDown self.old self.new result }
         ensures succeeds { is_down self.old ≡ false → IsReadable self.old → IsOk result }
         ensures front { is_down self.old ≡ false → at + length buffer.old ≤ readable_in self.old → IsOk result }
@@ -258,7 +257,7 @@ impl Disk for FileDisk {
         let Some(end) = at.checked_add(bytes.len() as u64) else {
             return Err(self.fault());
         };
-        // A write that fails may have had any part of its effect, so it is noted all the same.
+        // A write that fails may have had any part of its effect, so it is recorded too.
         self.mirror = None;
         self.len = self.len.max(end);
         self.tape.wrote(at, bytes);
@@ -295,7 +294,7 @@ impl Disk for FileDisk {
         ensures calls { Makes Synced result (story_of self.old).calls (story_of self.new).calls }
         ensures recorded { OnOk result (Adds Synced (story_of self.old) (story_of self.new)) }
 
-        // One that fails makes nothing durable.
+        // A sync that fails makes nothing durable.
         ensures err { OnErr result (SameCalls (story_of self.old) (story_of self.new)) }
         ensures down { StaysDown self.old self.new result }
         ensures readable { IsReadable self.old → IsReadable self.new }
@@ -315,7 +314,7 @@ impl Disk for FileDisk {
     }
 }
 
-// Keeps of the bytes that were read no more than these.
+// Drops the kept bytes from this length on.
 fn cut_kept(kept: &mut Option<Vec<u8>>, len: u64)
     ensures { option_map (λ bytes. bytes.items) kept.new ≡ option_map (take len) (option_map (λ bytes. bytes.items) kept.old) }
 {

@@ -7,13 +7,13 @@ use thiserror::Error;
 /// Why a file can't be opened as a disk.
 #[derive(Debug, Drop, Error)]
 pub enum OpenError {
-    /// Memory was refused.
+    /// An allocation failed.
     #[error("out of memory")]
     Memory,
     /// There is something at the path that is no regular file.
     #[error("no regular file")]
     NotAFile,
-    /// Another process has the file, or another disk of this one.
+    /// Another process, or another disk of this one, has the file.
     #[error("the file is in use")]
     InUse,
     /// Any other fault of the system.

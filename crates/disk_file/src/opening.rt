@@ -1,4 +1,4 @@
-//! How a file is opened.
+//! Opening a file.
 
 ghost use Rattle.std.specs.Prelude.{◌≡◌, ◌-◌, ◌<◌, ◌≤◌, ◌⊎◌, length, IfOk, OnOk};
 ghost use Rattle.disk_file.specs.Stories.{GoesOnFor};
@@ -13,10 +13,10 @@ use std::os::unix::fs::FileExt;
 use std::path::Path;
 use std::rt::Files;
 
-/// The greatest number of a standard stream.
+/// The greatest descriptor of a standard stream.
 const LAST_STREAM: i32 = 2;
 
-/// The regular file at the path, which is made where there is nothing. No other has it from then on.
+/// The regular file at the path, which is created if it isn't there, and locked.
 pub(crate) fn open_alone<R: Files<File = File>>(rt: &R, path: &str) -> Result<File, OpenError> {
     let file = apart(open_or_make(rt, path)?)?;
     check_is_file(&file.metadata()?)?;
@@ -48,7 +48,7 @@ fn check_is_file(found: &Metadata) -> Result<(), OpenError> {
     }
 }
 
-// Where a standard stream was closed the file may have its number, and what is printed would go into it.
+// If a standard stream was closed, the file may have got its descriptor, and output would be printed into the file.
 fn apart(file: File) -> io::Result<File> {
     if file.as_raw_fd() > LAST_STREAM {
         Ok(file)
@@ -57,7 +57,7 @@ fn apart(file: File) -> io::Result<File> {
     }
 }
 
-/// Syncs the folder that a file is in.
+/// Syncs the folder of a file.
 pub(crate) fn sync_folder<R: Files<File = File>>(rt: &R, path: &str) -> io::Result<()> {
     let parent = Path::new(path).parent();
     let folder = match parent {
@@ -75,7 +75,7 @@ pub(crate) fn read_all(alloc: Global, file: &File) -> Result<Vec<u8>, OpenError>
     Ok(bytes)
 }
 
-/// The first bytes of a file, as many as it has and no more than these, and its length.
+/// The first bytes of a file, at most `keep` of them, and the file's length.
 pub(crate) fn read_front(alloc: Global, file: &File, keep: u64) -> Result<(Vec<u8>, u64), OpenError>
     ensures front { IfOk result (λ read. length read.0.items ≤ read.1) }
     ensures kept { IfOk result (λ read. length read.0.items ≤ keep) }
@@ -87,7 +87,7 @@ pub(crate) fn read_front(alloc: Global, file: &File, keep: u64) -> Result<(Vec<u
     Ok((bytes, len))
 }
 
-/// Reads a file on from this place to its length, for the record alone, through a window.
+/// Reads the rest of a file, from this place to its length, for the record only, one window at a time.
 pub(crate) fn read_on(
     file: &File,
     tape: &mut Tape,

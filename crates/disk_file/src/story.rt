@@ -3,7 +3,7 @@
 use diskmodel::Call;
 use std::collections::LinkedList;
 
-/// The bytes that a file began with, the calls on it since, and how often one of them has failed. No value of it is made.
+/// The bytes with which a file began, the calls on it since, and how often one has failed. It exists in contracts only.
 pub struct TapeView {
     pub first: LinkedList<u8>,
     pub calls: LinkedList<Call>,

@@ -1,4 +1,4 @@
-//! The record of the calls on a file, which only contracts read: the view of the one seat of a table. No memory grows with it.
+//! The record of the calls on a file, which only contracts read: it is the view of the one seat of a table, and takes no memory.
 
 ghost use Rattle.std.specs.Prelude.{◌≡◌, ℕ, ◌+◌, List, [], ◌∷◌, ◌++◌, length, IfOk};
 ghost use Rattle.diskmodel.specs.Outcomes.{AreBytes};
@@ -13,7 +13,7 @@ use std::marker::{Brand, Model, PhantomData};
 // The table's one word, which no step changes.
 const WORD: usize = 0;
 
-/// What the record says from a step on. Each call of `Tape::turn` picks it.
+/// What the record says after a step. Each call of `Tape::turn` chooses it.
 pub trait Turn {
     ghost use Rattle.disk_file.specs.declared.story.TapeView.{TapeView};
 
@@ -27,7 +27,7 @@ impl Turn for Brand {
     ghost next = { begun [] };
 }
 
-/// The step by which the record says something else.
+/// The step that changes what the record says.
 pub struct Turned<N> {
     next: PhantomData<N>,
 }
@@ -38,7 +38,7 @@ impl<N: Turn> Play<(), TapeView> for Turned<N> {
     ghost then = { λ step before found later. later ≡ (N.next, before.1) };
 }
 
-/// The rule allows anything, as there is one seat.
+/// The table's rule allows any step, as there is only one seat.
 pub struct AnyStory;
 
 impl TableRule<(), TapeView, ()> for AnyStory {
@@ -74,7 +74,7 @@ impl Model for Tape {
 }
 
 impl Tape {
-    /// The record of a file that begins with these bytes. `AllocError` where memory was refused.
+    /// The record of a file that begins with these bytes. On `AllocError` an allocation failed.
     pub fn new(alloc: Global, bytes: &[u8]) -> Result<Tape, AllocError>
         ensures begun { IfOk result (λ tape. tape ≡ begun bytes.now) }
         ensures are_bytes { IfOk result (λ tape. AreBytes tape.first) }
@@ -85,42 +85,42 @@ impl Tape {
         Ok(tape)
     }
 
-    /// Before any call the file was found to go on with these bytes.
+    /// Notes that before any call the file was found to continue with these bytes.
     pub fn found(&mut self, bytes: &[u8])
         ensures { GoesOnFor (length bytes.now) self.old self.new }
     {
         self.turn::<Brand, &[u8]>(bytes);
     }
 
-    /// These bytes were written at this place.
+    /// Notes that these bytes were written at this place.
     pub fn wrote(&mut self, at: u64, bytes: &[u8])
         ensures { Adds (Wrote at bytes.now) self.old self.new }
     {
         self.turn::<Brand, (u64, &[u8])>((at, bytes));
     }
 
-    /// The file was cut to this length.
+    /// Notes that the file was cut to this length.
     pub fn cut(&mut self, len: u64)
         ensures { Adds (Cut len) self.old self.new }
     {
         self.turn::<Brand, u64>(len);
     }
 
-    /// The file was synced.
+    /// Notes that the file was synced.
     pub fn synced(&mut self)
         ensures { Adds Synced self.old self.new }
     {
         self.turn::<Brand, ()>(());
     }
 
-    /// A call has failed.
+    /// Notes that a call has failed.
     pub fn failed(&mut self)
         ensures { self.new ≡ failing self.old }
     {
         self.turn::<Brand, ()>(());
     }
 
-    // From then on it says what the call picks, which may name what it is given.
+    // From now on the record says what the call chooses, which may mention the argument.
     fn turn<N: Turn, T: Copy>(&mut self, _given: T)
         ensures { self.new ≡ N.next }
     {

@@ -129,17 +129,18 @@ pub kept_as : (first : List ℕ) (calls calls' : List Call) (durable durable' : 
     → Keeps first calls durable smallest greatest spans content
     → calls' ≡ calls → durable' ≡ durable → smallest' ≡ smallest → greatest' ≡ greatest → spans' ≡ spans → content' ≡ content
     → Keeps first calls' durable' smallest' greatest' spans' content'
-kept_as first calls calls' durable durable' smallest smallest' greatest greatest' spans spans' content content' kept same_calls same_durable same_smallest same_greatest same_spans same_content = record {
-  durable_is = ap (λ (past : List Call). (state first past).durable) same_calls ∙ kept.durable_is ∙ sym same_durable;
-  smallest_is = ap (λ (past : List Call). (state first past).smallest) same_calls ∙ kept.smallest_is ∙ sym same_smallest;
-  greatest_is = ap (λ (past : List Call). (state first past).greatest) same_calls ∙ kept.greatest_is ∙ sym same_greatest;
-  spans_are = ap (λ (past : List Call). (state first past).spans) same_calls ∙ kept.spans_are ∙ sym same_spans;
-  content_is = ap (λ (past : List Call). (state first past).content) same_calls ∙ kept.content_is ∙ sym same_content;
-  in_durable = omega (arith, kept.in_durable, ap length same_durable);
-  durable_fits = omega (arith, kept.durable_fits, ap length same_durable);
-  durable_bytes = subst AreBytes (sym same_durable) kept.durable_bytes;
-  possible = subst (λ (past : List Call). IsOutcome first past content') (sym same_calls) (subst (λ (bytes : List ℕ). IsOutcome first calls bytes) (sym same_content) kept.possible);
-}
+kept_as first calls calls' durable durable' smallest smallest' greatest greatest' spans spans' content content' kept same_calls same_durable same_smallest same_greatest
+    same_spans same_content = record {
+      durable_is = ap (λ (past : List Call). (state first past).durable) same_calls ∙ kept.durable_is ∙ sym same_durable;
+      smallest_is = ap (λ (past : List Call). (state first past).smallest) same_calls ∙ kept.smallest_is ∙ sym same_smallest;
+      greatest_is = ap (λ (past : List Call). (state first past).greatest) same_calls ∙ kept.greatest_is ∙ sym same_greatest;
+      spans_are = ap (λ (past : List Call). (state first past).spans) same_calls ∙ kept.spans_are ∙ sym same_spans;
+      content_is = ap (λ (past : List Call). (state first past).content) same_calls ∙ kept.content_is ∙ sym same_content;
+      in_durable = omega (arith, kept.in_durable, ap length same_durable);
+      durable_fits = omega (arith, kept.durable_fits, ap length same_durable);
+      durable_bytes = subst AreBytes (sym same_durable) kept.durable_bytes;
+      possible = subst (λ (past : List Call). IsOutcome first past content') (sym same_calls) (subst (λ (bytes : List ℕ). IsOutcome first calls bytes) (sym same_content) kept.possible);
+    }
 
 -- a stop that is put after the calls, or in the place of a stop that was the last of them
 pub taken : (found : List ℕ) (old rest new : List Call) → (rest ≡ old) ⊎ ((gone : List ℕ) × (old ≡ rest ++ Stopped gone ∷ [])) → new ≡ rest ++ Stopped found ∷ []

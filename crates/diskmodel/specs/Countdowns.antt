@@ -1,47 +1,47 @@
--- Which calls of a disk have been told to fail.
+-- Which of the next calls of a disk are set to fail.
 use Rattle.std.specs.Prelude.{ℕ, ◌-◌, nat_lt, List, [], ◌∷◌, ◌++◌, map}
 use Rattle.std.specs.List.{filter}
 use Rattle.diskmodel.specs.declared.call.CallKind.{CallKind}
 use Rattle.diskmodel.specs.declared.call.CallKind.TheVariants.{Read, Write, Cut, Sync}
 use Rattle.diskmodel.specs.declared.countdowns.Countdowns.{Countdowns}
 
--- for each kind of call the counts of those that fail: 1 is the next of its kind from now, 0 is none
+-- for each kind of call, which of the next calls fail: 1 is the next call of this kind; where the list is empty, none fails
 pub record Counts : Type 0 where
   pub read : List ℕ
   pub write : List ℕ
   pub cut : List ℕ
   pub sync : List ℕ
 
--- none is to fail
+-- no call is set to fail
 abbrev pub no_counts : Counts
 no_counts = record { read = []; write = []; cut = []; sync = [] }
 
--- the counts that are kept
+-- the counts that a value of the type `Countdowns` has
 abbrev pub counts_of : Countdowns → Counts
 counts_of kept = record { read = kept.read.items; write = kept.write.items; cut = kept.cut.items; sync = kept.sync.items }
 
--- those of this kind of call
+-- the counts for this kind of call
 abbrev pub counts_for : Counts → CallKind → List ℕ
 counts_for counts Read = counts.read
 counts_for counts Write = counts.write
 counts_for counts Cut = counts.cut
 counts_for counts Sync = counts.sync
 
--- the same but for one kind of call
+-- the same counts, but for one kind of call
 abbrev pub with_counts : Counts → CallKind → List ℕ → Counts
 with_counts counts Read now = record counts { read = now }
 with_counts counts Write now = record counts { write = now }
 with_counts counts Cut now = record counts { cut = now }
 with_counts counts Sync now = record counts { sync = now }
 
--- the count-th call of this kind from now on is told to fail too
+-- with the count-th next call of this kind set to fail too
 abbrev pub telling : Counts → CallKind → ℕ → Counts
 telling counts call count = with_counts counts call (counts_for counts call ++ count ∷ [])
 
--- each count is one less, and those that come to 0 are gone
+-- each count is one less, and those that reach 0 are removed
 abbrev pub lowered : List ℕ → List ℕ
 lowered counts = filter (λ count. nat_lt 0 count) (map (λ count. count - 1) counts)
 
--- a call of this kind has been made
+-- the counts after a call of this kind was made
 abbrev pub counting : Counts → CallKind → Counts
 counting counts call = with_counts counts call (lowered (counts_for counts call))

@@ -1,10 +1,10 @@
--- The parts of a disk after a gate.
+-- The parts of a disk whose calls wait for a gate.
 use Rattle.diskmodel.specs.declared.gated.GatedDisk.{GatedDisk}
 
 -- the disk
 abbrev pub disk_of : {D G : Type 0} → GatedDisk D G → D
 disk_of gated = gated.disk
 
--- its gate
+-- the gate of the disk
 abbrev pub gate_of : {D G : Type 0} → GatedDisk D G → G
 gate_of gated = gated.gate

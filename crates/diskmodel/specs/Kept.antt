@@ -1,11 +1,11 @@
--- What a disk in memory keeps beside its record of calls, so that a call need not go through it.
+-- What a disk in memory keeps beside its record of calls, so that no call has to go through the whole record.
 use Rattle.std.specs.Prelude.{◌≡◌, ℕ, ◌≤◌, Bool, true, false, Option, Some, List, [], ◌∷◌, ◌++◌, length, slice_get, ◌-◌}
 use Rattle.diskmodel.specs.declared.call.Span.{Span}
 use Rattle.diskmodel.specs.declared.call.Call.{Call}
 use Rattle.diskmodel.specs.declared.call.Call.TheVariants.{Stopped}
 use Rattle.diskmodel.specs.Outcomes.{AreBytes, IsOutcome, state}
 
--- the calls come to these values, and what a read gives is an outcome
+-- these values are those that the calls lead to, and what a read gives is a possible outcome
 pub record Keeps (first : List ℕ) (calls : List Call) (durable : List ℕ) (smallest greatest : ℕ) (spans : List Span) (content : List ℕ) : Type 0 where
   pub durable_is : (state first calls).durable ≡ durable
   pub smallest_is : (state first calls).smallest ≡ smallest
@@ -17,16 +17,16 @@ pub record Keeps (first : List ℕ) (calls : List Call) (durable : List ℕ) (sm
   pub durable_bytes : AreBytes durable
   pub possible : IsOutcome first calls content
 
--- whether this is a stop
+-- a call is a stop
 abbrev pub is_stop : Option Call → Bool
 is_stop (Some (Stopped found)) = true
 is_stop _ = false
 
--- whether the last call is a stop
+-- the last call is a stop
 abbrev pub ends_in_stop : List Call → Bool
 ends_in_stop calls = is_stop (slice_get calls (length calls - 1))
 
--- a stop that was the last call has given way to another
+-- a stop that was the last call is replaced by another stop
 pub record ReplacesStop (found : List ℕ) (old new : List Call) : Type 0 where
   pub before : List Call
   pub gone : List ℕ

@@ -1,4 +1,4 @@
--- What clauses see of a disk in memory.
+-- What contracts see of a disk in memory.
 use Rattle.std.specs.Prelude.{◌≡◌, ℕ, List, length, not, Option, Some, Result, IsErr, OnErr}
 use Rattle.std.specs.List.{Contains, filter}
 use Rattle.diskmodel.specs.Disk.{GoesOn}
@@ -12,7 +12,7 @@ use Rattle.diskmodel.specs.Outcomes.{State, state, IsOutcome, IsOutcomeSince}
 use Rattle.diskmodel.specs.Kept.{is_stop}
 use Rattle.diskmodel.specs.Recorded.{IsAsBefore}
 
--- the bytes that it began with
+-- the bytes with which the disk began
 abbrev pub first_of : MemDisk → List ℕ
 first_of disk = disk.history.first.items
 
@@ -20,15 +20,15 @@ first_of disk = disk.history.first.items
 abbrev pub calls_of : MemDisk → List Call
 calls_of disk = disk.history.calls.items
 
--- those of these calls that are no stops
+-- the calls without the stops
 abbrev pub made_in : List Call → List Call
 made_in calls = filter (λ call. not (is_stop (Some call))) calls
 
--- the calls so far, without the stops
+-- the disk's calls so far, without the stops
 abbrev pub made_of : MemDisk → List Call
 made_of disk = made_in (calls_of disk)
 
--- what the calls come to
+-- the state that the calls lead to
 abbrev pub state_of : MemDisk → State
 state_of disk = state (first_of disk) (calls_of disk)
 
@@ -40,19 +40,19 @@ content_of disk = disk.history.content.items
 abbrev pub CanStopAt : MemDisk → List ℕ → Type 0
 CanStopAt disk found = IsOutcome (first_of disk) (calls_of disk) found
 
--- what the next stop leaves, if it is one of its outcomes then
+-- the bytes that were chosen for the next stop; it leaves them if they are then an outcome
 abbrev pub choice_of : MemDisk → Option (List ℕ)
 choice_of disk = disk.choice
 
--- for each kind of call the counts of those that have been told to fail
+-- which of the next calls are set to fail
 abbrev pub told_of : MemDisk → Counts
 told_of disk = counts_of disk.countdowns
 
--- the words of its switch, if it was made with one
+-- the disk's switch, if it was made with one
 abbrev pub switch_of : MemDisk → Option SwitchView
 switch_of disk = disk.switch
 
--- the same disk, with another choice
+-- the same disk, with these bytes chosen for its next stop
 abbrev pub choosing : MemDisk → List ℕ → MemDisk
 choosing disk outcome = record disk { choice = Some outcome }
 
@@ -62,12 +62,12 @@ pub record IsUndisturbed (old new : MemDisk) : Type 0 where
   pub choice : new.choice ≡ old.choice
   pub switch : new.switch ≡ old.switch
 
--- its clock goes on
+-- the clock of a disk in memory goes on over a call
 abbrev pub TimeGoesOn : MemDisk → MemDisk → Type 0
 TimeGoesOn old new =
     GoesOn (length (calls_of old)) (length (calls_of new)) (IsOutcomeSince (first_of old) (calls_of old)) (IsOutcomeSince (first_of new) (calls_of new)) (CanStopAt new)
 
--- A call of this kind counts, and fails where it has been told to. Where it fails it has no effect.
+-- A call of this kind lowers the counts for its kind, and fails if it was set to. A failed call has no effect.
 pub record Heeds {T : Type 0} (call : CallKind) (old new : MemDisk) (result : Result T DiskFault) : Type 0 where
   pub told : Contains (counts_for (told_of old) call) 1 → IsErr result
   pub counted : told_of new ≡ counting (told_of old) call

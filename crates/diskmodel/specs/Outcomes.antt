@@ -17,15 +17,15 @@ use Rattle.diskmodel.specs.declared.call.Span.{Span}
 use Rattle.diskmodel.specs.declared.call.Call.{Call}
 use Rattle.diskmodel.specs.declared.call.Call.TheVariants.{Wrote, Cut, Synced, Stopped}
 
--- whether a place is one of the row
+-- this place is within the span
 abbrev pub holds : Span → ℕ → Bool
 holds span place = nat_le span.place place && nat_lt place (span.place + span.count)
 
--- whether a place was written
+-- this place was written
 abbrev pub is_written : List Span → ℕ → Bool
 is_written spans place = list_any (λ span. holds span place) spans
 
--- what counts of the calls so far
+-- all of the calls so far that a stop's outcomes depend on
 pub record State : Type 0 where
   -- the bytes at the last successful sync
   pub durable : List ℕ
@@ -37,15 +37,15 @@ pub record State : Type 0 where
   -- what a read gives
   pub content : List ℕ
 
--- Right after a sync, which is rule 4: no place was written, and the one length is that of these bytes.
+-- Right after a sync, as rule 4 says: no place was written since, and these bytes have the only length.
 abbrev pub all_durable : List ℕ → State
 all_durable bytes = record { durable = bytes; smallest = length bytes; greatest = length bytes; spans = []; content = bytes }
 
--- with these places written since
+-- with `count` places from this one on written since the sync
 abbrev pub marked : State → ℕ → ℕ → State
 marked s place count = record s { spans = s.spans ++ record { place = place; count = count } ∷ [] }
 
--- with these bytes for what a read gives, whose length is one more of those since the sync
+-- with these bytes as what a read gives; their length is one more of the lengths since the sync
 abbrev pub giving : State → List ℕ → State
 giving s bytes = record s { smallest = min s.smallest (length bytes); greatest = max s.greatest (length bytes); content = bytes }
 
@@ -58,12 +58,12 @@ after s (Cut len) = giving s (take len s.content)
 after s Synced = all_durable s.content
 after s (Stopped found) = record s { content = found }
 
--- after these calls, from the first to the last
+-- the state after these calls, oldest first
 abbrev pub after_all : State → List Call → State
 after_all s [] = s
 after_all s (call ∷ calls) = after_all (after s call) calls
 
--- after these calls on a disk that began with these bytes, all of them durable
+-- the state after these calls, on a disk that began with these bytes, all of them durable
 abbrev pub state : List ℕ → List Call → State
 state first calls = after_all (all_durable first) calls
 
@@ -73,11 +73,11 @@ AreBytes numbers = All (λ number. number < 256) numbers
 
 -- a stop may leave these bytes
 pub record CanLeave (s : State) (found : List ℕ) : Type 0 where
-  -- rule 1, of a place that wasn't written and that no cut took
+  -- rule 1: a place below the smallest length that wasn't written since the sync keeps its byte
   pub stays : (place : ℕ) → place < s.smallest → is_written s.spans place ≡ false → slice_index found place ≡ slice_index s.durable place
-  -- rule 2, which asks no more than that of the other places
+  -- rule 2: every other place has some byte
   pub are_bytes : AreBytes found
-  -- rule 3
+  -- rule 3: its length is between the smallest and the greatest since the sync
   pub no_shorter : s.smallest ≤ length found
   pub no_longer : length found ≤ s.greatest
 
@@ -85,15 +85,15 @@ pub record CanLeave (s : State) (found : List ℕ) : Type 0 where
 abbrev pub IsOutcome : List ℕ → List Call → List ℕ → Type 0
 IsOutcome first calls found = CanLeave (state first calls) found
 
--- What a stop may have left after the first t of these calls or later, which is rule 5: one inside a call
--- leaves what one right before it or right after it may leave.
+-- What a stop may have left at any moment since the first t of these calls, as rule 5 says: a stop inside a call leaves what a stop right
+-- before or right after the call may leave.
 pub record IsOutcomeSince (first : List ℕ) (calls : List Call) (t : ℕ) (found : List ℕ) : Type 0 where
   pub moment : ℕ
   pub no_earlier : t ≤ moment
   pub no_later : moment ≤ length calls
   pub outcome : IsOutcome first (take moment calls) found
 
--- the last moment is one of those from an earlier one on
+-- an outcome at this moment is also one since any earlier moment
 pub counts_last : (first : List ℕ) (calls : List Call) (t : ℕ) (found : List ℕ) → t ≤ length calls → IsOutcome first calls found → IsOutcomeSince first calls t found
 counts_last first calls t found early outcome = record {
   moment = length calls;
@@ -102,7 +102,7 @@ counts_last first calls t found early outcome = record {
   outcome = subst (λ (past : List Call). IsOutcome first past found) (sym (take_all (length calls) calls (omega arith))) outcome;
 }
 
--- from the last moment on there is no other
+-- an outcome since this moment is one at this moment
 pub only_last : (first : List ℕ) (calls : List Call) (found : List ℕ) → IsOutcomeSince first calls (length calls) found → IsOutcome first calls found
 only_last first calls found since =
     subst (λ (past : List Call). IsOutcome first past found) (take_all since.moment calls since.no_earlier) since.outcome

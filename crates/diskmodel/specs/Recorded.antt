@@ -5,7 +5,7 @@ use Rattle.diskmodel.specs.declared.call.Call.TheVariants.{Stopped}
 use Rattle.diskmodel.specs.Kept.{ReplacesStop}
 use Rattle.diskmodel.specs.declared.history.History.{History}
 
--- the record has this call more at its end
+-- the record has this call appended
 pub record Adds (call : Call) (old new : History) : Type 0 where
   pub first : new.first.items ≡ old.first.items
   pub calls : new.calls.items ≡ old.calls.items ++ call ∷ []
@@ -16,7 +16,7 @@ pub record IsAsBefore (old new : History) : Type 0 where
   pub calls : new.calls.items ≡ old.calls.items
   pub content : new.content.items ≡ old.content.items
 
--- the record has this stop more at its end, or in the place of a stop that was its last call
+-- the record has this stop appended, or in the place of a stop that was its last call
 pub record TakesStop (found : List ℕ) (old new : History) : Type 0 where
   pub first : new.first.items ≡ old.first.items
   pub calls : (new.calls.items ≡ old.calls.items ++ Stopped found ∷ []) ⊎ ReplacesStop found old.calls.items new.calls.items

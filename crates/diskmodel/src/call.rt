@@ -1,9 +1,9 @@
-//! The calls of a disk, as a record of them keeps them.
+//! The calls of a disk, as they are recorded.
 ghost use Rattle.std.specs.Prelude.{◌≡◌, ◌+◌, ◌<◌, ◌≤◌, ◌↔◌, List, ℕ, IsTrue};
 
 use std::marker::Model;
 
-/// Bytes that a record of calls, or of a journal, keeps. A clause reads them as a list.
+/// Bytes in a record of calls or in a journal. Contracts see them as a list.
 #[derive(Debug)]
 pub struct KeptBytes {
     items: Vec<u8>,
@@ -24,7 +24,7 @@ impl Model for KeptBytes {
 }
 
 impl KeptBytes {
-    /// These bytes. It takes no memory.
+    /// A value with these bytes. The call allocates no memory.
     pub fn from_vec(items: Vec<u8>) -> KeptBytes
         ensures { result ≡ items.items }
     {
@@ -38,7 +38,7 @@ impl KeptBytes {
         &self.items
     }
 
-    /// Gives the bytes back. It takes no memory.
+    /// Gives the bytes back. The call allocates no memory.
     pub fn into_vec(self) -> Vec<u8>
         ensures { result.items ≡ self }
     {
@@ -52,7 +52,7 @@ impl KeptBytes {
 pub enum Call {
     /// These bytes were written at this place.
     Wrote {
-        /// Where the first of them went.
+        /// The place of the first byte that was written.
         place: u64,
         /// What was written.
         bytes: KeptBytes,
@@ -65,7 +65,7 @@ pub enum Call {
     Stopped(KeptBytes),
 }
 
-/// A kind of call that can be told to fail.
+/// A kind of call that can be set to fail.
 #[derive(Clone, Copy, Debug, PartialEq, Eq)]
 pub enum CallKind {
     /// `read_at`.
@@ -78,19 +78,19 @@ pub enum CallKind {
     Sync,
 }
 
-/// A row of places, in bytes.
+/// A span of places, in bytes.
 #[derive(Clone, Copy, Debug, PartialEq, Eq)]
 pub struct Span {
-    /// The first of them.
+    /// The first place of the span.
     pub place: u64,
-    /// How many they are.
+    /// How many places there are in the span.
     pub count: u64,
 }
 
 impl Span {
     ghost use Rattle.diskmodel.specs.Outcomes.{holds};
 
-    /// Whether this place is one of them.
+    /// Whether this place is in the span.
     pub fn holds(&self, place: u64) -> bool
         ensures { result ≡ holds self.now place }
     {

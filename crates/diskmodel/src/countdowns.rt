@@ -1,4 +1,4 @@
-//! Which calls of a disk have been told to fail.
+//! Which of the next calls of a disk are set to fail.
 ghost use Rattle.std.specs.Prelude.{◌≡◌, ◌↔◌, IsTrue, OnOk, OnErr};
 ghost use Rattle.std.specs.List.{Contains};
 ghost use Rattle.diskmodel.specs.Countdowns.{lowered};
@@ -6,7 +6,7 @@ ghost use Rattle.diskmodel.specs.Countdowns.{lowered};
 use crate::call::CallKind;
 use std::alloc::{AllocError, Global};
 
-/// For each kind of call how many calls from now one fails, for each that has been told to.
+/// For each kind of call, which of its next calls fail: 1 is the next one.
 #[derive(Drop)]
 pub struct Countdowns {
     pub read: Vec<u64>,
@@ -15,7 +15,7 @@ pub struct Countdowns {
     pub sync: Vec<u64>,
 }
 
-/// Lowers each count by one and drops those that come to 0. Says whether one of them was 1.
+/// Lowers each count by one and drops those that reach 0. Gives whether one of them did.
 fn count_down(counts: &mut Vec<u64>) -> bool
     ensures fails { IsTrue result ↔ Contains counts.old.items 1 }
     ensures lowered { counts.new.items ≡ lowered counts.old.items }
@@ -31,7 +31,7 @@ fn count_down(counts: &mut Vec<u64>) -> bool
 impl Countdowns {
     ghost use Rattle.diskmodel.specs.Countdowns.{no_counts, counts_of, counts_for, telling, counting};
 
-    /// No call fails. It takes no memory.
+    /// No call is set to fail. The call allocates no memory.
     pub fn none(alloc: Global) -> Countdowns
         ensures { counts_of result ≡ no_counts }
     {
@@ -43,7 +43,7 @@ impl Countdowns {
         }
     }
 
-    /// Tells the count-th call of this kind from now on to fail too.
+    /// Sets the count-th next call of this kind to fail too.
     pub fn tell(&mut self, call: CallKind, count: u64) -> Result<(), AllocError>
         ensures told { OnOk result (counts_of self.new ≡ telling (counts_of self.old) call count) }
         ensures err { OnErr result (counts_of self.new ≡ counts_of self.old) }
@@ -57,7 +57,7 @@ impl Countdowns {
         Ok(())
     }
 
-    /// Counts a call of this kind, and says whether it is one that fails.
+    /// Counts a call of this kind, and gives whether it is set to fail.
     pub fn count(&mut self, call: CallKind) -> bool
         ensures fails { IsTrue result ↔ Contains (counts_for (counts_of self.old) call) 1 }
         ensures counted { counts_of self.new ≡ counting (counts_of self.old) call }

@@ -12,10 +12,10 @@ use thiserror::Error;
 #[error("the disk failed")]
 pub struct DiskFault;
 
-/// A disk: a list of bytes. Bytes that were written or cut since the last successful sync may be lost
-/// by a stop, which may also come inside a call. Places and lengths are in bytes.
+/// A disk: a list of bytes. Bytes that were written or cut since the last successful sync may be lost by a stop, which may also come inside
+/// a call. Places and lengths are in bytes.
 pub trait Disk {
-    /// What contracts need of its disks: what a read gives, what a stop may leave, the moment, the failures and the calls.
+    /// What contracts need of disks of this type: what a read gives, what a stop may leave, the moment, the failures and the calls.
     ghost device: { Device Self };
 
     /// The length.
@@ -55,7 +55,7 @@ pub trait Disk {
         ensures cause { HasCause (device.faults self.old) (device.faults self.new) result }
         ensures calls { Makes (Cut len) result (device.calls self.old) (device.calls self.new) };
 
-    /// Once it has succeeded, a stop leaves what a read gives.
+    /// After success a stop leaves exactly what a read gives.
     fn sync(&mut self) -> Result<(), DiskFault>
         ensures durable { OnOk result (LeavesOnly (device.content self.old) (device.outcome self.new)) }
         ensures content { device.content self.new ≡ device.content self.old }
@@ -64,7 +64,7 @@ pub trait Disk {
         ensures cause { HasCause (device.faults self.old) (device.faults self.new) result }
         ensures calls { Makes Synced result (device.calls self.old) (device.calls self.new) };
 
-    /// Says that nothing is read any more, so that memory that was kept for reads can go. A read after it may fail.
+    /// Says that the disk won't be read any more, so that memory kept for reads can be freed. A later read may fail.
     fn end_reading(&mut self)
         ensures content { device.content self.new ≡ device.content self.old }
         ensures outcomes { NoneNew (device.outcome self.old) (device.outcome self.new) }
@@ -72,20 +72,19 @@ pub trait Disk {
         ensures faults { device.faults self.new ≡ device.faults self.old }
         ensures calls { device.calls self.new ≡ device.calls self.old };
 
-    /// What a read gives is among what a stop may leave.
+    /// What a read gives is one of the outcomes of a stop.
     ghost content_is_outcome: { (disk : Self) → device.outcome disk (device.content disk) };
 
-    /// This moment is one of those from an earlier one on.
+    /// An outcome at this moment is also one since any earlier moment.
     ghost counts_now: { (disk : Self) (t : ℕ) (c : List ℕ) → t ≤ device.clock disk → device.outcome disk c → device.outcome_since disk t c };
 
-    /// From this moment on there was no other.
+    /// An outcome since this moment is one at this moment.
     ghost only_now: { (disk : Self) (c : List ℕ) → device.outcome_since disk (device.clock disk) c → device.outcome disk c };
 }
 
-/// A disk on which a stop of the machine can be played.
+/// A disk on which a test can stop the machine.
 pub trait StopDisk: Disk {
-    /// Stops the machine: from then on a read gives one of the outcomes of a stop. All of them stay
-    /// possible until a sync.
+    /// Stops the machine: from then on a read gives one of the outcomes of a stop. All outcomes stay possible until a sync.
     fn stop(&mut self)
         ensures content { Self.device.outcome self.old (Self.device.content self.new) }
         ensures outcomes { NoneNew (Self.device.outcome self.old) (Self.device.outcome self.new) }

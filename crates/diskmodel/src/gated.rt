@@ -6,18 +6,18 @@ ghost use Rattle.diskmodel.specs.Gated.{disk_of, gate_of};
 
 use crate::disk::{Disk, DiskFault, StopDisk};
 
-/// What a sync passes first.
+/// What a sync has to wait for.
 pub trait Gate {
     /// Returns once the sync may go on.
     fn pass(&mut self);
 }
 
-/// It lets each sync go on at once.
+/// The gate that lets each sync go on at once.
 impl Gate for () {
     fn pass(&mut self) {}
 }
 
-/// A disk after a gate. Its calls are those of the disk, and a sync, no other call, passes the gate before.
+/// A disk whose syncs wait for a gate. Its calls are those of the inner disk; only a sync passes the gate first.
 #[derive(Drop)]
 pub struct GatedDisk<D, G> {
     disk: D,
@@ -25,7 +25,7 @@ pub struct GatedDisk<D, G> {
 }
 
 impl<D, G> GatedDisk<D, G> {
-    /// This disk after this gate.
+    /// This disk with this gate.
     pub fn new(disk: D, gate: G) -> GatedDisk<D, G>
         ensures disk { disk_of result ≡ disk }
         ensures gate { gate_of result ≡ gate }
@@ -33,14 +33,14 @@ impl<D, G> GatedDisk<D, G> {
         GatedDisk { disk, gate }
     }
 
-    /// The disk.
+    /// The inner disk.
     pub fn disk(&self) -> &D
         ensures { result.now ≡ disk_of self.now }
     {
         &self.disk
     }
 
-    /// The disk and the gate, apart again.
+    /// The inner disk and the gate, taken apart again.
     pub fn into_parts(self) -> (D, G)
         ensures disk { result.0 ≡ disk_of self }
         ensures gate { result.1 ≡ gate_of self }

@@ -1,4 +1,4 @@
-//! The record of a disk in memory, and what it comes to.
+//! The record of a disk in memory, and the state that it leads to.
 ghost use Rattle.std.specs.Prelude.{◌≡◌, ◌⊎◌, ℕ, ◌+◌, ◌-◌, ◌<◌, ◌≤◌, ◌↔◌, min, max, Bool, false, List, [], ◌∷◌, ◌++◌, length, take, IsTrue, IfOk, OnOk, OnErr, slice_index, vec_len, vec_capacity};
 ghost use Rattle.diskmodel.specs.Disk.{written};
 ghost use Rattle.diskmodel.specs.Outcomes.{is_written, state, IsOutcome};
@@ -9,7 +9,7 @@ use crate::call::{Call, KeptBytes, Span};
 use crate::refusals::Refusals;
 use std::alloc::{AllocError, Global};
 
-/// How many places a call makes room for in the record: its own, and one for a stop after it.
+/// For how many calls a call makes room in the record: itself, and a stop after it.
 pub const CALL_AND_STOP: usize = 2;
 
 /// The smallest and the greatest length since the last sync, in bytes.
@@ -20,7 +20,7 @@ pub struct Lengths {
 }
 
 impl Lengths {
-    /// This one alone.
+    /// One length only.
     pub fn only(len: usize) -> Lengths
         ensures { result ≡ record { smallest = len; greatest = len } }
     {
@@ -30,7 +30,7 @@ impl Lengths {
         }
     }
 
-    /// One length more.
+    /// Takes one more length into account.
     pub fn note(&mut self, len: usize)
         ensures smallest { self.new.smallest ≡ min self.old.smallest len }
         ensures greatest { self.new.greatest ≡ max self.old.greatest len }
@@ -39,7 +39,7 @@ impl Lengths {
         self.greatest = self.greatest.max(len);
     }
 
-    /// Whether a length lies between them.
+    /// Whether a length is between the smallest and the greatest one, these included.
     pub fn include(&self, len: usize) -> bool
         ensures { IsTrue result ↔ ((self.now.smallest ≤ len) × (len ≤ self.now.greatest)) }
     {
@@ -47,7 +47,7 @@ impl Lengths {
     }
 }
 
-/// What a disk began with, its calls since, and what they come to.
+/// The bytes with which a disk began, its calls since, and the state that they lead to.
 pub struct History {
     alloc: Global,
     pub first: Vec<u8>,
@@ -57,9 +57,9 @@ pub struct History {
     pub spans: Vec<Span>,
     pub content: Vec<u8>,
     ghost kept: { Keeps first.items calls.items durable.items lengths.smallest lengths.greatest spans.items content.items },
-    // Where the last call is no stop there is room for one.
+    // Unless the last call is a stop, there is room for one more call.
     ghost room: { ends_in_stop calls.items ≡ false → vec_len calls < vec_capacity calls },
-    // The content can be as long as it was since the last sync.
+    // There is room for the greatest length since the last sync.
     ghost fits: { lengths.greatest ≤ vec_capacity content },
 }
 
@@ -89,7 +89,7 @@ fn copy(alloc: Global, bytes: &[u8], refusals: &mut Refusals) -> Result<Vec<u8>,
     Ok(copy)
 }
 
-/// Puts bytes into a list at a place within it or at its end. Where memory is refused the list is as before.
+/// Writes bytes into a list, at a place within it or at its end. If an allocation fails, the list is as before.
 fn overlay(
     list: &mut Vec<u8>,
     at: usize,
@@ -110,7 +110,7 @@ fn overlay(
     Ok(())
 }
 
-/// Removes the last call if it is a stop. Then there is room for another.
+/// Removes the last call if it is a stop. After that there is room for another stop.
 fn forget_last_stop(calls: &mut Vec<Call>)
     requires { ends_in_stop calls.old.items ≡ false → vec_len calls.old < vec_capacity calls.old }
     ensures room { vec_len calls.new < vec_capacity calls.new }
@@ -142,7 +142,7 @@ impl History {
         })
     }
 
-    /// Whether this place was written since the last sync.
+    /// Whether the byte at this place was written since the last sync.
     pub fn is_written(&self, place: u64) -> bool
         ensures { result ≡ is_written self.now.spans.items place }
     {
@@ -156,7 +156,7 @@ impl History {
         self.lengths.include(found.len()) && self.keeps_durable(found)
     }
 
-    /// Whether the bytes that must stay have stayed.
+    /// Whether the bytes that a stop can't change are unchanged.
     fn keeps_durable(&self, found: &[u8]) -> bool
         requires { self.now.lengths.smallest ≤ length found.now }
         ensures { IsTrue result ↔ ((place : ℕ) → place < self.now.lengths.smallest → is_written self.now.spans.items place ≡ false
@@ -170,7 +170,7 @@ impl History {
         true
     }
 
-    /// Writes bytes within the content or at its end. Where memory is refused all is as before.
+    /// Writes bytes within the content or at its end. If an allocation fails, nothing has changed.
     pub fn write(
         &mut self,
         at: usize,
@@ -195,7 +195,7 @@ impl History {
         Ok(())
     }
 
-    /// Cuts the content to a length. Where memory is refused all is as before.
+    /// Cuts the content to a length. If an allocation fails, nothing has changed.
     pub fn cut(&mut self, len: usize, refusals: &mut Refusals) -> Result<(), AllocError>
         requires { len ≤ length self.old.content.items }
         ensures added { OnOk result (Adds (Call.Cut len) self.old self.new) }
@@ -210,7 +210,7 @@ impl History {
         Ok(())
     }
 
-    /// Makes the content durable. Where memory is refused all is as before.
+    /// Makes the content durable. If an allocation fails, nothing has changed.
     pub fn sync(&mut self, refusals: &mut Refusals) -> Result<(), AllocError>
         ensures added { OnOk result (Adds Call.Synced self.old self.new) }
         ensures content { self.new.content.items ≡ self.old.content.items }
@@ -226,8 +226,8 @@ impl History {
         Ok(())
     }
 
-    /// Stops the machine, which leaves these bytes. It takes no memory: the content has been as long
-    /// before, and a stop right after a stop takes the other's place in the record.
+    /// Stops the machine, which leaves these bytes. The call allocates no memory: the content has had this length before, and a stop right
+    /// after a stop replaces it in the record.
     pub fn stop(&mut self, found: KeptBytes)
         requires { IsOutcome self.old.first.items self.old.calls.items found }
         ensures taken { TakesStop found self.old self.new }

@@ -1,4 +1,4 @@
-//! A disk as a list of bytes, of which a stop of the machine may leave less than was written.
+//! A disk as a list of bytes, and what a stop of the machine may leave of it.
 #![tactic(auto)]
 
 mod call;

@@ -1,4 +1,4 @@
-//! A disk in memory, which can be told to fail and on which a stop of the machine can be played.
+//! A disk in memory, for tests. Its calls can be set to fail, and a stop of the machine can be played on it.
 ghost use Rattle.std.specs.Prelude.{◌≡◌, ◌⊎◌, ℕ, ◌+◌, ◌-◌, ◌<◌, ◌≤◌, ◌↔◌, List, [], None, Some, length, take, drop, IsTrue, IsFalse, IsErr, Ok, IfOk, OnOk, OnErr, is_ok};
 ghost use Rattle.std.specs.List.{Contains};
 ghost use Rattle.diskmodel.specs.Disk.{HasCause, NoneNew, GoesOn};
@@ -13,7 +13,7 @@ use crate::switch::Switch;
 use crate::tally::Tally;
 use std::alloc::{AllocError, Global};
 
-/// A disk in memory. It keeps its first bytes and the record of its calls.
+/// A disk in memory. It keeps the bytes with which it began and the record of its calls.
 pub struct MemDisk {
     history: History,
     countdowns: Countdowns,
@@ -43,7 +43,7 @@ impl MemDisk {
     /// A disk with these bytes, all of them synced.
     ///
     /// # Errors
-    /// Where memory is refused.
+    /// An allocation failed.
     pub fn new(alloc: Global, bytes: Vec<u8>) -> Result<MemDisk, AllocError>
         ensures first { IfOk result (λ disk. first_of disk ≡ bytes.items) }
         ensures calls { IfOk result (λ disk. calls_of disk ≡ []) }
@@ -62,10 +62,10 @@ impl MemDisk {
         })
     }
 
-    /// The same with a switch, by which its calls can also be told to fail while another has the disk.
+    /// A disk with these bytes and a switch, by which calls can be set to fail while another thread has the disk.
     ///
     /// # Errors
-    /// Where memory is refused.
+    /// An allocation failed.
     pub fn with_switch(
         alloc: Global,
         bytes: Vec<u8>,
@@ -90,8 +90,7 @@ impl MemDisk {
         &self.history.content
     }
 
-    /// The bytes of the last successful sync, or those of the beginning if there was none. A stop may
-    /// leave them.
+    /// The bytes at the last successful sync, or at the beginning if there was none. A stop may leave them.
     pub fn durable(&self) -> &[u8]
         ensures value { result.now ≡ (state_of self.now).durable }
         ensures outcome { CanStopAt self.now result.now }
@@ -106,19 +105,18 @@ impl MemDisk {
         self.history.is_written(place)
     }
 
-    /// The calls so far, those that failed left out. A stop is among them where it left a choice, and
-    /// it takes the place of a stop right before it.
+    /// The calls so far, without those that failed. A stop is among them if its outcome was chosen, and replaces a stop right before it.
     pub fn calls(&self) -> &[Call]
         ensures { result.now ≡ calls_of self.now }
     {
         &self.history.calls
     }
 
-    /// Tells a call to fail: the count-th of its kind from now on, once, and without any effect. At 0
-    /// none is told to. Each kind is counted by itself, and more than one call of a kind can be told.
+    /// Sets a call to fail: the count-th next one of its kind, once, and without any effect. A count of 0 sets none. Each kind is counted
+    /// by itself, and several calls of a kind can be set to fail.
     ///
     /// # Errors
-    /// Where memory is refused. Then no other call is told to fail than before.
+    /// An allocation failed; then no call was set to fail.
     pub fn fail(&mut self, call: CallKind, count: u64) -> Result<(), AllocError>
         ensures told { OnOk result (told_of self.new ≡ telling (told_of self.old) call count) }
         ensures err { OnErr result (told_of self.new ≡ told_of self.old) }
@@ -135,8 +133,7 @@ impl MemDisk {
         self.history.can_leave(bytes)
     }
 
-    /// Chooses what the next stop leaves, if it is one of its outcomes then. Otherwise that stop
-    /// leaves what a read gives.
+    /// Chooses what the next stop leaves, if that is one of its outcomes then. Otherwise the stop leaves what a read gives.
     pub fn choose(&mut self, outcome: Vec<u8>)
         ensures { self.new ≡ choosing self.old outcome.items }
     {
@@ -154,7 +151,7 @@ impl MemDisk {
         DiskFault
     }
 
-    /// Counts a call with the switch, and says whether it is one that fails.
+    /// Counts a call with the switch, and gives whether it is set to fail.
     fn is_switched(&self, call: CallKind) -> bool
         ensures { switch_of self.now ≡ None → IsFalse result }
     {
@@ -164,7 +161,7 @@ impl MemDisk {
         }
     }
 
-    /// Counts a call, and fails where it has been told to.
+    /// Counts a call, and fails if the call was set to.
     fn fail_if_told(&mut self, call: CallKind) -> Result<(), DiskFault>
         ensures undisturbed { IsUndisturbed self.old self.new }
         ensures cause { HasCause self.old.faults.count self.new.faults.count result }
@@ -181,7 +178,7 @@ impl MemDisk {
         Ok(())
     }
 
-    /// Counts a refusal of memory as a failure.
+    /// Counts a failed allocation as a failure of the disk.
     fn counted(&mut self, outcome: Result<(), AllocError>) -> Result<(), DiskFault>
         ensures undisturbed { IsUndisturbed self.old self.new }
         ensures told { told_of self.new ≡ told_of self.old }
@@ -227,7 +224,7 @@ impl Disk for MemDisk {
         ensures cause { HasCause self.old.faults.count self.new.faults.count result }
         ensures calls { made_of self.new ≡ made_of self.old }
 
-        // It doesn't count as a call.
+        // Asking for the length doesn't count as a call.
         ensures unchanged { self.new ≡ self.old }
     {
         Ok(self.history.content.len() as u64)
@@ -242,7 +239,7 @@ impl Disk for MemDisk {
         ensures cause { HasCause self.old.faults.count self.new.faults.count result }
         ensures calls { made_of self.new ≡ made_of self.old }
 
-        // Without a switch it fails only where it has been told to. It isn't in the record.
+        // Without a switch it fails only if it was set to. It isn't recorded.
         ensures heeds { Heeds CallKind.Read self.old self.new result }
         ensures undisturbed { IsUndisturbed self.old self.new }
         ensures succeeds { switch_of self.old ≡ None → OnErr result (Contains (counts_for (told_of self.old) CallKind.Read) 1) }
@@ -263,7 +260,7 @@ impl Disk for MemDisk {
         ensures recorded { OnOk result (Adds (Call.Wrote at bytes.now) self.old.history self.new.history) }
         ensures heeds { Heeds CallKind.Write self.old self.new result }
 
-        // Without a switch it fails only where it has been told to, or a list without room was refused it.
+        // Without a switch it fails only if it was set to, or an allocation failed for a list without room.
         ensures succeeds { switch_of self.old ≡ None → OnErr result (Contains (counts_for (told_of self.old) CallKind.Write) 1 ⊎ IsRefused (room_for (length bytes.now)) self.old.refusals self.new.refusals) }
     {
         self.fail_if_told(CallKind::Write)?;
@@ -303,7 +300,7 @@ impl Disk for MemDisk {
         self.counted(outcome)
     }
 
-    // It keeps what a stop may leave, so a read goes on to succeed.
+    // The disk keeps what a stop may leave, so later reads still succeed.
     fn end_reading(&mut self)
         ensures { self.new ≡ self.old }
     {}
@@ -312,7 +309,7 @@ impl Disk for MemDisk {
 impl StopDisk for MemDisk {
     ghost use Rattle.diskmodel.specs.Memory.{content_of, made_of, CanStopAt, choice_of, told_of, switch_of, TimeGoesOn};
 
-    /// It takes no memory, and no choice is left after it.
+    /// The call allocates no memory, and uses up the choice.
     fn stop(&mut self)
         ensures content { CanStopAt self.old (content_of self.new) }
         ensures outcomes { NoneNew (CanStopAt self.old) (CanStopAt self.new) }
@@ -321,7 +318,7 @@ impl StopDisk for MemDisk {
         ensures faults { self.new.faults.count ≡ self.old.faults.count }
         ensures calls { made_of self.new ≡ made_of self.old }
 
-        // Each outcome comes by its choice. Without one a read gives what it gave.
+        // Each outcome can be chosen. Without a choice a read gives the same as before.
         ensures chosen { (found : List ℕ) → choice_of self.old ≡ Some found → CanStopAt self.old found → content_of self.new ≡ found }
         ensures otherwise { ((found : List ℕ) → choice_of self.old ≡ Some found → ¬ CanStopAt self.old found) → content_of self.new ≡ content_of self.old }
         ensures spent { choice_of self.new ≡ None }

@@ -1,11 +1,11 @@
-//! Which growths of lists were refused. Nothing but `grow` counts one.
+//! Which allocations for lists failed. Only `grow` counts them.
 ghost use Rattle.std.specs.Prelude.{◌≡◌, ℕ, ◌+◌, ◌<◌, ◌≤◌, OnOk, OnErr, vec_len, vec_capacity};
 
 use crate::tally::Tally;
 use std::alloc::AllocError;
 
-/// How often a list was refused room. Of the last time, for how many elements more it had room, and for how
-/// many it wanted it. Only contracts read this.
+/// How often an allocation for a list failed; and of the last time, for how many more elements the list had room, and for how many room was
+/// wanted. Only contracts read this.
 #[derive(Drop)]
 pub struct Refusals {
     count: Tally,
@@ -16,7 +16,7 @@ pub struct Refusals {
 impl Refusals {
     ghost use Rattle.diskmodel.specs.Refusals.{IsRefused};
 
-    /// None so far.
+    /// No allocation has failed.
     pub fn none() -> Refusals
         ensures { result.count.count ≡ 0 }
     {
@@ -27,7 +27,7 @@ impl Refusals {
         }
     }
 
-    /// Makes room in a list for so many elements more. Where memory is refused that is counted.
+    /// Makes room in a list for so many more elements. A failed allocation is counted.
     pub fn grow<T>(&mut self, list: &mut Vec<T>, additional: usize) -> Result<(), AllocError>
         ensures items { list.new.items ≡ list.old.items }
         ensures capacity { vec_capacity list.old ≤ vec_capacity list.new }

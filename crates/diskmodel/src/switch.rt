@@ -1,4 +1,4 @@
-//! A switch that tells calls of disks to fail while another holds the disks, on any thread.
+//! A switch that sets calls of disks to fail while another thread has the disks.
 ghost use Rattle.std.specs.Prelude.{◌≡◌, IfOk, IsOk, vec_len};
 
 use crate::call::CallKind;
@@ -8,23 +8,23 @@ use std::sync::Arc;
 use std::sync::atomic::{AtomicU64, Ordering};
 use thiserror::Error;
 
-/// How many calls of a kind a switch can have told to fail at once.
+/// How many calls of one kind a switch can have set to fail at once.
 pub const MAX_SWITCHED: usize = 16;
 
-/// A switch can tell no more calls of this kind to fail until one of those that it told has come.
+/// A switch can set no more calls of this kind to fail until one of those that are set was made.
 #[derive(Clone, Copy, Debug, PartialEq, Eq, Error)]
 #[error("no more calls of this kind can be told to fail")]
 pub struct TooManyTold;
 
-/// A call that a switch told to fail, until it comes.
+/// A call that a switch has set to fail, until it is made.
 #[derive(Clone, Copy, Debug, PartialEq, Eq)]
 pub struct Told {
     call: CallKind,
     place: usize,
 }
 
-/// For each kind of call a row of words. Each is free at 0, or says how many calls from now one fails. A
-/// disk may not wait for a lock, so a word is changed by single steps, and no clause knows what it holds.
+/// A row of words for each kind of call. A word is free at 0; otherwise it says which of the next calls fails. A disk may not wait for a
+/// lock, so the words are atomic, and no contract knows what they hold.
 #[derive(Drop)]
 pub struct SwitchView {
     read: Vec<AtomicU64>,
@@ -44,7 +44,7 @@ fn row(alloc: Global) -> Result<Vec<AtomicU64>, AllocError>
     Ok(row)
 }
 
-/// Counts a call at this word, and says whether it is the one that fails.
+/// Counts a call at this word, and gives whether it is the one that fails.
 fn count_down(word: &AtomicU64) -> bool {
     let was = word.fetch_update(Ordering::SeqCst, Ordering::SeqCst, |count| {
         count.checked_sub(1)
@@ -63,7 +63,7 @@ impl SwitchView {
         })
     }
 
-    /// Those for this kind of call.
+    /// The words for this kind of call.
     fn of(&self, call: CallKind) -> &[AtomicU64] {
         match call {
             CallKind::Read => &self.read,
@@ -74,7 +74,7 @@ impl SwitchView {
     }
 }
 
-/// Tells calls to fail, of all disks that are made with it. It and its clones may go to other threads.
+/// Sets calls to fail, of all disks that are made with it. The switch and its clones may go to other threads.
 pub struct Switch {
     words: Arc<SwitchView, Global>,
 }
@@ -85,7 +85,7 @@ impl Drop for Switch {
     }
 }
 
-// Which words it has: those of its clones are the same.
+// The identity of its words, which is the same for its clones.
 impl Model for Switch {
     ghost use Rattle.diskmodel.specs.declared.switch.SwitchView.{SwitchView};
     ghost use Rattle.std.specs.Arc.{arc_value};
@@ -96,19 +96,19 @@ impl Model for Switch {
 }
 
 impl Switch {
-    /// A switch that has told no call to fail.
+    /// A switch that has set no call to fail.
     ///
     /// # Errors
-    /// Where memory is refused.
+    /// An allocation failed.
     pub fn new(alloc: Global) -> Result<Switch, AllocError> {
         let words = Arc::new(alloc, SwitchView::none(alloc)?)?;
         Ok(Switch { words })
     }
 
-    /// The same switch once more.
+    /// Another handle to the same switch.
     ///
     /// # Errors
-    /// Where it has as many clones as can be counted.
+    /// As many handles to the switch exist as can be counted.
     pub fn try_clone(&self) -> Result<Switch, AllocError>
         ensures { IfOk result (λ twin. twin ≡ self.now) }
     {
@@ -116,16 +116,16 @@ impl Switch {
         Ok(Switch { words })
     }
 
-    /// Tells a call to fail: the count-th of its kind from now on, of all disks that are made with this
-    /// switch, once, and without any effect. At 0 none is told to. Each kind is counted by itself.
+    /// Sets a call to fail: the count-th next one of its kind, of all disks that are made with this switch, once, and without any effect. A
+    /// count of 0 sets none. Each kind is counted by itself.
     ///
     /// # Errors
-    /// Where `MAX_SWITCHED` calls of this kind that were told to fail are yet to come. Then no other is told to.
+    /// `MAX_SWITCHED` calls of this kind are set to fail already and weren't made yet. Then none was set.
     pub fn fail(&self, call: CallKind, count: u64) -> Result<Told, TooManyTold>
         ensures { count ≡ 0 → IsOk result }
     {
         if count == 0 {
-            // The place of no word.
+            // A count of 0 sets nothing, so the answer names a place that no word has.
             return Ok(Told {
                 call,
                 place: MAX_SWITCHED,
@@ -140,19 +140,19 @@ impl Switch {
         Err(TooManyTold)
     }
 
-    /// Tells a call that was told to fail, and hasn't come yet, not to. After that call, and before another is told to
-    /// fail, it changes nothing.
+    /// Revokes that a call was set to fail. If that call was made already this changes nothing, unless another call was set to fail since
+    /// then.
     pub fn take_back(&self, told: Told) {
         if let Some(word) = self.words.of(told.call).get(told.place) {
             word.store(0, Ordering::SeqCst);
         }
     }
 
-    /// Counts a call of this kind, and says whether it is one that fails.
+    /// Counts a call of this kind, and gives whether it is set to fail.
     pub(crate) fn count(&self, call: CallKind) -> bool {
         let mut is_due = false;
         for word in self.words.of(call) {
-            // Each word counts the call, also where another has said that it fails.
+            // Each word counts the call, even if an earlier word already says that it fails.
             is_due |= count_down(word);
         }
         is_due

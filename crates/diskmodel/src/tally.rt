@@ -1,11 +1,10 @@
-//! How often something has happened, as a number that only proofs read. It takes no memory, so that
-//! no time is one too many for it.
+//! A count that only proofs read. It is in no memory, so it never overflows.
 ghost use Rattle.std.specs.Prelude.{◌≡◌, ℕ, ◌+◌};
 ghost use Rattle.std.specs.Borrow.{ftrue};
 
 use std::marker::Model;
 
-/// How often something has happened.
+/// How often something has happened, for proofs.
 #[derive(Drop)]
 pub struct Tally {
     pub ghost count: { ℕ },
@@ -15,18 +14,18 @@ impl Model for Tally {
     ghost also_owns = { λ _. ftrue };
 }
 
-// A struct with `also_owns` may not go to another thread by itself. This one owns nothing.
+// A struct with `also_owns` isn't `Send` by itself. This one owns nothing.
 unsafe impl Send for Tally {}
 
 impl Tally {
-    /// Never so far.
+    /// A count of 0.
     pub fn none() -> Tally
         ensures { result.count ≡ 0 }
     {
         Tally {}
     }
 
-    /// Once more.
+    /// A count that is greater by 1.
     pub fn one_more(&self) -> Tally
         ensures { result.count ≡ self.now.count + 1 }
     {

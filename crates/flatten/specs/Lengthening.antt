@@ -1,4 +1,4 @@
--- What a commit of several leaders does to the order and the marks.
+-- What committing several leaders does to the order and the marks.
 use Rattle.std.specs.Prelude.{◌≡◌, ℕ, ◌≤◌, List, [], Some, is_some, true}
 use Rattle.committee.specs.declared.sets.MemberSet.{MemberSet}
 use Rattle.spec_model.specs.Ordering.{is_past}
@@ -8,16 +8,16 @@ use Rattle.tusk.specs.Chain.{ledger_in}
 use Rattle.flatten.specs.Segments.{leader_held}
 use Rattle.flatten.specs.Sets.{lowest_in, is_free, AreUnordered}
 
--- what is made of leaders: the digests of what they order, the slot of the last one, of the rounds from its own downwards whose
--- certificates they order, and how many references to parents were read
+-- what is made of leaders: the digests that they order, the slot of the last one, the authors of the certificates that they order, a set
+-- for each round from the last leader's downwards, and how many references to parents were read
 pub record LengtheningView : Type 0 where
   pub digests : List Digest
   pub last : ℕ × Author
   pub ordered : List MemberSet
   pub reads : ℕ
 
--- what was made of a DAG: its last leader, which is held; of the rounds that this orders of, exactly what it reaches is ordered or
--- marked, and it reaches what is marked
+-- what was made fits a DAG: the last leader is held. Of the rounds of which it may order certificates, exactly what it reaches is ordered
+-- or marked; and it reaches everything marked
 pub record FitsTo (graph : DagView) (made : LengtheningView) : Type 0 where
   pub held : is_some (slots_in graph made.last.0 made.last.1.0) ≡ true
   pub unordered : AreUnordered graph (leader_held graph (Some made.last)) (lowest_in graph made.last.0) made.last.0 (is_free graph made.last.0 made.ordered)

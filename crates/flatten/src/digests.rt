@@ -11,7 +11,7 @@ use dag::Dag;
 use std::alloc::AllocError;
 use wire::{Author, Digest, Round};
 
-// Puts the digests of what slots of a round hold after others, by these authors.
+// Adds the digests of the certificates that these authors have in a round.
 fn put_round(
     dag: &Dag,
     round: Round,
@@ -30,8 +30,8 @@ fn put_round(
     Ok(())
 }
 
-/// Puts the digests of what a leader orders after others, by round and then author. The sets are of the leader's round and
-/// of those below it, downwards. The genesis isn't ordered.
+/// Adds the digests of what a leader orders, by round and then author. The sets are of the leader's round and of the rounds below it,
+/// downwards. Genesis certificates aren't ordered.
 pub(crate) fn put_digests(
     dag: &Dag,
     round: Round,

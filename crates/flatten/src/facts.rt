@@ -2,13 +2,13 @@
 
 ghost use Rattle.flatten.specs.Laws.{MadeStays, EachFollows};
 
-/// What was made of a DAG is made of it with a certificate more, of a round above the last leader's.
+/// What was made of a DAG is still right after a certificate is added, of a round above the last leader's.
 pub fn made_stays()
     ensures { MadeStays }
 {}
 
-/// For each of leaders that are linked `segment` gives the definition's segment after the one before it, where exactly the
-/// history of the one before the first of them is marked.
+/// In a chain of leaders, each of which reaches the one before, `segment` gives for each the segment of the definition, if exactly the
+/// history of the leader before the first is marked.
 pub fn each_follows()
     ensures { EachFollows }
 {}

@@ -1,4 +1,4 @@
-//! What a commit of several leaders does.
+//! What committing several leaders does to the order and the marks.
 
 ghost use Rattle.std.specs.Prelude.{◌≡◌, ℕ, ◌-◌, ◌<◌, ◌≤◌, ◌^◌, ◌||◌, ◌&&◌, min, nat_le, true, length, List, Option, Some, IfOk, slice_get};
 ghost use Rattle.spec_model.specs.Ordering.{segments};
@@ -16,12 +16,12 @@ use std::alloc::{AllocError, Global};
 use std::marker::Model;
 use wire::{Author, Digest, Round};
 
-/// What a commit of several leaders will do to the order and the marks. All of the memory that it needs is taken. Contracts
-/// see what was made.
+/// What committing several leaders will do to the order and the marks. All memory for it is allocated already. Contracts see the digests,
+/// the last leader, the sets and the count.
 pub struct Lengthening {
     digests: Vec<Digest>,
     last: (Round, Author),
-    // Of the rounds from the last leader's downwards, whose certificates they order.
+    // The authors whose certificates are ordered, a set for each round from the last leader's downwards.
     ordered: Vec<MemberSet>,
     // How many references to parents were read.
     reads: u64,
@@ -47,8 +47,8 @@ impl Model for Lengthening {
 }
 
 impl Lengthening {
-    /// What is done by committing leaders, the oldest first, of which each reaches the one before, and the first of them the
-    /// last one that was committed, which reaches what is marked.
+    /// What committing these leaders will do. They are given oldest first, and each reaches the one before. The first one reaches the last
+    /// leader that was committed, and that reaches everything marked.
     ///
     /// # Errors
     /// `AllocError` where an allocation failed.
@@ -84,7 +84,7 @@ impl Lengthening {
         })
     }
 
-    /// The digests of what the leaders order, one leader after the other.
+    /// The digests that the leaders order, one leader after the other.
     pub fn digests(&self) -> &[Digest]
         ensures { result.now ≡ self.now.digests }
     {
@@ -98,8 +98,8 @@ impl Lengthening {
         self.last
     }
 
-    /// How many references to parents were read for it: those of the certificates that a leader orders, each once, but for the
-    /// lowest round that it orders of. It is no more than a `u64` has.
+    /// How many references to parents were read for it: those of the certificates that a leader orders, each once, except in the lowest
+    /// round of which the leader orders any. The number fits a `u64`.
     pub fn reads(&self) -> u64
         ensures { result ≡ self.now.reads }
     {
@@ -107,8 +107,8 @@ impl Lengthening {
     }
 }
 
-/// Marks what leaders order, in the DAG that this was made of: what is marked after it, at most the depth below the last
-/// leader, is what that reaches. It takes no memory.
+/// Marks what the leaders order, in the DAG of which this was made. After that, among the certificates at most the depth below the last
+/// leader, exactly those that it reaches are marked. The call allocates no memory.
 pub fn mark(dag: &mut Dag, made: &Lengthening)
     ensures charter { dag.new.charter ≡ dag.old.charter }
     ensures floor { dag.new.floor ≡ dag.old.floor }

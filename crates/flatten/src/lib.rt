@@ -1,4 +1,4 @@
-//! What committed leaders order.
+//! Which certificates the committed leaders order.
 #![tactic(auto)]
 
 mod digests;

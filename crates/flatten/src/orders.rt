@@ -14,7 +14,7 @@ use dag::{Dag, Reads};
 use std::alloc::{AllocError, Global};
 use wire::{Author, Round};
 
-// Of a round, those parents of these of the round above that are free.
+// The parents of these certificates, in the round below, that are neither marked nor among those taken already.
 fn next_set(
     dag: &Dag,
     below: u64,
@@ -34,8 +34,8 @@ fn next_set(
     set
 }
 
-/// Of so many rounds at most, from that of a leader downwards, whom the leader orders: those whom it reaches and who are free.
-/// It ends where nobody is left. All references are read of those whom it orders, but for the last of the rounds.
+/// The certificates that a leader orders, in at most so many rounds from the leader's downwards: those that it reaches and that are free.
+/// It ends where none is left. All references of the ordered certificates are read, except in the last of the rounds.
 pub(crate) fn ordered(
     alloc: Global,
     dag: &Dag,

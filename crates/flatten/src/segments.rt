@@ -18,7 +18,7 @@ use dag::Dag;
 use std::alloc::{AllocError, Global};
 use wire::{Author, Digest, Round};
 
-/// The lowest round that a leader orders of: that at the depth below it, or the floor.
+/// The lowest round of which a leader orders certificates: `depth` below its own, or the floor.
 pub(crate) fn lowest(dag: &Dag, round: Round) -> u64
     ensures { result ≡ lowest_in dag.now round }
 {
@@ -28,9 +28,8 @@ pub(crate) fn lowest(dag: &Dag, round: Round) -> u64
         .max(round.number().saturating_sub(depth))
 }
 
-/// Puts the digests of what a leader orders after others, and the leader's sets into those of what was ordered so far, which
-/// go down from a round. Gives how many references to parents were read. A leader that isn't held, or lies above that round,
-/// orders nothing.
+/// Adds the digests of what a leader orders, and adds the leader's sets to those of what was ordered so far, which go down from the round
+/// `top`. Gives how many references to parents were read. A leader that isn't held, or is above `top`, orders nothing.
 pub(crate) fn order(
     alloc: Global,
     dag: &Dag,
@@ -60,8 +59,8 @@ pub(crate) fn order(
     Ok(reads)
 }
 
-// Puts into the sets of what was ordered so far, which go down from a round, what the leader before reaches of that and lower
-// rounds, down to one. Gives how many references to parents were read. A leader that lies above the sets puts in nothing.
+// Adds to the sets of what was ordered so far, which go down from a round, what the leader before reaches, down to a lowest round. Gives
+// how many references to parents were read. A leader that is above the sets adds nothing.
 fn take_past(
     alloc: Global,
     dag: &Dag,
@@ -92,15 +91,14 @@ fn take_past(
     Ok(reads)
 }
 
-/// What a leader orders, where the leader before it was that of another slot, or none: the digests of the certificates that
-/// it reaches and the one before doesn't, at most the depth below it, by round and then author. Also how many references to
-/// parents were read for it. A leader that isn't held orders nothing.
+/// What a leader orders after the leader of another slot, or as the first one: the digests of the certificates that it reaches and the
+/// leader before doesn't, at most the depth below it, by round and then author. Gives also how many references to parents were read for it.
+/// A leader that isn't held orders nothing.
 ///
-/// What is marked the leader before reaches. Where it reaches more, as in a chain of leaders after the last committed one,
-/// that is looked up too; `each_follows` says that what is asked of the marks holds for each leader of such a chain. Each walk
-/// ends at the first round of which it reaches nobody who isn't marked. To read whom a certificate has as parents is to read
-/// all its references: that is done of each certificate that is ordered, but for those of the lowest round that a leader
-/// orders of.
+/// Everything marked is reached by the leader before. Where that one reaches more, as in a chain of leaders after the last committed one,
+/// this is looked up too; `each_follows` says that the condition on the marks holds for each leader of such a chain. Each walk ends at the
+/// first round in which it reaches nothing that isn't marked. To know a certificate's parents all its references are read: this is done for
+/// each ordered certificate, except in the lowest round of which a leader orders any.
 ///
 /// # Errors
 /// `AllocError` where an allocation failed.
@@ -140,7 +138,7 @@ pub fn segment_counted(
     Ok((digests, past + reads))
 }
 
-/// What a leader orders, as `segment_counted` has it.
+/// What a leader orders, without the count that `segment_counted` gives too.
 ///
 /// # Errors
 /// `AllocError` where an allocation failed.

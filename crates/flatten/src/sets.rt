@@ -1,4 +1,4 @@
-//! Sets of authors, a set a round.
+//! Sets of authors, one for each round.
 
 ghost use Rattle.std.specs.Prelude.{◌≡◌, ℕ, ◌+◌, ◌-◌, ◌<◌, ◌≤◌, ◌^◌, ◌&&◌, ◌||◌, nat_le, length, vec_len, OnOk};
 ghost use Rattle.committee.specs.Sets.{has};
@@ -20,7 +20,7 @@ pub(crate) fn round_of(number: u64) -> Round
     }
 }
 
-/// The set of a place, or that of nobody.
+/// The set at a place, or the empty set.
 pub(crate) fn set_at(sets: &[MemberSet], place: usize) -> MemberSet
     ensures { (author : ℕ) → has result author ≡ is_in sets.now place author }
 {
@@ -30,7 +30,8 @@ pub(crate) fn set_at(sets: &[MemberSet], place: usize) -> MemberSet
     }
 }
 
-/// Of a round, whose certificates have no mark and aren't in the sets of what was ordered so far, which go down from a round.
+/// The authors whose certificates of a round are free: not marked, and not in the sets of what was ordered so far, which go down from
+/// `top`.
 pub(crate) fn free_at(dag: &Dag, top: u64, taken: &[MemberSet], round: u64) -> MemberSet
     requires { round ≤ Round.MAX }
     ensures { (author : ℕ) → has result author ≡ is_free dag.now top taken.now round author }
@@ -40,7 +41,7 @@ pub(crate) fn free_at(dag: &Dag, top: u64, taken: &[MemberSet], round: u64) -> M
     free
 }
 
-// Makes sets of nobody, until there are so many.
+// Adds empty sets until there are so many.
 fn extend(sets: &mut Vec<MemberSet>, count: usize) -> Result<(), AllocError>
     ensures same { OnOk result ((place author : ℕ) → is_in sets.new.items place author ≡ is_in sets.old.items place author) }
     ensures long { OnOk result (count ≤ vec_len sets.new) }
@@ -51,7 +52,7 @@ fn extend(sets: &mut Vec<MemberSet>, count: usize) -> Result<(), AllocError>
     Ok(())
 }
 
-// Puts sets into those from a place on.
+// Unites sets with those from a place on.
 fn unite(sets: &mut [MemberSet], first: usize, more: &[MemberSet])
     requires { first + length more.now ≤ length sets.old }
     ensures { (place author : ℕ) → is_in sets.new place author ≡ (is_in sets.old place author || (nat_le first place && is_in more.now (place - first) author)) }
@@ -61,7 +62,7 @@ fn unite(sets: &mut [MemberSet], first: usize, more: &[MemberSet])
     }
 }
 
-/// Puts sets into those from a place on, of which there are as many afterwards as that takes.
+/// Unites sets with those from a place on; sets that are missing are added first.
 pub(crate) fn put(
     sets: &mut Vec<MemberSet>,
     first: usize,

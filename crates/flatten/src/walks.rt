@@ -12,13 +12,13 @@ use dag::{Dag, MAX_ROUND_REFERENCES, Reads};
 use std::alloc::{AllocError, Global};
 use wire::{Author, Round};
 
-/// The references to parents, in number, that are read for one leader at most: those of the rounds above the lowest that it
-/// orders of, which lies at most the depth below it.
+/// The greatest number of references to parents that are read for one leader: those of the rounds above the lowest of which it orders
+/// certificates, which is at most `MAX_DEPTH` below the leader.
 pub(crate) const MAX_WALK_REFERENCES: u64 = MAX_DEPTH * MAX_ROUND_REFERENCES;
 
-/// Whom a leader reaches of those who are free, in sets from its round downwards, to a lower one at most; these are put into
-/// the sets of what was ordered so far, which go down from a round no lower than the leader's. Also how many references to
-/// parents were read for it: those of whom it reaches above the lower round.
+/// The certificates that a leader reaches among those that are free, as sets from its round downwards to a lowest round at most. They are
+/// added to the sets of what was ordered so far, which go down from a round no lower than the leader's. Gives also how many references to
+/// parents were read: those of the reached certificates above the lowest round.
 pub(crate) fn walk(
     alloc: Global,
     dag: &Dag,

@@ -1,4 +1,4 @@
--- What an event is answered, and the pieces in which an order is put out.
+-- The answers of admission, and the pieces in which an order is put out.
 use Rattle.std.specs.Prelude.{ℕ, ◌+◌, ◌-◌, ◌*◌, ◌/◌, Bool, true, false, List, map, length, take, drop}
 use Rattle.std.specs.List.{range_with_len}
 use Rattle.wire.specs.declared.keys.Digest.{Digest}
@@ -8,16 +8,16 @@ use Rattle.wire.specs.declared.output.Output.TheVariants as output
 use Rattle.header.specs.declared.admission.Admission.{Admission}
 use Rattle.header.specs.declared.admission.Admission.TheVariants.{New, Known, Refused}
 
--- whether an event is new by its answer
+-- an answer says that the event is new
 abbrev pub is_new : Admission → Bool
 is_new (New outputs) = true
 is_new (Known outputs) = false
 is_new (Refused refusal) = false
 
--- the piece of this number, from 0 on, of a list that follows so many digests of the order
+-- one piece, counted from 0, of a list that follows the first `start` digests of the order
 abbrev pub piece_at : ℕ → List Digest → ℕ → Output
 piece_at start digests piece = output.Order (start + MAX_ORDER_DIGESTS * piece) (take MAX_ORDER_DIGESTS (drop (MAX_ORDER_DIGESTS * piece) digests))
 
--- the list in pieces of as many digests as an output may have, but for the last one
+-- a list in pieces of as many digests as an output may have; only the last one may have fewer
 abbrev pub pieces : ℕ → List Digest → List Output
 pieces start digests = map (piece_at start digests) (range_with_len 0 ((length digests + (MAX_ORDER_DIGESTS - 1)) / MAX_ORDER_DIGESTS))

@@ -1,4 +1,4 @@
--- The tests of an incoming message, in their order, and which refusal each stands for.
+-- The tests of an incoming message, in their order, each with its refusal.
 use Rattle.std.specs.Prelude.{◌≡◌, Bool, true, false, ◌==◌, nat_lt, nat_le, ℕ, List, [], ◌∷◌, ◌++◌, length, Option, Some, None, unwrap_or, slice_get, sum_by, if◌then◌else◌}
 use Rattle.std.specs.List.{list_all}
 use Rattle.std.specs.Option.{option_map_or}
@@ -21,7 +21,7 @@ use Rattle.wire.specs.declared.votes.VoteEntry.{VoteEntry}
 use Rattle.header.specs.declared.error.CheckError.{CheckError}
 use Rattle.header.specs.declared.error.CheckError.TheVariants.{UnknownAuthor, BadSender, BadSignature, TooFewParents, TooManyParents, TooFewVotes, UnknownWorker}
 
--- a test, and the refusal where it doesn't hold
+-- a test, and the refusal if it fails
 pub record Test : Type 0 where
   pub holds : Bool
   pub otherwise : CheckError
@@ -30,45 +30,45 @@ pub record Test : Type 0 where
 abbrev pub test : Bool → CheckError → Test
 test holds otherwise = record { holds = holds; otherwise = otherwise }
 
--- the refusal of the first test that doesn't hold
+-- the refusal of the first test that fails
 abbrev pub first_failing : List Test → Option CheckError
 first_failing [] = None
 first_failing (t ∷ rest) = if t.holds then first_failing rest else Some t.otherwise
 
--- which signatures of a digest are taken as good for a key
+-- which signatures of a digest are accepted for a key
 abbrev pub Accepts : Type 0
 Accepts = Key → Digest → Signature → Bool
 
--- whatever the key, the digest and the signature
+-- every signature is accepted
 abbrev pub accepts_all : Accepts
 accepts_all key digest signature = true
 
--- a number is that of a member
+-- this number is a member's
 abbrev pub is_member : Charter → Author → Bool
 is_member charter author = nat_lt author.0 (length charter.keys)
 
--- what an author weighs in the tests of parents and of votes: its stake, and 1 if it is no member
+-- the weight of an author in the tests of parents and votes: the stake of a member, and 1 for anybody else
 abbrev pub named_weight : Charter → Author → ℕ
 named_weight charter author = unwrap_or (slice_get charter.stakes author.0) 1
 
--- a number is that of a worker
+-- this number is a worker's
 abbrev pub is_worker : Charter → ℕ → Bool
 is_worker charter worker = nat_lt worker charter.workers
 
--- the signature of a digest is good for a member's key
+-- the signature of a digest is good, for the key of a member
 abbrev pub is_signed : Charter → Accepts → Author → Digest → Signature → Bool
 is_signed charter accepts signer digest signature =
     option_map_or (λ key. accepts key digest signature) (slice_get charter.keys signer.0) false
 
--- what the author of a header signs
+-- the digest that the author of a header signs
 abbrev pub header_signed : HeaderBody → Digest
 header_signed body = record { 0 = header_digest_of body }
 
--- what each voter for the header of this digest, round and author signs
+-- the digest that each voter for a header signs, given the header's digest, round and author
 abbrev pub vote_signed : List ℕ → ℕ → Author → Digest
 vote_signed header round author = record { 0 = certificate_digest_of header round author.0 }
 
--- of what a header and a certificate have in common
+-- the tests of what a header and a certificate have in common
 abbrev pub body_tests : Charter → HeaderBody → List Test
 body_tests charter body =
     test (nat_le (quorum_of charter) (sum_by (λ parent. named_weight charter parent.author) body.parents)) TooFewParents
@@ -77,7 +77,7 @@ body_tests charter body =
     ∷ test (list_all (λ batch. is_worker charter batch.worker) body.batches) UnknownWorker
     ∷ []
 
--- of a batch, from its author
+-- the tests of a batch; it has to come from its author
 abbrev pub batch_tests : Charter → Author → BatchView → List Test
 batch_tests charter sender batch =
     test (is_member charter batch.author) UnknownAuthor
@@ -85,11 +85,11 @@ batch_tests charter sender batch =
     ∷ test (is_worker charter batch.worker) UnknownWorker
     ∷ []
 
--- of an acknowledgement, from whoever acknowledges
+-- the tests of an acknowledgement; it has to come from the member who acknowledges
 abbrev pub ack_tests : Author → BatchAck → List Test
 ack_tests sender ack = test (ack.author.0 == sender.0) BadSender ∷ []
 
--- of a header, from its author
+-- the tests of a header; it has to come from its author
 abbrev pub header_tests : Charter → Accepts → Author → Header → List Test
 header_tests charter accepts sender header =
     test (is_member charter header.body.author) UnknownAuthor
@@ -98,7 +98,7 @@ header_tests charter accepts sender header =
     ++ test (is_signed charter accepts header.body.author (header_signed header.body) header.signature) BadSignature
     ∷ []
 
--- of a vote, from its voter
+-- the tests of a vote; it has to come from its voter
 abbrev pub vote_tests : Charter → Accepts → Author → Vote → List Test
 vote_tests charter accepts sender vote =
     test (is_member charter vote.author) UnknownAuthor
@@ -107,8 +107,7 @@ vote_tests charter accepts sender vote =
     ∷ test (is_signed charter accepts vote.voter (vote_signed vote.header.0 vote.round vote.author) vote.signature) BadSignature
     ∷ []
 
--- of a certificate's votes, which all sign one digest. That all voters are members is tested before any
--- signature
+-- the tests of a certificate's votes, which all sign one digest; before any signature it is tested that all voters are members
 abbrev pub votes_tests : Charter → Accepts → Digest → List VoteEntry → List Test
 votes_tests charter accepts digest votes =
     test (nat_le (quorum_of charter) (sum_by (λ vote. named_weight charter vote.voter) votes)) TooFewVotes
@@ -116,14 +115,14 @@ votes_tests charter accepts digest votes =
     ∷ test (list_all (λ vote. is_signed charter accepts vote.voter digest vote.signature) votes) BadSignature
     ∷ []
 
--- a certificate may come from any member
+-- the tests of a certificate, which may come from any member
 abbrev pub certificate_tests : Charter → Accepts → Certificate → List Test
 certificate_tests charter accepts certificate =
     test (is_member charter certificate.header.author) UnknownAuthor
     ∷ body_tests charter certificate.header
     ++ votes_tests charter accepts (vote_signed (header_digest_of certificate.header) certificate.header.round certificate.header.author) certificate.votes
 
--- after the test of the sender, by the kind of the message
+-- the tests that follow the one of the sender, by the kind of the message
 abbrev pub message_tests : Charter → Accepts → Author → Message → List Test
 message_tests charter accepts sender (message.Batch batch) = batch_tests charter sender batch
 message_tests charter accepts sender (message.BatchAck ack) = ack_tests sender ack
@@ -137,7 +136,7 @@ abbrev pub tests_of : Charter → Accepts → Event → List Test
 tests_of charter accepts event =
     test (is_member charter event.sender) UnknownAuthor ∷ message_tests charter accepts event.sender event.message
 
--- why a message from its sender is refused, or None where it passes
+-- why a message from its sender is refused; None where it passes all tests
 abbrev pub fault_of : Charter → Accepts → Event → Option CheckError
 fault_of charter accepts event = first_failing (tests_of charter accepts event)
 

@@ -15,27 +15,27 @@ digest_of_batch batch = record { 0 = batch_digest_of batch }
 abbrev pub digest_of_header : HeaderBody → Digest
 digest_of_header header = record { 0 = header_digest_of header }
 
--- of a header's certificate, whatever its votes
+-- the digest of a header's certificate, whatever its votes
 abbrev pub digest_of_certificate : HeaderBody → Digest
 digest_of_certificate header = record { 0 = certificate_digest_of (header_digest_of header) header.round header.author.0 }
 
--- a batch's
+-- the digest of a batch
 abbrev pub batch_digest_in : Message → Option Digest
 batch_digest_in (message.Batch batch) = Some (digest_of_batch batch)
 batch_digest_in _ = None
 
--- a header's, and that of a certificate's header
+-- the digest of a header, or of a certificate's header
 abbrev pub header_digest_in : Message → Option Digest
 header_digest_in (message.Header header) = Some (digest_of_header header.body)
 header_digest_in (message.Certificate certificate) = Some (digest_of_header certificate.header)
 header_digest_in _ = None
 
--- a certificate's
+-- the digest of a certificate
 abbrev pub certificate_digest_in : Message → Option Digest
 certificate_digest_in (message.Certificate certificate) = Some (digest_of_certificate certificate.header)
 certificate_digest_in _ = None
 
--- all that are kept of a message
+-- all digests that are kept with a message
 abbrev pub digested_of : Message → Digested
 digested_of (message.Batch batch) = Batch (digest_of_batch batch)
 digested_of (message.Header header) = Header (digest_of_header header.body)

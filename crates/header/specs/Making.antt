@@ -1,4 +1,4 @@
--- The header that an author makes.
+-- Making a header of given parts.
 use Rattle.std.specs.Prelude.{ℕ, Bool, not, nat_lt, List, length, Option, Some, None, if◌then◌else◌}
 use Rattle.wire.specs.Digests.{header_digest_of}
 use Rattle.wire.specs.References.{batches_rise, parents_rise}
@@ -13,7 +13,7 @@ use Rattle.wire.specs.declared.limits.TheConstants.{MAX_BATCHES, MAX_PARENTS}
 use Rattle.wire.specs.declared.references.BatchReference.{BatchReference}
 use Rattle.wire.specs.declared.references.ParentReference.{ParentReference}
 
--- the fault of a list that has so many entries at most, which rise
+-- the fault of a list that may have at most so many entries, which have to be in strictly ascending order
 abbrev pub list_fault : ℕ → ℕ → Bool → Option WireError
 list_fault limit count rises = if nat_lt limit count then Some TooMany else if not rises then Some NotCanonical else None
 
@@ -28,10 +28,10 @@ abbrev pub first_fault : Option WireError → Option WireError → Option WireEr
 first_fault (Some fault) other = Some fault
 first_fault None other = other
 
--- a header's body of these parts
+-- the body of a header with these parts
 abbrev pub body_of : Author → ℕ → List BatchReference → List ParentReference → HeaderBody
 body_of author round batches parents = record { author = author; round = round; batches = batches; parents = parents }
 
--- a body with the signature of its digest
+-- a header with this body, signed
 abbrev pub signed_by : (Digest → Signature) → HeaderBody → Header
 signed_by sign body = record { body = body; signature = sign (record { 0 = header_digest_of body }) }

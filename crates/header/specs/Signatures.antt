@@ -1,4 +1,4 @@
--- The signatures of a message that passed its tests.
+-- The signatures in a message that passed its tests.
 use Rattle.std.specs.Prelude.{◌≡◌, true, None, All}
 use Rattle.committee.specs.Charter.{Charter}
 use Rattle.wire.specs.Digests.{header_digest_of}
@@ -7,8 +7,7 @@ use Rattle.wire.specs.declared.message.Message.{Message}
 use Rattle.wire.specs.declared.message.Message.TheVariants as message
 use Rattle.header.specs.Checks.{Accepts, is_signed, header_signed, vote_signed, fault_of}
 
--- each signature in a message is good: that of a header is its author's, that of a vote its voter's, and in a certificate each
--- vote's is its voter's
+-- each signature in a message is good: a header's for its author, a vote's for its voter, and in a certificate each vote's for its voter
 abbrev pub AreSigned : Charter → Accepts → Message → Type 0
 AreSigned charter accepts (message.Header header) = is_signed charter accepts header.body.author (header_signed header.body) header.signature ≡ true
 AreSigned charter accepts (message.Vote vote) = is_signed charter accepts vote.voter (vote_signed vote.header.0 vote.round vote.author) vote.signature ≡ true
@@ -17,7 +16,7 @@ AreSigned charter accepts (message.Certificate certificate) =
     certificate.votes
 AreSigned charter accepts _ = Unit {0}
 
--- so it is where no test of the message fails
+-- if a message passes all its checks, its signatures are good
 abbrev pub PassedAreSigned : Type 0
 PassedAreSigned = (charter : Charter) (accepts : Accepts) (event : Event) → fault_of charter accepts event ≡ None
     → AreSigned charter accepts event.message

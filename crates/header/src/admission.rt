@@ -1,4 +1,4 @@
-//! What an event is answered.
+//! The answers to events.
 
 ghost use Rattle.std.specs.Prelude.{◌≡◌, ◌+◌, ◌*◌, ◌<◌, ◌≤◌, ◌^◌, ◌++◌, ◌∷◌, [], OnOk, OnErr, IfOk, drop, length, take};
 ghost use Rattle.header.specs.Answers.{is_new, pieces};
@@ -9,7 +9,7 @@ use std::alloc::{AllocError, Global};
 use std::marker::Model;
 use wire::{Digest, MAX_ORDER_DIGESTS, OrderDigests, Output};
 
-// The digests from a place on.
+// The digests from this place on.
 fn part_from(digests: &[Digest], place: usize) -> &[Digest]
     requires { place ≤ length digests.now }
     ensures { result.now ≡ drop place digests.now }
@@ -17,7 +17,7 @@ fn part_from(digests: &[Digest], place: usize) -> &[Digest]
     &digests[place..]
 }
 
-// The first digests, at most so many.
+// The first digests, at most `most` of them.
 fn first_of(digests: &[Digest], most: usize) -> &[Digest]
     ensures value { result.now ≡ take most digests.now }
     ensures few { length result.now ≤ most }
@@ -39,7 +39,7 @@ fn order_digests(alloc: Global, digests: &[Digest]) -> Result<OrderDigests, Allo
     Ok(found)
 }
 
-/// What an event puts out, in its order.
+/// The outputs of an event, in their order.
 #[derive(Debug)]
 pub struct Outputs {
     list: Vec<Output>,
@@ -70,7 +70,7 @@ impl Outputs {
         }
     }
 
-    /// Adds an output at the end. `AllocError` where an allocation failed.
+    /// Adds an output at the end. On `AllocError` an allocation failed.
     pub fn push(&mut self, output: Output) -> Result<(), AllocError>
         ensures ok { OnOk result (self.new ≡ self.old ++ output ∷ []) }
         ensures err { OnErr result (self.new ≡ self.old) }
@@ -79,7 +79,7 @@ impl Outputs {
         Ok(())
     }
 
-    /// Adds other outputs at the end. `AllocError` where an allocation failed.
+    /// Adds other outputs at the end. On `AllocError` an allocation failed.
     pub fn append(&mut self, mut others: Outputs) -> Result<(), AllocError>
         ensures ok { OnOk result (self.new ≡ self.old ++ others) }
         ensures err { OnErr result (self.new ≡ self.old) }
@@ -88,7 +88,7 @@ impl Outputs {
         Ok(())
     }
 
-    /// Adds what is added to an order after so many digests, in pieces as large as an output may be. `AllocError` where an
+    /// Adds the digests by which an order of `start` digests has grown, in pieces as large as an output may be. On `AllocError` an
     /// allocation failed.
     pub fn push_order(
         &mut self,
@@ -128,19 +128,19 @@ impl Outputs {
     }
 }
 
-/// What an event is answered.
+/// The answer to an event.
 #[derive(Debug, Drop)]
 pub enum Admission {
-    /// It is accepted, and recorded.
+    /// The event is accepted, and recorded.
     New(Outputs),
-    /// It was accepted before, and changes nothing.
+    /// The event was accepted before, and changes nothing.
     Known(Outputs),
-    /// It is refused, and changes nothing.
+    /// The event is refused, and changes nothing.
     Refused(Refusal),
 }
 
 impl Admission {
-    /// Whether it is New.
+    /// Whether the answer is `New`.
     pub fn is_new(&self) -> bool
         ensures { result ≡ is_new self.now }
     {

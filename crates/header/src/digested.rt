@@ -5,17 +5,17 @@ use wire::Digest;
 /// The digests of a message, each computed once.
 #[derive(Clone, Copy, Debug, PartialEq, Eq)]
 pub(crate) enum Digested {
-    /// Of an acknowledgement, a vote or a coin none is kept.
+    /// No digest is kept of an acknowledgement, a vote or a coin.
     Nothing,
-    /// Of a batch.
+    /// The digest of a batch.
     Batch(Digest),
-    /// Of a header.
+    /// The digest of a header.
     Header(Digest),
-    /// Of a certificate, and of its header.
+    /// The digests of a certificate and of its header.
     Certificate {
-        /// Of its header.
+        /// The digest of its header.
         header: Digest,
-        /// Its own.
+        /// The digest of the certificate itself.
         certificate: Digest,
     },
 }

@@ -1,4 +1,4 @@
-//! What comes in.
+//! Incoming messages.
 
 use std::marker::Model;
 use wire::{Author, Message};
@@ -6,7 +6,7 @@ use wire::{Author, Message};
 /// A message with its sender.
 #[derive(Debug, Drop)]
 pub struct Event {
-    /// Who sent it.
+    /// The member who sent the message.
     pub sender: Author,
     /// What was sent.
     pub message: Message,

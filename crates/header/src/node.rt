@@ -1,4 +1,4 @@
-//! Whose history it is.
+//! A node of a committee.
 
 ghost use Rattle.std.specs.Prelude.{◌≡◌, ◌==◌, ◌<◌, ◌≤◌, length};
 ghost use Rattle.committee.specs.Charter.{quorum_of};
@@ -11,16 +11,16 @@ use wire::Author;
 /// A node of a committee: its number, the committee and its signer.
 #[derive(Drop)]
 pub struct Node<S: Sign> {
-    /// Its number.
+    /// The node's number in the committee.
     pub own: Author,
     /// The committee.
     pub committee: Committee,
-    /// What signs for it.
+    /// The signer of the node.
     pub signer: S,
 }
 
 impl<S: Sign> Node<S> {
-    /// How many members its committee has.
+    /// How many members the node's committee has.
     pub fn size(&self) -> u16
         ensures value { result ≡ length self.now.committee.keys }
         ensures least { 0 < result }
@@ -29,14 +29,14 @@ impl<S: Sign> Node<S> {
         self.committee.size()
     }
 
-    /// What members who are a quorum weigh at least.
+    /// The least weight of a quorum.
     pub fn quorum(&self) -> u64
         ensures { result ≡ quorum_of self.now.committee }
     {
         self.committee.quorum()
     }
 
-    /// An author is the node itself.
+    /// Whether an author is the node itself.
     pub fn is_own(&self, author: Author) -> bool
         ensures { result ≡ (author.0 == self.now.own.0) }
     {

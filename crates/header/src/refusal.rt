@@ -12,40 +12,40 @@ pub enum Refusal {
     /// An allocation failed.
     #[error("1 Memory")]
     Memory,
-    /// A device call failed before.
+    /// The node is down.
     #[error("2 Down")]
     Down,
-    /// The round is low.
+    /// The event's round is low.
     #[error("3 TooOld")]
     TooOld,
     /// A parent isn't held.
     #[error("4 MissingParents")]
     MissingParents,
-    /// A named batch isn't held with that worker, or isn't an available own one where it has to be.
+    /// A named batch isn't held with the named worker, or, in an own header, isn't available.
     #[error("5 MissingBatch")]
     MissingBatch,
-    /// The author and round have the vote for another header.
+    /// The node has voted for another header in this slot.
     #[error("6 Equivocation")]
     Equivocation,
-    /// The slot holds the certificate of another header.
+    /// The slot holds a certificate of another header.
     #[error("7 CertConflict")]
     CertConflict,
     /// Something else is held under the same digest.
     #[error("8 DigestClash")]
     DigestClash,
-    /// The node has another header of the round.
+    /// The node has another own header of this round.
     #[error("9 AlreadyProposed")]
     AlreadyProposed,
-    /// It isn't for a batch or header of this node, or isn't from this node.
+    /// The message isn't for a batch or a header of this node, or isn't from this node where it has to be.
     #[error("10 NotOurs")]
     NotOurs,
-    /// The coins of earlier waves are missing.
+    /// The coin of an earlier wave is missing.
     #[error("11 CoinOutOfTurn")]
     CoinOutOfTurn,
-    /// The wave's last round hasn't certificates of a quorum.
+    /// The certificates of the wave's last round aren't a quorum's yet.
     #[error("12 CoinEarly")]
     CoinEarly,
-    /// The wave has a coin of another value.
+    /// The wave has a coin with another value.
     #[error("13 CoinConflict")]
     CoinConflict,
     /// No more batches can be held, or no more events accepted.

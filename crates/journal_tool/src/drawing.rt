@@ -1,4 +1,4 @@
-//! The certificates of a journal as a graph in the language of Graphviz: a row a round, a column a member.
+//! The certificates of a journal as a graph in the language of Graphviz: one row for each round, one column for each member.
 
 use crate::ending::Ending;
 use crate::telling::short;
@@ -6,10 +6,10 @@ use journal_account::{Fate, Graph, Vertex};
 use std::io::{self, Write};
 use wire::Author;
 
-/// How many colours there are for what is ordered with one leader and another.
+/// How many colours tell apart what different leaders order.
 const COLOURS: u64 = 12;
 
-/// Writes the rounds from one to another one, both included, as far as there are certificates. Round 0 is that of the genesis. With a
+/// Writes the rounds from one to another, both included, as far as there are certificates. Round 0 is that of the genesis. With a
 /// checkpoint the first round is its floor.
 pub(crate) fn draw<W: Write>(
     graph: &Graph,
@@ -84,7 +84,7 @@ fn fate_in_words(fate: Fate) -> &'static str {
     }
 }
 
-// What stands at the place of a round and a member.
+// The place of a round and a member in the drawing.
 fn put_place<W: Write>(
     graph: &Graph,
     round: u64,
@@ -104,12 +104,12 @@ fn put_place<W: Write>(
     }
 }
 
-// Whether the certificate of a round and an author is a leader.
+// Whether the certificate of a slot is a leader.
 fn leads(graph: &Graph, round: u64, author: Author) -> bool {
     round % 2 == 1 && graph.leader_of(round / 2 + 1) == Some(author)
 }
 
-// A certificate: its author and digest, as which wave's it is ordered, whether it leads, and whether it lies below the floor.
+// A certificate: its author and digest, the wave whose leader orders it, whether it is a leader itself, and whether it is below the floor.
 fn put_vertex<W: Write>(
     graph: &Graph,
     vertex: &Vertex,

@@ -7,11 +7,11 @@ use std::io::{self, ErrorKind, Write};
 /// How a run ends.
 #[derive(Clone, Copy, Debug)]
 pub(crate) enum Ending {
-    /// All that was asked for is told.
+    /// Everything that was asked was reported.
     Done,
-    /// The journal is damaged, or another's, or it disagrees with the other one; a line says so.
+    /// The journal is damaged, or another member's, or it disagrees with the other one; a line says so.
     Wrong,
-    /// The journal is damaged or another's, and no line says so yet.
+    /// The journal is damaged or another member's, and no line says so yet.
     Flawed(Flaw),
     /// The arguments aren't those of a command, or the committee file can't be read.
     Usage(&'static str),
@@ -36,7 +36,7 @@ impl Ending {
         }
     }
 
-    /// Writes the line of an ending that is no success. Where that fails nobody is told.
+    /// Writes the line of an ending that is no success. If that fails, there is nobody to report it to.
     pub fn write_to<W: Write>(self, errors: &mut W) {
         let _ = match self {
             Ending::Done | Ending::Wrong => Ok(()),
@@ -49,7 +49,7 @@ impl Ending {
         let _ = errors.flush();
     }
 
-    /// That of a file that can't be opened or read.
+    /// The ending for a file that can't be opened or read.
     pub fn of_file(error: &io::Error) -> Ending {
         if error.kind() == ErrorKind::OutOfMemory {
             Ending::Memory
@@ -81,7 +81,7 @@ impl<T: Drop> From<AllocFailed<T>> for Ending {
     }
 }
 
-// Of what fails on the way only the writing of the output is an error of this type.
+// Among the failures of a command only that of writing the output is an error of this type.
 impl From<io::Error> for Ending {
     fn from(_: io::Error) -> Ending {
         Ending::Output

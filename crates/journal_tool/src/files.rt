@@ -9,7 +9,7 @@ use std::fs::File;
 use std::io::ErrorKind;
 use std::rt::Files;
 
-/// What stands after a journal's path in that of its second file.
+/// What is added to a journal's path for its second file.
 const SECOND: &str = ".2";
 
 /// The bytes of both files of a journal.
@@ -19,10 +19,10 @@ pub(crate) struct Both {
     pub second: Vec<u8>,
 }
 
-/// The bytes of the journal at a path, and of its second file; none of that where nothing is there. A node would make it.
+/// The bytes of the journal at a path, and of its second file; no bytes for a second file that isn't there, which a node would create.
 ///
 /// # Errors
-/// `Unreadable` where the first one is no regular file, or where one of them can't be read; `Memory`.
+/// `Unreadable` where the first one is no regular file, or where one of them can't be read; `Memory` where an allocation failed.
 pub(crate) fn both_at<R: Files<File = File> + AllocGlobal>(
     rt: &R,
     alloc: Global,
@@ -49,11 +49,11 @@ fn path_beside(alloc: Global, path: &str) -> Result<String, AllocError> {
     Ok(beside)
 }
 
-/// The bytes of the file that is listed, and the place from which those in it are counted: the file that is read, or where that can't be
-/// told the one of both that has an open gate in front, and else the first.
+/// The bytes of the file that is listed, and the place from which those in it count: the file that is read; or, where that can't be
+/// determined, the one of both that begins with an open gate, or else the first.
 ///
 /// # Errors
-/// `Flawed` where both have such a gate and it can't be told which is read; `Memory`.
+/// `Flawed` where both begin with an open gate and it can't be determined which is read; `Memory` where an allocation failed.
 pub(crate) fn listed(alloc: Global, both: Both) -> Result<(Vec<u8>, u64), Ending> {
     let Both { first, second } = both;
     match side_listed(alloc, &first, &second)? {
@@ -75,7 +75,7 @@ fn side_listed(alloc: Global, first: &[u8], second: &[u8]) -> Result<Side, Endin
     }
 }
 
-// Whether a file has an open gate in front.
+// Whether a file begins with an open gate.
 fn is_open(bytes: &[u8]) -> bool {
     bytes.len() >= 2 && bytes[0] != CLOSED
 }

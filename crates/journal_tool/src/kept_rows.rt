@@ -1,4 +1,4 @@
-//! What a list tells of a checkpoint's records.
+//! What a list shows of a checkpoint's records.
 
 use crate::ending::Ending;
 use crate::listing::{Row, batch_row, certificate_row, header_row};
@@ -24,13 +24,13 @@ const COINS: u8 = 8;
 /// The bytes of a vote: its kind, author, round and header digest.
 const VOTE_BYTES: usize = 43;
 
-/// The bytes of a batch's record before the members who acknowledged it: its kind, whether it is named, and their count.
+/// The bytes of a batch's record before the members who acknowledged it: its kind, whether it is named, and their number.
 const BATCH_FRONT_BYTES: usize = 4;
 
 /// The bytes of a member's number.
 const MEMBER_BYTES: usize = 2;
 
-/// What is told of a record that is no configuration and no event.
+/// The row of a record that is no configuration and no event.
 pub(crate) fn kept_row(alloc: Global, record: &[u8]) -> Result<Row, Ending> {
     let Some((kind, rest)) = record.split_first() else {
         return Ok(Row::of("unreadable"));
@@ -60,7 +60,7 @@ fn unreadable(error: WireError) -> Result<Row, Ending> {
     }
 }
 
-// What is told of a batch's record.
+// The row of a batch's record.
 fn kept_batch(alloc: Global, record: &[u8]) -> Result<Row, Ending> {
     if record.len() < BATCH_FRONT_BYTES {
         return Ok(Row::of("unreadable"));
@@ -75,7 +75,7 @@ fn kept_batch(alloc: Global, record: &[u8]) -> Result<Row, Ending> {
     }
 }
 
-// What is told of a vote's record.
+// The row of a vote's record.
 fn kept_vote(record: &[u8]) -> Row {
     if record.len() != VOTE_BYTES {
         return Row::of("unreadable");

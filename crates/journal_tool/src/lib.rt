@@ -1,4 +1,4 @@
-//! The commands on a journal: its two files are read and never written, and what is told of it are lines.
+//! The commands on a journal, which report lines. Its two files are read and never written.
 #![tactic(auto)]
 
 mod drawing;

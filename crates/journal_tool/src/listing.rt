@@ -1,4 +1,4 @@
-//! The records of a file of a journal, line by line, as its bytes spell them: nothing but the groups is tested.
+//! The records of a journal's file, line by line, as their bytes are: only the groups are tested.
 
 use crate::ending::Ending;
 use crate::kept_rows::kept_row;
@@ -20,7 +20,7 @@ pub(crate) const COLUMNS: [&str; 8] = [
 /// The bytes from a gate to its group's body: the gate, and the body's length.
 const FRONT_OF_BODY: u64 = 5;
 
-/// What a list tells of a record. What it hasn't is None.
+/// What a list shows of a record. What the record doesn't have is None.
 #[derive(Clone, Copy)]
 pub(crate) struct Row {
     pub kind: &'static str,
@@ -32,7 +32,7 @@ pub(crate) struct Row {
 }
 
 impl Row {
-    /// One of this kind, of which nothing else is told.
+    /// A row of which only the kind is shown.
     pub fn of(kind: &'static str) -> Row {
         Row {
             kind,
@@ -45,11 +45,11 @@ impl Row {
     }
 }
 
-/// Writes a line for each record of the groups from a place on, in bytes: those after open gates, and the one that may stand after
-/// the closed gate. Places are counted from the file's base.
+/// Writes a line for each record of the groups from a place on, in bytes: those after open gates, and the one that may follow the closed
+/// gate. Places count from the file's base.
 ///
 /// # Errors
-/// `Flawed` at the place of an open gate without a whole group after it, after the lines of those before; `Memory`; `Output`.
+/// `Flawed` at the place of an open gate without a whole group after it, after the lines of the groups before it; `Memory`; `Output`.
 pub(crate) fn list<W: Write>(
     alloc: Global,
     bytes: &[u8],
@@ -84,7 +84,7 @@ pub(crate) fn list<W: Write>(
     Ok(())
 }
 
-// What a place without a whole group after it means.
+// The result at a place that no whole group follows.
 fn end_at(place: u64, is_open: bool) -> Result<(), Ending> {
     if is_open {
         Err(Ending::Flawed(Flaw::at(place, Why::Group)))
@@ -93,7 +93,7 @@ fn end_at(place: u64, is_open: bool) -> Result<(), Ending> {
     }
 }
 
-// The number in a length field at the front, and what is after it.
+// The number in the length field at the front, and the bytes after it.
 fn split_length(bytes: &[u8]) -> Option<(usize, &[u8])> {
     match bytes {
         [first, second, third, fourth, rest @ ..] => {
@@ -104,7 +104,7 @@ fn split_length(bytes: &[u8]) -> Option<(usize, &[u8])> {
     }
 }
 
-// The body after a gate, and what is after it, if the next gate stands within the bytes too, and the body is whole records.
+// The body after a gate and the bytes after the body, if the next gate is within the bytes too, and the body has whole records.
 fn split_group(bytes: &[u8]) -> Option<(&[u8], &[u8])> {
     let (len, rest) = split_length(bytes)?;
     if len == 0 || len > MAX_GROUP_BYTES || rest.len() <= len {
@@ -118,7 +118,7 @@ fn split_group(bytes: &[u8]) -> Option<(&[u8], &[u8])> {
     }
 }
 
-// The record at the front, and what is after it, if it is whole.
+// The first record, and the bytes after it, if the record is whole.
 fn split_record(bytes: &[u8]) -> Option<(&[u8], &[u8])> {
     let (len, rest) = split_length(bytes)?;
     if rest.len() < len {
@@ -127,7 +127,7 @@ fn split_record(bytes: &[u8]) -> Option<(&[u8], &[u8])> {
     Some(rest.split_at(len))
 }
 
-// Whether a body is whole records, and not too many.
+// Whether a body has whole records, and not too many.
 fn is_whole(body: &[u8]) -> bool {
     let mut rest = body;
     for _ in 0..MAX_GROUP_RECORDS {
@@ -188,7 +188,7 @@ fn put_row<W: Write>(
     )
 }
 
-// What is told of a record.
+// The row of a record.
 fn row_of(alloc: Global, record: &[u8]) -> Result<Row, Ending> {
     if record.first() == Some(&0) {
         let own = own_number(record).map(|own| own.0 as u64);
@@ -217,7 +217,7 @@ fn row_of(alloc: Global, record: &[u8]) -> Result<Row, Ending> {
     }
 }
 
-// What is told of a message.
+// The row of a message.
 fn message_row(message: &Message) -> Row {
     match message {
         Message::Batch(batch) => batch_row("batch", batch),
@@ -241,7 +241,7 @@ fn message_row(message: &Message) -> Row {
     }
 }
 
-/// What is told of a batch.
+/// The row of a batch.
 pub(crate) fn batch_row(kind: &'static str, batch: &Batch) -> Row {
     Row {
         author: Some(batch.author().0 as u64),
@@ -250,7 +250,7 @@ pub(crate) fn batch_row(kind: &'static str, batch: &Batch) -> Row {
     }
 }
 
-/// What is told of a header.
+/// The row of a header.
 pub(crate) fn header_row(kind: &'static str, header: &Header) -> Row {
     Row {
         author: Some(header.body.author.0 as u64),
@@ -260,7 +260,7 @@ pub(crate) fn header_row(kind: &'static str, header: &Header) -> Row {
     }
 }
 
-/// What is told of a certificate.
+/// The row of a certificate.
 pub(crate) fn certificate_row(kind: &'static str, certificate: &Certificate) -> Row {
     let body = &certificate.header;
     let digest = certificate_digest(&header_digest(body), body.round, body.author);

@@ -1,11 +1,11 @@
-//! What is asked for, by the arguments.
+//! What the arguments ask.
 
 use crate::ending::Ending;
 
 /// A command.
 #[derive(Clone, Copy, Debug, PartialEq, Eq)]
 pub(crate) enum Command {
-    /// What the journal comes to.
+    /// The journal's summary.
     Verify,
     /// Each event.
     List,
@@ -21,7 +21,7 @@ pub(crate) enum Command {
     Graph,
 }
 
-/// A command with what it is about.
+/// A command and its arguments.
 #[derive(Clone, Copy, Debug)]
 pub(crate) struct Request<'a> {
     /// The command.
@@ -30,17 +30,17 @@ pub(crate) struct Request<'a> {
     pub journal: &'a str,
     /// The path of the committee file, or of the other journal.
     pub other: Option<&'a str>,
-    /// The place of the first group that is listed, in bytes, or of the first certificate of the order that is told.
+    /// The place of the first group that is listed, in bytes; or of the first certificate of the order that is shown.
     pub from: u64,
     /// The first and the last round that are drawn.
     pub rounds: (u64, u64),
-    /// Whether a frame is written as bytes.
+    /// Whether a frame is written as raw bytes.
     pub bytes: bool,
-    /// Whether lines are objects of JSON.
+    /// Whether lines are JSON objects.
     pub json: bool,
 }
 
-// What the next word is.
+// What the next word has to be.
 #[derive(Clone, Copy, PartialEq, Eq)]
 enum Awaits {
     // A path or an option.
@@ -51,7 +51,7 @@ enum Awaits {
     Rounds,
 }
 
-// What the arguments after the command say.
+// What the arguments after the command contain.
 #[derive(Clone, Copy)]
 struct Words<'a> {
     journal: Option<&'a str>,
@@ -63,7 +63,7 @@ struct Words<'a> {
     json: bool,
 }
 
-/// The request that the arguments after the program's name make.
+/// The request in the arguments after the program's name.
 ///
 /// # Errors
 /// `Usage` with what is wrong.
@@ -123,7 +123,7 @@ fn test_options(command: Command, words: &Words<'_>) -> Result<(), Ending> {
     }
 }
 
-// The paths and the options, in whatever order they stand.
+// The paths and the options, in any order.
 fn words_of(rest: &[String]) -> Result<Words<'_>, Ending> {
     let mut words = Words {
         journal: None,
@@ -144,7 +144,7 @@ fn words_of(rest: &[String]) -> Result<Words<'_>, Ending> {
     }
 }
 
-// The same with a word more.
+// These words, with one more argument read.
 fn with_word<'a>(words: Words<'a>, word: &'a str) -> Result<Words<'a>, Ending> {
     match words.awaits {
         Awaits::Any => with_option(words, word),
@@ -161,7 +161,7 @@ fn with_word<'a>(words: Words<'a>, word: &'a str) -> Result<Words<'a>, Ending> {
     }
 }
 
-// The same with an option or a path more.
+// These words, with one more option or path.
 fn with_option<'a>(words: Words<'a>, word: &'a str) -> Result<Words<'a>, Ending> {
     match word {
         "--bytes" => Ok(Words {
@@ -184,7 +184,7 @@ fn with_option<'a>(words: Words<'a>, word: &'a str) -> Result<Words<'a>, Ending>
     }
 }
 
-// The same with a path more, of which there are two at most. What begins with a dash is no path.
+// These words, with one more path, of which there are two at most. An argument that starts with a dash is no path.
 fn with_path<'a>(words: Words<'a>, path: &'a str) -> Result<Words<'a>, Ending> {
     if path.starts_with("-") {
         return Err(Ending::Usage("there is no such option"));

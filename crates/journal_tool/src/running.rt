@@ -1,4 +1,4 @@
-//! A run: a command on a journal, whose two files are opened for reading alone.
+//! Running a command on a journal, whose two files are opened only for reading.
 
 use crate::drawing::{draw, draw_nothing};
 use crate::ending::Ending;
@@ -22,9 +22,9 @@ use std::str;
 use validator::Config;
 use wire::Digest;
 
-/// Carries out the command of the arguments after the program's name, and answers the exit status: 0; 1 where the journal is damaged,
-/// another's, or disagrees with the other one; 2 for other arguments; 5 where a journal can't be read; 6 where an allocation failed;
-/// 7 where the output can't be written. Nothing is written but to the writer, and lines to the errors.
+/// Carries out the command in the arguments after the program's name, and gives the exit status: 0; 1 where the journal is damaged, another
+/// member's, or disagrees with the other one; 2 for wrong arguments; 5 where a journal can't be read; 6 where an allocation failed; 7 where
+/// the output can't be written. Nothing is written but to the writer, and lines to the errors.
 pub fn run<R, W, E>(rt: &R, alloc: Global, args: &[String], writer: &mut W, errors: &mut E) -> u8
 where
     R: Files<File = File> + AllocGlobal,
@@ -71,8 +71,8 @@ where
     }
 }
 
-// The records of a journal, and whose it is: that of the member of the file's committee that it names, or else of its own. None
-// where there is no record.
+// The records of a journal, and the configuration of its member: in the committee of the given file, or otherwise in the journal's own.
+// None where there is no record.
 fn read<R: Files<File = File> + AllocGlobal>(
     rt: &R,
     alloc: Global,
@@ -110,7 +110,7 @@ fn committee_at<R: Files<File = File> + AllocGlobal>(
     }
 }
 
-// Tells what a journal comes to, or what is wrong with it.
+// Reports a journal's summary, or what is wrong with it.
 fn verify<R, W>(
     rt: &R,
     alloc: Global,
@@ -152,7 +152,7 @@ fn verified<R: Files<File = File> + AllocGlobal>(
     }
 }
 
-// Writes what a journal comes to. Where it has no checkpoint nothing is said of one.
+// Writes a journal's summary. Where the journal has no checkpoint, none is mentioned.
 fn put_summary<W: Write>(json: bool, summary: Summary, writer: &mut W) -> Result<(), Ending> {
     let Summary {
         events,
@@ -188,7 +188,7 @@ fn put_summary<W: Write>(json: bool, summary: Summary, writer: &mut W) -> Result
     Ok(())
 }
 
-// The number of the area that a file is.
+// The number of the area in a file.
 fn area_of(side: Side) -> u64 {
     match side {
         Side::First => 0,
@@ -204,7 +204,7 @@ fn names_of(command: Command) -> &'static [&'static str] {
     }
 }
 
-// Tells what a command asks of a journal that has a configuration.
+// Reports what a command asks of a journal that has a configuration.
 fn tell<W: Write>(
     alloc: Global,
     request: Request<'_>,
@@ -304,7 +304,7 @@ fn tell_last<W: Write>(
     records: &[Record],
     writer: &mut W,
 ) -> Result<(), Ending> {
-    // What can't be opened isn't told of.
+    // A journal that can't be opened isn't reported on.
     let _ = summary_of(alloc, config, records)?;
     let Some(frame) = last_frame(alloc, config, records)? else {
         return Ok(());
@@ -318,7 +318,7 @@ fn tell_last<W: Write>(
     Ok(())
 }
 
-// Tells whether one of two journals' orders is a prefix of the other, and where they part.
+// Reports whether one of two journals' orders is a prefix of the other, and where they differ.
 fn compare<R, W>(
     rt: &R,
     alloc: Global,

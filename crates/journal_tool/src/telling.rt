@@ -1,10 +1,10 @@
-//! Lines of columns: with tabs between them, or as objects of JSON.
+//! Lines of columns: separated by tabs, or as JSON objects.
 
 use crate::ending::Ending;
 use std::io::{self, Write};
 use wire::Digest;
 
-/// What stands in a column. What isn't there is a dash, or null.
+/// The value of a column. A missing value is a dash, or null.
 #[derive(Clone, Copy)]
 pub(crate) enum Column<'a> {
     /// A number.
@@ -23,12 +23,12 @@ pub(crate) fn short(digest: &Digest) -> u32 {
     short_of([first, second, third, fourth])
 }
 
-/// The number of these bytes, which are the first four of a digest.
+/// The number in these bytes, which are the first four of a digest.
 pub(crate) fn short_of(bytes: [u8; 4]) -> u32 {
     u32::from_be_bytes(bytes)
 }
 
-/// Writes the line of the names, where there are some and lines aren't objects.
+/// Writes the line of the columns' names, if there are names and lines aren't objects.
 pub(crate) fn put_names<W: Write>(
     json: bool,
     names: &[&str],
@@ -65,7 +65,7 @@ pub(crate) fn put_line<W: Write>(
     Ok(())
 }
 
-// A column after the one before.
+// A column, after the one before it.
 fn put_column<W: Write>(i: usize, column: Column<'_>, writer: &mut W) -> io::Result<()> {
     if i > 0 {
         write!(writer, "\t")?;
@@ -79,7 +79,7 @@ fn put_column<W: Write>(i: usize, column: Column<'_>, writer: &mut W) -> io::Res
     }
 }
 
-// A member of an object after the one before.
+// A member of an object, after the one before it.
 fn put_member<W: Write>(
     i: usize,
     name: &str,

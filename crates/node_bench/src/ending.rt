@@ -1,4 +1,4 @@
-//! What ends a run before its work is done.
+//! Why a run ends early.
 
 use book::FlushError;
 use committee::CommitteeError;
@@ -9,16 +9,16 @@ use std::io;
 use validator::{LoadError, Refusal};
 use wire::WireError;
 
-/// Why a run ends before its work is done.
+/// Why a run ended before its work was done.
 #[derive(Clone, Copy)]
 pub enum Ending {
-    /// The words name no work, or a number is out of its range.
+    /// The words aren't those of a kind of work, or a number is out of its range.
     Usage,
-    /// Memory was refused.
+    /// An allocation failed.
     Memory,
     /// A line couldn't be written.
     Output,
-    /// A piece of work was refused. None is where all is well.
+    /// A piece of work was refused, which should not happen.
     Refused,
 }
 
@@ -50,7 +50,7 @@ impl From<io::Error> for Ending {
     fn from(error: io::Error) -> Ending {
         match error.kind() {
             io::ErrorKind::OutOfMemory => Ending::Memory,
-            // A word that is no text.
+            // A word that isn't UTF-8.
             io::ErrorKind::InvalidData => Ending::Usage,
             _ => Ending::Output,
         }
@@ -61,7 +61,7 @@ impl From<CommitteeError> for Ending {
     fn from(error: CommitteeError) -> Ending {
         match error {
             CommitteeError::Memory => Ending::Memory,
-            // The number of members was asked for.
+            // The number of members was given by the words.
             CommitteeError::BadSize => Ending::Usage,
             _ => Ending::Refused,
         }

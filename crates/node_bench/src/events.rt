@@ -1,4 +1,4 @@
-//! The events of rounds, one after the other.
+//! The events of rounds, in their order.
 
 ghost use Rattle.std.specs.Prelude.{◌≡◌, None, IfOk};
 ghost use Rattle.header.specs.Checks.{fault_of, accepts_all};
@@ -12,19 +12,19 @@ use sim_script::OWN;
 use std::alloc::Global;
 use wire::{Author, Digest, Message, Vote};
 
-/// What comes in a round before its certificates.
+/// The events of a round that precede its certificates.
 #[derive(Clone, Copy)]
 pub enum Front {
     Nothing,
     /// The headers of the others.
     Headers,
-    /// The own header, and as many votes on it as make its certificate, which doesn't come then.
+    /// The own header, and as many votes on it as make its certificate, which then doesn't come in itself.
     Votes,
-    /// Another member's batches, whose bodies have so many bytes. They don't end.
+    /// Another member's batches, whose bodies have this many bytes. There is no end to them.
     Batches(u64),
 }
 
-/// What stands for the digest of an event that has none.
+/// Stands for the digest of an event that has none.
 const STAND_IN: Digest = Digest([7; 32]);
 
 /// Rounds of events.
@@ -34,18 +34,18 @@ pub struct Events {
     front: Front,
     // Whether each wave has a coin.
     has_coins: bool,
-    // How many events come before the certificates, and how many come in all but for the coin.
+    // How many events precede the certificates, and how many there are in all except the coin.
     front_len: u16,
     len: u16,
-    // How many of the round there were.
+    // How many events of the round there were.
     place: u16,
     // How many batches there were.
     batches: u64,
-    // The digest of the last header, on which votes are.
+    // The digest of the last header, which votes are for.
     header: Digest,
 }
 
-/// The digest that a test computed last, or a stand-in where there is none.
+/// The digest that the tests computed last; a stand-in where there is none.
 pub fn digest_in(event: &Checked) -> Digest {
     let digest = match event.message() {
         Message::Batch(_) => event.batch_digest(),
@@ -56,7 +56,7 @@ pub fn digest_in(event: &Checked) -> Digest {
 }
 
 impl Events {
-    /// Those from the first round on.
+    /// The events from the first round on.
     pub fn new(
         alloc: Global,
         committee: &Committee,
@@ -67,7 +67,7 @@ impl Events {
         let (front_len, certificates) = match front {
             Front::Nothing | Front::Batches(_) => (0, rounds.members),
             Front::Headers => (rounds.members.saturating_sub(1), rounds.members),
-            // The own vote is among the voters'.
+            // The node's own vote is among those of the voters.
             Front::Votes => (rounds.voters, rounds.members.saturating_sub(1)),
         };
         Ok(Events {
@@ -82,12 +82,12 @@ impl Events {
         })
     }
 
-    /// Whether a round came to its end, and so many or more did.
+    /// Whether a round is at its end, and at least so many rounds are complete.
     pub fn are_over(&self, rounds: u64) -> bool {
         self.place >= self.len && self.rounds.number >= rounds
     }
 
-    /// The next one, tested without signatures.
+    /// The next event, tested without signatures.
     pub fn tested(&mut self, committee: &Committee) -> Result<Checked, Ending>
         ensures { IfOk result (λ event. fault_of committee.now accepts_all event ≡ None) }
     {
@@ -97,7 +97,7 @@ impl Events {
         Ok(event)
     }
 
-    // The next one, with its sender.
+    // The next message, with its sender.
     fn next(&mut self) -> Result<(Author, Message), Ending> {
         if let Front::Batches(size) = self.front {
             return self.batch(size);
@@ -125,7 +125,7 @@ impl Events {
         Ok((PEER, Message::Batch(batch)))
     }
 
-    // The certificate before which so many come in the round.
+    // The certificate that so many others of the round precede.
     fn certificate(&self, before: u16) -> Result<(Author, Message), Ending> {
         let author = match self.front {
             Front::Votes => Author(before.saturating_add(1)),
@@ -135,7 +135,7 @@ impl Events {
         Ok((author, Message::Certificate(certificate)))
     }
 
-    // What comes at this place before the certificates.
+    // The event at this place, which precedes the certificates.
     fn front_event(&self, place: u16) -> Result<(Author, Message), Ending> {
         let sender = match (self.front, place) {
             (Front::Votes, 0) => OWN,
@@ -156,7 +156,7 @@ impl Events {
         Ok((voter, Message::Vote(vote)))
     }
 
-    // Keeps the digest of the event that came last for those that name it.
+    // Keeps the digest of the last event, for events that refer to it.
     fn note(&mut self, message: &Message, digest: Digest) -> Result<(), Ending> {
         match message {
             Message::Certificate(certificate) => self

@@ -1,16 +1,16 @@
-//! What the results of a run come to.
+//! Summing up the results of a run.
 
 use validator::Step;
 use wire::{HeaderBody, Message, Output};
 
-/// A sum over results that costs little beside the work: FNV-1a over numbers of 64 bits.
+/// A cheap sum over results: FNV-1a over numbers of 64 bits.
 #[derive(Clone, Copy)]
 pub struct Fold {
     value: u64,
 }
 
 impl Fold {
-    /// Over nothing.
+    /// The sum of nothing.
     pub fn new() -> Fold {
         Fold {
             value: 14_695_981_039_346_656_037,
@@ -22,7 +22,7 @@ impl Fold {
         self.value = (self.value ^ number).wrapping_mul(1_099_511_628_211);
     }
 
-    /// Adds the length of bytes, and the first eight of them where there are so many.
+    /// Adds the length of bytes, and the first eight bytes where there are so many.
     pub fn add_bytes(&mut self, bytes: &[u8]) {
         self.add(bytes.len() as u64);
         if let Some(front) = bytes.first_chunk::<8>() {
@@ -36,7 +36,7 @@ impl Fold {
         self.add(body.parents.len() as u64);
     }
 
-    /// Adds what tells a message from others.
+    /// Adds what distinguishes a message from others.
     pub fn add_message(&mut self, message: &Message) {
         match message {
             Message::Batch(batch) => self.add_bytes(batch.body()),
@@ -54,7 +54,7 @@ impl Fold {
         }
     }
 
-    /// Adds what a step puts out.
+    /// Adds the outputs of a step.
     pub fn add_step(&mut self, step: &Step) {
         let (Step::New(outputs) | Step::Known(outputs)) = step;
         for output in outputs {
@@ -98,7 +98,7 @@ pub struct Sum {
 }
 
 impl Sum {
-    /// Of none.
+    /// The sum of no outputs.
     pub fn new() -> Sum {
         Sum { count: 0, value: 0 }
     }

@@ -1,4 +1,4 @@
-//! Work of a validator for which coins commit nothing.
+//! Work of a validator whose coins commit nothing.
 
 use crate::ending::Ending;
 use crate::events::{Events, Front, digest_in};
@@ -11,12 +11,13 @@ use sim_script::OWN;
 use validator::{Config, Validator};
 use wire::{Author, Coin, Digest, Message, Wave};
 
-/// The values of two coins of a committee of four: for the leader that has no certificate, which is the own member, and for another one.
+/// The values of two coins in a committee of four: one that chooses the own member as leader, which has no certificate, and one that
+/// chooses another.
 const ABSENT: u64 = 0;
 
 const PRESENT: u64 = 1;
 
-/// Certificates after as many rounds without a coin as the size says. Without the work they are only tested.
+/// Steps certificates after as many rounds without a coin as the size says. Without the work they are only tested.
 pub fn take_after(task: Task, config: &Config<HashSign>, fold: &mut Fold) -> Result<(), Ending> {
     let mut validator = Validator::new(task.alloc, config)?;
     let mut events = Events::new(task.alloc, config.committee(), Front::Nothing, false)?;
@@ -42,8 +43,8 @@ fn take_some(
     Ok(())
 }
 
-/// Coins, each after as many rounds of a validator of its own as the size says, in which the leader of each wave before was absent, so
-/// that it is the first that commits. Without the work they don't come.
+/// Steps coins, each on a validator of its own and after as many rounds as the size says. The leader of each earlier wave was absent, so
+/// the coin is the first one that commits. Without the work the coins don't come in.
 pub fn commit_late(task: Task, config: &Config<HashSign>, fold: &mut Fold) -> Result<(), Ending> {
     for _ in 0..task.count {
         commit_once(task, config, fold)?;
@@ -70,7 +71,7 @@ fn commit_once(task: Task, config: &Config<HashSign>, fold: &mut Fold) -> Result
     }
 }
 
-// The certificates of a round but for the own one.
+// The certificates of a round without the own one.
 fn take_round(
     validator: &mut Validator<'_, HashSign>,
     rounds: &mut Rounds,
@@ -96,7 +97,7 @@ fn take_coin(
     Ok(())
 }
 
-// Steps a message, and says the digest of its event.
+// Steps a message, and gives the digest of its event.
 fn take(
     validator: &mut Validator<'_, HashSign>,
     sender: Author,

@@ -29,11 +29,11 @@ use std::sync::Wait;
 use std::thread::Threads;
 use task::{Kind, Step, Task, WORKS, sized, task_of};
 
-/// What is told where the words ask for nothing.
+/// The error for arguments that ask for nothing.
 const USAGE: &str =
     "usage: narwhal-bench [prepare-]WORK COUNT [SIZE], where WORK is hash, decode-FORM, encode-FORM, \
     check-FORM, recheck-FORM, frames, step-header, step-vote, step-certificate, step-batch, order, append, book, reopen, \
-    checkpoint, load, node, submit, put, run, deep, after or late, and FORM is header, certificate or batch, and but for recheck also vote, ack or coin";
+    checkpoint, load, node, submit, put, run, deep, behind or late, and FORM is header, certificate or batch, and but for recheck also vote, ack or coin";
 
 fn main(rt: HostRuntime) -> ExitCode {
     match run(&rt) {
@@ -63,7 +63,7 @@ fn run_little<R: AllocGlobal + Print + Threads + Wait + Sync>(rt: &R) -> Result<
     Ok(())
 }
 
-// Does a task, if the words ask for one, and prints what it comes to.
+// Does a task, if the words ask for one, and prints its result.
 fn tell<R>(rt: &R, word: &str, task: Option<Task>) -> Result<(), Ending>
 where
     R: AllocGlobal + Print + Threads + Wait + Sync,

@@ -45,7 +45,7 @@ pub fn batch(alloc: Global, author: Author, number: u64, size: u64) -> Result<Ba
     for _ in 0..len / STRIDE {
         push(&mut open, &transaction)?;
     }
-    // The last one, where it isn't empty.
+    // The last transaction has what is left of the length, if that is enough for one.
     let rest = len % STRIDE;
     if rest > LENGTH_BYTES {
         push(&mut open, &transaction[..rest - LENGTH_BYTES])?;
@@ -62,14 +62,14 @@ fn push(open: &mut OpenBatch, transaction: &[u8]) -> Result<(), Ending> {
     Ok(())
 }
 
-/// A message with who sends it and with its bytes.
+/// A message with its sender and its bytes.
 #[derive(Drop)]
 pub struct Made {
-    /// Who sends it.
+    /// The member who sends the message.
     pub sender: Author,
-    /// It is signed, if it has signatures.
+    /// The message, signed if it is of a kind that has signatures.
     pub message: Message,
-    /// As `encode` gives them.
+    /// The message's encoding.
     pub bytes: Vec<u8>,
 }
 

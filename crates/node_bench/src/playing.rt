@@ -1,4 +1,4 @@
-//! Work of a node that runs over a stream.
+//! Work of a running node with a stream.
 
 use crate::ending::Ending;
 use crate::fold::Fold;
@@ -20,8 +20,8 @@ use wire::{Author, Message, encode};
 /// The number of the node's member.
 const OWN_NUMBER: &str = "0";
 
-/// A node that runs reads certificates that wait, as many as the size says, and then so many small batches of another member. Without
-/// that work it reads the certificates alone.
+/// A running node reads certificates that wait, as many as the size says, and then `count` small batches of another member. Without the
+/// work it reads the certificates only.
 pub fn run_stream<R: Threads + Wait + Sync>(
     rt: &R,
     task: Task,
@@ -64,7 +64,7 @@ fn stream_of(task: Task, config: &Config<HashSign>) -> Result<Vec<u8>, Ending> {
     for number in 0..task.size {
         let author = Author((number % u64::from(task.members.max(1))) as u16);
         if author.0 == 0 {
-            // Over the genesis, which stands in no round above the first.
+            // The parents stay the genesis certificates, which are parents in round 1 only, so in later rounds these certificates wait.
             rounds.raise();
         }
         let message = Message::Certificate(rounds.certificate(author)?);
@@ -79,7 +79,7 @@ fn stream_of(task: Task, config: &Config<HashSign>) -> Result<Vec<u8>, Ending> {
     Ok(stream)
 }
 
-/// What a node writes, of which a sum is kept.
+/// A writer that keeps only a sum over what the node writes.
 #[derive(Drop)]
 struct Told<'t, R: Wait> {
     rt: &'t R,

@@ -10,11 +10,11 @@ use std::alloc::Global;
 use validator::Config;
 use wire::Batch;
 
-/// Of how many that are held one more is put, before a new store takes the place of this one: so the size stays nearly the same.
+/// The part of a store's size that is put into it before a new store takes its place, so that the size stays nearly the same.
 const PART: u64 = 10;
 
-/// Batches, each put into a store that holds as many as the size says, or up to a tenth more. Without that work the stores are only
-/// filled so far, and the batches made.
+/// Puts batches into a store that holds as many as the size says, or up to a tenth more. Without the work the stores are only filled to
+/// that size, and the batches made.
 pub fn put_batches(task: Task, config: &Config<HashSign>, fold: &mut Fold) -> Result<(), Ending> {
     let mut left = task.count;
     let most = (task.size / PART).max(1);
@@ -29,7 +29,7 @@ pub fn put_batches(task: Task, config: &Config<HashSign>, fold: &mut Fold) -> Re
     Ok(())
 }
 
-// Puts so many into a new store that holds as many as the size says.
+// Puts so many batches into a new store that holds as many as the size says.
 fn put_some(
     task: Task,
     config: &Config<HashSign>,
@@ -50,7 +50,7 @@ fn put_some(
     Ok(())
 }
 
-// So many small batches, from this number on.
+// So many small batches, with numbers from this one on.
 fn made(alloc: Global, first: u64, count: u64) -> Result<Vec<Batch>, Ending> {
     let mut batches = Vec::new(alloc);
     for number in 0..count {

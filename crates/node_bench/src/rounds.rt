@@ -1,4 +1,4 @@
-//! Rounds of a committee's headers and certificates, one upon the other.
+//! Rounds of a committee's headers and certificates, each on top of the one before.
 
 use crate::ending::Ending;
 use committee::Committee;
@@ -12,10 +12,10 @@ use wire::{
     WireError, certificate_digest, genesis_digest, header_digest,
 };
 
-/// A signature that is no good: what is tested without signatures has it.
+/// A signature that isn't good, for messages that are tested without signatures.
 pub const UNSIGNED: Signature = Signature([0; 64]);
 
-/// The round that is being made, over all that was made of the round before it.
+/// The round that is being made, on top of all that was made of the round before.
 #[derive(Drop)]
 pub struct Rounds {
     /// What memory comes from.
@@ -24,7 +24,7 @@ pub struct Rounds {
     is_signed: bool,
     /// How many members there are.
     pub members: u16,
-    /// How many vote on each header: those of the lowest numbers.
+    /// How many members vote on each header: those with the lowest numbers.
     pub voters: u16,
     /// The number of the round that is being made.
     pub number: u64,
@@ -33,7 +33,7 @@ pub struct Rounds {
 }
 
 impl Rounds {
-    /// The first round, over the genesis.
+    /// The first round, on top of the genesis.
     pub fn new(alloc: Global, committee: &Committee, is_signed: bool) -> Result<Rounds, Ending> {
         let members = committee.size();
         let mut rounds = Rounds {
@@ -52,7 +52,7 @@ impl Rounds {
         Ok(rounds)
     }
 
-    /// The coin of the wave that ends with the round before, if one does. Its value is its number.
+    /// The coin of the wave that ended with the round before, if one did. Its value is its wave's number.
     pub fn coin(&self) -> Result<Option<Coin>, WireError> {
         if self.number < 4 || self.number % 2 == 1 {
             return Ok(None);
@@ -67,7 +67,7 @@ impl Rounds {
         Round::new(self.number)
     }
 
-    // What an author proposes.
+    // The header body of an author.
     fn body(&self, author: Author) -> Result<HeaderBody, Ending> {
         Ok(HeaderBody {
             author,
@@ -92,7 +92,7 @@ impl Rounds {
         Ok(header_digest(&self.body(author)?))
     }
 
-    /// The vote of a member on the own header.
+    /// A member's vote on the own header.
     pub fn vote(&self, voter: Author) -> Result<Vote, Ending> {
         let (header, round) = (self.digest(OWN)?, self.round()?);
         let signature = match self.is_signed {
@@ -115,7 +115,7 @@ impl Rounds {
         Ok(Coin { wave, value })
     }
 
-    // The votes of a quorum: on the certificate of this digest, or unsigned.
+    // The votes of a quorum: on the certificate with this digest, or unsigned.
     fn votes(&self, certificate: Option<Digest>) -> Result<VoteEntries, Ending> {
         let mut votes = VoteEntries::new(self.alloc);
         for member in 0..self.voters {
@@ -143,7 +143,7 @@ impl Rounds {
         Ok(Certificate { header, votes })
     }
 
-    /// Says that an author's certificate was made: the next round is over it. The authors rise.
+    /// Notes that an author's certificate was made, so that the next round is on top of it. Authors are noted in ascending order.
     pub fn note(&mut self, author: Author, certificate: Digest) -> Result<(), Ending> {
         if self.made.len() == MAX_PARENTS || !self.made.may_follow(author) {
             return Err(Ending::Refused);
@@ -155,13 +155,13 @@ impl Rounds {
         Ok(())
     }
 
-    /// Goes on to the next round, over what was noted.
+    /// Continues with the next round, on top of what was noted.
     pub fn end(&mut self) {
         self.parents = mem::replace(&mut self.made, ParentReferences::new(self.alloc));
         self.raise();
     }
 
-    /// Goes on to the next round, over the same certificates as this one.
+    /// Continues with the next round, on top of the same certificates as this one.
     pub fn raise(&mut self) {
         self.number = self.number.saturating_add(1);
     }

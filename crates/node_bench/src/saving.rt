@@ -9,8 +9,8 @@ use opening::reopen_pair;
 use sigface::HashSign;
 use validator::{Config, Validator};
 
-/// A checkpoint of a validator that holds so many batches, written to a journal on two disks. Without that work the validator and an empty
-/// journal are only made.
+/// Writes a checkpoint of a validator that holds so many batches to a journal on two disks. Without the work only the validator and an
+/// empty journal are made.
 pub fn write_checkpoint(
     task: Task,
     config: &Config<HashSign>,
@@ -27,7 +27,7 @@ pub fn write_checkpoint(
     Ok(())
 }
 
-/// A validator is loaded from the records of such a checkpoint. Without that work these are only made.
+/// Loads a validator from the records of such a checkpoint. Without the work only the records are made.
 pub fn load_checkpoint(
     task: Task,
     config: &Config<HashSign>,
@@ -39,7 +39,7 @@ pub fn load_checkpoint(
     }
     if task.is_work {
         let loaded = Validator::load(task.alloc, config, records)?;
-        // The first batch is known to it.
+        // The first batch is known to the validator.
         let event = events_of(task, config.committee(), Step::Batch)?.tested(config.committee())?;
         fold.add(u64::from(loaded.is_new(&event)));
     }

@@ -1,4 +1,4 @@
-//! The node that works: member 0 of a committee whose members sign with the test pair.
+//! The configuration of the node that works: member 0 of a committee whose members sign with the test pair.
 
 use crate::ending::Ending;
 use crate::task::{Kind, Task};
@@ -8,7 +8,7 @@ use sim_script::{OWN, committee_file, member_list, signer};
 use std::alloc::AllocError;
 use validator::Config;
 
-/// Batches that a node holds at most where the depth is told.
+/// How many batches a node may hold in a committee file that also gives the depth.
 const BATCHES: u64 = 1_048_576;
 
 /// The configuration of the node in the committee of a task.
@@ -24,7 +24,7 @@ pub fn config_of(task: Task) -> Result<Config<HashSign>, Ending> {
     }
 }
 
-// The committee's file. The depth is the usual one where the size isn't that.
+// The committee file. The depth is the default one unless the size is the depth.
 fn file_of(task: Task) -> Result<String, AllocError> {
     match task.kind {
         Kind::Deep => committee_file(task.alloc, task.size, BATCHES),

@@ -16,12 +16,12 @@ use wire::{Author, Message};
 pub struct Sharer<'n, 'a, S: Sign> {
     /// The caller.
     pub node: Caller<'n, 'a, S>,
-    /// Whose batches it submits.
+    /// The member whose batches are submitted.
     pub member: Author,
 }
 
 impl<'n, 'a, S: Sign> Sharer<'n, 'a, S> {
-    /// Submits the member's batch of this number, which is new, and adds its digest. Says which ticket it has.
+    /// Submits the member's batch with this number, which is new, and adds the batch's digest to the sum. Gives the ticket.
     pub fn submit<R: Wait>(
         &mut self,
         rt: &R,

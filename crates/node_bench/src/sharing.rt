@@ -21,11 +21,11 @@ use std::thread::{self, Threads};
 use validator::Config;
 use wire::Author;
 
-/// Whose batches are submitted, by a thread each.
+/// The members whose batches are submitted, each by a thread of its own.
 const MEMBERS: [Author; 3] = [Author(1), Author(2), Author(3)];
 
-/// Three threads submit so many batches each to a node, and a fourth flushes as often as so many were accepted, and releases the
-/// outputs. Without that work, as many events go through a validator alone.
+/// Three threads submit so many batches each to a node. A fourth thread flushes whenever so many more were accepted, and releases the
+/// outputs. Without the work as many events go through a validator alone.
 pub fn share_node<R: Threads + Wait + Sync>(
     rt: &R,
     task: Task,
@@ -43,7 +43,7 @@ pub fn share_node<R: Threads + Wait + Sync>(
     submit_all(rt, task, sharers, Flushing { rounds, released }, fold)
 }
 
-// What flushes a node, and what its outputs are collected with.
+// The flusher of a node, and the caller that collects the outputs.
 #[derive(Drop)]
 struct Flushing<'n, 'a, S: Sign, D: Disk> {
     rounds: Rounds<'n, 'a, S, D>,
@@ -95,7 +95,7 @@ where
     Ok(())
 }
 
-// Adds what the threads' work comes to, in the order of the members.
+// Adds the sums of the threads, in the order of the members.
 fn join_all(folds: Vec<Result<Fold, Ending>>, all: &mut Fold) -> Result<(), Ending> {
     for fold in folds {
         all.join(fold?);
@@ -103,7 +103,7 @@ fn join_all(folds: Vec<Result<Fold, Ending>>, all: &mut Fold) -> Result<(), Endi
     Ok(())
 }
 
-// Rings each time that so many events were accepted, from all threads.
+// Rings the bell whenever so many more events were accepted, from all threads together.
 fn submit_batches<S: Sign, R: Wait>(
     rt: &R,
     task: Task,
@@ -120,7 +120,7 @@ fn submit_batches<S: Sign, R: Wait>(
     Ok(fold)
 }
 
-// Flushes at each ring, and what is left once none can come.
+// Flushes at each ring, and then what is left once no more events can come.
 fn flush_all<S: Sign, D: Disk + Drop, R: Wait>(
     rt: &R,
     mut flushing: Flushing<'_, '_, S, D>,
@@ -138,7 +138,7 @@ fn flush_all<S: Sign, D: Disk + Drop, R: Wait>(
     Ok(released)
 }
 
-// One round, after which all is released that may go out. Says how many events it settled.
+// Makes one round, and then releases all outputs that may leave. Gives how many events were settled.
 fn flush<S: Sign, D: Disk, R: Wait>(
     rt: &R,
     flushing: &mut Flushing<'_, '_, S, D>,
@@ -154,8 +154,8 @@ fn flush<S: Sign, D: Disk, R: Wait>(
     Ok(count)
 }
 
-/// This thread submits so many batches to a node, flushes whenever as many more were accepted as the size says, and releases the
-/// outputs. Without that work, as many batches go through a validator alone.
+/// This thread submits so many batches to a node, flushes whenever as many more were accepted as the size says, and releases the outputs.
+/// Without the work as many batches go through a validator alone.
 pub fn submit_alone<R: Wait>(
     rt: &R,
     task: Task,
@@ -197,7 +197,7 @@ fn submit_and_flush<S: Sign, D: Disk + Drop, R: Wait>(
     Ok(())
 }
 
-// As many batches of one member as so many submit, through a validator alone.
+// Sends as many batches of one member as all threads would submit through a validator alone.
 fn step_as_many(
     task: Task,
     config: &Config<HashSign>,

@@ -1,4 +1,4 @@
-//! Work through a validator.
+//! Work of a validator.
 
 use crate::ending::Ending;
 use crate::events::{Events, Front, digest_in};
@@ -9,11 +9,11 @@ use sigface::HashSign;
 use validator::{Config, Validator};
 use wire::Message;
 
-/// Rounds that a validator is given without coins, before a new one takes its place: what a certificate costs rises with
-/// the rounds since the last commit, of which a node in use has few.
+/// After how many rounds without coins a validator is replaced by a new one: the cost of a certificate rises with the rounds since the last
+/// commit, of which a real node has few.
 const FEW: u64 = 8;
 
-/// Steps the pieces of a kind, and what comes between them. Without the work pieces are only tested.
+/// Steps the pieces of a kind, and the events between them. Without the work the pieces are only tested.
 pub fn take_all(
     task: Task,
     config: &Config<HashSign>,
@@ -30,7 +30,7 @@ pub fn take_all(
     Ok(())
 }
 
-// Gives events to a new validator until so many were pieces or another one is to follow, and says how many are left.
+// Gives events to a new validator until there were so many pieces or the validator has to be replaced, and gives how many pieces are left.
 fn take_some(
     task: Task,
     config: &Config<HashSign>,
@@ -51,7 +51,7 @@ fn take_some(
     Ok(left)
 }
 
-// Takes the next event, and says whether it is a piece.
+// Takes the next event, and gives whether it is a piece.
 fn take_next(
     task: Task,
     validator: &mut Validator<'_, HashSign>,
@@ -61,7 +61,7 @@ fn take_next(
 ) -> Result<bool, Ending> {
     let event = events.tested(validator.committee())?;
     let is_piece = step.counts(event.message());
-    // The sum of a book's work has no digests either.
+    // The sum of a book's work has no digests either, so that both can be compared.
     if !matches!(step, Step::Event) {
         fold.add_bytes(&digest_in(&event).0);
     }
@@ -71,7 +71,7 @@ fn take_next(
     Ok(is_piece)
 }
 
-/// The events that a kind of step is given.
+/// The events for a kind of step.
 pub fn events_of(task: Task, committee: &Committee, step: Step) -> Result<Events, Ending> {
     let (front, has_coins) = match step {
         Step::Header | Step::Event => (Front::Headers, true),
@@ -84,10 +84,10 @@ pub fn events_of(task: Task, committee: &Committee, step: Step) -> Result<Events
 }
 
 impl Task {
-    // How many events are its pieces.
+    // How many events make so many pieces.
     fn events(self, step: Step) -> u64 {
         match step {
-            // After each odd round but the first a wave ends, with its coin.
+            // After each odd round except the first a wave ends, with its coin.
             Step::Round => {
                 let coins = (self.count.saturating_add(1) / 2).saturating_sub(1);
                 self.count
@@ -100,7 +100,7 @@ impl Task {
 }
 
 impl Step {
-    // Whether a message is one of its pieces.
+    // Whether a message is a piece.
     fn counts(self, message: &Message) -> bool {
         match (self, message) {
             (Step::Header, Message::Header(_)) => true,
@@ -111,7 +111,7 @@ impl Step {
         }
     }
 
-    // Whether a new validator is to follow.
+    // Whether a new validator has to take this one's place.
     fn is_over(self, events: &Events) -> bool {
         matches!(self, Step::Vote | Step::Certificate) && events.are_over(FEW)
     }

@@ -1,4 +1,4 @@
-//! Work on journals, in a book and at an opening.
+//! Work with journals, in a book and in an opening.
 
 ghost use Rattle.std.specs.Prelude.{◌≡◌, None, IfOk, OnOk};
 ghost use Rattle.journal.specs.Journal.{spare_of, IsAlive};
@@ -16,16 +16,16 @@ use sigface::{HashSign, Sign};
 use std::alloc::{AllocError, Global};
 use validator::Config;
 
-/// Bytes of a record that is added, as many as a certificate's among four.
+/// The length of a record that is appended, which is that of a certificate's among four members.
 const RECORD_BYTES: usize = 354;
 
-/// A disk that has nothing.
+/// An empty disk.
 pub fn empty_disk(alloc: Global) -> Result<MemDisk, AllocError> {
     MemDisk::new(alloc, Vec::new(alloc))
 }
 
-/// Groups of records, each added to a journal of its own: at each sync the disk in memory copies all that it has, and a
-/// long journal would show that alone.
+/// Appends groups of records, each to a journal of its own: at each sync the disk in memory copies everything that it has, so with a long
+/// journal the work would consist of that.
 pub fn append_groups(task: Task, fold: &mut Fold) -> Result<(), Ending> {
     for _ in 0..task.count {
         append_group(task, fold)?;
@@ -43,7 +43,7 @@ fn append_group(task: Task, fold: &mut Fold) -> Result<(), Ending> {
     Ok(())
 }
 
-// Adds a group of these records, and says how many it has.
+// Appends a group of these records, and gives how many it has.
 fn append(
     alloc: Global,
     journal: &mut Journal<MemDisk>,
@@ -77,8 +77,8 @@ fn records_of(task: Task) -> Result<Vec<Vec<u8>>, AllocError> {
     Ok(records)
 }
 
-/// Events through a book, whose records are flushed as often as so many were accepted. Without that work, the same events go
-/// through a validator alone.
+/// Sends events through a book, whose records are flushed whenever so many more were accepted. Without the work the same events go through
+/// a validator alone.
 pub fn keep_book(task: Task, config: &Config<HashSign>, fold: &mut Fold) -> Result<(), Ending> {
     if !task.is_work {
         let is_work = true;
@@ -87,8 +87,8 @@ pub fn keep_book(task: Task, config: &Config<HashSign>, fold: &mut Fold) -> Resu
     keep_all(task, config, Step::Event, &mut Vec::new(task.alloc), fold)
 }
 
-// Events through a new book, flushed whenever as many more were accepted as the size says. The journals' groups are kept where
-// there is a closed gate for the first of them.
+// Sends events through a new book, flushed whenever as many more were accepted as the size says. The groups of the journals are kept if
+// there is a closed gate to which the first of them can be appended.
 fn keep_all(
     task: Task,
     config: &Config<HashSign>,
@@ -131,7 +131,7 @@ fn accept_all(
     flush(task.alloc, book, kept, fold)
 }
 
-// Adds which ticket the next event gets.
+// Accepts the next event, and gives its ticket.
 fn accept_next(
     book: &mut OwnBook<'_, HashSign>,
     events: &mut Events,
@@ -143,7 +143,7 @@ fn accept_next(
     Ok(())
 }
 
-// Flushes all pending records, each group to a journal of its own, and releases what may go out.
+// Flushes all pending records, each group to a journal of its own, and releases the outputs that may leave.
 fn flush(
     alloc: Global,
     book: &mut OwnBook<'_, HashSign>,
@@ -171,7 +171,7 @@ fn release_all(book: &mut OwnBook<'_, HashSign>, fold: &mut Fold) {
     }
 }
 
-// Puts a journal's groups in the place of the closed gate that ends these bytes. Where there are no bytes, it keeps none.
+// Replaces the closed gate at the end of these bytes by a journal's groups. If there are no bytes, nothing is kept.
 fn keep(kept: &mut Vec<u8>, journal: Journal<MemDisk>) -> Result<(), AllocError>
     requires { spare_of journal ≡ None }
 {
@@ -181,8 +181,8 @@ fn keep(kept: &mut Vec<u8>, journal: Journal<MemDisk>) -> Result<(), AllocError>
     Ok(())
 }
 
-/// Opens a journal of so many certificates and coins, in groups as large as they may be. Without that work the journal and its
-/// disk are only made.
+/// Opens a journal of so many certificates and coins, in groups as long as they may be. Without the work only the journal and its disk are
+/// made.
 pub fn reopen_journal(
     task: Task,
     config: &Config<HashSign>,
@@ -206,7 +206,7 @@ fn journal_of(task: Task, config: &Config<HashSign>) -> Result<Vec<u8>, Ending> 
     Ok(kept)
 }
 
-// Adds the round of the node, and of its order how long it is and the last digest, which rests on those before it.
+// Adds the round of the node, and the length and the last digest of its order; the digest depends on all those before it.
 fn open(
     alloc: Global,
     config: &Config<HashSign>,

@@ -1,4 +1,4 @@
-//! What the words of a command ask for.
+//! The tasks that the words of a command name.
 
 use std::alloc::Global;
 
@@ -13,31 +13,31 @@ pub enum Form {
     Coin,
 }
 
-/// What is done to a message alone.
+/// What is done with a single message.
 #[derive(Clone, Copy)]
 pub enum Act {
     Decode,
     Encode,
-    /// Its tests, those of its signatures too.
+    /// The checks of a message, including those of its signatures.
     Check,
-    /// Its tests without signatures.
+    /// The checks of a message without those of its signatures.
     Recheck,
 }
 
 /// What a validator steps.
 #[derive(Clone, Copy)]
 pub enum Step {
-    /// Headers of others, each with its vote.
+    /// Headers of others, each of which gets a vote.
     Header,
-    /// Votes on own headers, as many a header as complete its certificate.
+    /// Votes on own headers, for each header as many as complete its certificate.
     Vote,
     /// Certificates that commit nothing.
     Certificate,
     /// Batches of others.
     Batch,
-    /// Rounds of all members' certificates, with a coin a wave.
+    /// Rounds of all members' certificates, with a coin for each wave.
     Round,
-    /// Events of such rounds, with the headers of the others before the certificates.
+    /// Events of such rounds, with the others' headers before the certificates.
     Event,
 }
 
@@ -46,13 +46,13 @@ pub enum Step {
 pub enum Kind {
     /// Compressions of SHA-256: the yardstick.
     Hash,
-    /// On messages alone.
+    /// Work on single messages.
     Message(Act, Form),
     /// Cutting a stream into frames.
     Frames,
-    /// Through a validator.
+    /// Steps of a validator.
     Steps(Step),
-    /// Groups of records, made and added to a journal.
+    /// Groups of records, made and appended to a journal.
     Append,
     /// Events through a book and a journal.
     Book,
@@ -62,47 +62,46 @@ pub enum Kind {
     Checkpoint,
     /// Loading the records of such a checkpoint.
     Load,
-    /// Batches that threads submit to a node, and a flusher beside them.
+    /// Batches that threads submit to a node, next to a flusher.
     Node,
     /// Batches that one thread submits to a node and flushes.
     Submit,
     /// Batches put into a store that holds some.
     Put,
-    /// Batches that a running node reads, beside certificates that wait.
+    /// Batches that a running node reads while certificates wait.
     Run,
-    /// Rounds of all members' certificates, with a coin a wave, in a committee of some depth.
+    /// Rounds of all members' certificates, with a coin for each wave, in a committee of a given depth.
     Deep,
     /// Certificates after rounds without a coin.
     Behind,
-    /// Coins that commit, each after rounds of which nothing was committed.
+    /// Coins that commit, each after rounds in which nothing was committed.
     Late,
 }
 
-/// How much of a kind of work is to be done. Without the work only that is done which has to come before it.
+/// How much of a kind of work is to be done. Without the work only its preparation is done.
 #[derive(Clone, Copy)]
 pub struct Task {
     /// The kind.
     pub kind: Kind,
-    /// What memory comes from.
+    /// The allocator.
     pub alloc: Global,
     /// Whether the work is done.
     pub is_work: bool,
-    /// How many pieces.
+    /// How many pieces are to be done.
     pub count: u64,
-    /// What a size is of this kind.
+    /// The size, whose meaning depends on the kind.
     pub size: u64,
-    /// How many members the committee has: the size, or four where that is something else.
+    /// How many members the committee has: the size, if the kind's size is that, and otherwise four.
     pub members: u16,
 }
 
-/// What stands before a kind of work of which only the preparation is done.
+/// The prefix of the word for a kind of work of which only the preparation is to be done.
 const PREPARE: &str = "prepare-";
 
-/// Pieces, at most.
+/// The greatest number of pieces.
 const MOST: u64 = 1_000_000_000;
 
-/// Which sizes a kind of work may have, which it has where none is given, and how many members there are: None where that is
-/// the size.
+/// Which sizes a kind of work may have, its default size, and the number of members; None where that is the size.
 #[derive(Clone, Copy)]
 pub struct Sizes {
     usual: u64,
@@ -111,7 +110,7 @@ pub struct Sizes {
     members: Option<u16>,
 }
 
-/// There is none.
+/// The kind has no size.
 const NO_SIZE: Sizes = Sizes {
     usual: 0,
     least: 1,
@@ -119,7 +118,7 @@ const NO_SIZE: Sizes = Sizes {
     members: Some(4),
 };
 
-/// Members: four, seven, and so on.
+/// The size is the number of members: four, seven, and so on.
 const MEMBERS: Sizes = Sizes {
     usual: 4,
     least: 4,
@@ -127,7 +126,7 @@ const MEMBERS: Sizes = Sizes {
     members: None,
 };
 
-/// Bytes of a batch's body.
+/// The size is the length of a batch's body, in bytes.
 const BODY: Sizes = Sizes {
     usual: 100_000,
     least: 20,
@@ -135,7 +134,7 @@ const BODY: Sizes = Sizes {
     members: Some(4),
 };
 
-/// Bytes of a piece of the stream.
+/// The size is the length of a piece of the stream, in bytes.
 const STREAM: Sizes = Sizes {
     usual: 4_096,
     least: 1,
@@ -143,7 +142,7 @@ const STREAM: Sizes = Sizes {
     members: Some(4),
 };
 
-/// Records of a group.
+/// The size is the number of records in a group.
 const GROUP: Sizes = Sizes {
     usual: 1_024,
     least: 1,
@@ -151,7 +150,7 @@ const GROUP: Sizes = Sizes {
     members: Some(4),
 };
 
-/// Events between two flushes.
+/// The size is the number of events between two flushes.
 const FLUSH: Sizes = Sizes {
     usual: 1_024,
     least: 1,
@@ -159,7 +158,7 @@ const FLUSH: Sizes = Sizes {
     members: Some(4),
 };
 
-/// Batches that a store holds first.
+/// The size is the number of batches that a store holds at first.
 const HELD: Sizes = Sizes {
     usual: 100,
     least: 1,
@@ -167,7 +166,7 @@ const HELD: Sizes = Sizes {
     members: Some(4),
 };
 
-/// Certificates that wait.
+/// The size is the number of certificates that wait.
 const WAITING: Sizes = Sizes {
     usual: 16,
     least: 0,
@@ -175,7 +174,7 @@ const WAITING: Sizes = Sizes {
     members: Some(4),
 };
 
-/// Rounds that are ordered below a leader.
+/// The size is the depth: how many rounds below a leader are ordered.
 const DEPTH: Sizes = Sizes {
     usual: 1_000,
     least: 50,
@@ -183,7 +182,7 @@ const DEPTH: Sizes = Sizes {
     members: Some(4),
 };
 
-/// Rounds that come first.
+/// The size is the number of rounds that come first.
 const ROUNDS: Sizes = Sizes {
     usual: 70,
     least: 3,
@@ -191,7 +190,7 @@ const ROUNDS: Sizes = Sizes {
     members: Some(4),
 };
 
-/// The kinds of work: the word of each, how many pieces are done where no words are given, and its sizes.
+/// The kinds of work: the word of each, the number of pieces for a run without arguments, and the sizes.
 pub const WORKS: [(&str, Kind, u64, Sizes); 40] = [
     ("hash", Kind::Hash, 1_000, NO_SIZE),
     (
@@ -357,7 +356,7 @@ pub fn task_of(alloc: Global, words: &[String]) -> Option<Task> {
     }
 }
 
-/// The task of so many pieces of a kind, of this size or of the kind's own.
+/// The task of so many pieces of a kind, with this size or the kind's default.
 pub fn sized(alloc: Global, word: &str, count: u64, size: Option<u64>) -> Option<Task> {
     let (is_work, name) = match word.strip_prefix(PREPARE) {
         Some(name) => (false, name),
@@ -393,7 +392,7 @@ fn work_of(word: &str) -> Option<(Kind, Sizes)> {
     None
 }
 
-// Decimal digits. The parse alone would take a plus sign before them.
+// A number in decimal digits. Parsing alone would accept a plus sign too.
 fn number(word: &str) -> Option<u64> {
     if word.starts_with('+') {
         return None;

@@ -1,4 +1,4 @@
-//! Work on messages alone: hashing, reading, writing and testing.
+//! Work on single messages: hashing, reading, writing and testing.
 
 use crate::ending::Ending;
 use crate::events::digest_in;
@@ -15,10 +15,10 @@ use validator::Config;
 use wire::{Author, Message, encode};
 use wire_read::{FrameReader, decode};
 
-/// What one compression takes in.
+/// The bytes that one compression takes.
 const BLOCK: &[u8; 64] = b"0123456789abcdefghijklmnopqrstuvwxyzABCDEFGHIJKLMNOPQRSTUVWXYZ-_";
 
-/// Hashes so many blocks of 64 bytes: a compression each, and one more for the end.
+/// Hashes so many blocks of 64 bytes: one compression for each, and one more at the end.
 pub fn hash(task: Task, fold: &mut Fold) {
     let mut hasher = Sha256::new();
     if task.is_work {
@@ -108,7 +108,7 @@ fn test_once(
     Ok(())
 }
 
-/// Cuts a stream of frames, each of a sender and a header, into their bodies. It comes in pieces of a size.
+/// Cuts a stream of frames, each with a sender and a header, into their bodies. The stream comes in pieces of the given size.
 pub fn cut_frames(task: Task, config: &Config<HashSign>, fold: &mut Fold) -> Result<(), Ending> {
     let ring = ring_of(task, Form::Header, config.committee())?;
     let stream = stream_of(task, &ring)?;
@@ -145,7 +145,7 @@ fn stream_of(task: Task, ring: &[Made]) -> Result<Vec<u8>, Ending> {
     Ok(stream)
 }
 
-/// Puts a frame of a sender and these bytes.
+/// Adds a frame with a sender and these bytes.
 pub fn put_frame(stream: &mut Vec<u8>, sender: Author, bytes: &[u8]) -> Result<(), Ending> {
     let Ok(len) = u32::try_from(bytes.len().saturating_add(2)) else {
         return Err(Ending::Refused);

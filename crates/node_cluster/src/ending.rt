@@ -1,4 +1,4 @@
-//! What ends a play before its end.
+//! Why a play ends early.
 
 use cluster::ClusterError;
 use std::alloc::{AllocError, AllocFailed};
@@ -6,10 +6,10 @@ use std::io;
 use thiserror::Error;
 use wire::WireError;
 
-/// Why a play isn't played to its end.
+/// Why a play ended early.
 #[derive(Clone, Copy, Debug, Error)]
 pub enum Ending {
-    /// Memory was refused.
+    /// An allocation failed.
     #[error("memory was refused")]
     Memory,
     /// A line couldn't be written.
@@ -18,7 +18,7 @@ pub enum Ending {
     /// A move failed.
     #[error("a move failed")]
     Move,
-    /// A call answered what it never should there.
+    /// A call gave an answer that can't occur here.
     #[error("this should not come")]
     Unexpected,
 }

@@ -1,4 +1,4 @@
-//! A committee of four in one process: it plays some waves, in the middle of which a member stops, and shows the order of each.
+//! A committee of four in one process: it plays some waves, during which one member stops, and shows the order of each member.
 #![tactic(auto)]
 
 mod ending;
@@ -12,7 +12,7 @@ use sim_script::{BATCHES, DEPTH};
 use std::process::ExitCode;
 use telling::{tell_coin, tell_end, tell_growth, tell_round, tell_stop};
 
-/// The waves that are played.
+/// The number of waves that are played.
 const WAVES: u64 = 3;
 
 /// The round in which the last member stops.
@@ -29,7 +29,7 @@ fn main(rt: HostRuntime) -> ExitCode {
     }
 }
 
-/// Plays all waves, and says whether all is well after them.
+/// Plays all waves, and gives whether the orders agree after them.
 fn run<R: AllocGlobal + Print>(rt: &R) -> Result<bool, Ending> {
     let settings = Settings::new(rt.alloc(), DEPTH, BATCHES)?;
     let mut play = Play::new(rt.alloc(), &settings)?;
@@ -49,7 +49,7 @@ fn play_all(rt: &impl Print, play: &mut Play<'_>) -> Result<(), Ending> {
     Ok(())
 }
 
-/// Each member proposes, and all that is put out reaches all others.
+/// Each member proposes, and all outputs reach all other members.
 fn play_round(rt: &impl Print, play: &mut Play<'_>, round: u64) -> Result<(), Ending> {
     play.propose()?;
     if round == STOPPING {
@@ -61,7 +61,7 @@ fn play_round(rt: &impl Print, play: &mut Play<'_>, round: u64) -> Result<(), En
     tell_growth(rt, play)
 }
 
-/// The coin of a wave is handed in at each member.
+/// The coin of a wave is given to each member.
 fn play_coin(rt: &impl Print, play: &mut Play<'_>, wave: u64) -> Result<(), Ending> {
     let taken = play.toss(wave)?;
     tell_coin(rt, wave, taken)?;

@@ -1,4 +1,4 @@
-//! The members, and what is done with them.
+//! The members, and the steps of a play.
 
 ghost use Rattle.std.specs.Prelude.{◌≡◌, [], All, IfOk};
 
@@ -26,13 +26,13 @@ pub struct Named {
     pub digest: Digest,
 }
 
-/// How far a member was followed.
+/// How far the outputs and the order of a member were handled.
 #[derive(Clone, Copy)]
 struct Followed {
     node: Author,
-    /// How many of its outputs were delivered.
+    /// How many of the member's outputs were delivered.
     outputs: u64,
-    /// How many certificates of its order were shown.
+    /// How many certificates of the member's order were shown.
     order: usize,
 }
 
@@ -67,7 +67,7 @@ impl<'a> Play<'a> {
         })
     }
 
-    /// Each member that proposes a header is given it, and writes it.
+    /// Each member proposes its header and takes it in, and writes it.
     pub fn propose(&mut self) -> Result<(), Ending> {
         for node in 0..MEMBERS {
             propose(&mut self.nodes, Author(node))?;
@@ -75,7 +75,7 @@ impl<'a> Play<'a> {
         Ok(())
     }
 
-    /// Delivers what is put out to all others, and lets all write, until nothing new is put out.
+    /// Delivers outputs to all other members, and lets all members write, until no new output is put out.
     pub fn deliver(&mut self) -> Result<(), Ending> {
         for _ in 0..u64::MAX {
             if !self.sweep()? {
@@ -85,7 +85,7 @@ impl<'a> Play<'a> {
         Ok(())
     }
 
-    // Delivers what was put out so far, and lets all write. Says whether there was anything.
+    // Delivers the outputs so far, and lets all members write. Gives whether there was any.
     fn sweep(&mut self) -> Result<bool, Ending> {
         let mut any = false;
         for followed in self.followed.iter_mut() {
@@ -95,8 +95,8 @@ impl<'a> Play<'a> {
         Ok(any)
     }
 
-    /// Delivers to the last member alone what is put out, and stops it before it writes that. Says how many events it lost, and on how
-    /// many it was opened again.
+    /// Delivers new outputs to the last member only, and stops it before it writes them. Gives how many events it lost, and on how many it
+    /// was opened again.
     pub fn stop_last(&mut self) -> Result<(u64, u64), Ending> {
         let mut lost: u64 = 0;
         for followed in &self.followed {
@@ -108,7 +108,7 @@ impl<'a> Play<'a> {
         }
     }
 
-    /// Hands in the coin of a wave at each member, and says how many took it.
+    /// Gives the coin of a wave to each member, and counts how many accepted it.
     pub fn toss(&mut self, wave: u64) -> Result<u64, Ending> {
         let coin = Coin {
             wave: Wave::new(wave)?,
@@ -131,7 +131,7 @@ impl<'a> Play<'a> {
         Ok(self.named.get(from..).unwrap_or(&[]))
     }
 
-    /// The certificate of this digest, where a header was seen to name it.
+    /// The certificate with this digest, if a header was seen to name it.
     pub fn name(&self, digest: &Digest) -> Option<&Named> {
         self.named.iter().find(|named| named.digest == *digest)
     }
@@ -141,7 +141,7 @@ impl<'a> Play<'a> {
         self.nodes.given_order(node).unwrap_or(&[])
     }
 
-    /// What a member gave out since this was last asked.
+    /// What a member's order has grown by since the last call.
     pub fn growth(&mut self, node: Author) -> &[Digest] {
         let order = self.nodes.given_order(node).unwrap_or(&[]);
         let mut from = 0;
@@ -186,7 +186,7 @@ fn name_parents(named: &mut Vec<Named>, round: u64, body: &HeaderBody) -> Result
     Ok(())
 }
 
-// Each member, before anything was delivered or shown.
+// All members, with nothing delivered or shown yet.
 fn all_followed(alloc: Global) -> Result<Vec<Followed>, AllocError> {
     let mut followed = Vec::new(alloc);
     for node in 0..MEMBERS {
@@ -219,7 +219,7 @@ fn flush(nodes: &mut Nodes<'_>) -> Result<(), Ending> {
     Ok(())
 }
 
-// Delivers what a member put out since it was last followed. Says whether there was anything.
+// Delivers the new outputs of a member. Gives whether there was any.
 fn deliver_from(nodes: &mut Nodes<'_>, followed: &mut Followed) -> Result<bool, Ending> {
     let end = nodes.outputs(followed.node).unwrap_or(0);
     for to in 0..MEMBERS {
@@ -230,7 +230,7 @@ fn deliver_from(nodes: &mut Nodes<'_>, followed: &mut Followed) -> Result<bool, 
     Ok(any)
 }
 
-// Delivers what a member put out since it was last followed to another one. Says how many messages were new there.
+// Delivers the new outputs of a member to another one. Gives how many of the messages were new there.
 fn deliver_to(nodes: &mut Nodes<'_>, from: Followed, to: Author) -> Result<u64, Ending> {
     let mut new: u64 = 0;
     if from.node == to {
@@ -244,7 +244,7 @@ fn deliver_to(nodes: &mut Nodes<'_>, from: Followed, to: Author) -> Result<u64, 
     Ok(new)
 }
 
-// Delivers an output; a piece of the order is for nobody. Says whether it was new.
+// Delivers an output; a piece of the order is for no member. Gives whether the message was new.
 fn deliver(nodes: &mut Nodes<'_>, node: Author, output: u64, to: Author) -> Result<bool, Ending> {
     match nodes.apply(Move::Deliver { node, output, to }) {
         Ok(applied) => Ok(is_new(applied)),

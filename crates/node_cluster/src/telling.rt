@@ -1,11 +1,11 @@
-//! What is shown, line by line.
+//! What is printed, line by line.
 
 use crate::ending::Ending;
 use crate::play::{LAST, Named, Play};
 use sim_members::MEMBERS;
 use wire::{Author, Digest};
 
-/// Shows the certificates of a round, each after its author.
+/// Prints the certificates of a round, each after its author.
 pub fn tell_round(rt: &impl Print, play: &mut Play<'_>, round: u64) -> Result<(), Ending> {
     print!(rt; "round {round}, certified:")?;
     for named in play.certified(round)? {
@@ -21,7 +21,7 @@ fn tell_named(rt: &impl Print, named: &Named) -> Result<(), Ending> {
     Ok(())
 }
 
-/// Shows a stop.
+/// Prints a line for a stop.
 pub fn tell_stop(rt: &impl Print, lost: u64, found: u64) -> Result<(), Ending> {
     let last = LAST.0;
     println!(rt;
@@ -30,13 +30,13 @@ pub fn tell_stop(rt: &impl Print, lost: u64, found: u64) -> Result<(), Ending> {
     Ok(())
 }
 
-/// Shows a coin, and how many members took it.
+/// Prints a coin, and how many members accepted it.
 pub fn tell_coin(rt: &impl Print, wave: u64, taken: u64) -> Result<(), Ending> {
     println!(rt; "the coin of wave {wave} is {wave}, and {taken} members take it")?;
     Ok(())
 }
 
-/// Shows what each member's order has grown by.
+/// Prints what each member's order has grown by.
 pub fn tell_growth(rt: &impl Print, play: &mut Play<'_>) -> Result<(), Ending> {
     for node in 0..MEMBERS {
         tell_grown(rt, node, play.growth(Author(node)))?;
@@ -56,8 +56,8 @@ fn tell_grown(rt: &impl Print, node: u16, grown: &[Digest]) -> Result<(), Ending
     Ok(())
 }
 
-/// Shows each member's order, and whether they are equal. Says whether all is well: something was ordered, and of any two orders one
-/// begins the other.
+/// Prints each member's order, and whether they are equal. Gives whether the play succeeded: something was ordered, and of any two orders
+/// one is a prefix of the other.
 pub fn tell_end(rt: &impl Print, play: &Play<'_>) -> Result<bool, Ending> {
     for node in 0..MEMBERS {
         tell_order(rt, play, Author(node))?;
@@ -119,7 +119,7 @@ fn are_equal(play: &Play<'_>) -> bool {
     (0..MEMBERS).all(|node| play.order(Author(node)) == play.order(Author(0)))
 }
 
-// Whether one of two orders begins the other.
+// Whether one of two orders is a prefix of the other.
 fn begin_alike(one: &[Digest], other: &[Digest]) -> bool {
     one.iter().zip(other).all(|(one, other)| one == other)
 }

@@ -1,4 +1,4 @@
--- How a run ends, and which number is told.
+-- How a run ends, and the numbers that are reported.
 use Rattle.std.specs.Prelude.{ℕ, Bool, true, false, ◌||◌, Option, Some, None, if◌then◌else◌}
 use Rattle.std.specs.Option.{option_map_or}
 use Rattle.committee.specs.declared.error.CommitteeError.{CommitteeError}
@@ -39,13 +39,13 @@ journal_number_of (journal.Damaged place) = 3
 journal_number_of journal.ConfigMismatch = 4
 journal_number_of journal.Full = 5
 
--- a fault of the journal comes before the rest, but where it is want of memory
+-- a fault of the journal goes before everything else, unless it is a failed allocation
 abbrev pub unless_journal : Option JournalError → Ending → Ending
 unless_journal (Some journal.Memory) other = other
 unless_journal (Some error) other = Journal error
 unless_journal None other = other
 
--- memory was refused, to the journal or elsewhere
+-- an allocation failed, in the journal or elsewhere
 abbrev pub lacks_memory : Faults → Bool
 lacks_memory faults = faults.memory || option_map_or is_memory faults.journal false
   where
@@ -53,11 +53,11 @@ lacks_memory faults = faults.memory || option_map_or is_memory faults.journal fa
     is_memory journal.Memory = true
     is_memory _ = false
 
--- Of several faults the journal's is told, then the output's, then the memory's, then the input's.
+-- Of several faults the first in this order is reported: the journal's, the output's, a failed allocation, the input's.
 abbrev pub ending_of : Faults → Ending
 ending_of faults = unless_journal faults.journal (if faults.output then Output else if lacks_memory faults then Memory else if faults.input then Input else Done)
 
--- how a run ends where a committee file or a journal can't be opened: want of memory is told as such
+-- how a run ends where a committee file or a journal can't be opened; a failed allocation is reported as such
 abbrev pub of_config : CommitteeError → Ending
 of_config committee.Memory = Memory
 of_config other = Config other
@@ -66,7 +66,7 @@ abbrev pub of_journal : JournalError → Ending
 of_journal journal.Memory = Memory
 of_journal other = Journal other
 
--- the first of two, if there is one; want of memory gives way to another
+-- the first of two faults, if there is one; a failed allocation gives way to any other
 abbrev pub first_of : Option JournalError → Option JournalError → Option JournalError
 first_of None other = other
 first_of (Some journal.Memory) None = Some journal.Memory

@@ -1,20 +1,20 @@
--- The makers of a node's own batches, by what each has gathered.
+-- The makers of a node's own batches, each as what it has gathered.
 use Rattle.std.specs.Prelude.{◌≡◌, ◌≢◌, ℕ, zero, suc, List, [], ◌∷◌, ◌++◌, length, Option, Some, IsNone, IfSome, IsTrue, ◌↔◌, slice_get, slice_set}
 use Rattle.batchmaker.specs.Giving.{given}
 use Rattle.wire.specs.Batches.{BatchView, has_room}
 use Rattle.wire.specs.declared.keys.Author.{Author}
 
--- those of so many workers of an author, with no transaction
+-- makers for this many workers of an author, without a transaction
 abbrev pub fresh_makers : Author → ℕ → List BatchView
 fresh_makers own zero = []
 fresh_makers own (suc worker) = fresh_makers own worker ++ record { author = own; worker = worker; transactions = [] } ∷ []
 
--- one worker's maker has become another, and no other has changed
+-- the maker of one worker has changed, and no other
 pub record Becomes (worker : ℕ) (maker next : BatchView) (before later : List BatchView) : Type 0 where
   pub was : slice_get before worker ≡ Some maker
   pub is : later ≡ slice_set before worker next
 
--- A transaction was added to one worker's open batch, or begins the next where that had no room and was given.
+-- A transaction was added to the open batch of a worker; or that batch had no room and was given, and the transaction begins the next one.
 pub record IsPushed (worker : ℕ) (transaction : List ℕ) (full : Option BatchView) (before later : List BatchView) : Type 0 where
   pub maker : BatchView
   pub next : BatchView
@@ -26,7 +26,7 @@ pub record IsPushed (worker : ℕ) (transaction : List ℕ) (full : Option Batch
   pub some : IfSome full (λ batch. batch.transactions ≢ [])
   pub each_once : given full ++ next.transactions ≡ maker.transactions ++ transaction ∷ []
 
--- One worker's open batch was given, if it had a transaction, and none of it is open.
+-- The open batch of a worker was given, if it had a transaction, and the next one is empty.
 pub record IsSealed (worker : ℕ) (sealed : Option BatchView) (before later : List BatchView) : Type 0 where
   pub maker : BatchView
   pub becomes : Becomes worker maker (record maker { transactions = [] }) before later

@@ -6,7 +6,7 @@ pub record IsDigit (byte : ℕ) : Type 0 where
   pub least : 48 ≤ byte
   pub greatest : byte ≤ 57
 
--- the number that digits are, the highest first, after what stands before them
+-- the number with these digits, the highest first, after the digits of the number `before`
 abbrev pub number_of : ℕ → List ℕ → ℕ
 number_of before [] = before
 number_of before (digit ∷ rest) = number_of (before * 10 + (digit - 48)) rest

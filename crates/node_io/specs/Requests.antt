@@ -9,37 +9,37 @@ use Rattle.wire.specs.declared.message.Message.{Message}
 use Rattle.node_io.specs.declared.request.Request.{Request}
 use Rattle.node_io.specs.declared.request.Request.TheVariants as request
 
--- a transaction for a worker, a seal for a worker, a message from a sender
+-- a transaction for a worker; the sealing of a worker's batch; a message from a sender
 pub data Asked : Type 0 where
   transaction : ℕ → List ℕ → Asked
   seal : ℕ → Asked
   said : ℕ → Message → Asked
 
--- after a transaction's sender: a worker's number and all the rest
+-- the rest after a transaction's sender: a worker's number, and the transaction
 abbrev pub transaction_in : List ℕ → Result Asked WireError
 transaction_in bytes = do
   worker ← number_at w16 bytes
   if nat_lt MAX_TRANSACTION_BYTES (length worker.1) then Err TooMany else Ok (transaction worker.0 worker.1)
 
--- after a seal's sender: a worker's number, and nothing else
+-- the rest after a seal's sender: a worker's number, and nothing else
 abbrev pub seal_in : List ℕ → Result Asked WireError
 seal_in bytes = do
   worker ← number_at w16 bytes
   if length worker.1 == 0 then Ok (seal worker.0) else Err Trailing
 
--- after any other sender: a message
+-- the rest after any other sender: a message
 abbrev pub message_in : ℕ → List ℕ → Result Asked WireError
 message_in sender bytes = do
   message ← message_of bytes
   Ok (said sender message)
 
--- a sender's number, and what that one brings
+-- the sender's number, and what that sender asks
 abbrev pub asked_in : List ℕ → Result Asked WireError
 asked_in body = do
   sender ← number_at w16 body
   if sender.0 == 65535 then transaction_in sender.1 else if sender.0 == 65534 then seal_in sender.1 else message_in sender.0 sender.1
 
--- what is after the sender is a message's: only that may want memory
+-- the body brings a message: only reading that may fail for an allocation
 pub record BringsMessage (body : List ℕ) : Type 0 where
   pub sender : ℕ
   pub rest : List ℕ
@@ -47,7 +47,7 @@ pub record BringsMessage (body : List ℕ) : Type 0 where
   pub no_transaction : sender ≢ 65535
   pub no_seal : sender ≢ 65534
 
--- what a request says
+-- what a request asks
 abbrev pub shown : Request → Asked
 shown (request.Transaction worker bytes) = transaction worker bytes.now
 shown (request.Seal worker) = seal worker

@@ -5,8 +5,8 @@ ghost use Rattle.node_io.specs.Numbers.{IsDigit, number_of};
 
 use wire::Author;
 
-/// The number that decimal digits are, as that of a member. None of a text with anything else or nothing in it, and of a number that
-/// two bytes don't hold.
+/// The member's number that these decimal digits give. None where the text is empty or has anything else in it, or the number doesn't fit
+/// two bytes.
 #[tactic(auto, using(crate::proofs::Digits::number_grows))]
 pub fn own_of(text: &str) -> Option<Author>
     ensures digits { IfSome result (λ own. All IsDigit text.now × (text.now ≢ [])) }
@@ -25,7 +25,7 @@ pub fn own_of(text: &str) -> Option<Author>
     Some(Author(number))
 }
 
-// A number with a digit after it.
+// A number with one more digit at its end.
 fn with_digit(number: u16, digit: u8) -> Option<u16>
     ensures some { IfSome result (λ longer. IsDigit digit × (longer ≡ number * 10 + (digit - 48))) }
     ensures none { IsNone result → IsDigit digit → number * 10 + (digit - 48) < 2 ^ 16 → ⊥ }

@@ -1,4 +1,4 @@
-//! Streams that wait, also where their descriptor was set not to block.
+//! Streams that wait even if their descriptor was set not to block.
 
 ghost use Rattle.std.specs.Prelude.{◌≡◌, ◌⊎◌};
 ghost use Rattle.std.specs.IoError.{error_kind};
@@ -9,11 +9,11 @@ use std::io::{self, ErrorKind, Read, Write};
 use std::thread::sleep;
 use std::time::{Clock, Duration};
 
-/// For how many milliseconds a stream waits that would block, before it is tried again.
+/// How many milliseconds a stream that would block waits before it is tried again.
 const PAUSE_MILLIS: u64 = 1;
 
-/// A stream that waits. Where a call would block, since its descriptor was set so, it sleeps a little and says that it was interrupted:
-/// the call is to be made again.
+/// A stream that waits. If a call would block, since its descriptor is set so, it sleeps a little and reports an interruption, so that the
+/// caller makes the call again.
 pub struct Blocking<'c, C: Clock, F: Drop> {
     clock: &'c C,
     stream: F,
@@ -29,7 +29,7 @@ impl<'c, C: Clock, F: Drop> Drop for Blocking<'c, C, F> {
 }
 
 impl<'c, C: Clock, F: Drop> Blocking<'c, C, F> {
-    /// The same stream, which waits by a clock.
+    /// The same stream; it waits by this clock.
     pub fn new(clock: &'c C, stream: F) -> Blocking<'c, C, F>
         ensures { result.stream ≡ stream }
     {
@@ -71,7 +71,7 @@ impl<'c, C: Clock, F: Write + Drop> Write for Blocking<'c, C, F> {
     }
 }
 
-// The error of a call. Where it would have blocked: that it was interrupted, after a pause.
+// The error of a call. If the call would have blocked: an interruption, after a pause.
 fn waited<C: Clock>(clock: &C, error: io::Error) -> io::Error
     ensures blocked { error_kind error ≡ ErrorKind.WouldBlock → error_kind result ≡ ErrorKind.Interrupted }
     ensures other { (error_kind error ≡ ErrorKind.WouldBlock → ⊥) → result ≡ error }

@@ -10,17 +10,17 @@ use std::io::Write;
 /// How a run ends.
 #[derive(Clone, Copy, Debug, PartialEq, Eq)]
 pub enum Ending {
-    /// At the end of its input.
+    /// The input has ended.
     Done,
     /// There aren't three arguments, the committee file can't be read, or the own number is no member's.
     Usage,
-    /// The text is no committee file.
+    /// The text of the committee file describes no committee.
     Config(CommitteeError),
-    /// The journal can't be opened or added to.
+    /// The journal can't be opened or appended to.
     Journal(JournalError),
     /// The input can't be read, or isn't frames.
     Input,
-    /// Memory was refused outside an event, or a thread couldn't be made.
+    /// An allocation failed outside the handling of an event, or a thread couldn't be made.
     Memory,
     /// The output can't be written.
     Output,
@@ -42,7 +42,7 @@ impl Ending {
         }
     }
 
-    /// Writes the line of an ending that is no success. Where that fails nobody is told.
+    /// Writes the line of an ending that is no success. If that fails, there is nobody to report it to.
     pub fn write_to<W: Write>(self, errors: &mut W) {
         let _ = match self {
             Ending::Done => Ok(()),

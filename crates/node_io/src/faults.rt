@@ -10,18 +10,18 @@ use journal::JournalError;
 /// What went wrong while a node ran, as one of its threads or all of them saw it.
 #[derive(Clone, Copy, Debug, PartialEq, Eq)]
 pub struct Faults {
-    /// A record couldn't be added to the journal.
+    /// The fault of the journal, if a record couldn't be appended.
     pub journal: Option<JournalError>,
     /// An output couldn't be written.
     pub output: bool,
-    /// Memory was refused outside an event, or a thread couldn't be made.
+    /// An allocation failed outside the handling of an event, or a thread couldn't be made.
     pub memory: bool,
     /// The input couldn't be read, or wasn't frames.
     pub input: bool,
 }
 
 impl Faults {
-    /// Nothing went wrong.
+    /// No faults.
     pub fn none() -> Faults
         ensures { result ≡ record { journal = None; output = false; memory = false; input = false } }
     {
@@ -33,7 +33,7 @@ impl Faults {
         }
     }
 
-    /// Memory was refused.
+    /// The fault that an allocation failed.
     pub fn of_memory() -> Faults
         ensures { result ≡ record { journal = None; output = false; memory = true; input = false } }
     {
@@ -43,7 +43,7 @@ impl Faults {
         }
     }
 
-    /// A record couldn't be added to the journal.
+    /// The fault of a journal to which a record couldn't be appended.
     pub fn of_journal(error: JournalError) -> Faults
         ensures { result ≡ record { journal = Some error; output = false; memory = false; input = false } }
     {
@@ -53,7 +53,7 @@ impl Faults {
         }
     }
 
-    /// No more frames come, and whether memory was refused outside an event before.
+    /// The fault of an input of which no more frames come, and whether an allocation failed outside the handling of an event before.
     pub fn of_input(end: End, lacked_memory: bool) -> Faults
         ensures { result ≡ after_input end lacked_memory }
     {
@@ -64,7 +64,7 @@ impl Faults {
         }
     }
 
-    /// What two threads saw.
+    /// The faults that either of two threads saw.
     pub fn and(self, other: Faults) -> Faults
         ensures journal { result.journal ≡ first_of self.journal other.journal }
         ensures output { result.output ≡ (self.output || other.output) }
@@ -79,8 +79,8 @@ impl Faults {
         }
     }
 
-    /// How the run ends: of several faults the journal's is told first, then the output's, the memory's, the input's. Where it was
-    /// refused to the journal it counts as the memory's.
+    /// How the run ends. Of several faults the first in this order is reported: the journal's, the output's, a failed allocation, the
+    /// input's. A failed allocation in the journal counts as a failed allocation.
     pub fn ending(self) -> Ending
         ensures { result ≡ ending_of self }
     {
@@ -101,7 +101,7 @@ impl Faults {
     }
 }
 
-// The first of two faults of the journal, if there is one; want of memory gives way to another.
+// The first of two faults of the journal, if there is one; a failed allocation gives way to any other fault.
 fn first_of(one: Option<JournalError>, other: Option<JournalError>) -> Option<JournalError>
     ensures { result ≡ first_of one other }
 {

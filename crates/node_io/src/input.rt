@@ -1,4 +1,4 @@
-//! The bodies of the frames of a stream, as they are read.
+//! Reading the bodies of the frames of a stream.
 
 ghost use Rattle.std.specs.Prelude.{◌≡◌, ◌≢◌, ◌⊎◌, ◌++◌, ◌∷◌, [], List, Vec, ℕ, None, Some, Err, IfOk, IfErr, IsErrOf, OnOk, OnErr, if◌then◌else◌};
 ghost use Rattle.std.specs.Io.KnownBytes.{IsAtEnd};
@@ -12,7 +12,7 @@ use std::marker::Model;
 use wire::WireError;
 use wire_read::FrameReader;
 
-/// Bytes that are read at once, at most.
+/// How many bytes are read at once, at most.
 const PIECE_BYTES: usize = 1_048_576;
 
 /// Why no more frames come.
@@ -20,19 +20,19 @@ const PIECE_BYTES: usize = 1_048_576;
 pub enum End {
     /// The stream has ended after a whole frame.
     Whole,
-    /// It can't be read, a length in it is refused, or it has ended within a frame.
+    /// The stream can't be read, a length in it is refused, or it has ended within a frame.
     Broken,
-    /// Memory was refused.
+    /// An allocation failed.
     Memory,
 }
 
-/// A stream of frames. Contracts see what it is read from, what is held of the next frame, and why no more frames come.
+/// A stream of frames. Contracts see the reader under it, the bytes so far of the next frame, and why no more frames come.
 pub struct Input<I: Read + Drop> {
     alloc: Global,
     reader: I,
     piece: Vec<u8>,
     frames: FrameReader,
-    /// What is answered next.
+    /// The error of the next call, if the end was found already.
     end: Option<End>,
 }
 
@@ -60,7 +60,7 @@ impl<I: Read + Drop> Model for Input<I> {
 }
 
 impl<I: Read + Drop> Input<I> {
-    /// A stream of which nothing was read. `AllocError` where an allocation failed.
+    /// A stream of which nothing was read yet. On `AllocError` an allocation failed.
     pub fn new(alloc: Global, reader: I) -> Result<Input<I>, AllocError>
         ensures { IfOk result (λ input. input ≡ record { reader = reader; held = []; end = None }) }
     {
@@ -73,8 +73,8 @@ impl<I: Read + Drop> Input<I> {
         })
     }
 
-    /// The bodies of the frames that the next piece of the stream completes. It reads once, so it waits only where nothing is there.
-    /// Once no more frames come, none ever do.
+    /// The bodies of the frames that the next piece of the stream completes. It reads once, so it waits only if no byte is there. Once it
+    /// has reported the end, it does so at every call.
     pub fn next(&mut self) -> Result<Vec<Vec<u8>>, End>
         ensures again { (end : End) → self.old.end ≡ Some end → (result ≡ Err end) × (self.new ≡ self.old) }
         ensures ok { IfOk result (λ bodies. ReadsAndCuts I.remaining self.old self.new (bodies_bytes bodies.items)) }
@@ -92,7 +92,7 @@ impl<I: Read + Drop> Input<I> {
         found
     }
 
-    // The same, where no end was found yet.
+    // The bodies of the frames that the next piece completes, if no end was found before.
     fn read(&mut self) -> Result<Vec<Vec<u8>>, End>
         requires { self.old.end ≡ None }
         ensures ok { IfOk result (λ bodies. ReadsAndCuts I.remaining self.old self.new (bodies_bytes bodies.items)) }
@@ -114,7 +114,7 @@ impl<I: Read + Drop> Input<I> {
     }
 }
 
-// The bodies of the frames that a piece completes, and why no more come, if they don't.
+// The bodies of the frames that a piece completes, and why no more come, if none do.
 fn cut(alloc: Global, frames: &mut FrameReader, piece: &[u8]) -> (Vec<Vec<u8>>, Option<End>)
     ensures { Cuts frames.old piece.now (bodies_bytes result.0.items) frames.new result.1 }
 {
@@ -125,8 +125,8 @@ fn cut(alloc: Global, frames: &mut FrameReader, piece: &[u8]) -> (Vec<Vec<u8>>, 
     }
 }
 
-// The bodies in front of the length that is refused, and why no more come. A refusal takes nothing of what it is fed, so each byte is
-// fed by itself.
+// The bodies that end before the length that is refused, and why no more frames come. A refusal takes nothing of the bytes that were fed,
+// so here each byte is fed alone.
 fn bodies_before_fault(
     alloc: Global,
     frames: &mut FrameReader,
@@ -160,7 +160,7 @@ fn add_bodies(frames: &mut FrameReader, byte: u8, all: &mut Vec<Vec<u8>>) -> Res
     }
 }
 
-// Why no more frames come after what a reader of frames refused.
+// Why no more frames come after this error of the frame reader.
 fn end_of(error: WireError) -> End
     ensures { result ≡ end_of_error error }
 {
@@ -170,7 +170,7 @@ fn end_of(error: WireError) -> End
     }
 }
 
-// Why no more frames come where the stream stops, after a whole frame or within one.
+// Why no more frames come where the stream ends, after a whole frame or within one.
 fn end_at_stop(is_after_frame: bool) -> End
     ensures { result ≡ (if is_after_frame then End.Whole else End.Broken) }
 {
@@ -181,7 +181,7 @@ fn end_at_stop(is_after_frame: bool) -> End
     }
 }
 
-// Why no more frames come where a read fails; none where it was interrupted, which is to be made again.
+// Why no more frames come after a read with this error. None where it was interrupted, so that the read is to be made again.
 fn end_after(kind: ErrorKind) -> Option<End>
     ensures interrupted { kind ≡ ErrorKind.Interrupted → result ≡ None }
     ensures memory { kind ≡ ErrorKind.OutOfMemory → result ≡ Some End.Memory }

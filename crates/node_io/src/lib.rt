@@ -1,4 +1,4 @@
-//! What a running node is given, and how its run ends: its arguments, its frames and what these ask, and what goes wrong.
+//! The edges of a running node: its arguments, its frames and what they ask, its faults, and how its run ends.
 #![tactic(auto)]
 
 mod arguments;

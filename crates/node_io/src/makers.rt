@@ -12,7 +12,7 @@ use std::alloc::{AllocError, Global};
 use std::marker::Model;
 use wire::{Author, Batch};
 
-/// A maker of batches for each worker of a committee. Contracts see what each of them has gathered, in the order of the workers.
+/// A batch maker for each worker of a member. Contracts see what each has gathered, in the order of the workers.
 pub struct Makers {
     makers: Vec<BatchMaker>,
 }
@@ -33,7 +33,7 @@ impl Model for Makers {
 }
 
 impl Makers {
-    /// The makers of a member, with no transaction. `AllocError` where an allocation failed.
+    /// The makers of a member, without a transaction. On `AllocError` an allocation failed.
     pub fn new(alloc: Global, committee: &Committee, own: Author) -> Result<Makers, AllocError>
         ensures { IfOk result (λ makers. makers ≡ fresh_makers own committee.now.workers) }
     {
@@ -56,8 +56,8 @@ impl Makers {
         }
     }
 
-    /// Adds a transaction to the open batch of a worker, who is known. Where that has no room for it, gives the batch, and the
-    /// transaction begins the next one. `TooBig` where it has more than `MAX_TRANSACTION_BYTES`.
+    /// Adds a transaction to the open batch of a worker, who is known. If the batch has no room for it, the batch is given, and the
+    /// transaction begins the next one. `TooBig` for a transaction of more than `MAX_TRANSACTION_BYTES`.
     pub fn push(&mut self, worker: u16, transaction: &[u8]) -> Result<Option<Batch>, MakeError>
         requires { worker < length self.old }
         ensures ok { IfOk result (λ full. IsPushed worker transaction.now full self.old self.new) }
@@ -67,8 +67,8 @@ impl Makers {
         self.makers[worker as usize].push(transaction)
     }
 
-    /// The open batch of a worker, who is known, or none where it has no transaction; afterwards none of it is open. `AllocError`
-    /// where an allocation failed.
+    /// Closes the open batch of a worker, who is known, and gives it; None where it has no transaction. On `AllocError` an allocation
+    /// failed.
     pub fn seal(&mut self, worker: u16) -> Result<Option<Batch>, AllocError>
         requires { worker < length self.old }
         ensures ok { IfOk result (λ sealed. IsSealed worker sealed self.old self.new) }

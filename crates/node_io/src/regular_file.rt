@@ -4,11 +4,11 @@ use std::fs::{self, File};
 use std::io::{self, ErrorKind, Read};
 use std::rt::Files;
 
-/// The bytes of the regular file at a path, or that a symbolic link there leads to; of a longer one so many as may be. Nothing else is
-/// opened: opening a pipe waits for who writes to it, and opening a device may do anything.
+/// The bytes of the regular file at a path, or to which a symbolic link there leads. Of a longer file only the greatest length is read.
+/// Nothing else is opened: opening a pipe waits for its writer, and opening a device may do anything.
 ///
 /// # Errors
-/// `InvalidInput` where no regular file is there, and what looking at it, opening and reading it answer.
+/// `InvalidInput` where there is no regular file; otherwise the error of looking at it, opening it or reading it.
 pub fn read_regular_file<R: Files<File = File> + AllocGlobal>(
     rt: &R,
     path: &str,

@@ -1,4 +1,4 @@
-//! Why a frame is refused, as it is told.
+//! Why a frame is refused, as it is reported.
 
 ghost use Rattle.std.specs.Prelude.{◌≡◌};
 ghost use Rattle.node_io.specs.Tellings.{of_make};
@@ -14,13 +14,13 @@ use wire::WireError;
 /// Why what a frame brought is refused. Printed as the kind of the refusal, its number and its name.
 #[derive(Clone, Copy, Debug, PartialEq, Eq, Error)]
 pub enum Rejection {
-    /// It can't be read.
+    /// The frame can't be decoded.
     #[error("unread {0}")]
     Unread(WireError),
-    /// It fails a check.
+    /// The message fails a check.
     #[error("unchecked {0}")]
     Unchecked(CheckError),
-    /// The node refuses it.
+    /// The node refuses the event.
     #[error("refused {0}")]
     Refused(Refusal),
 }

@@ -9,10 +9,10 @@ use std::alloc::Global;
 use wire::{Author, MAX_TRANSACTION_BYTES, Message, WireError};
 use wire_read::decode;
 
-/// The sender of transactions. No member has this number.
+/// The sender number of transactions. No member has it.
 pub const TRANSACTIONS: u16 = 0xffff;
 
-/// The sender of what seals a batch. No member has this number.
+/// The sender number of requests to seal a batch. No member has it.
 pub const SEALS: u16 = 0xfffe;
 
 /// What the body of a frame asks.
@@ -20,13 +20,13 @@ pub const SEALS: u16 = 0xfffe;
 pub enum Request<'f> {
     /// A transaction for the open batch of a worker.
     Transaction { worker: u16, bytes: &'f [u8] },
-    /// That the open batch of a worker is given.
+    /// To close the open batch of a worker.
     Seal { worker: u16 },
     /// A message from its sender.
     Message { sender: Author, message: Message },
 }
 
-// The number at the front, and what is after it.
+// The number in the first two bytes, and the bytes after it.
 fn number_of(bytes: &[u8]) -> Result<(u16, &[u8]), WireError>
     ensures number { Gives (λ found. (found.0, found.1.now)) result (number_at w16 bytes.now) }
     ensures never_memory { result ≢ Err WireError.Memory }
@@ -37,8 +37,8 @@ fn number_of(bytes: &[u8]) -> Result<(u16, &[u8]), WireError>
     }
 }
 
-/// What the body of a frame asks. `Short` where it ends within a number, `Trailing` where bytes are after the worker of a seal,
-/// `TooMany` of a transaction above its limit, and what reading a message answers.
+/// What the body of a frame asks. `Short` where it ends within a number, `Trailing` where bytes follow the worker of a seal, `TooMany` for
+/// a transaction above its limit, and otherwise the error of reading the message.
 pub fn request_of(alloc: Global, body: &[u8]) -> Result<Request<'_>, WireError>
     ensures asked { Gives shown result (asked_in body.now) }
     ensures memory { IsErrOf result WireError.Memory → BringsMessage body.now }

@@ -1,4 +1,4 @@
-//! `narwhal-journal`: tells what a journal holds, whose file it only reads.
+//! `narwhal-journal`: reports what a journal holds. It only reads the journal's files.
 #![tactic(auto)]
 
 pub use journal_tool::run;
@@ -6,7 +6,7 @@ use std::env;
 use std::io::{self, Write};
 use std::process::ExitCode;
 
-/// The exit status where the arguments can't be had.
+/// The exit status where the arguments can't be read.
 const NO_ARGUMENTS: u8 = 2;
 
 /// The exit status where an allocation failed.

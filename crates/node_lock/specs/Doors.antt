@@ -1,9 +1,9 @@
--- Locks as clauses see them.
+-- Locks as contracts see them.
 use Rattle.std.specs.Prelude.{refl}
 use Rattle.std.specs.Coded.{Coded, code_by, coded×}
 use Rattle.atomic_table.specs.Seated.{TableId, table_id_coded}
 
--- which lock it is, and the key that it was made with
+-- the identity of a lock, and the key with which it was made
 pub record LockView (K : Type 0) : Type 0 where
   pub id : TableId
   pub key : K

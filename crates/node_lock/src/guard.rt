@@ -11,7 +11,7 @@ use std::hint;
 use std::marker::{Brand, Model};
 use std::sync::Wait;
 
-// The lock's one word, and its one slot.
+// The places of the lock's one word, and of its one slot.
 const WORD: usize = 0;
 
 const SLOT: usize = 0;
@@ -20,11 +20,11 @@ const FREE: u64 = 0;
 
 const TAKEN: u64 = 1;
 
-// Somebody has the value, and somebody else may sleep until it is back.
+// Some thread has the value, and another may be sleeping until it is back.
 const WANTED: u64 = 2;
 
-// How often the value is tried for before a sleep, each time after twice as many pauses as the time before: some tens of
-// microseconds, which is what a sleep and who wakes it cost.
+// How often a thread tries for the value before it sleeps, with twice as many pauses before each next try: some tens of microseconds in
+// all, which is what a sleep and the wake-up cost.
 const TRIES: u32 = 10;
 
 fn pause(times: u32) {
@@ -33,7 +33,7 @@ fn pause(times: u32) {
     }
 }
 
-/// A lock round a value. Contracts see which lock it is, and its key.
+/// A lock around a value. Contracts see which lock it is, and its key.
 pub struct Lock<T, K, F: Fits<T, K>> {
     table: Table<Option<T>, (), K, Home<F>, Global>,
 }
@@ -58,7 +58,7 @@ impl<T, K, F: Fits<T, K>> Model for Lock<T, K, F> {
 }
 
 impl<T: Drop, K, F: Fits<T, K>> Lock<T, K, F> {
-    /// A lock round a value. `AllocError` where an allocation failed: the value is given up with it.
+    /// A lock around a value. On `AllocError` an allocation failed, and the value is lost.
     pub fn new(alloc: Global, value: T, about: &K) -> Result<Lock<T, K, F>, AllocError>
         requires { F.fits about.now value }
         ensures { IfOk result (λ lock. lock.key ≡ about.now) }
@@ -73,7 +73,7 @@ impl<T: Drop, K, F: Fits<T, K>> Lock<T, K, F> {
 }
 
 impl<T, K, F: Fits<T, K>> Lock<T, K, F> {
-    /// Waits until nobody else has the value, and takes it.
+    /// Waits until no other thread has the value, and takes it.
     pub fn acquire<R: Wait>(&self, rt: &R) -> (Turn<T>, T)
         ensures of { result.0 ≡ self.now.id }
         ensures fits { F.fits self.now.key result.1 }
@@ -83,7 +83,7 @@ impl<T, K, F: Fits<T, K>> Lock<T, K, F> {
             return self.open(seat);
         }
         for _ in rt.forever() {
-            // The word stays `WANTED` with the value, as others may sleep still.
+            // The word stays `WANTED` while this thread has the value, since others may still sleep.
             if self.take_wanted::<Brand>(&mut seat) == FREE {
                 return self.open(seat);
             }
@@ -99,7 +99,7 @@ impl<T, K, F: Fits<T, K>> Lock<T, K, F> {
     {
         let Turn { mut seat } = turn;
         let shared = &self.table.shared;
-        // The value is home before the word says so.
+        // The value is put back before the word says so.
         let emptied = shared.exchange(&mut seat, SLOT, Some(value));
         let None = emptied else { unreachable!() };
         let found = shared.swap::<Give>(&mut seat, WORD, FREE);
@@ -108,8 +108,9 @@ impl<T, K, F: Fits<T, K>> Lock<T, K, F> {
         }
     }
 
-    // Tries for a while, and more and more seldom: who has the value then mostly takes it again, and has all of it in its
-    // cache. It looks before it tries, since a try takes the word's cache line from who will release. Says whether it was taken.
+    // Tries for a while, less and less often: the thread that has the value mostly takes it again soon, and has it in its cache. Each try
+    // looks at the word first, since a try takes the word's cache line away from the thread that will release. Gives whether the value was
+    // taken.
     fn take_soon(&self, seat: &mut Seat<Option<T>, ()>) -> bool
         requires of { seat.old.table_id ≡ self.now.id }
         requires empty { seat.old.me.1 ≡ [] }
@@ -126,7 +127,7 @@ impl<T, K, F: Fits<T, K>> Lock<T, K, F> {
         false
     }
 
-    // Each answers the word as it was.
+    // This and the next method give the word as it was before.
     fn take_free<W: Told<T>>(&self, seat: &mut Seat<Option<T>, ()>) -> u64
         requires of { seat.old.table_id ≡ self.now.id }
         requires empty { seat.old.me.1 ≡ [] }
@@ -149,7 +150,7 @@ impl<T, K, F: Fits<T, K>> Lock<T, K, F> {
         self.table.shared.swap::<Take<W>>(seat, WORD, WANTED)
     }
 
-    // Moves the value out of the slot that the seat has taken.
+    // Moves the value out of the slot, which the seat has taken.
     fn open(&self, mut seat: Seat<Option<T>, ()>) -> (Turn<T>, T)
         requires of { seat.table_id ≡ self.now.id }
         requires held { Holds (F.fits self.now.key) seat.me }

@@ -1,4 +1,4 @@
-//! A lock for many threads, whose value fits a key that the lock was made with.
+//! A lock for many threads. Its value fits the key with which the lock was made.
 #![tactic(auto)]
 
 mod guard;

@@ -1,4 +1,4 @@
-//! What holds of the word and the slot between any two steps, and what each step tells.
+//! The invariant of the lock's word and slot, and what each step shows.
 
 ghost use Rattle.std.specs.Prelude.{⊤};
 ghost use Rattle.node_lock.specs.Home.{IsKept, Takes, Gives};
@@ -6,12 +6,12 @@ ghost use Rattle.node_lock.specs.Home.{IsKept, Takes, Gives};
 use atomic_table::{Play, TableRule};
 use std::marker::{Brand, PhantomData};
 
-/// What the locked value is to the key that the lock was made with.
+/// How the locked value is related to the key with which the lock was made.
 pub trait Fits<T, K> {
     ghost fits: { K → T → Type 0 };
 }
 
-/// Where the word is 0 a value that fits is at home, and else it is out.
+/// The invariant: where the word is 0 the lock has its value, which fits; otherwise some thread has it.
 pub(crate) struct Home<F> {
     of: PhantomData<F>,
 }
@@ -22,7 +22,7 @@ impl<T, K, F: Fits<T, K>> TableRule<Option<T>, (), K> for Home<F> {
     ghost first = { λ _. tt };
 }
 
-/// What is told of a value that is taken. A `Play` can't read the key, so each call at `Brand` picks this.
+/// What a call knows of the value that it takes. A `Play` can't read the key, so each call at `Brand` chooses this.
 pub(crate) trait Told<T> {
     ghost told: { T → Type 0 };
 }
@@ -40,14 +40,14 @@ impl<T, W: Told<T>> Play<Option<T>, ()> for Take<W> {
     ghost then = { λ step before found after. Takes W.told found before after };
 }
 
-/// Brings the value home.
+/// Puts the value back.
 pub(crate) struct Give;
 
 impl<T> Play<Option<T>, ()> for Give {
     ghost then = { λ step before found after. Gives before after };
 }
 
-/// Enters, and takes nothing.
+/// Enters a seat, which takes nothing.
 pub(crate) struct Enter;
 
 impl<T> Play<Option<T>, ()> for Enter {

@@ -1,9 +1,9 @@
-//! What a thread has while it has the value.
+//! What a thread has as long as it has the value.
 
 use atomic_table::Seat;
 use std::marker::Model;
 
-/// The duty to give a value back to its lock. It has no bytes, and no `Drop`. Contracts see which lock it is.
+/// The duty to give a value back to its lock. It takes no bytes, and can't be dropped. Contracts see which lock it is.
 pub struct Turn<T> {
     pub(crate) seat: Seat<Option<T>, ()>,
 }

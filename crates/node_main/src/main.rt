@@ -1,4 +1,4 @@
-//! `narwhal-node`: runs a member of a committee over a journal file, with frames on standard input and output.
+//! `narwhal-node`: runs a member of a committee on a journal in two files, with frames on standard input and output.
 #![tactic(auto)]
 
 use node_io::Blocking;
@@ -8,8 +8,8 @@ use std::env::VarError;
 use std::process::ExitCode;
 use std::{env, io};
 
-/// The environment's name for how much longer the journal gets before a checkpoint, in bytes, where that isn't the usual number. Trials
-/// set it, to have checkpoints soon.
+/// The environment variable that sets by how many bytes the journal may grow before a checkpoint, in place of the usual number. Trials set
+/// it, to see checkpoints soon.
 const EVERY: &str = "NARWHAL_CHECKPOINT_BYTES";
 
 fn main(rt: HostRuntime) -> ExitCode {
@@ -27,12 +27,12 @@ fn main(rt: HostRuntime) -> ExitCode {
     ExitCode::from(ran.ending.status())
 }
 
-// What the program was started with: its arguments, and how much longer the journal gets before a checkpoint.
+// What the program was started with: its arguments, and by how much the journal may grow before a checkpoint.
 fn asked(rt: &HostRuntime) -> Result<(Vec<String>, u64), Ending> {
     Ok((arguments(rt)?, every(rt)?))
 }
 
-// How much longer the journal gets before a checkpoint.
+// By how much the journal may grow before a checkpoint.
 fn every(rt: &HostRuntime) -> Result<u64, Ending> {
     match env::var(rt, EVERY) {
         Ok(digits) => digits.parse().map_err(|_| Ending::Usage),

@@ -206,7 +206,8 @@ module _ {S : Type 0} (shared : NodeView S) (scheme : Scheme S) (seat : SeatView
       all_whole : take count home.taken ≡ events (taken_by flush)
       all_whole = take_all count home.taken (omega (arith, counts, taken_size)) ∙ taken_is
 
-      checkpointed : (base : State) → IsBase scheme shared base → IsCheckpoint (node_of scheme shared.setting) (state_to (node_of scheme shared.setting) count (run_of base seat.view home.taken)) synced
+      checkpointed : (base : State) → IsBase scheme shared base → IsCheckpoint (node_of scheme shared.setting)
+          (state_to (node_of scheme shared.setting) count (run_of base seat.view home.taken)) synced
       checkpointed base at =
           subst (λ (l : History). IsCheckpoint (node_of scheme shared.setting) (after_all (node_of scheme shared.setting) base l) synced) of_taken
           (checkpoint (sym tied.rewriting ∙ ap is_some some) base at)

@@ -33,7 +33,8 @@ module _ {S : Type 0} (shared : NodeView S) where
 
   module _ (scheme : Scheme S) where
     -- a book stands at home where it stands at a run with these lists, from each base on
-    pub at_home : (seat : SeatView) (book : BookView S) (accepted taken settled : History) → StandSomewhere (node_of scheme shared.setting) shared.begun → book.validator.setting ≡ shared.setting → IsOf shared seat
+    pub at_home : (seat : SeatView) (book : BookView S) (accepted taken settled : History) → StandSomewhere (node_of scheme shared.setting) shared.begun
+        → book.validator.setting ≡ shared.setting → IsOf shared seat
         → ((base : State) → IsBase scheme shared base → Stands (node_of scheme shared.setting) (record { base = base; accepted = accepted; taken = taken; settled = settled }) book)
         → accepted ≡ events seat.view.seen → settled ≡ events seat.view.durable → (book.down ≡ true → seat.view.down ≡ true) → RewritesAllTaken book → IsAtHome scheme shared seat book
     at_home seat book accepted taken settled somewhere setting of_node stands accepted_is settled_is down whole = record {
@@ -56,7 +57,8 @@ module _ {S : Type 0} (shared : NodeView S) where
 
     -- and where it stands wherever it stood
     pub home_where : (seat : SeatView) (book later : BookView S) → IsAtHome scheme shared seat book → later.validator.setting ≡ book.validator.setting → (later.down ≡ true → book.down ≡ true)
-        → later.rewriting ≡ book.rewriting → later.taken ≡ book.taken → ((run : Run) → Stands (node_of scheme book.validator.setting) run book → Stands (node_of scheme book.validator.setting) run later) → IsAtHome scheme shared seat later
+        → later.rewriting ≡ book.rewriting → later.taken ≡ book.taken → ((run : Run) → Stands (node_of scheme book.validator.setting) run book
+        → Stands (node_of scheme book.validator.setting) run later) → IsAtHome scheme shared seat later
     home_where seat book later home setting down rewriting taken stands =
         let there = subst (λ (s : ConfigView S). (run : Run) → Stands (node_of scheme s) run book → Stands (node_of scheme s) run later) home.setting stands in
         record {

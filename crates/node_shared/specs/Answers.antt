@@ -1,4 +1,4 @@
--- What a call of a shared node tells.
+-- What a call of a shared node answers.
 use Rattle.std.specs.Prelude.{◌≡◌, ◌≤◌, ◌<◌, ◌⊎◌, ⊤, ℕ, true, false, List, [], ◌∷◌, ◌++◌, length, take, IsTrue, Result, IfOk, IfErr}
 use Rattle.spec_machine.specs.After.{after_all}
 use Rattle.spec_machine.specs.Machine.{answered}
@@ -24,13 +24,13 @@ use Rattle.node_shared.specs.Home.{NodeView, IsBase}
 use Rattle.sigface.specs.Scheme.{Scheme}
 use Rattle.validator.specs.Setting.{node_of}
 
--- from each base of a node on, this is what an event is answered after these
+-- this is the answer to the event after all of these, from each base of the node
 abbrev pub IsAnsweredAfter : {S : Type 0} → Scheme S → NodeView S → List Marked → Event → Admission → Type 0
 IsAnsweredAfter scheme node all event answer =
     (base : State) → IsBase scheme node base → answered (node_of scheme node.setting) (after_all (node_of scheme node.setting) base (events all)) event ≡ answer
 
--- an event is new there, below the limit of a run, and is the last that the seat has seen, marked with its number, and the last of
--- its own
+-- the event is new after all of these, which are fewer than a run may accept; the seat has seen them and then the event, which carries its
+-- number and is now the last of its own events
 pub record IsAdded {S : Type 0} (scheme : Scheme S) (node : NodeView S) (event : Event) (before : View) (all : List Marked) (later : View) (receipt : Receipt) : Type 0 where
   pub outputs : List Output
   pub answer : IsAnsweredAfter scheme node all event (New outputs)
@@ -39,7 +39,7 @@ pub record IsAdded {S : Type 0} (scheme : Scheme S) (node : NodeView S) (event :
   pub mine : later.mine ≡ before.mine ++ event ∷ []
   pub ticket : receipt.ticket ≡ length later.seen
 
--- an event is known there
+-- the event is known after all of these, which the seat has seen; its own events are as before
 pub record IsKnown {S : Type 0} (scheme : Scheme S) (node : NodeView S) (event : Event) (before : View) (all : List Marked) (later : View) (receipt : Receipt) : Type 0 where
   pub outputs : List Output
   pub answer : IsAnsweredAfter scheme node all event (Known outputs)
@@ -47,8 +47,8 @@ pub record IsKnown {S : Type 0} (scheme : Scheme S) (node : NodeView S) (event :
   pub mine : later.mine ≡ before.mine
   pub ticket : receipt.ticket ≡ length later.seen
 
--- why an event is refused at a state, after so many that were accepted: for want of memory, since a device call failed, since the run has
--- accepted as much as it may, or as the state answers it
+-- why an event is refused at a state, when `count` events were accepted before it: an allocation failed, the node is down, the run is full,
+-- or the state refuses it
 abbrev pub MayRefuseAt : Node → State → ℕ → Event → Refusal → Type 0
 MayRefuseAt node state count event Memory = ⊤
 MayRefuseAt node state count event Down = ⊤
@@ -58,8 +58,8 @@ MayRefuseAt node state count event StoreFull = (answered node state event ≡ Re
     IsFull = IsTrue (is_new (answered node state event)) × (count ≡ MAX_ACCEPTED)
 MayRefuseAt node state count event refusal = answered node state event ≡ Refused refusal
 
--- Of an event that a seat submits: there is a list of what was accepted, which what the seat had seen begins, and what the event is
--- answered after it, from each base on, is the answer.
+-- A seat submits an event: there is a list of accepted events, of which what the seat had seen is a prefix, and the event is answered as
+-- after this list, from each base.
 pub record Submits {S : Type 0} (scheme : Scheme S) (node : NodeView S) (event : Event) (before : View) (later : View) (answer : Result Receipt Refusal) : Type 0 where
   pub all : List Marked
   pub more : Begins before.seen all
@@ -69,13 +69,14 @@ pub record Submits {S : Type 0} (scheme : Scheme S) (node : NodeView S) (event :
       → MayRefuseAt (node_of scheme node.setting) (after_all (node_of scheme node.setting) base (events all)) (length all) event refusal)
   pub same : IfErr answer (λ refusal. (later.seen ≡ all) × (later.mine ≡ before.mine))
 
--- an output goes out after so many of the events that a seat knows as settled, from each base on
+-- an output goes out after the first `count` events that a seat knows as settled, from each base
 pub record IsPutOutBy {S : Type 0} (scheme : Scheme S) (node : NodeView S) (view : View) (output : Output) : Type 0 where
   pub count : ℕ
   pub settled : count ≤ length view.durable
   pub goes_out : (base : State) → IsBase scheme node base → GoesOutAfter (node_of scheme node.setting) base (events (take count view.durable)) output
 
--- an output may be given out at each legal history that keeps a base, with what a seat knows as settled, of which an event put it out
+-- an output may be given out at each legal history that keeps a base, followed by the events that the seat knows as settled; one of these
+-- put it out
 pub record Gives {S : Type 0} (scheme : Scheme S) (node : NodeView S) (seat : SeatView) (output : Output) : Type 0 where
   pub may : (base : State) (history : History) → IsBase scheme node base → IsLegal (node_of scheme node.setting) history → kept (node_of scheme node.setting) history ≡ base
       → MayGive (node_of scheme node.setting) (history ++ events seat.view.durable) output

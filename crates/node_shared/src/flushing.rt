@@ -1,4 +1,4 @@
-//! What a node hands over for its disk, and what it is told of that.
+//! What a node hands over to be written, and how it learns that it was.
 
 ghost use Rattle.std.specs.Prelude.{◌≡◌, ◌≤◌, ◌||◌, true, false, is_some};
 ghost use Rattle.wire.specs.Lists.{Begins};
@@ -22,8 +22,8 @@ use std::marker::Brand;
 use std::sync::Wait;
 
 impl<'a, S: Sign> Node<'a, S> {
-    /// Takes the longest beginning that fits a group of what isn't settled: of all that was accepted, with what the seat had seen.
-    /// None where all of that is settled. `AllocError` where an allocation failed: nothing was taken then.
+    /// Takes the longest prefix that fits a group of the accepted events that aren't settled. What the seat had seen is among the accepted
+    /// events. None where all of them are settled. On `AllocError` an allocation failed, and nothing was taken.
     pub fn take<R: Wait>(
         &self,
         rt: &R,
@@ -58,8 +58,8 @@ impl<'a, S: Sign> Node<'a, S> {
         unreachable!()
     }
 
-    /// Takes all that was accepted, with what the seat had seen, for a checkpoint of the state after it. Threads may submit events
-    /// meanwhile; until the checkpoint is settled no group can be taken. `AllocError` where an allocation failed: nothing was taken then.
+    /// Takes all accepted events, among them what the seat had seen, for a checkpoint of the state after them. Threads may submit events
+    /// meanwhile; until the checkpoint is settled no group can be taken. On `AllocError` an allocation failed, and nothing was taken.
     pub fn take_all<R: Wait>(
         &self,
         rt: &R,
@@ -93,7 +93,7 @@ impl<'a, S: Sign> Node<'a, S> {
         unreachable!()
     }
 
-    /// Says that what is taken is on the disk: the group, or where a checkpoint is in flight, that. All that is taken is then settled.
+    /// Says that what was taken is on the disk: the group, or the checkpoint in flight. Everything taken is settled then.
     pub fn settle<R: Wait>(&self, rt: &R, flush: &mut FlushSeat, synced: Synced)
         requires flush { IsFlushOf self.now flush.old }
         requires group { flush.old.rewriting ≡ false → synced ≡ group_of flush.old }
@@ -113,7 +113,7 @@ impl<'a, S: Sign> Node<'a, S> {
         unreachable!()
     }
 
-    /// The seat then knows as settled exactly what the flush seat does.
+    /// After this the seat knows exactly the same events as settled as the flush seat.
     pub fn tell_settled<R: Wait>(&self, rt: &R, flush: &mut FlushSeat, seat: &mut Seat)
         requires flush { IsFlushOf self.now flush.old }
         requires of { IsOf self.now seat.old }
@@ -127,7 +127,7 @@ impl<'a, S: Sign> Node<'a, S> {
             .catch_up_durable::<Brand, R>(rt, seat, &mut flush.seat, count);
     }
 
-    /// What the seat knows as settled is then known to be among what the flush seat does, which else stays as it was.
+    /// After this it is certain that the flush seat knows as settled whatever the seat knows as settled. Nothing else changes.
     pub fn cover<R: Wait>(&self, rt: &R, flush: &mut FlushSeat, seat: &mut Seat)
         requires flush { IsFlushOf self.now flush.old }
         requires of { IsOf self.now seat.old }
@@ -142,8 +142,8 @@ impl<'a, S: Sign> Node<'a, S> {
         self.words.cover(rt, &mut flush.seat, seat, count);
     }
 
-    /// Takes the node down, as where a device call failed or the journal is full, which the seat then knows. From now on nothing is
-    /// accepted or given out. It waits for nobody.
+    /// Takes the node down, because a device call failed or the journal is full; the seat then knows that. From now on the node accepts and
+    /// gives out nothing. The call never waits.
     pub fn fail(&self, flush: &mut FlushSeat, seat: &mut Seat)
         requires flush { IsFlushOf self.now flush.old }
         requires right { flush.old.seat.view.may_fail ≡ true }
@@ -155,8 +155,8 @@ impl<'a, S: Sign> Node<'a, S> {
         self.words.tell(&mut flush.seat, seat);
     }
 
-    // The flush seat then knows what the book's seat does. The answer is whether it counts as the book does, which it will at once
-    // or never.
+    // After this the flush seat knows what the book's seat does. The result is whether both count the same; if they don't at once, they
+    // never will.
     fn tie<R: Wait>(&self, rt: &R, locked: &mut Locked<'a, S>, flush: &mut FlushSeat) -> bool
         requires home { IsAtHome S.scheme self.now locked.old.seat locked.old.book }
         requires of { IsOf self.now flush.old.seat }
@@ -245,7 +245,7 @@ impl<'a, S: Sign> Node<'a, S> {
     }
 }
 
-// Whether a flush seat counts as a book does, and says rightly whether a rewriting is in flight.
+// Whether a flush seat has the same counts as a book, and is right about whether a rewriting is in flight.
 fn counts_as<S: Sign>(book: &Book<'_, S>, flush: &FlushSeat) -> bool
     ensures { result ≡ true → (book.now.settled ≡ flush.now.settled) × (book.now.taken ≡ flush.now.taken) × (is_some book.now.rewriting ≡ flush.now.rewriting) }
 {

@@ -1,4 +1,4 @@
-//! What lies under the lock.
+//! What is under the lock.
 
 use book::Book;
 use node_lock::Fits;
@@ -6,7 +6,7 @@ use node_seats::{Law, Seat, Words};
 use sigface::Sign;
 use validator::Validator;
 
-/// The words count events that are legal after each state at which a validator stands.
+/// The rule of the words: the events that they count are legal after each state that the validator held at first.
 pub(crate) struct Legal;
 
 impl<'a, S: Sign> Law<Validator<'a, S>> for Legal {
@@ -20,14 +20,14 @@ impl<'a, S: Sign> Law<Validator<'a, S>> for Legal {
 
 pub(crate) type Counts<'a, S> = Words<Validator<'a, S>, Legal>;
 
-/// The book, and its own seat. It is large, so the lock has it in a box, and hands over the box alone.
+/// The book, with its own seat. It is large, so the lock keeps it in a box, and moves only the box.
 #[derive(Drop)]
 pub(crate) struct Locked<'a, S: Sign> {
     pub(crate) book: Book<'a, S>,
     pub(crate) seat: Seat,
 }
 
-/// The book is at home.
+/// The lock's rule: the book is at home in its node.
 pub(crate) struct AtHome;
 
 impl<'a, S: Sign> Fits<Box<Locked<'a, S>>, Counts<'a, S>> for AtHome {

@@ -1,5 +1,5 @@
-//! The node that threads share: a book under a lock, words that count what it accepted and settled and say whether it is down, and
-//! seats, each of which knows what its thread was told of these.
+//! The node that threads share: a book under a lock; words that count what it accepted and settled, and say whether it is down; and seats,
+//! each of which knows what its thread has learned of these.
 #![tactic(auto)]
 
 mod flush_seat;

@@ -46,9 +46,8 @@ impl<'a, S: Sign> Model for Node<'a, S> {
 }
 
 impl<'a, S: Sign> Node<'a, S> {
-    /// A node over a validator, with a seat and the seat of who flushes. Contracts keep the tables with which
-    /// the validator came, and so the state at which the node begins.
-    /// `AllocError` where an allocation failed.
+    /// A node over a validator, with a seat for calls and the flusher's seat. Contracts keep the tables that the validator had here, and so
+    /// the state at which the node begins. On `AllocError` an allocation failed.
     pub fn new(
         alloc: Global,
         validator: Validator<'a, S>,
@@ -60,11 +59,11 @@ impl<'a, S: Sign> Node<'a, S> {
         ensures flush_seat { IfOk result (λ made. IsFlushOf made.0 made.2) }
         ensures flush_nothing { IfOk result (λ made. HasNothing made.2.seat × (made.2.taken ≡ 0)) }
         ensures flush_idle { IfOk result (λ made. made.2.rewriting ≡ false) }
-        // Who flushes may take the node down, and nobody else.
+        // Only the flush seat may take the node down.
         ensures right { IfOk result (λ made. (made.2.seat.view.may_fail ≡ true) × (made.1.view.may_fail ≡ false)) }
     {
         validator.limits_hold();
-        // The first seat is that of who flushes: it alone may take the node down.
+        // The first seat that is made becomes the flush seat, since it alone may take the node down.
         let (words, mut flush) = Words::new(alloc, &validator)?;
         let own = words.split(&mut flush);
         let seat = words.split(&mut flush);
@@ -80,14 +79,14 @@ impl<'a, S: Sign> Node<'a, S> {
         Ok((Node { words, lock }, seat, flush_seat))
     }
 
-    /// What holds of each: there is a state at which its validator stood when it was made. The call does nothing.
+    /// What holds of every node: there is a state that its validator held when the node was made. The call does nothing.
     pub fn limits_hold(&self)
         ensures { StandSomewhere (node_of S.scheme self.now.setting) self.now.begun }
     {
         let _ = &self.words;
     }
 
-    /// A seat more, which has seen what this one has and has made no call. It can't take the node down. It takes no memory.
+    /// One more seat, which has seen what this one has and has brought no event. It can't take the node down. The call allocates no memory.
     pub fn split(&self, seat: &mut Seat) -> Result<Seat, AllocError>
         requires of { IsOf self.now seat.old }
         ensures ok { IsOk result }

@@ -1,4 +1,4 @@
-//! What a node tells, and what it gives out.
+//! What a node can be asked, and what it gives out.
 
 ghost use Rattle.std.specs.Prelude.{◌≡◌, ◌⊎◌, ◌↔◌, ◌||◌, None, drop, length, is_some, if◌then◌else◌, IsNone, IsTrue, IsErrOf, IfOk, IfErr, IfSome};
 ghost use Rattle.book.specs.Book.{releasable};
@@ -23,8 +23,7 @@ use std::sync::Wait;
 use wire::{Author, Digest, Header, Output, Round};
 
 impl<'a, S: Sign> Node<'a, S> {
-    /// How many events were accepted since the node began, all of which the seat has then seen. It waits for nobody and takes no
-    /// memory.
+    /// How many events were accepted since the node began; the seat has then seen them. The call never waits and allocates no memory.
     pub fn accepted(&self, seat: &mut Seat) -> u64
         requires of { IsOf self.now seat.old }
         ensures looked { Looked S.scheme self.now seat.old seat.new }
@@ -34,7 +33,7 @@ impl<'a, S: Sign> Node<'a, S> {
         self.words.look::<Brand>(seat)
     }
 
-    /// How many of these are settled, all of which the seat then knows as settled. It waits for nobody and takes no memory.
+    /// How many events are settled; the seat then knows them as settled. The call never waits and allocates no memory.
     pub fn synced(&self, seat: &mut Seat) -> u64
         requires of { IsOf self.now seat.old }
         ensures learned { Learned S.scheme self.now seat.old seat.new }
@@ -44,7 +43,7 @@ impl<'a, S: Sign> Node<'a, S> {
         self.words.read::<Brand>(seat)
     }
 
-    /// Whether the node is down, which the seat then knows, beside all that is settled. It waits for nobody and takes no memory.
+    /// Whether the node is down, which the seat then knows, and all that is settled too. The call never waits and allocates no memory.
     pub fn is_down(&self, seat: &mut Seat) -> bool
         requires of { IsOf self.now seat.old }
         ensures learned { Learned S.scheme self.now seat.old seat.new }
@@ -54,8 +53,8 @@ impl<'a, S: Sign> Node<'a, S> {
         self.words.read_down(seat)
     }
 
-    /// Two looks, after which the second seat has seen all that the first has, and knows that the node is down if the first does.
-    /// The answer is how many events the second has seen. It waits for nobody and takes no memory.
+    /// Two looks. After them the second seat has seen all that the first has, and knows that the node is down if the first does. Gives the
+    /// number of events that the second seat has seen. The call never waits and allocates no memory.
     pub fn meet(&self, first: &mut Seat, second: &mut Seat) -> u64
         requires first { IsOf self.now first.old }
         requires second { IsOf self.now second.old }
@@ -68,7 +67,7 @@ impl<'a, S: Sign> Node<'a, S> {
         self.words.meet::<Brand>(first, second)
     }
 
-    // The seat has then seen exactly what was accepted.
+    // After this the seat has seen exactly the accepted events.
     pub(crate) fn see_all<R: Wait>(&self, rt: &R, locked: &mut Locked<'a, S>, seat: &mut Seat)
         requires home { IsAtHome S.scheme self.now locked.old.seat locked.old.book }
         requires of { IsOf self.now seat.old }
@@ -82,7 +81,7 @@ impl<'a, S: Sign> Node<'a, S> {
             .catch_up::<Brand, R>(rt, seat, &mut locked.seat, count);
     }
 
-    // The seat then knows as settled exactly what is.
+    // After this the seat knows exactly the settled events as settled.
     pub(crate) fn know_all<R: Wait>(&self, rt: &R, locked: &mut Locked<'a, S>, seat: &mut Seat)
         requires home { IsAtHome S.scheme self.now locked.old.seat locked.old.book }
         requires of { IsOf self.now seat.old }
@@ -96,7 +95,7 @@ impl<'a, S: Sign> Node<'a, S> {
             .catch_up_durable::<Brand, R>(rt, seat, &mut locked.seat, count);
     }
 
-    // The seat then knows whether the node is down, and the book is just where the seat knows that.
+    // After this the seat knows whether the node is down, and the book is down exactly where the seat knows that.
     pub(crate) fn know_down(&self, locked: &mut Locked<'a, S>, seat: &mut Seat)
         requires home { IsAtHome S.scheme self.now locked.old.seat locked.old.book }
         requires of { IsOf self.now seat.old }
@@ -112,8 +111,8 @@ impl<'a, S: Sign> Node<'a, S> {
         }
     }
 
-    /// The next output that may go out, if there is one: all that it rests on is settled, which the seat then knows; an event put it
-    /// out there, and it may be given out. None where the node is down, which the seat then knows.
+    /// The next output that may leave, if there is one. All that it rests on is settled, which the seat then knows; an event put it out,
+    /// and it may be given out. None where the node is down, which the seat then knows.
     pub fn collect<R: Wait>(&self, rt: &R, seat: &mut Seat) -> Option<Output>
         requires of { IsOf self.now seat.old }
         ensures learned { Learned S.scheme self.now seat.old seat.new }
@@ -127,7 +126,7 @@ impl<'a, S: Sign> Node<'a, S> {
         output
     }
 
-    // The same, under the lock.
+    // Gives the next output that may be given out, under the lock.
     fn give<R: Wait>(&self, rt: &R, locked: &mut Locked<'a, S>, seat: &mut Seat) -> Option<Output>
         requires home { IsAtHome S.scheme self.now locked.old.seat locked.old.book }
         requires of { IsOf self.now seat.old }
@@ -135,7 +134,7 @@ impl<'a, S: Sign> Node<'a, S> {
         ensures learned { Learned S.scheme self.now seat.old seat.new }
         ensures down { IsTrue seat.new.view.down → IsNone result }
         ensures gives { IfSome result (λ output. Gives S.scheme self.now seat.new output) }
-        // Unless the node is down it is the book's next one, which the book then lets go of.
+        // Unless the node is down, this is the book's next output, which leaves the book.
         ensures next { result ≡ releasable (record locked.old.book { down = seat.new.view.down }) }
         ensures queue { locked.new.book.queue ≡ (if is_some result then drop 1 locked.old.book.queue else locked.old.book.queue) }
     {
@@ -144,11 +143,11 @@ impl<'a, S: Sign> Node<'a, S> {
         locked.book.release()
     }
 
-    /// The order after the settled events, which the seat then knows, from this place on: the digests of the certificates that
-    /// are ordered. It is empty past its end.
+    /// The order after the settled events, which the seat then knows, from this place on: the digests of the ordered certificates. The list
+    /// is empty where the place is past the order's end.
     ///
     /// # Errors
-    /// `Down` where the node is down, which the seat then knows, `Memory` where an allocation failed.
+    /// `Down` where the node is down, which the seat then knows; `Memory` where an allocation failed.
     pub fn order<R: Wait>(&self, rt: &R, seat: &mut Seat, from: u64) -> Result<Vec<Digest>, Refusal>
         requires of { IsOf self.now seat.old }
         ensures learned { Learned S.scheme self.now seat.old seat.new }
@@ -166,8 +165,8 @@ impl<'a, S: Sign> Node<'a, S> {
         order
     }
 
-    /// The digest of the header that has the vote of an author and round, after all that was accepted, which the seat has then
-    /// seen. None for low rounds.
+    /// The digest of the header that the node voted for in a slot, after all accepted events, which the seat has then seen. None for low
+    /// rounds.
     pub fn peek_voted<R: Wait>(
         &self,
         rt: &R,
@@ -187,7 +186,7 @@ impl<'a, S: Sign> Node<'a, S> {
         voted
     }
 
-    /// The validator's round, after all that was accepted, which the seat has then seen.
+    /// The validator's round after all accepted events, which the seat has then seen.
     pub fn round_now<R: Wait>(&self, rt: &R, seat: &mut Seat) -> u64
         requires of { IsOf self.now seat.old }
         ensures looked { Looked S.scheme self.now seat.old seat.new }
@@ -201,8 +200,8 @@ impl<'a, S: Sign> Node<'a, S> {
         round
     }
 
-    /// Whether an event that passed the checks is ready after all that was accepted, which the seat has then seen: its answer
-    /// there isn't that a parent is missing.
+    /// Whether an event that passed the checks is ready after all accepted events, which the seat has then seen: its answer there isn't
+    /// that a parent is missing.
     pub fn ready<R: Wait>(&self, rt: &R, seat: &mut Seat, event: &Checked) -> bool
         requires of { IsOf self.now seat.old }
         requires passed { fault_of self.now.setting.charter accepts_all event.now ≡ None }
@@ -217,8 +216,8 @@ impl<'a, S: Sign> Node<'a, S> {
         ready
     }
 
-    /// The header that the validator proposes after all that was accepted, which the seat has then seen, or None where it
-    /// proposes none. `AllocError` where an allocation failed.
+    /// The header that the validator proposes after all accepted events, which the seat has then seen. None where it proposes none. On
+    /// `AllocError` an allocation failed.
     pub fn propose<R: Wait>(&self, rt: &R, seat: &mut Seat) -> Result<Option<Header>, AllocError>
         requires of { IsOf self.now seat.old }
         ensures looked { Looked S.scheme self.now seat.old seat.new }

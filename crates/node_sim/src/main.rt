@@ -1,5 +1,5 @@
-//! `narwhal-sim`: reads a script on standard input, for member 0 of four over a disk in memory, and prints one
-//! line a command.
+//! `narwhal-sim`: reads a script on standard input, plays it on member 0 of four over two disks in memory, and prints one line for each
+//! command.
 #![tactic(auto)]
 
 pub use sim_run::run;

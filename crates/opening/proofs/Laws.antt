@@ -155,7 +155,8 @@ found_records starts node bytes state (first ∷ records) sound texts stands_for
 found_by : StartsFresh → OnlyGroups → (node : Node) (bytes : List ℕ) (state : State) (read : Result (List Record) ℕ) → IsNode node → AreBytes bytes → stands bytes ≡ read
     → decoded node bytes ≡ Ok state → IsOfBytes node bytes state
 found_by starts only node bytes state (Ok records) sound are stands_for is =
-    found_records starts node bytes state records sound (All-drop IsText 1 records (stands_texts only bytes records are stands_for)) stands_for (sym (decoded_records node bytes records stands_for) ∙ is)
+    found_records starts node bytes state records sound (All-drop IsText 1 records (stands_texts only bytes records are stands_for)) stands_for
+    (sym (decoded_records node bytes records stands_for) ∙ is)
 found_by starts only node bytes state (Err place) sound are stands_for is = absurd (no_ok (Damaged place) state (sym (decoded_damaged node bytes place stands_for) ∙ is))
 
 pub decoded_stands_for : StartsFresh → OnlyGroups → DecodedStandsFor

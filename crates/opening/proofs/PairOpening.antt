@@ -147,7 +147,8 @@ holds_in node before later tables stands_for sound keys same keeps = record {
 -- ---- what came of the records of a journal that is open
 
 -- the version of its records is that of what it stands for
-version_of : (read : Result (List Record) ℕ) (records others : List Record) (version : Option Version) → read ≡ Ok records → version ≡ version_in records → read ≡ Ok others → version ≡ version_in others
+version_of : (read : Result (List Record) ℕ) (records others : List Record) (version : Option Version) → read ≡ Ok records → version ≡ version_in records
+    → read ≡ Ok others → version ≡ version_in others
 version_of read records others version is of also = of ∙ ap version_in (same records others (sym is ∙ also))
   where
     same : (one other : List Record) → ◌≡◌ {A = Result (List Record) ℕ} (Ok one) (Ok other) → one ≡ other

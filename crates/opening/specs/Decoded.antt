@@ -1,4 +1,4 @@
--- What the bytes of a node's journal are told as: the state after the events that they have, or why they are none of this node's.
+-- What the bytes of a node's journal decode to: the state after the events that they have, or why they are no journal of this node.
 use Rattle.std.specs.Prelude.{◌≡◌, ◌≢◌, ◌⊎◌, All, ℕ, ◌==◌, ◌&&◌, not, nat_lt, Bool, true, false, List, [], ◌∷◌, length, map, drop, get_or, Option, Some}
 use Rattle.std.specs.Prelude.{None, is_none, Result, Ok, Err, slice_index, if◌then◌else◌}
 use Rattle.std.specs.Int.{w16, from_be_bytes}
@@ -40,15 +40,15 @@ use Rattle.wire.specs.declared.error.WireError.{WireError}
 
 -- ---- events
 
--- a record has bytes
+-- each byte of a record is a number below 256
 abbrev pub IsText : Record → Type 0
 IsText one = AreBytes one.bytes
 
--- a message with its sender, if it passes the checks of a committee, whatever its signatures
+-- an event, if it passes the checks of a committee, whatever its signatures
 abbrev pub if_passed : Charter → Event → Option Event
 if_passed charter event = if is_none (fault_of charter accepts_all event) then Some event else None
 
--- what was read as a message from a sender, if it was one and passes the checks
+-- the event of what was read as a message from this sender, if that succeeded and the event passes the checks
 abbrev pub checked_in : Charter → Author → Result Message WireError → Option Event
 checked_in charter sender (Ok message) = if_passed charter (record { sender = sender; message = message })
 checked_in charter sender (Err fault) = None
@@ -57,7 +57,7 @@ checked_in charter sender (Err fault) = None
 abbrev pub sender_in : List ℕ → Author
 sender_in bytes = record { 0 = from_be_bytes w16 (slice_index bytes 1 ∷ slice_index bytes 2 ∷ []) }
 
--- the event of a record: its kind is an event's, the message after the sender is read, and passes the checks
+-- the event of a record, if its kind is an event's, and the message after the sender can be read and passes the checks
 unfoldable pub event_in : Charter → List ℕ → Option Event
 event_in charter bytes =
     if nat_lt (length bytes) FRONT_BYTES then None
@@ -68,24 +68,24 @@ event_in charter bytes =
 abbrev pub with_new : Node → State → Event → Option State
 with_new node state event = if is_new (answered node state event) then Some (after node state event) else None
 
--- the state after a record's event, or the place of the record's group
+-- the state after a record's event, or the place of the record's group if it has none that is new
 unfoldable pub read_event : Node → State → Record → Result State ℕ
 read_event node state kept =
     option_map_or (λ event. option_map_or (λ later. Ok later) (with_new node state event) (Err kept.gate)) (event_in node.charter kept.bytes) (Err kept.gate)
 
--- a reading after another one, whose place stands if it has none
+-- one reading after another; the error of the earlier one stands
 abbrev pub go_on : (State → Result State ℕ) → Result State ℕ → Result State ℕ
 go_on read (Ok state) = read state
 go_on read (Err place) = Err place
 
--- the state after the events of records in turn, or the place of the first record at fault
+-- the state after the events of these records, or the place of the group of the first record at fault
 unfoldable pub read_events : Node → State → List Record → Result State ℕ
 read_events node state [] = Ok state
 read_events node state (kept ∷ rest) = go_on (λ later. read_events node later rest) (read_event node state kept)
 
 -- ---- the configuration
 
--- none of these records stands in the first group, whose gate is at place 0
+-- none of these records is in the first group, whose gate is at place 0
 abbrev pub is_alone : List Record → Bool
 is_alone events = list_all (λ kept. nat_lt 0 kept.gate) events
 
@@ -93,60 +93,60 @@ is_alone events = list_all (λ kept. nat_lt 0 kept.gate) events
 abbrev pub has_ones : Charter → Bool
 has_ones charter = list_all (λ stake. stake == 1) charter.stakes
 
--- a version can tell a committee: the first one, which has no stakes, only where each is 1
+-- a version can express a committee: the first one, which has no stakes, only where each is 1
 abbrev pub can_tell : Version → Charter → Bool
 can_tell First charter = has_ones charter
 can_tell Second charter = true
 
 -- ---- a journal
 
--- the version of a first record with these after it: its shape says it, where it is alone in the first group
+-- the version of a first record, which its shape shows; None where other records are in the first group too
 abbrev pub first_version : Record → List Record → Option Version
 first_version first events = if is_alone events then shaped_version first.bytes else None
 
--- bytes are the node's own configuration in a version that can tell its committee
+-- these bytes are the node's own configuration, in a version that can express its committee
 abbrev pub is_own : Node → List ℕ → Version → Bool
 is_own node bytes version = can_tell version node.charter && bytes_eq bytes (configuration_of version node.charter node.own)
 
--- what is wrong with a configuration that is another one than the node's own
+-- the error where a configuration isn't the node's own
 abbrev pub mismatch : Bool → Option JournalError
 mismatch own = if own then None else Some ConfigMismatch
 
--- why a first record with these after it isn't the node's own configuration, alone in the first group
+-- why a first record isn't the node's own configuration, or isn't alone in the first group
 abbrev pub first_fault : Node → Record → List Record → Option JournalError
 first_fault node first events = option_map_or (λ version. mismatch (is_own node first.bytes version)) (first_version first events) (Some (Damaged first.gate))
 
--- why a first record isn't the node's own configuration, whatever comes after it
+-- why a first record isn't the node's own configuration, whatever follows it
 abbrev pub own_fault : Node → Record → Option JournalError
 own_fault node first = option_map_or (λ version. mismatch (is_own node first.bytes version)) (shaped_version first.bytes) (Some (Damaged first.gate))
 
--- what was read, or damage at its place
+-- what was read, with an error as damage at its place
 abbrev pub or_damaged : Result State ℕ → Result State JournalError
 or_damaged (Ok state) = Ok state
 or_damaged (Err place) = Err (Damaged place)
 
--- the same, unless there is a fault before it
+-- an earlier fault, if there is one, and otherwise what was read
 abbrev pub unless : Option JournalError → Result State ℕ → Result State JournalError
 unless (Some error) read = Err error
 unless None read = or_damaged read
 
--- the state after the events of a journal's records, or why they are none. Without a record it is the fresh one
+-- the state after the events of a journal's records, or why there is none. Without a record it is the fresh state
 unfoldable pub read_journal : Node → List Record → Result State JournalError
 read_journal node [] = Ok (fresh node)
 read_journal node (first ∷ events) = unless (first_fault node first events) (read_events node (fresh node) events)
 
--- what reading the groups gave
+-- the state that a journal's groups decode to, or why there is none, from the result of reading the groups
 abbrev pub decoded_by : Node → Result (List Record) ℕ → Result State JournalError
 decoded_by node (Ok records) = read_journal node records
 decoded_by node (Err place) = Err (Damaged place)
 
--- the state after the events of a journal's bytes, or why they are none
+-- the state after the events of a journal's bytes, or why there is none
 unfoldable pub decoded : Node → List ℕ → Result State JournalError
 decoded node bytes = decoded_by node (stands bytes)
 
 -- ---- a journal on two disks
 
--- after the first record a head stands in its group
+-- the record after the first one is a head in the same group
 abbrev pub has_head : Record → List Record → Bool
 has_head first [] = false
 has_head first (second ∷ rest) = second.gate == first.gate
@@ -155,17 +155,17 @@ has_head first (second ∷ rest) = second.gate == first.gate
 abbrev pub is_event : Record → Bool
 is_event one = kind_of one.bytes == EVENT
 
--- the records up to the first one of an event: those of a checkpoint's state
+-- the records before the first event's: those of a checkpoint's state
 unfoldable pub state_part : List Record → List Record
 state_part [] = []
 state_part (one ∷ rest) = if is_event one then [] else one ∷ state_part rest
 
--- and those from there on
+-- the records from the first event's on
 unfoldable pub events_part : List Record → List Record
 events_part [] = []
 events_part (one ∷ rest) = if is_event one then one ∷ rest else events_part rest
 
--- the gates of records, a configuration's first
+-- the gates of these records, the configuration's first
 abbrev pub gates_of : List Record → List ℕ
 gates_of records = map (λ one. one.gate) records
 
@@ -173,12 +173,12 @@ gates_of records = map (λ one. one.gate) records
 abbrev pub first_of : List ℕ → ℕ
 first_of gates = get_or gates 0 0
 
--- the gate at which a fault of the records with these gates is told: the record's, or for the whole the first one
+-- the gate that is reported for a fault of the records with these gates: the record's own, or the first one for the whole
 abbrev pub gate_of : List ℕ → LoadFault → ℕ
 gate_of gates (at_record place) = get_or gates place (first_of gates)
 gate_of gates of_whole = first_of gates
 
--- the state of a checkpoint. Records without a fault are read as one
+-- the state of a checkpoint, which records without a fault always decode to
 abbrev pub loaded : Node → ℕ → Result Checkpoint ℕ → Result State ℕ
 loaded node gate (Ok checkpoint) = Ok (state_in node checkpoint)
 loaded node gate (Err place) = Err gate
@@ -189,62 +189,62 @@ read_state node first state =
     option_map_or (λ fault. Err (gate_of (gates_of (first ∷ state)) fault)) (load_fault node (bytes_of (first ∷ state)))
     (loaded node first.gate (checkpoint_read node (bytes_of state)))
 
--- the state after a checkpoint, whose records come first, and after the events after it
+-- the state after a checkpoint, whose records come first, and after the events that follow it
 unfoldable pub read_checkpoint : Node → Record → List Record → Result State ℕ
 read_checkpoint node first records =
     go_on (λ state. read_events node state (events_part records)) (read_state node first (state_part records))
 
--- the state after all that comes after the first record: a head and a checkpoint, or events alone
+-- the state after all that follows the first record: a head and a checkpoint and events, or events alone
 abbrev pub read_after : Node → Record → List Record → Result State ℕ
 read_after node first rest = if has_head first rest then read_checkpoint node first (drop 1 rest) else read_events node (fresh node) rest
 
--- the state after the records of the area that is read, or why they are none. Without a record it is the fresh one
+-- the state after the records of the area that is read, or why there is none. Without a record it is the fresh state
 unfoldable pub read_pair : Node → List Record → Result State JournalError
 read_pair node [] = Ok (fresh node)
 read_pair node (first ∷ rest) = unless (own_fault node first) (read_after node first rest)
 
--- what reading the groups of two areas gave
+-- the state that two areas decode to, or why there is none, from the result of reading their groups
 abbrev pub decoded_by_both : Node → Result (List Record) ℕ → Result State JournalError
 decoded_by_both node (Ok records) = read_pair node records
 decoded_by_both node (Err place) = Err (Damaged place)
 
--- the state after a journal on one disk or on two, or why its bytes are none
+-- the state that a journal on one disk or on two decodes to, or why its bytes are no journal of this node
 abbrev pub decoded_in : Node → Areas → Result State JournalError
 decoded_in node (alone bytes) = decoded node bytes
 decoded_in node (pair one other) = decoded_by_both node (stands_in (pair one other))
 
--- ---- what the calls answer
+-- ---- what the calls report
 
--- the error is that of a reading, unless memory was refused
+-- a call's error is the one that reading gives, unless an allocation failed
 abbrev pub Tells : {X : Type 0} → JournalError → Result X JournalError → Type 0
 Tells Memory read = Unit {0}
 Tells error read = read ≡ Err error
 
--- a reading gave a sound state, and tables stand at it
+-- reading gave a sound state, and the tables hold that state
 pub record StandsAt {E : Type 0} (node : Node) (read : Result State E) (tables : Tables) : Type 0 where
   pub state : State
   pub is_read : read ≡ Ok state
   pub at : AreAtSound node tables state
 
--- what came of an event says that it isn't new
+-- the answer to an event isn't that it is new
 abbrev pub IsOld : Result Step Refusal → Type 0
 IsOld (Ok (New outputs)) = ⊥
 IsOld (Ok (Known outputs)) = Unit {0}
 IsOld (Err refusal) = refusal ≢ refusals.Memory
 
--- the records for which bytes stand have bytes, whatever the first one is
+-- each byte of the records that these bytes are read as, after the first record, is a number below 256
 abbrev pub HasTexts : List ℕ → Type 0
 HasTexts file = (records : List Record) → stands file ≡ Ok records → All IsText (drop 1 records)
 
--- these bytes stand for records, and what is left of them for the same, whoever's they are, or where they are none for the
--- node's configuration in a version alone
+-- these bytes and what is left of them are read as the same records, whichever node's; or they are read as none, and what is left as the
+-- node's configuration in this version alone
 abbrev pub KeepsOrBegins : Version → Node → List ℕ → List ℕ → Type 0
 KeepsOrBegins version node file left = HaveSameRecords file left ⊎ ((stands file ≡ Ok []) × (stands left ≡ Ok (kept_at 0 (configuration_of version node.charter node.own) ∷ [])))
 
--- what is left is one of these outcomes byte for byte, or so of one of them: what stands for no records is one of them
+-- what is left is one of these outcomes byte for byte, or keeps one of them so; bytes that are read as no records are an outcome themselves
 abbrev pub KeepsRecords : Node → (List ℕ → Type 0) → List ℕ → Type 0
 KeepsRecords node outcome left = outcome left ⊎ ((first : List ℕ) × outcome first × KeepsOrBegins Second node first left)
 
--- what a stop leaves is told as one of these outcomes is
+-- what a stop leaves decodes to what one of these outcomes decodes to
 abbrev pub IsDecodedAsOneOf : Node → (List ℕ → Type 0) → List ℕ → Type 0
 IsDecodedAsOneOf node outcome left = (first : List ℕ) × outcome first × (decoded node left ≡ decoded node first)

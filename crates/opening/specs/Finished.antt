@@ -1,4 +1,4 @@
--- What becomes of an opened journal on two disks of which a reader has taken the records.
+-- What becomes of an opened journal on two disks, once a reader has taken its records.
 use Rattle.std.specs.Prelude.{◌≡◌, ◌≢◌, List, Some, Result, Ok, Err}
 use Rattle.diskmodel.specs.Disk.{Device as Disks}
 use Rattle.journal.specs.Areas.{stands_in}
@@ -18,25 +18,25 @@ use Rattle.opening.specs.PairReplayed.{version_in}
 use Rattle.opening.specs.Renewing.{IsRenewed, IsPlaced}
 use Rattle.opening.specs.Decoded.{decoded_in, Tells, StandsAt}
 
--- a renewal has given nothing but a journal, or this error
+-- the result of a renewal: success, or this error
 abbrev pub done : Result (Unit {0}) JournalError
 done = Ok tt
 
 abbrev pub gives_up : JournalError → Result (Unit {0}) JournalError
 gives_up error = Err error
 
--- a validator stands at what the areas are read as, and the journal was renewed
+-- a validator holds the state that the areas decode to, and the journal was renewed
 pub record IsReady {S D : Type 0} (scheme : Scheme S) (device : Disks D) (setting : ConfigView S) (old : Journal D) (validator : ValidatorView S) (new : Journal D) : Type 0 where
   pub set : validator.setting ≡ setting
   pub stands : StandsAt (node_of scheme setting) (decoded_in (node_of scheme setting) (areas_of device old)) validator.tables
   pub is : IsRenewed (node_of scheme setting) device old done new
   pub placed : (records : List Record) → stands_in (areas_of device old) ≡ Ok records → IsPlaced (node_of scheme setting) device (version_in records) old new
 
--- or it was handed back with an error
+-- the opening failed, and the disks are handed back with an error
 pub data IsGivenUp {D : Type 0} (node : Node) (device : Disks D) (old : Journal D) (failed : Failed JournalError (Store D)) : Type 0 where
-  -- that of its records, or of the memory
+  -- the error is that of the records, or an allocation failed; the disks are as before
   at_records : failed.error ≢ Device → failed.error ≢ Full → Tells failed.error (decoded_in node (areas_of device old)) → failed.disk ≡ store_of old → IsGivenUp node device old failed
-  -- or that of the renewal. Only a journal in the first version has no room
+  -- the error is that of the renewal. Only a journal in the first version can lack room
   at_renewal : (new : Journal D) → IsRenewed node device old (gives_up failed.error) new
       → (failed.error ≡ Full → (records : List Record) → stands_in (areas_of device old) ≡ Ok records → version_in records ≡ Some First)
       → failed.disk ≡ store_of new → IsGivenUp node device old failed

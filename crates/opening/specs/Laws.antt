@@ -1,4 +1,4 @@
--- That what bytes are told as is what they stand for, both ways, and so in the world of all runs.
+-- Bytes decode to a state exactly where they stand for it, and so in every world of a node's runs.
 use Rattle.std.specs.Prelude.{◌≡◌, ◌≢◌, ◌⊎◌, ⊤, ℕ, List, [], None, Result, Ok, Err, IfOk, IfErr, IsSome}
 use Rattle.diskmodel.specs.Disk.{AtEachMoment, Device as Disks}
 use Rattle.diskmodel.specs.Outcomes.{AreBytes}
@@ -31,77 +31,77 @@ use Rattle.spec_world.specs.World.{World, Holds, StandsFor, MayStop}
 
 -- ---- the laws
 
--- the bytes of one disk stand for a state, which is what is kept of a legal history
+-- the bytes of one disk stand for a state, which is the one kept of some legal history
 pub record IsOfBytes (node : Node) (bytes : List ℕ) (state : State) : Type 0 where
   pub stands_for : StandsFor node (alone bytes) state
   pub history : History
   pub legal : IsLegal node history
   pub keeps : kept node history ≡ state
 
--- what bytes are told as is such a state
+-- the state that bytes decode to is such a state
 abbrev pub DecodedStandsFor : Type 0
 DecodedStandsFor = (node : Node) (bytes : List ℕ) (state : State) → IsNode node → AreBytes bytes → decoded node bytes ≡ Ok state
     → IsOfBytes node bytes state
 
--- and each state for which bytes stand is what they are told as
+-- bytes decode to each state that they stand for
 abbrev pub WhatStandsIsDecoded : Type 0
 WhatStandsIsDecoded = (node : Node) (bytes : List ℕ) (state : State) → AreKeys node → StandsFor node (alone bytes) state → decoded node bytes ≡ Ok state
 
--- bytes are told as what is kept of a history that the world promises to be found again
+-- bytes decode to the state kept of a history that recovery may find in this world
 pub record IsFound (node : Node) (world : World) (bytes : List ℕ) : Type 0 where
   pub history : History
   pub is_told : decoded node bytes ≡ Ok (kept node history)
   pub stands_for : StandsFor node (alone bytes) (kept node history)
   pub recovered : IsRecovered node world history
 
--- whatever a stop leaves of one disk in a world of the node is told so
+-- whatever a stop leaves of one disk in a world of the node decodes to a state that was kept of a legal history
 abbrev pub WorldsAreDecoded : Type 0
 WorldsAreDecoded = (node : Node) (moves : List Move) (world : World) (bytes : List ℕ) → IsNode node → AreKeys node → IsRun node moves world
     → MayStop world (alone bytes) → IsFound node world bytes
 
 -- ---- the same of one disk or of two
 
--- all of the bytes are bytes
+-- each byte of these areas is a number below 256
 abbrev pub AreBytesIn : Areas → Type 0
 AreBytesIn (alone bytes) = AreBytes bytes
 AreBytesIn (pair one other) = AreBytes one × AreBytes other
 
--- areas stand for a state, which is sound. A checkpoint may be of a state that no history leads to
+-- areas stand for a sound state; a checkpoint may be of a state that no history leads to
 pub record IsOfAreas (node : Node) (areas : Areas) (state : State) : Type 0 where
   pub stands_for : StandsFor node areas state
   pub sound : IsSound node state
 
--- what areas are told as is such a state
+-- the state that areas decode to is such a state
 abbrev pub DecodedInStandsFor : Type 0
 DecodedInStandsFor = (node : Node) (areas : Areas) (state : State) → IsNode node → AreBytesIn areas → decoded_in node areas ≡ Ok state
     → IsOfAreas node areas state
 
--- and each state for which areas stand is what they are told as
+-- areas decode to each state that they stand for
 abbrev pub WhatStandsIsDecodedIn : Type 0
 WhatStandsIsDecodedIn = (node : Node) (areas : Areas) (state : State) → IsNode node → AreKeys node → StandsFor node areas state → decoded_in node areas ≡ Ok state
 
--- areas are told as what is kept of a history that the world promises to be found again
+-- areas decode to the state kept of a history that recovery may find in this world
 pub record IsFoundIn (node : Node) (world : World) (areas : Areas) : Type 0 where
   pub history : History
   pub is_told : decoded_in node areas ≡ Ok (kept node history)
   pub stands_for : StandsFor node areas (kept node history)
   pub recovered : IsRecovered node world history
 
--- whatever a stop leaves in a world of the node is told so
+-- whatever a stop leaves of the disks in a world of the node decodes to a state that was kept of a legal history
 abbrev pub WorldsAreDecodedIn : Type 0
 WorldsAreDecodedIn = (node : Node) (moves : List Move) (world : World) (areas : Areas) → IsNode node → AreKeys node → IsRun node moves world
     → MayStop world areas → IsFoundIn node world areas
 
 -- ---- what an opening answers
 
--- bytes stand for what is kept of a legal history, and tables stand there
+-- bytes stand for the state kept of a legal history, and the tables hold that state
 pub record StandsForAt (node : Node) (bytes : List ℕ) (tables : Tables) : Type 0 where
   pub history : History
   pub stands_for : StandsFor node (alone bytes) (kept node history)
   pub legal : IsLegal node history
   pub at : AreAtSound node tables (kept node history)
 
--- bytes are a journal of the node at what is kept of a legal history, they are told as that, and tables stand there
+-- bytes are a journal of the node at the state kept of a legal history; they decode to it, and the tables hold it
 pub record HoldsAt (node : Node) (bytes : List ℕ) (tables : Tables) : Type 0 where
   pub history : History
   pub told_as : decoded node bytes ≡ Ok (kept node history)
@@ -109,7 +109,7 @@ pub record HoldsAt (node : Node) (bytes : List ℕ) (tables : Tables) : Type 0 w
   pub legal : IsLegal node history
   pub at : AreAtSound node tables (kept node history)
 
--- at each state for which the first bytes stand, the second ones are a journal of the node
+-- for each state that the earlier bytes stand for, the later bytes are a journal of the node at it
 abbrev pub KeepsStates : Node → List ℕ → List ℕ → Type 0
 KeepsStates node before later = (state : State) → StandsFor node (alone before) state → Holds node (alone later) state
 
@@ -120,50 +120,50 @@ pub record IsLeft (node : Node) (bytes : List ℕ) : Type 0 where
   pub run : IsRun node moves world
   pub may_stop : MayStop world (alone bytes)
 
--- all of that is told as a state
+-- all bytes that a stop can leave of one disk decode to a state
 abbrev pub AreLeftDecoded : Node → Type 0
 AreLeftDecoded node = (bytes : List ℕ) → IsLeft node bytes → (state : State) × (decoded node bytes ≡ Ok state)
 
--- only the disk or the memory failed
+-- the error is a failure of the disk, or a failed allocation
 abbrev pub IsNoRefusal : JournalError → Type 0
 IsNoRefusal error = (error ≡ Device) ⊎ (error ≡ Memory)
 
--- What an opening of a disk answers and leaves, whatever it gives. The disk is in what it gives, or handed back with the error.
+-- What an opening of one disk reports and leaves, whatever value it makes. That value holds the disk, or an error hands it back.
 pub record IsOpening {T D : Type 0} (node : Node) (device : Disks D) (disk_in : T → D) (disk : D) (result : Result T (Failed JournalError D)) : Type 0 where
-  -- each error but those of memory and of the disk is what the bytes are read as
+  -- each error but a failed allocation or a failed disk is the one that the bytes decode to
   pub tells : IfErr result (λ failed. failed.error ≢ Device → Tells failed.error (decoded node (device.content disk)))
   pub never_full : IfErr result (λ failed. failed.error ≢ Full)
-  -- it answers Device exactly where the disk has failed
+  -- the error is Device exactly where the disk has failed
   pub cause : TellsFaultBack device disk_in Device disk result
-  -- a stop at any moment leaves what is read as one outcome from before it is
+  -- what a stop at any moment leaves decodes to what some outcome from before the opening decodes to
   pub any_moment : AtEachMoment device disk (disk_after disk_in result) (IsDecodedAsOneOf node (device.outcome disk))
-  -- It leaves the records, whoever's they are, or where there are none the configuration alone. What it leaves that stands for no records
-  -- is an outcome from before it, byte for byte.
+  -- A stop keeps the records, whichever node's they are; where there are none, only the configuration may have been added. What is left and
+  -- read as no records is an outcome from before the opening, byte for byte.
   pub keeps : AtEachMoment device disk (disk_after disk_in result) (KeepsRecords node (device.outcome disk))
-  -- what a stop leaves in a world of the node is never refused
+  -- what a stop leaves in a world of the node can always be opened, unless the disk or an allocation fails
   pub never_refused : IfErr result (λ failed. IsLeft node (device.content disk) → IsNoRefusal failed.error)
 
 -- ---- an opening of one disk or of two
 
--- areas stand for a state, and tables stand there
+-- areas stand for a state, and the tables hold it
 pub record StandsForIn (node : Node) (areas : Areas) (tables : Tables) : Type 0 where
   pub state : State
   pub stands_for : StandsFor node areas state
   pub at : AreAtSound node tables state
 
--- areas are a journal of the node at a state, they are told as that, and tables stand there
+-- areas are a journal of the node at a state; they decode to it, and the tables hold it
 pub record HoldsIn (node : Node) (areas : Areas) (tables : Tables) : Type 0 where
   pub state : State
   pub told_as : decoded_in node areas ≡ Ok state
   pub holds : Holds node areas state
   pub at : AreAtSound node tables state
 
--- a journal is on as many disks as were opened, and of two this area is read
+-- a journal is on as many disks as were opened, and of two disks this area is read
 abbrev pub IsReadIn : {D : Type 0} → Node → Disks D → Store D → Journal D → Type 0
 IsReadIn node device (One disk) journal = spare_of journal ≡ None
 IsReadIn node device (Two first second) journal = IsSome (spare_of journal) × IsReadOn node (device.content first) (device.content second) journal
 
--- two disks handed back as what was given
+-- the result of a call on two disks, with the disks of an error as a store
 abbrev pub with_store : {T D : Type 0} → Result T (Failed JournalError (D × D)) → Result T (Failed JournalError (Store D))
 with_store (Ok given) = Ok given
 with_store (Err failed) = Err (record { error = failed.error; disk = Two failed.disk.0 failed.disk.1 })
@@ -175,48 +175,49 @@ pub record IsLeftIn (node : Node) (areas : Areas) : Type 0 where
   pub run : IsRun node moves world
   pub may_stop : MayStop world areas
 
--- all of that is told as a state
+-- all that a stop can leave of the disks decodes to a state
 abbrev pub AreLeftDecodedIn : Node → Type 0
 AreLeftDecodedIn node = (areas : Areas) → IsLeftIn node areas → (state : State) × (decoded_in node areas ≡ Ok state)
 
--- only the disks or the memory failed, or a journal in the first version has no room for its checkpoint
+-- the error is a failed disk or allocation, or a journal in the first version has no room for its checkpoint
 abbrev pub IsNoRefusalOfBoth : JournalError → Type 0
 IsNoRefusalOfBoth error = IsNoRefusal error ⊎ (error ≡ Full)
 
--- Only of two disks, and of a journal in the first version, a checkpoint has no room.
+-- Full is reported only of two disks: their journal is in the first version, and its checkpoint has no room.
 abbrev pub IsFullIn : {D : Type 0} → Node → Disks D → Store D → Type 0
 IsFullIn node device (One disk) = ⊥
 IsFullIn node device (Two first second) = IsFullOf node (device.content first) (device.content second)
 
--- One disk has the bytes that it had, but for those after its closed gate; both stand for what they stood for.
+-- One disk has the same bytes as before, but for those after its closed gate; two areas are read as before.
 abbrev pub IsUnchanged : {D : Type 0} → Disks D → Store D → Store D → Type 0
 IsUnchanged device (One disk) (One left) = (device.content left ≡ device.content disk) ⊎ IsClosedUp (device.content disk) (device.content left)
 IsUnchanged device (Two first second) (Two now also) = stands_in (areas_in device (Two now also)) ≡ stands_in (areas_in device (Two first second))
 IsUnchanged device old new = ⊥
 
--- A stop at any moment leaves of one disk the records, whoever's they are, or where there are none the configuration alone. What it leaves
--- that stands for no records is an outcome from before it, byte for byte.
+-- A stop at any moment of an opening of one disk keeps the records, whichever node's they are; where there are none, only the configuration
+-- may have been added. What is left and read as no records is an outcome from before the opening, byte for byte.
 abbrev pub KeepsAlone : {D : Type 0} → Node → Disks D → Store D → Store D → Type 0
 KeepsAlone node device (One old) (One new) = AtEachMoment device old new (KeepsRecords node (device.outcome old))
 KeepsAlone node device (Two first second) (Two now also) = ⊤
 KeepsAlone node device old new = ⊥
 
--- What an opening of one disk or of two answers and leaves, whatever it gives. The disks are in what it gives, or handed back with the error.
+-- What an opening of one disk or of two reports and leaves, whatever value it makes. That value holds the disks, or an error hands them
+-- back.
 pub record IsOpeningOn {T D : Type 0} (node : Node) (device : Disks D) (disks_in : T → Store D) (store : Store D) (result : Result T (Failed JournalError (Store D))) : Type 0 where
-  -- each error but those of memory, of the disks and of a lack of room is what the areas are read as
+  -- each error but a failed allocation, a failed disk or a lack of room is the one that the areas decode to
   pub tells : IfErr result (λ failed. failed.error ≢ Device → failed.error ≢ Full → Tells failed.error (decoded_in node (areas_in device store)))
   pub full : IfErr result (λ failed. failed.error ≡ Full → IsFullIn node device store)
-  -- it answers Device exactly where a disk has failed
+  -- the error is Device exactly where a disk has failed
   pub cause : TellsFaultsBack (faults_in device) disks_in Device store result
-  -- a stop at any moment leaves what is read as one outcome from before it is
+  -- what a stop at any moment leaves decodes to what some outcome from before the opening decodes to
   pub any_moment : IsDecodedThroughout node device store (disk_after disks_in result)
   pub keeps : KeepsAlone node device store (disk_after disks_in result)
-  -- what a stop leaves in a world of the node is never refused
+  -- what a stop leaves in a world of the node can always be opened, unless a disk, an allocation or the room fails
   pub never_refused : IfErr result (λ failed. IsLeftIn node (areas_in device store) → IsNoRefusalOfBoth failed.error)
-  -- only a failure of a disk leaves other records than there were
+  -- after an error the records are as before, unless a disk failed
   pub unchanged : IfErr result (λ failed. failed.error ≢ Device → IsUnchanged device store failed.disk)
 
--- What an opening of one disk or of two promises, all of it.
+-- All that an opening of one disk or of two promises.
 pub record IsOpenedIn {S D : Type 0} (scheme : Scheme S) (device : Disks D) (setting : ConfigView S) (store : Store D)
     (result : Result (ValidatorView S × Journal D) (Failed JournalError (Store D))) : Type 0 where
   pub set : IfOk result (λ opened. opened.0.setting ≡ setting)

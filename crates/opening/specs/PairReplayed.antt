@@ -1,5 +1,5 @@
--- What a reader of the records of a journal on two disks has come to. What it says of the records so far it says of them with any others after
--- them, so it stays while they come.
+-- What a reader of the records of a journal on two disks has reached. What this says of the records so far holds whichever records follow,
+-- so it stays true while they come.
 use Rattle.std.specs.Prelude.{◌≡◌, ◌≢◌, All, ℕ, false, List, [], ◌∷◌, ◌++◌, Option, Some, None, Err}
 use Rattle.journal.specs.Configuration.{shaped_version}
 use Rattle.journal.specs.declared.error.JournalError.{JournalError}
@@ -20,12 +20,12 @@ use Rattle.opening.specs.Decoded.{own_fault, or_damaged, read_events, is_event, 
 use Rattle.opening.specs.declared.reached.Reached.{Reached}
 use Rattle.opening.specs.declared.reached.Reached.TheVariants.{Empty, Configured, Checkpoint, Standing, Failed}
 
--- the version in whose shape the first record is
+-- the version of whose configurations the first record has the shape
 abbrev pub version_in : List Record → Option Version
 version_in [] = None
 version_in (first ∷ rest) = shaped_version first.bytes
 
--- an error is none of memory or of the disk
+-- an error is about the bytes: no allocation and no disk failed, and there was room
 pub record IsOfBytesAlone (error : JournalError) : Type 0 where
   pub memory : error ≢ Memory
   pub device : error ≢ Device
@@ -39,7 +39,7 @@ pub record IsConfigured {S : Type 0} (scheme : Scheme S) (setting : ConfigView S
   pub shape : shaped_version first.bytes ≡ Some version
   pub own : own_fault (node_of scheme setting) first ≡ None
 
--- the configuration came, a head in its group, and then records of a checkpoint's state, whose gates these are
+-- the configuration came, a head in its group, and then records of a checkpoint's state, with these gates
 pub record IsLoadingTo {S : Type 0} (scheme : Scheme S) (setting : ConfigView S) (records : List Record) (loading : LoadingView S) (gates : List ℕ) : Type 0 where
   pub first : Record
   pub head : Record
@@ -52,7 +52,7 @@ pub record IsLoadingTo {S : Type 0} (scheme : Scheme S) (setting : ConfigView S)
   pub gates_are : gates ≡ gates_of (first ∷ state)
   pub of_state : All (λ one. is_event one ≡ false) state
 
--- a validator stands at a state from which the records that come are read as events
+-- a validator holds a state, and the records that follow are read as events after it
 pub record IsStandingAt {S : Type 0} (scheme : Scheme S) (setting : ConfigView S) (records : List Record) (validator : ValidatorView S) : Type 0 where
   pub set : validator.setting ≡ setting
   pub some : records ≢ []
@@ -60,20 +60,20 @@ pub record IsStandingAt {S : Type 0} (scheme : Scheme S) (setting : ConfigView S
   pub at : AreAtSound (node_of scheme setting) validator.tables state
   pub on : (more : List Record) → read_pair (node_of scheme setting) (records ++ more) ≡ or_damaged (read_events (node_of scheme setting) state more)
 
--- the same of a validator where the next record is this one
+-- a validator holds a state; with this next record and those that follow, the records are read as events after it
 pub record IsStandingBefore {S : Type 0} (scheme : Scheme S) (setting : ConfigView S) (records : List Record) (one : Record) (validator : ValidatorView S) : Type 0 where
   pub set : validator.setting ≡ setting
   pub state : State
   pub at : AreAtSound (node_of scheme setting) validator.tables state
   pub on : (more : List Record) → read_pair (node_of scheme setting) (records ++ one ∷ more) ≡ or_damaged (read_events (node_of scheme setting) state (one ∷ more))
 
--- the records have this fault, whatever comes after them
+-- reading the records gives this error, whatever follows them
 pub record IsFailedAs {S : Type 0} (scheme : Scheme S) (setting : ConfigView S) (records : List Record) (error : JournalError) : Type 0 where
   pub some : records ≢ []
   pub on : (more : List Record) → read_pair (node_of scheme setting) (records ++ more) ≡ Err error
   pub of_bytes : IsOfBytesAlone error
 
--- what a reader has come to by these records
+-- the stage that a reader has reached with these records
 abbrev pub HasReached : {S : Type 0} → Scheme S → ConfigView S → List Record → Reached S → Type 0
 HasReached scheme setting records Empty = records ≡ []
 HasReached scheme setting records (Configured version gate) = IsConfigured scheme setting records version gate
@@ -83,18 +83,18 @@ HasReached scheme setting records (Failed error) = IsFailedAs scheme setting rec
 
 -- ---- one record more
 
--- the error that a fault of records with these gates is told as
+-- the error that is reported for a fault of records with these gates
 abbrev pub error_at : List ℕ → LoadError → JournalError
 error_at gates load.Memory = Memory
 error_at gates (load.Unsound place) = Damaged (gate_of gates (at_record place))
 error_at gates load.UnsoundWhole = Damaged (gate_of gates of_whole)
 
--- a record was put to a checkpoint's records
+-- a record was added to a checkpoint's records
 pub record IsPutTo {S : Type 0} (old : LoadingView S) (old_gates : List ℕ) (bytes : List ℕ) (gate : ℕ) (new : LoadingView S) (gates : List ℕ) : Type 0 where
   pub put : new ≡ record old { records = old.records ++ bytes ∷ [] }
   pub gates_are : gates ≡ old_gates ++ gate ∷ []
 
--- it is at fault, or one before it, whatever comes after it
+-- with this record a fault is certain, its own or an earlier one's, whatever follows
 pub record IsFaultOf {S : Type 0} (scheme : Scheme S) (old : LoadingView S) (old_gates : List ℕ) (bytes : List ℕ) (gate : ℕ) (error : JournalError) : Type 0 where
   pub cause : LoadError
   pub is : error ≡ error_at (old_gates ++ gate ∷ []) cause

@@ -6,13 +6,13 @@ use Rattle.opening.specs.PairReplayed.{version_in, HasReached}
 use Rattle.opening.specs.Decoded.{IsText}
 use Rattle.opening.specs.declared.pair_replay.PairReplay.{PairReplay}
 
--- it has taken these records
+-- the reader has taken these records
 pub record HasTakenPair {S : Type 0} (scheme : Scheme S) (replay : PairReplay S) (records : List Record) : Type 0 where
   pub version : replay.version ≡ version_in records
   pub reached : HasReached scheme replay.config.now records replay.reached
   pub texts : All IsText records
 
--- it has taken these records more
+-- the reader has taken these records in addition
 pub record TakesMorePair {S : Type 0} (scheme : Scheme S) (old : PairReplay S) (records : List Record) (new : PairReplay S) : Type 0 where
   pub config : new.config.now ≡ old.config.now
   pub taken : (before : List Record) → HasTakenPair scheme old before → HasTakenPair scheme new (before ++ records)

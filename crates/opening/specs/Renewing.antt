@@ -1,5 +1,5 @@
--- What an opening makes of a journal on two disks after its records were taken: an empty one gets its configuration, and one in the first
--- version is rewritten as a checkpoint.
+-- What an opening does with a journal on two disks once its records were taken: an empty journal gets its configuration, and one in the
+-- first version is rewritten as a checkpoint.
 use Rattle.std.specs.Prelude.{◌≡◌, ◌≢◌, ◌⊎◌, ◌<◌, ◌+◌, ◌-◌, ◌^◌, ℕ, List, [], ◌∷◌, length, Option, Some, IsSome, Result, Ok, IfErr, OnOk}
 use Rattle.diskmodel.specs.Disk.{Device as Disks, TellsFault}
 use Rattle.journal.specs.Areas.{Areas, pair, other_side, stands_in, tells}
@@ -27,30 +27,30 @@ use Rattle.opening.specs.PairReplayed.{version_in}
 use Rattle.opening.specs.Stages.{IsStage}
 use Rattle.opening.specs.Decoded.{decoded_in}
 
--- at each state for which the first areas stand, the second ones are a journal of the node
+-- for each state that the earlier areas stand for, the later areas are a journal of the node at it
 abbrev pub KeepsStatesIn : Node → Areas → Areas → Type 0
 KeepsStatesIn node before later = (state : State) → StandsFor node before state → Holds node later state
 
--- a checkpoint doesn't fit an area, with the generation after this one, or there is none after it
+-- a checkpoint doesn't fit an area, or there is no generation after this one
 abbrev pub IsTooLong : Node → ℕ → Checkpoint → Type 0
 IsTooLong node generation checkpoint =
     (MAX_JOURNAL_BYTES < 1 + length (bytes_for (generation + 1) (own_configuration Second node ∷ state_records checkpoint))) ⊎ (generation ≡ 2 ^ 64 - 1)
 
--- a checkpoint of this state has no room after this generation
+-- a checkpoint of this state, of the generation after this one, has no room
 pub record HasNoRoom (node : Node) (generation : ℕ) (state : State) : Type 0 where
   pub checkpoint : Checkpoint
   pub written : IsWritten node checkpoint
   pub is : state_in node checkpoint ≡ state
   pub full : IsTooLong node generation checkpoint
 
--- and here one has room
+-- a checkpoint of this state, of the generation after this one, has room
 pub record HasRoom (node : Node) (generation : ℕ) (state : State) : Type 0 where
   pub checkpoint : Checkpoint
   pub written : IsWritten node checkpoint
   pub is : state_in node checkpoint ≡ state
   pub fits : ¬ IsTooLong node generation checkpoint
 
--- two areas, of which one is read with this generation, are a journal in the first version at a state of which a checkpoint has no room
+-- two areas, one of which is read with this generation, are a journal in the first version; a checkpoint of its state has no room
 pub record IsFullOf (node : Node) (one other : List ℕ) : Type 0 where
   pub records : List Record
   pub stands_for : stands_in (pair one other) ≡ Ok records
@@ -62,19 +62,19 @@ pub record IsFullOf (node : Node) (one other : List ℕ) : Type 0 where
   pub is_told : decoded_in node (pair one other) ≡ Ok state
   pub no_room : HasNoRoom node generation state
 
--- the same of a journal that is open, whatever its version
+-- an open journal, in any version, has no room for a checkpoint of the state that it decodes to
 pub record IsFullAt {D : Type 0} (node : Node) (device : Disks D) (journal : Journal D) : Type 0 where
   pub state : State
   pub is_told : decoded_in node (areas_of device journal) ≡ Ok state
   pub no_room : HasNoRoom node (generation_in journal) state
 
--- a journal that is open is told as a state of which a checkpoint has room
+-- an open journal decodes to a state of which a checkpoint has room
 pub record HasRoomAt {D : Type 0} (node : Node) (device : Disks D) (journal : Journal D) : Type 0 where
   pub state : State
   pub is_told : decoded_in node (areas_of device journal) ≡ Ok state
   pub room : HasRoom node (generation_in journal) state
 
--- of a journal on two disks the area that is read has its first group, which says its generation
+-- the area of a journal on two disks that is read has its first group, and that names its generation
 abbrev pub HasBegun : {D : Type 0} → Disks D → Journal D → Type 0
 HasBegun device journal = IsSome (spare_of journal) → tells (device.content (disk_of journal)) ≡ Some (Some (generation_in journal))
 
@@ -82,7 +82,7 @@ HasBegun device journal = IsSome (spare_of journal) → tells (device.content (d
 abbrev pub IsNewest : Areas → Type 0
 IsNewest areas = (first : Record) (rest : List Record) → stands_in areas ≡ Ok (first ∷ rest) → shaped_version first.bytes ≡ Some Second
 
--- what has become of an opened journal on two disks. It is told as the same state, at every moment too.
+-- what became of an opened journal on two disks. It decodes to the same state as before, also at every moment in between.
 pub record IsRenewed {X D : Type 0} (node : Node) (device : Disks D) (old : Journal D) (result : Result X JournalError) (new : Journal D) : Type 0 where
   pub alive : OnOk result (IsAlive device new)
   pub two : IsSome (spare_of new)
@@ -96,18 +96,18 @@ pub record IsRenewed {X D : Type 0} (node : Node) (device : Disks D) (old : Jour
   pub unchanged : IfErr result (λ error. error ≢ Device → new ≡ old)
   pub any_moment : IsStage device (λ one other. decoded_in node (pair one other) ≡ decoded_in node (areas_of device old)) (disks_of old) (disks_of new)
 
--- a journal on two disks was rewritten as a checkpoint: that had room, and the other area is read now, whose generation is one more
+-- a journal on two disks was rewritten as a checkpoint, which had room: now the other area is read, with the next generation
 pub record IsRewritten {D : Type 0} (node : Node) (device : Disks D) (old new : Journal D) : Type 0 where
   pub room : HasRoomAt node device old
   pub places : HaveChangedPlaces old new
 
--- A renewal rewrites a journal in the first version. Else the same area is read, with its generation.
+-- A renewal rewrites a journal in the first version. Any other journal stays in its area, with its generation.
 pub record IsPlaced {D : Type 0} (node : Node) (device : Disks D) (version : Option Version) (old new : Journal D) : Type 0 where
   pub rewritten : version ≡ Some First → IsRewritten node device old new
   pub stays : version ≢ Some First → HaveKeptPlaces old new
 
--- The area that is read after an opening of these two, of which this side was chosen with this generation, and whose records are these. A
--- journal in the first version was rewritten as a checkpoint, which had room: the other area is read, and its generation is one more.
+-- Which area is read after an opening of these two. By the areas' own records it is this side, with this generation. But a journal in the
+-- first version was rewritten as a checkpoint, so there it is the other side, with the next generation.
 pub record IsReadOn {D : Type 0} (node : Node) (one other : List ℕ) (journal : Journal D) : Type 0 where
   pub records : List Record
   pub stands_for : stands_in (pair one other) ≡ Ok records

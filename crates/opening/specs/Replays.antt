@@ -5,11 +5,11 @@ use Rattle.sigface.specs.Scheme.{Scheme}
 use Rattle.opening.specs.Replayed.{HasReplayed}
 use Rattle.opening.specs.declared.replay.Replay.{Replay}
 
--- it has taken these records
+-- the validator has taken these records
 abbrev pub HasTaken : {S : Type 0} → Scheme S → Replay S → List Record → Type 0
 HasTaken scheme replay records = HasReplayed scheme replay.config.now replay.first replay.alone replay.reached records
 
--- it has taken these records more
+-- the validator has taken these records in addition
 pub record TakesMore {S : Type 0} (scheme : Scheme S) (old : Replay S) (records : List Record) (new : Replay S) : Type 0 where
   pub config : new.config.now ≡ old.config.now
   pub taken : (before : List Record) → HasTaken scheme old before → HasTaken scheme new (before ++ records)

@@ -16,12 +16,12 @@ use journal::{Journal, JournalError};
 use sigface::Sign;
 use validator::Validator;
 
-/// Writes a checkpoint of a validator to the area of its journal that isn't read, which is read from then on, and answers its generation.
-/// The journal is told as the same state before it, at each moment of it, and after it.
+/// Writes a checkpoint of a validator to the spare area of its journal, which is read from then on, and gives its generation. The journal
+/// decodes to the same state before the call, at every moment of it, and after it.
 ///
 /// # Errors
-/// `Memory` where an allocation failed, and `Full` where the checkpoint has no room; both change nothing. `Device` where the disk failed
-/// that is written: then nothing can be written any more, and both disks have to be opened again.
+/// `Memory` where an allocation failed, and `Full` where the checkpoint has no room; both change nothing. `Device` where the disk that is
+/// written failed: then nothing can be written any more, and both disks have to be opened again.
 pub fn checkpoint<S: Sign, D: Disk>(
     validator: &Validator<'_, S>,
     journal: &mut Journal<D>,
@@ -36,21 +36,21 @@ pub fn checkpoint<S: Sign, D: Disk>(
     ensures alive { OnOk result (IsAlive D.device journal.new) }
     ensures swapped { OnOk result (HaveChangedPlaces journal.old journal.new) }
     ensures same { let node = node_of S.scheme validator.now.setting in OnOk result (decoded_in node (areas_of D.device journal.new) ≡ decoded_in node (areas_of D.device journal.old)) }
-    // It is then a journal of the node in the second version at each state for which it stood.
+    // After success the journal is one of the node, in the second version, at each state that it stood for before.
     ensures configured { OnOk result (stands_in (areas_of D.device journal.new) ≢ Ok []) }
     ensures newest { OnOk result (IsNewest (areas_of D.device journal.new)) }
     ensures kept { OnOk result (KeepsStatesIn (node_of S.scheme validator.now.setting) (areas_of D.device journal.old) (areas_of D.device journal.new)) }
 
-    // What a stop at any moment leaves of the area that it writes is, with the other one, told as the same state.
+    // What a stop at any moment leaves of the spare area decodes, together with the other area, to the same state.
     ensures any_moment { let node = node_of S.scheme validator.now.setting in AtEachMoment D.device (spare_disk journal.old) (rewritten_disk result journal.new)
         (λ left. decoded_in node (areas_with D.device journal.old left) ≡ decoded_in node (areas_of D.device journal.old)) }
     ensures untouched { untouched_disk result journal.new ≡ disk_of journal.old }
 
     ensures errors { IfErr result (λ error. (error ≡ JournalError.Device) ⊎ (error ≡ JournalError.Memory) ⊎ (error ≡ JournalError.Full)) }
-    // It answers Full where the checkpoint has no room, and Ok only where it has.
+    // The error is Full only where the checkpoint has no room, and a success means that it has.
     ensures full { IfErr result (λ error. error ≡ JournalError.Full → IsFullAt (node_of S.scheme validator.now.setting) D.device journal.old) }
     ensures room { OnOk result (HasRoomAt (node_of S.scheme validator.now.setting) D.device journal.old) }
-    // It answers Device exactly where the disk that it writes has failed.
+    // The error is Device exactly where the disk that is written has failed.
     ensures cause { TellsFault JournalError.Device (D.device.faults (spare_disk journal.old)) (D.device.faults (rewritten_disk result journal.new)) result }
     ensures unchanged { IfErr result (λ error. error ≢ JournalError.Device → journal.new ≡ journal.old) }
     ensures keeps { OnErr result (HaveKeptPlaces journal.old journal.new) }

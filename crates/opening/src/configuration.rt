@@ -1,4 +1,4 @@
-//! Which version of the record of a configuration can tell a committee.
+//! Which versions of a configuration's record can express a committee.
 
 ghost use Rattle.std.specs.Prelude.{◌≡◌, true, All};
 ghost use Rattle.spec_records.specs.Records.{CanTell};
@@ -9,14 +9,14 @@ use committee::Committee;
 use journal::Version;
 use wire::{Author, Key};
 
-/// What holds of bytes. The call does nothing.
+/// Each of these bytes is a number below 256. The call does nothing.
 pub fn are_bytes(bytes: &[u8])
     ensures { AreBytes bytes.now }
 {
     let _ = bytes;
 }
 
-/// Whether a version can tell a committee: the first one, which has no stakes, only where each is 1.
+/// Whether a version can express a committee: the first one, which has no stakes, only where each is 1.
 pub fn can_tell(version: Version, committee: &Committee) -> bool
     ensures value { result ≡ decoded_by_version version committee.now }
     ensures tells { result ≡ true → CanTell version committee.now }
@@ -35,7 +35,7 @@ fn has_ones(committee: &Committee) -> bool
     committee.total() == committee.size() as u64
 }
 
-/// What holds of a committee's keys: each has 32 bytes. It looks at each, and does nothing.
+/// Each key of a committee has 32 bytes. The call looks at each key and changes nothing.
 pub(crate) fn keys_hold(committee: &Committee)
     ensures { All (λ key. HasBytes 32 key.0) committee.now.keys }
 {
@@ -47,7 +47,7 @@ pub(crate) fn keys_hold(committee: &Committee)
     }
 }
 
-// What holds of a key: it has 32 bytes. The call does nothing.
+// A key has 32 bytes. The call does nothing.
 fn is_key(key: &Key)
     ensures { HasBytes 32 key.now.0 }
 {

@@ -19,14 +19,14 @@ use validator::{Config, Refusal, Step, Validator};
 use wire::{Author, Message, WireError};
 use wire_read::decode;
 
-/// The kind of a record that has an event.
+/// The kind of an event's record.
 pub const EVENT: u8 = 1;
 
 /// The bytes of an event's record before the message: its kind, and the sender's number.
 pub const FRONT_BYTES: usize = 3;
 
-/// The event of a record, if it is one that passes the committee's checks. Signatures were tested before it was written. `AllocError`
-/// where an allocation failed.
+/// The event of a record, if it has one that passes the committee's checks. Signatures aren't tested again: they were before the record was
+/// written. On `AllocError` an allocation failed.
 pub fn event_of(
     alloc: Global,
     committee: &Committee,
@@ -45,7 +45,7 @@ pub fn event_of(
     }
 }
 
-// The event of a message with its sender, if it passes the checks, whatever its signatures.
+// The event of a message from this sender, if it passes the checks, whatever its signatures.
 fn passed(committee: &Committee, sender: Author, message: Message) -> Option<Checked>
     ensures found { result ≡ if_passed committee.now (record { sender = sender; message = message }) }
     ensures passed { IfSome result (λ event. fault_of committee.now accepts_all event ≡ None) }
@@ -56,7 +56,7 @@ fn passed(committee: &Committee, sender: Author, message: Message) -> Option<Che
     }
 }
 
-// Bytes that can't be read are no event, unless an allocation failed.
+// Bytes that can't be read are no event, unless it was an allocation that failed.
 fn unread(error: WireError) -> Result<Option<Checked>, AllocError>
     ensures { IfOk result (λ found. (found ≡ None) × (error ≢ WireError.Memory)) }
 {
@@ -87,7 +87,7 @@ pub(crate) fn take_event<S: Sign>(
     only_new(step, place)
 }
 
-// What came of an event has to be new; else its group, at this place, is damaged, but where memory was refused.
+// An event that isn't new means that the group at this place is damaged, unless an allocation failed.
 fn only_new(step: Result<Step, Refusal>, gate: u64) -> Result<(), JournalError>
     ensures ok { OnOk result (is_new_step step ≡ true) }
     ensures err { IfErr result (λ error. error ≢ JournalError.Memory → (error ≡ JournalError.Damaged gate) × IsOld step) }
@@ -100,7 +100,7 @@ fn only_new(step: Result<Step, Refusal>, gate: u64) -> Result<(), JournalError>
     }
 }
 
-/// What holds of a record with these bytes, in the group of this gate: it has bytes. The call does nothing.
+/// Each byte of a record with these bytes, in the group of this gate, is a number below 256. The call does nothing.
 pub fn is_text(bytes: &[u8], gate: u64)
     ensures { IsText (record { bytes = bytes.now; gate = gate }) }
 {

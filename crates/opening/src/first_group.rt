@@ -1,4 +1,4 @@
-//! The first group of a journal: the record of a node's configuration, as it is written.
+//! The first group of a journal: the record of a node's configuration as it is written.
 
 ghost use Rattle.std.specs.Prelude.{◌≡◌, ◌+◌, ◌*◌, ◌≤◌, ◌++◌, [], ◌∷◌, length, flat_map, Some, IfOk, OnOk};
 ghost use Rattle.std.specs.Int.{w32, to_be_bytes};
@@ -38,7 +38,7 @@ pub fn configuration(
     Ok(bytes)
 }
 
-// Puts the members' keys after the bytes.
+// Adds the members' keys to the bytes.
 fn put_keys(bytes: &mut Vec<u8>, committee: &Committee) -> Result<(), AllocError>
     ensures keys { OnOk result (bytes.new.items ≡ bytes.old.items ++ flat_map (λ key. key.0) committee.now.keys) }
     ensures len { OnOk result (length bytes.new.items ≡ length bytes.old.items + length committee.now.keys * KEY_BYTES) }
@@ -52,7 +52,7 @@ fn put_keys(bytes: &mut Vec<u8>, committee: &Committee) -> Result<(), AllocError
     Ok(())
 }
 
-// Puts the members' stakes after the bytes, where the version has them.
+// Adds the members' stakes to the bytes, if the version has them.
 fn put_stakes(
     bytes: &mut Vec<u8>,
     version: Version,
@@ -67,7 +67,7 @@ fn put_stakes(
     }
 }
 
-// Puts the members' stakes after the bytes.
+// Adds the members' stakes to the bytes.
 fn put_each_stake(bytes: &mut Vec<u8>, committee: &Committee) -> Result<(), AllocError>
     ensures stakes { OnOk result (bytes.new.items ≡ bytes.old.items ++ flat_map (to_be_bytes w32) committee.now.stakes) }
     ensures len { OnOk result (length bytes.new.items ≡ length bytes.old.items + length committee.now.keys * STAKE_BYTES) }
@@ -82,7 +82,7 @@ fn put_each_stake(bytes: &mut Vec<u8>, committee: &Committee) -> Result<(), Allo
     Ok(())
 }
 
-/// The group of a configuration alone.
+/// The group that has a configuration only.
 pub fn configuration_group(
     alloc: Global,
     version: Version,

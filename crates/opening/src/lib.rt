@@ -1,4 +1,4 @@
-//! Opening a node on a disk: what its journal has, and the validator after the events there.
+//! Opening a node on a disk: its journal, and the validator in the state after the journal's events.
 #![tactic(auto)]
 
 mod checkpoints;

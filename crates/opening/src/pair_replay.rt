@@ -1,4 +1,4 @@
-//! Taking the records of a journal on two disks while they are read: a checkpoint where there is one, and events.
+//! Taking the records of a journal on two disks while they are read: a checkpoint's, if there is one, and events'.
 
 ghost use Rattle.std.specs.Prelude.{◌≡◌, ◌≢◌, ◌∷◌, [], ◌++◌, List, Some, None, Err, All, is_none, IfOk, IfErr, OnOk};
 ghost use Rattle.journal.specs.declared.record.Record.{Record};
@@ -15,7 +15,7 @@ use std::alloc::{AllocError, Global};
 use std::mem;
 use validator::{Config, Validator};
 
-/// A reader of the records of a journal on two disks. The first of them has to be its configuration.
+/// A reader of the records of a journal on two disks. The first record has to be the node's configuration.
 #[derive(Drop)]
 pub(crate) struct PairReplay<'a, S: Sign> {
     config: &'a Config<S>,
@@ -25,7 +25,7 @@ pub(crate) struct PairReplay<'a, S: Sign> {
 }
 
 impl<'a, S: Sign> PairReplay<'a, S> {
-    /// One that has taken no record yet. It takes no memory.
+    /// A reader that has taken no record yet. The call allocates no memory.
     pub(crate) fn new(config: &'a Config<S>) -> PairReplay<'a, S>
         ensures config { result.config.now ≡ config.now }
         ensures none { HasTakenPair S.scheme result [] }
@@ -37,7 +37,7 @@ impl<'a, S: Sign> PairReplay<'a, S> {
         }
     }
 
-    /// The version of the configuration, None where it has taken no record.
+    /// The version of the configuration. None where no record was taken.
     pub(crate) fn version(&self) -> Option<Version>
         ensures { result ≡ self.now.version }
     {
@@ -81,7 +81,7 @@ impl<'a, S: Sign> PairReplay<'a, S> {
         Ok(())
     }
 
-    // Takes one record more.
+    // Takes the next record.
     fn take_one(&mut self, alloc: Global, bytes: &[u8], place: u64) -> Result<(), AllocError>
         ensures config { self.new.config.now ≡ self.old.config.now }
         ensures taken { OnOk result ((before : List Record) → HasTakenPair S.scheme self.old before → HasTakenPair S.scheme self.new (before ++ (record { bytes = bytes.now; gate = place }) ∷ [])) }

@@ -1,4 +1,4 @@
-//! What a reader of a journal on two disks has come to, record by record.
+//! How far a reader of a journal on two disks has got, record by record.
 
 ghost use Rattle.std.specs.Prelude.{◌≡◌, ℕ, ◌++◌, ◌∷◌, [], List, All, IfOk, IfErr};
 ghost use Rattle.journal.specs.Format.{FailsAs};
@@ -17,22 +17,23 @@ use sigface::Sign;
 use std::alloc::{AllocError, Global};
 use validator::{Config, LoadError, Loading, Validator};
 
-/// What a reader has come to.
+/// How far a reader has got.
 #[derive(Drop)]
 pub(crate) enum Reached<'a, S: Sign> {
     /// No record came yet.
     Empty,
     /// The configuration alone, in this version and in the group of this gate.
     Configured(Version, u64),
-    /// The configuration with a head, and records of a checkpoint's state. The gates are those of the configuration and of these.
+    /// The configuration with a head, and records of a checkpoint's state so far. The gates are those of the configuration and of these
+    /// records.
     Checkpoint(Loading<'a, S>, Vec<u64>),
-    /// All up to some event: the validator after it.
+    /// The checkpoint's state, if any, and events so far: the validator in the state after them.
     Standing(Validator<'a, S>),
-    /// A fault, the first one.
+    /// The first fault.
     Failed(JournalError),
 }
 
-/// What the first record comes to.
+/// What is reached by the first record.
 pub(crate) fn after_first<'a, S: Sign>(
     alloc: Global,
     config: &'a Config<S>,
@@ -51,7 +52,7 @@ pub(crate) fn after_first<'a, S: Sign>(
     }
 }
 
-/// What the second record comes to, after the configuration in this version: in its group it is a head.
+/// What is reached by the second record, after a configuration in this version: in the configuration's group it is a head.
 pub(crate) fn after_second<'a, S: Sign>(
     alloc: Global,
     config: &'a Config<S>,
@@ -74,7 +75,7 @@ pub(crate) fn after_second<'a, S: Sign>(
     }
 }
 
-/// What a record comes to after those of a checkpoint's state: one more of them, or the first event.
+/// What is reached by a record after those of a checkpoint's state: one more of them, or the first event.
 pub(crate) fn after_state<'a, S: Sign>(
     alloc: Global,
     loading: Loading<'a, S>,
@@ -97,7 +98,7 @@ pub(crate) fn after_state<'a, S: Sign>(
     }
 }
 
-/// What a record comes to that has to be a new event.
+/// What is reached by a record that has to be a new event.
 pub(crate) fn after_event<'a, S: Sign>(
     alloc: Global,
     mut validator: Validator<'a, S>,
@@ -114,11 +115,11 @@ pub(crate) fn after_event<'a, S: Sign>(
     }
 }
 
-/// The validator at the state of a checkpoint's records with these gates, the configuration's first.
+/// A validator in the state of a checkpoint's records. The gates are those of the records, the configuration's first.
 ///
 /// # Errors
-/// `Damaged` with the gate of the first record at fault, and with the first gate where no record is and the whole is; `Memory` where an
-/// allocation failed.
+/// `Damaged` with the gate of the first record at fault, or with the first gate where only the whole is; `Memory` where an allocation
+/// failed.
 pub(crate) fn loaded<'a, S: Sign>(
     loading: Loading<'a, S>,
     gates: Vec<u64>,
@@ -135,7 +136,7 @@ pub(crate) fn loaded<'a, S: Sign>(
     }
 }
 
-// Puts a record of a checkpoint's state, or the configuration before them, whose group has this gate.
+// Adds a record of a checkpoint's state, or the configuration before them, whose group has this gate.
 fn put<'a, S: Sign>(
     mut loading: Loading<'a, S>,
     mut gates: Vec<u64>,
@@ -152,7 +153,7 @@ fn put<'a, S: Sign>(
     }
 }
 
-// What is wrong with the journal where records with these gates can't be loaded.
+// The journal's error where records with these gates can't be loaded.
 fn fault_at(gates: &[u64], error: LoadError) -> JournalError
     ensures { result ≡ error_at gates.now error }
 {

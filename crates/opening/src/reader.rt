@@ -1,4 +1,4 @@
-//! Validators as what takes a journal's records.
+//! How validators take a journal's records while they are read.
 
 ghost use Rattle.std.specs.Prelude.{◌++◌};
 ghost use Rattle.std.proofs.Common.{refl, sym, ◌∙◌, subst, append_assoc};

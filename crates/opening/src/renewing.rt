@@ -33,7 +33,7 @@ pub(crate) fn renew<S: Sign, D: Disk>(
     requires stands { let node = node_of S.scheme config.now in StandsAt node (decoded_in node (areas_of D.device journal.old)) validator.now.tables }
     requires version { (records : List Record) × (stands_in (areas_of D.device journal.old) ≡ Ok records) × (version ≡ version_in records) }
     ensures renewed { IsRenewed (node_of S.scheme config.now) D.device journal.old result journal.new }
-    // It rewrites one in the first version, and no other.
+    // Exactly a journal in the first version is rewritten.
     ensures placed { OnOk result (IsPlaced (node_of S.scheme config.now) D.device version journal.old journal.new) }
     ensures first { IfErr result (λ error. error ≡ JournalError.Full → version ≡ Some Version.First) }
 {

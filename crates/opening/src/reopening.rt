@@ -23,20 +23,20 @@ use sigface::Sign;
 use std::alloc::{AllocError, Global};
 use validator::{Config, Validator};
 
-/// Opens a node on a disk: its journal, and the validator after the events there. An empty journal gets the configuration,
-/// in the second version. One of the first version goes on in it.
+/// Opens a node on a disk: its journal, and the validator in the state after its events. An empty journal gets the configuration, in the
+/// second version. A journal in the first version stays in that version.
 ///
 /// # Errors
-/// In this order: `Device` or `Memory`, where the disk or the memory fails; `Damaged` with the place of an open gate
-/// without a whole group after it; `Damaged` with that of the first group, where its one record isn't a configuration of
-/// either version; `ConfigMismatch`, where it is another one, or has no stakes and a stake isn't 1; `Damaged` with the
-/// place of the group of the first record that is no event, fails the checks, or isn't new. The disk is handed back.
+/// In this order: `Device` or `Memory`, where the disk or an allocation fails; `Damaged` with the place of an open gate without a whole
+/// group after it; `Damaged` with that of the first group, where its one record isn't a configuration in either version; `ConfigMismatch`,
+/// where it is another configuration, or has no stakes and a stake isn't 1; `Damaged` with the place of the group of the first record that
+/// is no event, fails the checks, or isn't new. The disk is handed back.
 pub fn reopen<'a, S: Sign, D: Disk>(
     alloc: Global,
     config: &'a Config<S>,
     disk: D,
 ) -> Result<(Validator<'a, S>, Journal<D>), Failed<JournalError, D>>
-    // The validator stands at what the bytes are told as, and so is what they are then.
+    // The validator holds the state that the bytes decoded to, and the bytes still decode to it.
     ensures setting { IfOk result (λ opened. opened.0.setting ≡ config.now) }
     ensures stands { let node = node_of S.scheme config.now in IfOk result (λ opened. StandsAt node (decoded node (D.device.content disk)) opened.0.tables) }
     ensures same { let node = node_of S.scheme config.now in IfOk result (λ opened. decoded node (D.device.content (disk_of opened.1)) ≡ decoded node (D.device.content disk)) }
@@ -44,16 +44,16 @@ pub fn reopen<'a, S: Sign, D: Disk>(
     ensures configured { IfOk result (λ opened. stands (D.device.content (disk_of opened.1)) ≢ Ok []) }
     ensures alone { IfOk result (λ opened. spare_of opened.1 ≡ None) }
 
-    // It stands at what is kept of a history for which the bytes stand.
+    // This state is kept of a legal history, and the bytes stand for it.
     ensures stands_for { IfOk result (λ opened. StandsForAt (node_of S.scheme config.now) (D.device.content disk) opened.0.tables) }
-    // The disk then has a journal of the node at each state for which the bytes stood.
+    // The disk then has a journal of the node at each state that the bytes stood for.
     ensures kept { IfOk result (λ opened. KeepsStates (node_of S.scheme config.now) (D.device.content disk) (D.device.content (disk_of opened.1))) }
-    // There is one at which the validator stands.
+    // One of these states is the validator's.
     ensures holds { IfOk result (λ opened. HoldsAt (node_of S.scheme config.now) (D.device.content (disk_of opened.1)) opened.0.tables) }
 
-    // Its errors, and what a stop at any moment of it leaves.
+    // What the errors say, and what a stop at any moment of the opening may leave.
     ensures opening { IsOpening (node_of S.scheme config.now) D.device (λ opened. disk_of opened.1) disk result }
-    // Only a failure of the disk leaves other bytes than there were, but for those after the closed gate.
+    // After an error the bytes are as before, up to their closed gate, unless the disk failed.
     ensures unchanged { IfErr result (λ failed. failed.error ≢ JournalError.Device → (D.device.content failed.disk ≡ D.device.content disk) ⊎ IsClosedUp (D.device.content disk) (D.device.content failed.disk)) }
 {
     spec_machine::starts_fresh();
@@ -73,7 +73,7 @@ pub fn reopen<'a, S: Sign, D: Disk>(
     }
 }
 
-// Whatever a stop leaves in a world of this node is told as a state. It looks at the keys, and does nothing.
+// Whatever a stop leaves in a world of this node decodes to a state. The call looks at the keys and changes nothing.
 fn outcomes_are_decoded<S: Sign>(config: &Config<S>)
     ensures { AreLeftDecoded (node_of S.scheme config.now) }
 {
@@ -112,7 +112,7 @@ fn open_one<D: Disk, R: Reader>(
     }
 }
 
-// The validator after the events of a journal's records. Where there are none, the journal gets the configuration.
+// The validator in the state after a journal's events. A journal without records gets the configuration.
 fn validator_on<'a, S: Sign, D: Disk>(
     alloc: Global,
     config: &'a Config<S>,
@@ -147,7 +147,7 @@ fn validator_on<'a, S: Sign, D: Disk>(
     Ok(validator)
 }
 
-/// The version of the first record, if it has the shape of a configuration, and is alone in its group.
+/// The version of the first record, if that has the shape of a configuration and is alone in its group.
 pub fn first_version(first: &Record, events: &[Record]) -> Option<Version>
     ensures { result ≡ decoded_version first.now events.now }
 {
@@ -158,14 +158,14 @@ pub fn first_version(first: &Record, events: &[Record]) -> Option<Version>
     }
 }
 
-// Whether none of these records stands in the first group.
+// Whether none of these records is in the first group.
 fn is_alone(events: &[Record]) -> bool
     ensures { result ≡ decoded_alone events.now }
 {
     events.iter().all(|event| event.gate > 0)
 }
 
-/// Whether these bytes are this configuration's, in a version that can tell its committee. `AllocError` where an allocation failed.
+/// Whether these bytes are this configuration's, in a version that can express its committee. On `AllocError` an allocation failed.
 pub fn is_own<S: Sign>(
     alloc: Global,
     config: &Config<S>,
@@ -178,7 +178,7 @@ pub fn is_own<S: Sign>(
     Ok(can_tell(version, config.committee()) && bytes == own.as_slice())
 }
 
-/// Writes the first group of an empty journal: the configuration alone, in a version that can tell the committee.
+/// Writes the first group of an empty journal: the configuration alone, in a version that can express the committee.
 pub fn write_configuration<S: Sign, D: Disk>(
     alloc: Global,
     version: Version,

@@ -13,20 +13,20 @@ use sigface::Sign;
 use std::alloc::{AllocError, Global};
 use validator::{Config, Validator};
 
-/// A validator that takes the records of a journal, of which the first has to be its configuration.
+/// A validator that takes the records of a journal. The first one has to be the node's configuration.
 #[derive(Drop)]
 pub(crate) struct Replay<'a, S: Sign> {
     config: &'a Config<S>,
     // The place of the first record's group.
     first: Option<u64>,
-    // Whether no other record stands in the first group.
+    // Whether no other record is in the first group.
     alone: bool,
-    // The validator after the events so far, or the first fault.
+    // The validator in the state after the events so far, or the first fault.
     reached: Result<Validator<'a, S>, JournalError>,
 }
 
 impl<'a, S: Sign> Replay<'a, S> {
-    /// One that has taken no record yet.
+    /// A validator that has taken no record yet.
     pub(crate) fn new(alloc: Global, config: &'a Config<S>) -> Result<Replay<'a, S>, AllocError>
         ensures config { IfOk result (λ replay. replay.config.now ≡ config.now) }
         ensures none { IfOk result (λ replay. HasTaken S.scheme replay []) }
@@ -40,14 +40,14 @@ impl<'a, S: Sign> Replay<'a, S> {
         })
     }
 
-    /// Whether it has taken no record.
+    /// Whether no record was taken yet.
     pub(crate) fn is_empty(&self) -> bool
         ensures { result ≡ is_none self.now.first }
     {
         self.first.is_none()
     }
 
-    /// The validator after the events, or what is wrong with the records.
+    /// The validator in the state after the events, or what is wrong with the records.
     pub(crate) fn finish(self) -> Result<Validator<'a, S>, JournalError>
         ensures setting { (records : List Record) → HasTaken S.scheme self.entry records → IfOk result (λ validator. validator.setting ≡ self.entry.config.now) }
         ensures stands { let node = node_of S.scheme self.entry.config.now in (records : List Record) → HasTaken S.scheme self.entry records
@@ -84,7 +84,7 @@ impl<'a, S: Sign> Replay<'a, S> {
         Ok(())
     }
 
-    // Takes one record more.
+    // Takes the next record.
     fn take_one(&mut self, alloc: Global, bytes: &[u8], place: u64) -> Result<(), AllocError>
         ensures config { self.new.config.now ≡ self.old.config.now }
         ensures taken { OnOk result ((before : List Record) → HasTaken S.scheme self.old before → HasTaken S.scheme self.new (before ++ (record { bytes = bytes.now; gate = place }) ∷ [])) }
@@ -109,7 +109,7 @@ impl<'a, S: Sign> Replay<'a, S> {
         Ok(())
     }
 
-    // Takes a record after the first one. After a fault nothing more is replayed.
+    // Takes a record after the first one. After a fault, records are ignored.
     fn take_next(&mut self, alloc: Global, bytes: &[u8], place: u64) -> Result<(), AllocError>
         requires { self.old.first ≢ None }
         ensures config { self.new.config.now ≡ self.old.config.now }

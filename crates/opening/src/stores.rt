@@ -26,31 +26,31 @@ use validator::{Config, Validator};
 /// Opens a node on one disk, as `reopen` does, or on two, as `reopen_pair` does.
 ///
 /// # Errors
-/// Those of these. What was given is handed back.
+/// Those of `reopen` and `reopen_pair`. The disks are handed back.
 pub fn reopen_store<'a, S: Sign, D: Disk>(
     alloc: Global,
     config: &'a Config<S>,
     store: Store<D>,
 ) -> Result<(Validator<'a, S>, Journal<D>), Failed<JournalError, Store<D>>>
-    // The validator stands at what the areas are told as, and so are they then.
+    // The validator holds the state that the areas decoded to, and the areas still decode to it.
     ensures setting { IfOk result (λ opened. opened.0.setting ≡ config.now) }
     ensures stands { let node = node_of S.scheme config.now in IfOk result (λ opened. StandsAt node (decoded_in node (areas_in D.device store)) opened.0.tables) }
     ensures same { let node = node_of S.scheme config.now in IfOk result (λ opened. decoded_in node (areas_of D.device opened.1) ≡ decoded_in node (areas_in D.device store)) }
     ensures alive { IfOk result (λ opened. IsAlive D.device opened.1) }
     ensures configured { IfOk result (λ opened. stands_in (areas_of D.device opened.1) ≢ Ok []) }
     ensures begun { IfOk result (λ opened. HasBegun D.device opened.1) }
-    // A journal on two disks is in the second version then. One in the first version was rewritten, with the next generation.
+    // A journal on two disks is in the second version then; one in the first version was rewritten, with the next generation.
     ensures disks { IfOk result (λ opened. IsReadIn (node_of S.scheme config.now) D.device store opened.1) }
     ensures newest { IfOk result (λ opened. IsSome (spare_of opened.1) → IsNewest (areas_of D.device opened.1)) }
 
-    // It stands at a state for which the areas stand.
+    // The areas stand for this state.
     ensures stands_for { IfOk result (λ opened. StandsForIn (node_of S.scheme config.now) (areas_in D.device store) opened.0.tables) }
-    // The disks then have a journal of the node at each state for which the areas stood.
+    // The disks then have a journal of the node at each state that the areas stood for.
     ensures kept { IfOk result (λ opened. KeepsStatesIn (node_of S.scheme config.now) (areas_in D.device store) (areas_of D.device opened.1)) }
-    // There is one at which the validator stands.
+    // One of these states is the validator's.
     ensures holds { IfOk result (λ opened. HoldsIn (node_of S.scheme config.now) (areas_of D.device opened.1) opened.0.tables) }
 
-    // Its errors, and what a stop at any moment of it leaves.
+    // What the errors say, and what a stop at any moment of the opening may leave.
     ensures opening { IsOpeningOn (node_of S.scheme config.now) D.device (λ opened. store_of opened.1) store result }
 {
     match store {
@@ -59,40 +59,42 @@ pub fn reopen_store<'a, S: Sign, D: Disk>(
     }
 }
 
-/// Opens a node on two disks, that of the first area and that of the second: its journal, and the validator after the records of the area
-/// that is read. An empty journal gets the configuration, in the second version. One in the first version is rewritten as a checkpoint.
+/// Opens a node on two disks, given in the order of their areas: its journal, and the validator in the state after the records of the area
+/// that is read. An empty journal gets the configuration, in the second version. A journal in the first version is rewritten as a
+/// checkpoint.
 ///
 /// # Errors
-/// In this order: `Device` or `Memory`, where a disk or the memory fails; `Damaged` with the first place of damage; `ConfigMismatch`, where the
-/// first record is another configuration than the node's own; `Damaged` with the gate of the first record of the checkpoint's state that is at
-/// fault, or with the first gate where all of them together are; `Damaged` with the gate of the first record after them that is no event, fails
-/// the checks, or isn't new; `Full` where a journal in the first version has no room for its checkpoint. Both disks are handed back.
+/// In this order: `Device` or `Memory`, where a disk or an allocation fails; `Damaged` with the first place of damage; `ConfigMismatch`,
+/// where the first record is another configuration than the node's own; `Damaged` with the gate of the first record of the checkpoint's
+/// state that is at fault, or with the first gate where only all of them together are; `Damaged` with the gate of the first record after
+/// them that is no event, fails the checks, or isn't new; `Full` where a journal in the first version has no room for its checkpoint. Both
+/// disks are handed back.
 pub fn reopen_pair<'a, S: Sign, D: Disk>(
     alloc: Global,
     config: &'a Config<S>,
     first: D,
     second: D,
 ) -> Result<(Validator<'a, S>, Journal<D>), Failed<JournalError, (D, D)>>
-    // The validator stands at what both areas are told as, and so are they then.
+    // The validator holds the state that both areas decoded to, and they still decode to it.
     ensures setting { IfOk result (λ opened. opened.0.setting ≡ config.now) }
     ensures stands { let node = node_of S.scheme config.now in IfOk result (λ opened. StandsAt node (decoded_in node (pair (D.device.content first) (D.device.content second))) opened.0.tables) }
     ensures same { let node = node_of S.scheme config.now in IfOk result (λ opened. decoded_in node (areas_of D.device opened.1) ≡ decoded_in node (pair (D.device.content first) (D.device.content second))) }
     ensures alive { IfOk result (λ opened. IsAlive D.device opened.1) }
     ensures configured { IfOk result (λ opened. stands_in (areas_of D.device opened.1) ≢ Ok []) }
     ensures begun { IfOk result (λ opened. HasBegun D.device opened.1) }
-    // It is in the second version then. One in the first version was rewritten, with the next generation.
+    // The journal is in the second version then; one in the first version was rewritten, with the next generation.
     ensures two { IfOk result (λ opened. IsSome (spare_of opened.1)) }
     ensures read { IfOk result (λ opened. IsReadOn (node_of S.scheme config.now) (D.device.content first) (D.device.content second) opened.1) }
     ensures newest { IfOk result (λ opened. IsNewest (areas_of D.device opened.1)) }
 
-    // It stands at a state for which the areas stand.
+    // The areas stand for this state.
     ensures stands_for { IfOk result (λ opened. StandsForIn (node_of S.scheme config.now) (pair (D.device.content first) (D.device.content second)) opened.0.tables) }
-    // The disks then have a journal of the node at each state for which the areas stood.
+    // The disks then have a journal of the node at each state that the areas stood for.
     ensures kept { IfOk result (λ opened. KeepsStatesIn (node_of S.scheme config.now) (pair (D.device.content first) (D.device.content second)) (areas_of D.device opened.1)) }
-    // There is one at which the validator stands.
+    // One of these states is the validator's.
     ensures holds { IfOk result (λ opened. HoldsIn (node_of S.scheme config.now) (areas_of D.device opened.1) opened.0.tables) }
 
-    // Its errors, and what a stop at any moment of it leaves.
+    // What the errors say, and what a stop at any moment of the opening may leave.
     ensures opening { IsOpeningOn (node_of S.scheme config.now) D.device (λ opened. store_of opened.1) (Store.Two first second) (with_store result) }
 {
     match open_both(alloc, config, first, second) {
@@ -144,7 +146,7 @@ fn open_both<'a, S: Sign, D: Disk>(
     }
 }
 
-// Whatever a stop leaves in a world of this node is told as a state. It looks at the keys, and does nothing.
+// Whatever a stop leaves in a world of this node decodes to a state. The call looks at the keys and changes nothing.
 fn both_are_decoded<S: Sign>(config: &Config<S>)
     ensures { AreLeftDecodedIn (node_of S.scheme config.now) }
 {
@@ -153,7 +155,8 @@ fn both_are_decoded<S: Sign>(config: &Config<S>)
     config.keys_hold();
 }
 
-// The validator after the records that a reader took of an opened journal on two disks, and that journal in the second version.
+// The validator in the state after the records that a reader took of an opened journal on two disks, and this journal in the second
+// version.
 fn finish_on<'a, S: Sign, D: Disk>(
     alloc: Global,
     config: &'a Config<S>,
@@ -176,7 +179,7 @@ fn finish_on<'a, S: Sign, D: Disk>(
     }
 }
 
-// A validator, and its journal in the second version.
+// A validator, and its journal, which is brought to the second version.
 fn renew_for<'a, S: Sign, D: Disk>(
     alloc: Global,
     config: &'a Config<S>,

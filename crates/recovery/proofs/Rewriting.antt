@@ -85,7 +85,8 @@ module _ {S D : Type 0} (node : Node) (device : Device D) (script : Desk) (befor
           checkpoint = kept.kept;
           written = kept.written;
           is = kept.is;
-          full = subst (λ (rows : List (List ℕ)). (MAX_JOURNAL_BYTES < 1 + length (bytes_for (generation_in before.journal + 1) rows)) ⊎ (generation_in before.journal ≡ 2 ^ 64 - 1)) kept.are no_room.1;
+          full = subst (λ (rows : List (List ℕ)). (MAX_JOURNAL_BYTES < 1 + length (bytes_for (generation_in before.journal + 1) rows))
+              ⊎ (generation_in before.journal ≡ 2 ^ 64 - 1)) kept.are no_room.1;
         });
   })
 

@@ -44,7 +44,8 @@ module _ {S D : Type 0} (node : Node) (device : Device D) (script : Desk) (befor
       → (error ≡ ends.Memory → IsErrOf answer errors.Memory) → (error ≡ ends.Device → IsErrOf answer errors.Device) → (error ≡ ends.Full → IsErrOf answer errors.Full)
       → IfErr answer (λ e. (e ≡ errors.Down) ⊎ (e ≡ errors.Memory) → later ≡ before)
       → (IsErrOf answer errors.Full → FindsNoRoom node before.book later.book (device.content (disk_of before.journal))) → (IsErrOf answer errors.Full → later.journal ≡ before.journal)
-      → spare_of later.journal ≡ spare_of before.journal → ((bytes : List ℕ) → device.outcome (disk_of later.journal) bytes → IsWithOrWithout before.book.pending (device.content (disk_of before.journal)) bytes)
+      → spare_of later.journal ≡ spare_of before.journal → ((bytes : List ℕ) → device.outcome (disk_of later.journal) bytes
+      → IsWithOrWithout before.book.pending (device.content (disk_of before.journal)) bytes)
       → Breaks node script flush error (areas_in device (store_of later.journal)) (Leaves device (store_of later.journal))
   round_breaks answer error (inl so) memory failed full unchanged no_room same spare left =
       let answered = memory so in

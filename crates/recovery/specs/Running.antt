@@ -1,4 +1,4 @@
--- That what is written is what runs of the node give out.
+-- What a script writes is what runs of the node give out.
 use Rattle.std.specs.Prelude.{◌≡◌, ⊤, ℕ, List, Option, Ok}
 use Rattle.std.specs.Io.KnownBytes.{Appends}
 use Rattle.spec_model.specs.Giving.{kept}
@@ -26,16 +26,16 @@ pub record HasBegun (node : Node) (history : History) (moves : List Move) (world
   pub on : Opened
   pub is : world ≡ run_on on history world.given
 
--- each run of the node that has just begun with a history of which what is kept is what areas are told as
+-- P holds of each run of the node that has just begun with a history whose kept state these areas decode to
 abbrev pub EachRunOn : Node → Areas → (History → List Move → World → Type 0) → Type 0
 EachRunOn node before P = (history : History) (moves : List Move) (world : World) → decoded_in node before ≡ Ok (kept node history) → HasBegun node history moves world → P history moves world
 
--- it goes on as commands say, and what goes out on the way is what a writer got, as frames
+-- the run can go on as the commands say, and the outputs that go out are what the writer got, as frames
 pub record GivesOut (node : Node) (commands : List script.Command) (old new : Option (List ℕ)) (history : History) (moves : List Move) (world : World) : Type 0 where
   pub goes_on : GivesOutText node moves world (script.desk_on (kept node history)) commands
   pub writes : Appends old new (script.frames goes_on.outputs)
 
--- it goes on as some of the commands say, and what a writer got is a beginning of what goes out on the way
+-- the run can go on as some of the commands say, and what the writer got is a prefix of the outputs that go out
 pub record GivesOutNoLess (node : Node) (commands : List script.Command) (old new : Option (List ℕ)) (history : History) (moves : List Move) (world : World) : Type 0 where
   pub some : List script.Command
   pub are_first : Begins some commands

@@ -36,7 +36,7 @@ use Rattle.recovery.specs.declared.driving.DriveError.TheVariants.{Memory, Damag
 
 -- ---- commands
 
--- a command as one of a script, and all of them
+-- a command as the definition of a script has it, and a list of them
 abbrev pub said : Command → script.Command
 said (Event event) = script.take_in event
 said Flush = script.flush
@@ -56,23 +56,23 @@ abbrev pub is_two : {D : Type 0} → Store D → Bool
 is_two (One disk) = false
 is_two (Two first second) = true
 
--- a node on one disk, or on two, can carry a command out: a checkpoint needs two
+-- a node on these disks can carry out the command: a checkpoint needs two disks
 abbrev pub CarriesOut : Bool → Command → Type 0
 CarriesOut two Checkpoint = two ≡ true
 CarriesOut two other = ⊤
 
--- a call that takes disks gives back as many, whatever it answers
+-- a call that takes disks gives back as many, whatever its result
 abbrev pub KeepsDisks : {T D E : Type 0} → (T → Store D) → Store D → Result T (Failed E (Store D)) → Type 0
 KeepsDisks disks_in store result = IfOk result (λ given. is_two (disks_in given) ≡ is_two store) × IfErr result (λ failed. is_two failed.disk ≡ is_two store)
 
--- ---- what stands between two commands
+-- ---- the node between two commands
 
--- the run of a book whose owner settles all that it takes
+-- the run of a book whose owner settles whatever it takes at once
 abbrev pub run_of : script.Desk → Run
 run_of desk = record { base = desk.base; accepted = desk.accepted; taken = desk.settled; settled = desk.settled }
 
--- A book and a journal are those of a script's desk: the book stands at its run and queues the outputs that wait there, the journal can be
--- added to, has the configuration and is read as the state after what is settled.
+-- A book and a journal are in the situation of a script's desk: the book stands at its run and queues the outputs that wait there; the
+-- journal can be appended to, has the configuration, and decodes to the state after what is settled.
 pub record IsOf {S D : Type 0} (node : Node) (device : Device D) (desk : script.Desk) (book : BookView S) (journal : Journal D) : Type 0 where
   pub stands_at : Stands node (run_of desk) book
   pub waits : book.queue ≡ desk.waiting
@@ -83,12 +83,12 @@ pub record IsOf {S D : Type 0} (node : Node) (device : Device D) (desk : script.
   pub configured : stands (device.content (disk_of journal)) ≢ Ok []
   pub read_as : AreReadAs node (areas_of device journal) (script.settled_in node desk)
 
--- whichever script's desk the first one is of, the second is of what this makes of it
+-- whichever script's desk the first one matches, the second one matches what `next` makes of it
 abbrev pub Follows : {S D : Type 0} → Node → Device D → (script.Desk → script.Desk) → DeskView S D → DeskView S D → Type 0
 Follows node device next before later =
     (desk : script.Desk) → IsOf node device desk before.book before.journal → IsOf node device (next desk) later.book later.journal
 
--- they are those of a run that began with the state that the disks were told as
+-- the book and the journal belong to a run that began with the state that the disks decoded to
 pub record IsOpenedOf {S D : Type 0} (node : Node) (device : Device D) (before : Areas) (book : BookView S) (journal : Journal D) : Type 0 where
   pub state : State
   pub told_first : decoded_in node before ≡ Ok state
@@ -96,8 +96,8 @@ pub record IsOpenedOf {S D : Type 0} (node : Node) (device : Device D) (before :
 
 -- ---- how a script ends
 
--- It was carried out: what is written is its text, from the state that the disks were told as. The disks are told as the state after what is
--- settled then, and no stop changes that.
+-- The whole script was carried out: what is written is its text, from the state that the disks decoded to. The disks now decode to the
+-- state after what is settled, and so does whatever a stop leaves of them.
 pub record HasRun (node : Node) (commands : List script.Command) (before later : Areas) (possible : Areas → Type 0) (old new : Option (List ℕ)) : Type 0 where
   pub state : State
   pub told_first : decoded_in node before ≡ Ok state
@@ -105,14 +105,14 @@ pub record HasRun (node : Node) (commands : List script.Command) (before later :
   pub decoded_later : decoded_in node later ≡ Ok (script.settled_in node (script.desk_after node (script.desk_on state) commands))
   pub durable : (areas : Areas) → possible areas → areas ≡ later
 
--- areas are two, and a journal in the first version, of which no checkpoint has room
+-- two areas are a journal in the first version whose checkpoint has no room
 abbrev pub IsFull : Node → Areas → Type 0
 IsFull node (alone bytes) = ⊥
 IsFull node (pair one other) = IsFullOf node one other
 
--- The node was not opened: the error is what the areas are told as, unless memory or a disk failed, or a checkpoint of a journal in the first
--- version had no room on two disks; and what a stop leaves is told as one outcome from before, and of one disk is that byte for byte, or
--- has the records of one, or where these are none the configuration alone.
+-- The node could not be opened: the error is the one that the areas decode to, unless an allocation or a disk failed, or the checkpoint of
+-- a journal in the first version had no room. What a stop leaves decodes to what an outcome from before does; of one disk it is an outcome
+-- byte for byte, or has the records of one, or only the configuration where these are none.
 pub record IsNotOpened (node : Node) (error : DriveError) (before : Areas) (possible later : Areas → Type 0) : Type 0 where
   pub cause : JournalError
   pub is : error ≡ ended_by cause
@@ -121,7 +121,7 @@ pub record IsNotOpened (node : Node) (error : DriveError) (before : Areas) (poss
   pub left : (areas : Areas) → later areas → (first : Areas) × possible first × (decoded_in node areas ≡ decoded_in node first)
   pub keeps : (bytes : List ℕ) → later (alone bytes) → KeepsRecords node (λ one. possible (alone one)) bytes
 
--- and nothing was written
+-- the node could not be opened, and nothing was written
 abbrev pub IsUnopened : Node → DriveError → Areas → (Areas → Type 0) → (Areas → Type 0) → Option (List ℕ) → Option (List ℕ) → Type 0
 IsUnopened node error before possible later old new = IsNotOpened node error before possible later × Keeps old new
 
@@ -130,15 +130,15 @@ abbrev pub IsAreaOf : Areas → List ℕ → Type 0
 IsAreaOf (alone bytes) file = file ≡ bytes
 IsAreaOf (pair one other) file = (file ≡ one) ⊎ (file ≡ other)
 
--- The journal has no room: for the group of a flush after the area that is read, or for a checkpoint of all that was accepted, or no
--- generation comes after its own.
+-- The journal has no room: for the group of a flush, after the area that is read; or for a checkpoint of all accepted events, or its
+-- generation is the last.
 pub data HasNoRoom (node : Node) (desk : script.Desk) (areas : Areas) (command : script.Command) : Type 0 where
   for_group : (file : List ℕ) → command ≡ script.flush → IsAreaOf areas file
       → MAX_JOURNAL_BYTES < length file + length (group_bytes (map record_of (script.group_of (drop (length desk.settled) desk.accepted))))
       → HasNoRoom node desk areas command
   for_checkpoint : (generation : ℕ) → command ≡ script.checkpoint → LacksRoom node generation (script.state_in node desk) → HasNoRoom node desk areas command
 
--- a command calls the disk: an event is only accepted
+-- a command makes device calls, as every one does but accepting an event
 abbrev pub CallsDisk : script.Command → Type 0
 CallsDisk (script.take_in event) = ⊥
 CallsDisk other = ⊤
@@ -149,8 +149,8 @@ NeedsRoom script.flush = ⊤
 NeedsRoom script.checkpoint = ⊤
 NeedsRoom other = ⊥
 
--- An error may end a command: memory or the writer can fail at each of them, the disk where it is called, and the journal is full only for
--- a flush or a checkpoint. Damage or another configuration ends none: only the opening before the first command answers so.
+-- An error that may end a command: an allocation or the writer can fail at any command, the disk where it is called, and the journal is
+-- full only for a flush or a checkpoint. Damage and another configuration are found when the node is opened, before the first command.
 abbrev pub MayEnd : script.Command → DriveError → Type 0
 MayEnd command Memory = ⊤
 MayEnd command Output = ⊤
@@ -159,20 +159,20 @@ MayEnd command Full = NeedsRoom command
 MayEnd command (Damaged place) = ⊥
 MayEnd command ConfigMismatch = ⊥
 
--- A command failed at a desk: what a stop leaves is told as the state after what is settled there, or after the command.
+-- A command failed at a desk: what a stop leaves decodes to the state after what is settled there, or after the command.
 pub record Breaks (node : Node) (desk : script.Desk) (command : script.Command) (error : DriveError) (later : Areas) (possible : Areas → Type 0) : Type 0 where
   pub left : (areas : Areas) → possible areas
       → (decoded_in node areas ≡ Ok (script.settled_in node desk)) ⊎ (decoded_in node areas ≡ Ok (script.settled_in node (script.after node desk command)))
   pub errors : MayEnd command error
   pub full : error ≡ Full → HasNoRoom node desk later command
 
--- whichever script's desk this one was of, the command failed there with an error and left these disks
+-- whichever script's desk this one matched, the command failed there with this error and left these disks
 abbrev pub BreaksOff : {S D : Type 0} → Node → Device D → script.Command → DeskView S D → DriveError → Store D → Type 0
 BreaksOff node device command before error store =
     (desk : script.Desk) → IsOf node device desk before.book before.journal → Breaks node desk command error (areas_in device store) (Leaves device store)
 
--- Some of the commands were carried out, and the next one failed: what is written is the text of these, and a beginning of what the next
--- one writes, not the whole of it where the writer failed, and nothing of it where that ended at the disk.
+-- Some of the commands were carried out, and the next one failed. What is written is the text of those, and a prefix of what the next one
+-- writes: not all of it where the writer failed, and nothing where the failure was the disk's.
 pub record IsCutShort (node : Node) (commands : List script.Command) (error : DriveError) (before later : Areas) (possible : Areas → Type 0) (old new : Option (List ℕ)) : Type 0 where
   pub state : State
   pub told_first : decoded_in node before ≡ Ok state

@@ -1,4 +1,4 @@
-//! What a desk does at a command.
+//! How a desk carries out a command.
 
 ghost use Rattle.std.specs.Prelude.{◌≡◌, ◌≢◌, ◌⊎◌, ◌+◌, ◌<◌, ◌≤◌, true, false, IfOk, IfErr, OnOk, OnErr, IsErrOf, IsOk, None};
 ghost use Rattle.diskmodel.specs.Disk.{TellsFault};
@@ -48,7 +48,7 @@ pub(crate) fn open<'a, S: Sign, D: StopDisk>(
     }
 }
 
-/// Carries out a command, and then writes what is due.
+/// Carries out a command, and then writes the outputs that are due.
 pub(crate) fn carry_out<'a, S: Sign, D: StopDisk, W: Write>(
     desk: Desk<'a, S, D>,
     alloc: Global,
@@ -80,7 +80,7 @@ pub(crate) fn carry_out<'a, S: Sign, D: StopDisk, W: Write>(
     }
 }
 
-// What a command makes of it, before anything is written.
+// The desk after a command, before any output is written.
 fn apply<'a, S: Sign, D: StopDisk>(
     desk: Desk<'a, S, D>,
     alloc: Global,
@@ -109,7 +109,7 @@ fn apply<'a, S: Sign, D: StopDisk>(
     }
 }
 
-// With an event, if it is taken.
+// The desk after an event came in.
 fn with_event<'a, S: Sign, D: StopDisk>(
     mut desk: Desk<'a, S, D>,
     event: Checked,
@@ -132,7 +132,7 @@ fn with_event<'a, S: Sign, D: StopDisk>(
     }
 }
 
-// With the next group on the disk.
+// The desk after the next group was written and settled.
 fn flushed<'a, S: Sign, D: StopDisk>(
     mut desk: Desk<'a, S, D>,
 ) -> Result<Desk<'a, S, D>, Failed<DriveError, Store<D>>>
@@ -152,7 +152,7 @@ fn flushed<'a, S: Sign, D: StopDisk>(
     }
 }
 
-// With a checkpoint on the other disk, which settles all that was accepted.
+// The desk after a checkpoint to the spare disk, which settles all accepted events.
 fn rewritten<'a, S: Sign, D: StopDisk>(
     mut desk: Desk<'a, S, D>,
 ) -> Result<Desk<'a, S, D>, Failed<DriveError, Store<D>>>
@@ -173,7 +173,7 @@ fn rewritten<'a, S: Sign, D: StopDisk>(
     }
 }
 
-// Opened again, after a stop of the machine.
+// The desk after a stop of its machine, opened again.
 fn stopped<'a, S: Sign, D: StopDisk>(
     desk: Desk<'a, S, D>,
     alloc: Global,
@@ -193,7 +193,7 @@ fn stopped<'a, S: Sign, D: StopDisk>(
     }
 }
 
-// Takes an event. Only want of memory is an error: any other refusal changes nothing.
+// Submits an event. Only a failed allocation is an error: any other refusal changes nothing.
 fn accept<S: Sign, D: StopDisk>(desk: &mut Desk<'_, S, D>, event: Checked) -> Result<(), DriveError>
     requires stands { (script : ScriptDesk) × IsOf (node_of S.scheme desk.old.book.validator.setting) D.device script desk.old.book desk.old.journal }
     requires passed { fault_of desk.old.book.validator.setting.charter accepts_all event ≡ None }
@@ -208,7 +208,7 @@ fn accept<S: Sign, D: StopDisk>(desk: &mut Desk<'_, S, D>, event: Checked) -> Re
     unless_memory(desk.accept(event))
 }
 
-// Writes the next group of what is pending to the disk, and settles it.
+// Writes the next group of the pending records to the disk, and settles it.
 fn flush<S: Sign, D: StopDisk>(desk: &mut Desk<'_, S, D>) -> Result<(), DriveError>
     requires stands { (script : ScriptDesk) × IsOf (node_of S.scheme desk.old.book.validator.setting) D.device script desk.old.book desk.old.journal }
 
@@ -223,7 +223,7 @@ fn flush<S: Sign, D: StopDisk>(desk: &mut Desk<'_, S, D>) -> Result<(), DriveErr
     unless_failed(desk.flush())
 }
 
-// Writes a checkpoint of all that was accepted to the other disk, and settles it.
+// Writes a checkpoint of all accepted events to the spare disk, and settles them.
 fn checkpoint<S: Sign, D: StopDisk>(desk: &mut Desk<'_, S, D>) -> Result<(), DriveError>
     requires stands { (script : ScriptDesk) × IsOf (node_of S.scheme desk.old.book.validator.setting) D.device script desk.old.book desk.old.journal }
     requires pair { is_two (store_of desk.old.journal) ≡ true }
@@ -239,7 +239,7 @@ fn checkpoint<S: Sign, D: StopDisk>(desk: &mut Desk<'_, S, D>) -> Result<(), Dri
     unless_failed(desk.checkpoint())
 }
 
-// Writes the outputs that are due, which then wait no longer.
+// Writes the outputs that are due and removes them from the queue.
 fn write_due<S: Sign, D: StopDisk, W: Write>(
     desk: &mut Desk<'_, S, D>,
     alloc: Global,
@@ -261,7 +261,7 @@ fn write_due<S: Sign, D: StopDisk, W: Write>(
     Ok(())
 }
 
-// Writes the first output, if it is due, which then waits no longer. Says whether there was one.
+// Writes the first output, if it is due, and removes it from the queue. Gives whether there was one.
 fn write_next<S: Sign, D: StopDisk, W: Write>(
     desk: &mut Desk<'_, S, D>,
     alloc: Global,
@@ -283,7 +283,7 @@ fn write_next<S: Sign, D: StopDisk, W: Write>(
     Ok(true)
 }
 
-// Ends with an error, and hands back what the desk was on.
+// Ends with an error, and hands the desk's disks back.
 fn fail<'a, S: Sign, D: StopDisk>(
     desk: Desk<'a, S, D>,
     error: DriveError,
@@ -297,7 +297,7 @@ fn fail<'a, S: Sign, D: StopDisk>(
     }
 }
 
-// The one error of an event that ends a script.
+// The only error of an event that ends a script: a failed allocation.
 fn unless_memory(answer: Result<Receipt, Refusal>) -> Result<(), DriveError>
     ensures ok { OnOk result (IsErrOf answer Refusal.Memory → ⊥) }
     ensures err { OnErr result (IsErrOf answer Refusal.Memory) }
@@ -310,7 +310,7 @@ fn unless_memory(answer: Result<Receipt, Refusal>) -> Result<(), DriveError>
     }
 }
 
-// Why a round or a checkpoint fails where the desk was up.
+// Why a round or a checkpoint fails of a desk that was up.
 fn unless_failed(answer: Result<u64, FlushError>) -> Result<(), DriveError>
     requires { IsErrOf answer FlushError.Down → ⊥ }
     ensures ok { OnOk result (IsOk answer) }
@@ -328,7 +328,7 @@ fn unless_failed(answer: Result<u64, FlushError>) -> Result<(), DriveError>
     }
 }
 
-// An opening that failed, with what was to be opened.
+// A failed opening, with the disks that were to be opened.
 fn ended<D: Disk>(failed: Failed<JournalError, Store<D>>) -> Failed<DriveError, Store<D>>
     ensures error { result.error ≡ ended_by failed.error }
     ensures disk { result.disk ≡ failed.disk }

@@ -22,14 +22,14 @@ use thiserror::Error;
 use validator::Config;
 use wire_write::WriteError;
 
-/// What a node is told.
+/// A command to a node.
 #[derive(Debug, Drop)]
 pub enum Command {
     /// An event comes in. It passed the checks of the node's committee.
     Event(Checked),
-    /// What is pending is written to the disk, as far as it fits a group.
+    /// The longest prefix of the pending records that fits a group is written to the disk and settled.
     Flush,
-    /// All that was accepted is settled, by a checkpoint on the other disk of two.
+    /// All accepted events are settled by a checkpoint on the spare disk of two.
     Checkpoint,
     /// The machine stops, and the node is opened again.
     Stop,
@@ -38,7 +38,7 @@ pub enum Command {
 /// Why a script ended early. Printed as its number and its name.
 #[derive(Clone, Copy, Debug, PartialEq, Eq, Error)]
 pub enum DriveError {
-    /// Memory was refused.
+    /// An allocation failed.
     #[error("1 Memory")]
     Memory,
     /// The disk failed.
@@ -50,7 +50,7 @@ pub enum DriveError {
     /// The journal was made with other settings.
     #[error("4 ConfigMismatch")]
     ConfigMismatch,
-    /// The journal would pass its greatest length, or a checkpoint would, or the last generation is reached.
+    /// The journal or a checkpoint would exceed the greatest length, or the last generation is reached.
     #[error("5 Full")]
     Full,
     /// The writer failed.
@@ -89,14 +89,13 @@ impl From<WriteError> for DriveError {
     }
 }
 
-/// Opens a node on a disk and carries out the commands, one after the other, none of which may be a checkpoint. After each of them every
-/// output whose records are on the disk is written as a frame: the length of its bytes in four, and its bytes. An event that is refused
-/// writes nothing.
+/// Opens a node on a disk and carries out the commands in turn; none of them may be a checkpoint. After each command every output whose
+/// records are on the disk is written as a frame: the number of its bytes in four bytes, and the bytes. A refused event writes nothing.
 ///
 /// # Errors
-/// `Damaged` and `ConfigMismatch` as `reopen` answers them, before anything is written. `Full` where the journal has no room for the
-/// group of a flush, `Output` where the writer fails, `Device` or `Memory` where the disk or the memory fails. The disk is handed
-/// back, to be opened again.
+/// `Damaged` and `ConfigMismatch` as `reopen` reports them, before anything is written. `Full` where the journal has no room for the group
+/// of a flush, `Output` where the writer fails, `Device` or `Memory` where the disk or an allocation fails. The disk is handed back, to be
+/// opened again.
 pub fn drive<'a, S: Sign, D: StopDisk, W: Write>(
     alloc: Global,
     config: &'a Config<S>,
@@ -108,19 +107,20 @@ pub fn drive<'a, S: Sign, D: StopDisk, W: Write>(
     requires few { vec_len commands ≤ MAX_ACCEPTED }
     requires on_one { All (CarriesOut false) commands.items }
 
-    // What is written is the text of the script, from the state that the disk was told as.
+    // What is written is the text of the script, from the state that the disk decoded to.
     ensures ok { IfOk result (λ left. HasRun (node_of S.scheme config.now) (script_of commands.items) (alone (D.device.content disk)) (alone (D.device.content left)) (Leaves D.device (Store.One left)) (W.contents writer.old) (W.contents writer.new)) }
 
-    // Else nothing was carried out, or some of the commands and a part of the next one.
+    // After an error nothing was carried out, or some of the commands and a part of the next one.
     ensures err { let node = node_of S.scheme config.now in IfErr result (λ failed. IsUnopened node failed.error (alone (D.device.content disk)) (Leaves D.device (Store.One disk)) (Leaves D.device (Store.One failed.disk)) (W.contents writer.old) (W.contents writer.new)
         ⊎ IsCutShort node (script_of commands.items) failed.error (alone (D.device.content disk)) (alone (D.device.content failed.disk)) (Leaves D.device (Store.One failed.disk)) (W.contents writer.old) (W.contents writer.new)) }
 
-    // Runs of the node give it out. Take any run that has just begun with a history, where the disk was read as what is kept of that. It
-    // goes on by the commands, and what goes out on the way is written, as frames. After an error only a beginning of that is written.
+    // Runs of the node give out what is written. Take any run that has just begun with a history, where the disk decoded to the state kept
+    // of that history. The run can go on as the commands say, and the outputs that go out are written as frames. After an error only a
+    // prefix of them is written.
     ensures given_out { let node = node_of S.scheme config.now in OnOk result (EachRunOn node (alone (D.device.content disk)) (GivesOut node (script_of commands.items) (W.contents writer.old) (W.contents writer.new))) }
     ensures given_out_err { let node = node_of S.scheme config.now in OnErr result (EachRunOn node (alone (D.device.content disk)) (GivesOutNoLess node (script_of commands.items) (W.contents writer.old) (W.contents writer.new))) }
 
-    // It answers Device exactly where the disk has failed.
+    // The error is Device exactly where the disk has failed.
     ensures cause { TellsFaultBack D.device (λ left. left) DriveError.Device disk result }
 {
     match drive_store(alloc, config, Store::One(disk), commands, writer) {
@@ -133,10 +133,10 @@ pub fn drive<'a, S: Sign, D: StopDisk, W: Write>(
     }
 }
 
-/// The same of a node on two disks, that of the first area and that of the second, with checkpoints.
+/// As `drive`, for a node on two disks, given in the order of their areas; the commands may be checkpoints.
 ///
 /// # Errors
-/// As `drive`, and `Full` also where a checkpoint has no room, which may be that of a journal in the first version at the opening. Both
+/// Those of `drive`, and `Full` also where a checkpoint has no room, possibly at the opening that of a journal in the first version. Both
 /// disks are handed back.
 pub fn drive_pair<'a, S: Sign, D: StopDisk, W: Write>(
     alloc: Global,
@@ -155,7 +155,7 @@ pub fn drive_pair<'a, S: Sign, D: StopDisk, W: Write>(
     ensures given_out { let node = node_of S.scheme config.now in OnOk result (EachRunOn node (pair (D.device.content first) (D.device.content second)) (GivesOut node (script_of commands.items) (W.contents writer.old) (W.contents writer.new))) }
     ensures given_out_err { let node = node_of S.scheme config.now in OnErr result (EachRunOn node (pair (D.device.content first) (D.device.content second)) (GivesOutNoLess node (script_of commands.items) (W.contents writer.old) (W.contents writer.new))) }
 
-    // It answers Device exactly where a disk has failed.
+    // The error is Device exactly where a disk has failed.
     ensures cause { TellsFaultsBack (faults_of_both D.device) (λ left. left) DriveError.Device (first, second) result }
 {
     any_on_two(&commands);
@@ -205,7 +205,7 @@ fn drive_store<'a, S: Sign, D: StopDisk, W: Write>(
     Ok(desk.into_store())
 }
 
-// What holds of each command: the message of an event is within all limits. The call does nothing.
+// What holds of every command: the message of an event is within all limits. The call does nothing.
 fn limits_hold(command: &Command)
     ensures { IsWithinLimits command.now }
 {

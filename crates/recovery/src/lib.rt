@@ -1,4 +1,4 @@
-//! Lists of runs of a node: opening it on a disk, and driving one of one owner by commands.
+//! Runs of a node in a list: opening the node on a disk, and driving a node of one owner by commands.
 #![tactic(auto)]
 
 mod commands;

@@ -1,4 +1,4 @@
-//! Admission: what an event is answered by what a node holds.
+//! Admission: the answer to an event, from what a node holds.
 
 ghost use Rattle.std.specs.Prelude.{◌≡◌, IfOk};
 ghost use Rattle.std.specs.Str.{bytes_eq};
@@ -19,14 +19,14 @@ use wire::{
     Message, Output, Vote, batch_digest, header_digest,
 };
 
-/// Two batches have the same body.
+/// Whether two batches have the same body.
 fn same_body(one: &Batch, other: &Batch) -> bool
     ensures { result ≡ bytes_eq (batch_body one.now) (batch_body other.now) }
 {
     one.body() == other.body()
 }
 
-/// What a batch is answered where this one has its digest.
+/// The answer to a batch where a batch of its digest is held already.
 fn held_batch_answer<S: Sign>(
     alloc: Global,
     node: &Node<S>,
@@ -41,7 +41,7 @@ fn held_batch_answer<S: Sign>(
     Ok(Admission::Refused(Refusal::DigestClash))
 }
 
-/// What a batch is answered.
+/// The answer to a batch.
 pub fn batch_answer<S: Sign, H: Held>(
     alloc: Global,
     node: &Node<S>,
@@ -59,7 +59,7 @@ pub fn batch_answer<S: Sign, H: Held>(
     Ok(Admission::New(batch_outputs(alloc, node, batch)?))
 }
 
-/// What an acknowledgement is answered.
+/// The answer to an acknowledgement.
 pub fn ack_answer<S: Sign, H: Held>(
     alloc: Global,
     node: &Node<S>,
@@ -77,7 +77,7 @@ pub fn ack_answer<S: Sign, H: Held>(
     Admission::New(Outputs::new(alloc))
 }
 
-/// A header may name a batch.
+/// Whether a header may name a batch.
 pub fn may_name<S: Sign, H: Held>(
     node: &Node<S>,
     now: &H,
@@ -105,7 +105,7 @@ fn may_name_all<S: Sign, H: Held>(
     named.iter().all(|named| may_name(node, now, header, named))
 }
 
-/// What an own header is answered where its round has this one already.
+/// The answer to an own header where its round has an own header already.
 fn held_header_answer<S: Sign>(
     alloc: Global,
     node: &Node<S>,
@@ -120,7 +120,7 @@ fn held_header_answer<S: Sign>(
     Ok(Admission::Refused(Refusal::AlreadyProposed))
 }
 
-/// What another header is answered where its author and round have the vote for this digest already.
+/// The answer to another member's header where the node has already voted in its slot, for this digest.
 fn voted_answer<S: Sign>(
     alloc: Global,
     node: &Node<S>,
@@ -135,7 +135,7 @@ fn voted_answer<S: Sign>(
     Ok(Admission::Refused(Refusal::Equivocation))
 }
 
-/// What a header is answered that is held or voted for already.
+/// The answer to a header whose slot has an own header or the node's vote already; None where it has neither.
 fn known_header_answer<S: Sign, H: Held>(
     alloc: Global,
     node: &Node<S>,
@@ -158,7 +158,7 @@ fn known_header_answer<S: Sign, H: Held>(
     }
 }
 
-/// What a header is answered.
+/// The answer to a header.
 pub fn header_answer<S: Sign, H: Held>(
     alloc: Global,
     node: &Node<S>,
@@ -184,7 +184,7 @@ pub fn header_answer<S: Sign, H: Held>(
     Ok(Admission::New(header_outputs(alloc, node, header)?))
 }
 
-/// What is added to the order.
+/// The pieces of what the order has gained.
 fn order_outputs<H: Held>(alloc: Global, now: &H, later: &H) -> Result<Outputs, AllocError>
     ensures { IfOk result (λ outputs. outputs ≡ admitting.order_outputs (H.state now.now) (H.state later.now)) }
 {
@@ -193,7 +193,7 @@ fn order_outputs<H: Held>(alloc: Global, now: &H, later: &H) -> Result<Outputs, 
     Ok(outputs)
 }
 
-/// What a new vote on the own header of a round gives out: the certificate, if it completes one, and what that adds to the order.
+/// The outputs of a new vote on the own header of a round: the certificate that it completes, if any, and what that adds to the order.
 fn vote_outputs<S: Sign, H: Held>(
     alloc: Global,
     node: &Node<S>,
@@ -211,7 +211,7 @@ fn vote_outputs<S: Sign, H: Held>(
     Ok(outputs)
 }
 
-/// What a vote is answered where the node has a certificate of its round.
+/// The answer to a vote where an own certificate of its round is held.
 fn held_answer(alloc: Global, held: &Certificate, vote: &Vote) -> Result<Admission, AllocError>
     ensures { IfOk result (λ answer. answer ≡ admitting.held_answer held.now vote.now) }
 {
@@ -223,7 +223,7 @@ fn held_answer(alloc: Global, held: &Certificate, vote: &Vote) -> Result<Admissi
     Ok(Admission::Known(outputs))
 }
 
-/// What a vote is answered where the node has this header of its round.
+/// The answer to a vote where there is an own header of its round.
 fn own_header_answer<S: Sign, H: Held>(
     alloc: Global,
     node: &Node<S>,
@@ -248,7 +248,7 @@ fn own_header_answer<S: Sign, H: Held>(
     Ok(Admission::New(vote_outputs(alloc, node, now, later, round)?))
 }
 
-/// What a vote is answered.
+/// The answer to a vote.
 pub fn vote_answer<S: Sign, H: Held>(
     alloc: Global,
     node: &Node<S>,
@@ -271,7 +271,7 @@ pub fn vote_answer<S: Sign, H: Held>(
     }
 }
 
-/// Two headers are the same.
+/// Whether two headers are the same.
 fn same_header(one: &HeaderBody, other: &HeaderBody) -> bool
     ensures { result ≡ admitting.same_header one.now other.now }
 {
@@ -280,7 +280,7 @@ fn same_header(one: &HeaderBody, other: &HeaderBody) -> bool
             && one.parents.as_slice() == other.parents.as_slice())
 }
 
-/// What a certificate is answered where its slot holds this one already.
+/// The answer to a certificate whose slot holds one already.
 fn held_certificate_answer(
     alloc: Global,
     held: &Certificate,
@@ -297,7 +297,7 @@ fn held_certificate_answer(
     Admission::Refused(Refusal::DigestClash)
 }
 
-/// What a certificate is answered.
+/// The answer to a certificate.
 pub fn certificate_answer<S: Sign, H: Held>(
     alloc: Global,
     node: &Node<S>,
@@ -322,7 +322,7 @@ pub fn certificate_answer<S: Sign, H: Held>(
     Ok(Admission::New(order_outputs(alloc, now, later)?))
 }
 
-/// What a coin is answered.
+/// The answer to a coin.
 pub fn coin_answer<S: Sign, H: Held>(
     alloc: Global,
     node: &Node<S>,
@@ -353,10 +353,10 @@ pub fn coin_answer<S: Sign, H: Held>(
     Ok(Admission::New(order_outputs(alloc, now, later)?))
 }
 
-/// What an event is answered by what a node holds now, and what it holds with the event.
+/// The answer to an event, from what a node holds before it and what it holds with it.
 ///
 /// # Errors
-/// When memory runs out.
+/// An allocation failed.
 pub fn answer<S: Sign, H: Held>(
     alloc: Global,
     node: &Node<S>,

@@ -1,4 +1,4 @@
-//! What may be given out at a history, but for the order.
+//! What may be given out at a history, except the order.
 
 ghost use Rattle.std.specs.Prelude.{◌≡◌, IfOk, filter, flat_map, map};
 ghost use Rattle.spec_model.specs.Admitting as admitting;
@@ -17,7 +17,7 @@ use sigface::Sign;
 use std::alloc::{AllocError, Global};
 use wire::{Certificate, Output, header_digest};
 
-/// A certificate is an own one, of the header that has the node's vote.
+/// Whether a certificate is an own one, of the header that the node voted for.
 pub fn is_given<S: Sign>(node: &Node<S>, history: &[Event], certificate: &Certificate) -> bool
     ensures { result ≡ giving.is_given (node_view S.scheme node.now) history.now certificate.now }
 {
@@ -30,7 +30,7 @@ pub fn is_given<S: Sign>(node: &Node<S>, history: &[Event], certificate: &Certif
     }
 }
 
-/// What the batches put out.
+/// The outputs of the batches.
 fn of_batches<S: Sign>(
     alloc: Global,
     node: &Node<S>,
@@ -46,7 +46,7 @@ fn of_batches<S: Sign>(
     Ok(found)
 }
 
-/// What the headers put out.
+/// The outputs of the headers.
 fn of_headers<S: Sign>(
     alloc: Global,
     node: &Node<S>,
@@ -80,7 +80,7 @@ fn own_certificates<S: Sign>(
     Ok(found)
 }
 
-/// What each batch and each header puts out, and the own certificates.
+/// The outputs of all batches and headers, and the own certificates.
 pub fn given<S: Sign>(
     alloc: Global,
     node: &Node<S>,

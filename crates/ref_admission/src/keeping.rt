@@ -1,4 +1,4 @@
-//! What of a history a node keeps.
+//! What a node keeps of a history.
 
 ghost use Rattle.std.specs.Prelude.{◌≡◌, IfOk, option_copied};
 ghost use Rattle.spec_model.specs.Giving.{kept};
@@ -13,7 +13,7 @@ use sigface::Sign;
 use std::alloc::{AllocError, Global};
 use wire::{Certificate, Digest, Header, Vote};
 
-/// A round is low at a history.
+/// Whether a round is low at a history.
 fn is_low_at<S: Sign>(
     alloc: Global,
     node: &Node<S>,
@@ -25,7 +25,7 @@ fn is_low_at<S: Sign>(
     Ok(is_low(floor(alloc, node, history)?, round))
 }
 
-/// The digest that an author and round have a vote for, of a round that isn't low.
+/// The digest that the node voted for in a slot, if the round isn't low.
 pub fn kept_vote<S: Sign>(
     alloc: Global,
     node: &Node<S>,
@@ -41,7 +41,7 @@ pub fn kept_vote<S: Sign>(
     Ok(voted_digest(history, round, author))
 }
 
-/// The own header of a round that isn't low.
+/// The own header of a round, if the round isn't low.
 pub fn kept_header<'a, S: Sign>(
     alloc: Global,
     node: &Node<S>,
@@ -56,7 +56,7 @@ pub fn kept_header<'a, S: Sign>(
     Ok(voted_header(history, round, node.own.0))
 }
 
-/// A member's vote on the own header of a round that isn't low.
+/// A member's counted vote on the own header of a round, if the round isn't low.
 pub fn kept_counted<S: Sign>(
     alloc: Global,
     node: &Node<S>,
@@ -72,7 +72,7 @@ pub fn kept_counted<S: Sign>(
     Ok(counted_at(node, history, round, voter))
 }
 
-/// The certificate of a slot, of a round at or above the floor.
+/// The certificate of a slot, if it is at or above the floor.
 pub fn kept_slot<S: Sign>(
     alloc: Global,
     node: &Node<S>,
@@ -91,7 +91,7 @@ pub fn kept_slot<S: Sign>(
     }
 }
 
-/// The greatest round of which there was a certificate.
+/// The greatest round of any certificate so far.
 pub fn kept_highest<S: Sign>(
     alloc: Global,
     node: &Node<S>,

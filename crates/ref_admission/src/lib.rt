@@ -1,4 +1,4 @@
-//! Plain, slow programs for what a node answers, puts out, proposes and keeps, over those for what its history holds.
+//! A reference implementation, plain and slow, of what a node answers, puts out, proposes and keeps. It uses that of what a history holds.
 #![tactic(auto)]
 
 pub mod admitting;

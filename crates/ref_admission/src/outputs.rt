@@ -1,4 +1,4 @@
-//! What admission gives out.
+//! The outputs that admission makes.
 
 ghost use Rattle.std.specs.Prelude.{◌≡◌, ◌+◌, ◌<◌, ◌≤◌, ◌^◌, ◌++◌, ◌∷◌, [], IfOk, OnOk, drop, length, take};
 ghost use Rattle.spec_model.specs.Admitting as admitting;
@@ -11,7 +11,7 @@ use sigface::Sign;
 use std::alloc::{AllocError, Global};
 use wire::{Batch, BatchAck, Digest, Header, Output, batch_digest};
 
-/// For a batch.
+/// The outputs of a batch.
 pub fn batch_outputs<S: Sign>(
     alloc: Global,
     node: &Node<S>,
@@ -33,7 +33,7 @@ pub fn batch_outputs<S: Sign>(
     Ok(outputs)
 }
 
-/// For a header.
+/// The outputs of a header.
 pub fn header_outputs<S: Sign>(
     alloc: Global,
     node: &Node<S>,
@@ -50,7 +50,7 @@ pub fn header_outputs<S: Sign>(
     Ok(outputs)
 }
 
-/// What a list has after so many as another one has.
+/// The part of a list that follows as many elements as another one has.
 fn following<'a>(before: &[Digest], after: &'a [Digest]) -> &'a [Digest]
     ensures value { result.now ≡ drop (length before.now) after.now }
     ensures small { length before.now + length result.now < 2 ^ 63 }
@@ -61,7 +61,7 @@ fn following<'a>(before: &[Digest], after: &'a [Digest]) -> &'a [Digest]
     &after[before.len()..]
 }
 
-/// Adds what an order has after the one before, in pieces.
+/// Adds what an order has gained, in pieces.
 fn push_grown(
     alloc: Global,
     outputs: &mut Outputs,
@@ -73,7 +73,7 @@ fn push_grown(
     outputs.push_order(alloc, before.len() as u64, following(before, after))
 }
 
-/// Adds what is added to the order.
+/// Adds what the order has gained.
 pub fn push_order<H: Held>(
     alloc: Global,
     outputs: &mut Outputs,

@@ -31,21 +31,21 @@ fn digest_of_batch(batch: &Batch) -> Digest
     batch_digest(batch)
 }
 
-/// An own batch is available, and no own header has named it.
+/// Whether an own batch is available, and no own header has named it yet.
 fn is_waiting<S: Sign, H: Held>(node: &Node<S>, held: &H, digest: &Digest) -> bool
     ensures { result ≡ is_available (node_view S.scheme node.now) (H.state held.now) digest.now && not ((H.state held.now).named digest.now) }
 {
     is_available(node, held, digest) && !held.was_named(digest)
 }
 
-/// An own batch may be named.
+/// Whether an own batch may be named in a header.
 fn is_nameable<S: Sign, H: Held>(node: &Node<S>, held: &H, batch: &Batch) -> bool
     ensures { result ≡ proposing.is_nameable (node_view S.scheme node.now) (H.state held.now) batch.now }
 {
     node.is_own(batch.author()) && is_waiting(node, held, &digest_of_batch(batch))
 }
 
-/// An own batch that may be named, as a header names it.
+/// The reference by which a header names this batch, if it may be named.
 pub fn to_name<S: Sign, H: Held>(node: &Node<S>, held: &H, batch: &Batch) -> Option<BatchReference>
     ensures { result ≡ proposing.to_name (node_view S.scheme node.now) (H.state held.now) batch.now }
 {
@@ -58,14 +58,14 @@ pub fn to_name<S: Sign, H: Held>(node: &Node<S>, held: &H, batch: &Batch) -> Opt
     })
 }
 
-/// One digest comes before another.
+/// Whether one digest comes before another.
 fn is_before(one: &Digest, other: &Digest) -> bool
     ensures { result ≡ digest_before one.now other.now }
 {
     one.cmp(other).is_lt()
 }
 
-/// A batch put in its place among others that rise by digest, once.
+/// A batch, inserted once at its place in a list sorted by digest.
 pub fn placed(
     alloc: Global,
     batches: &[BatchReference],
@@ -91,7 +91,7 @@ pub fn placed(
     Ok(found)
 }
 
-/// The batches that may be named, rising by digest.
+/// The references of all batches that may be named, sorted by digest.
 pub fn nameable<S: Sign, H: Held>(
     alloc: Global,
     node: &Node<S>,
@@ -110,7 +110,7 @@ pub fn nameable<S: Sign, H: Held>(
     Ok(found)
 }
 
-/// Batches that rise by digest, as a header names them.
+/// References sorted by digest, as a header has them.
 fn named(alloc: Global, batches: &[BatchReference]) -> Result<BatchReferences, AllocError>
     requires few { length batches.now ≤ MAX_BATCHES }
     requires order { IsTrue (batches_rise batches.now) }
@@ -135,7 +135,7 @@ fn named_batches<S: Sign, H: Held>(
     named(alloc, first_of(&nameable, MAX_BATCHES))
 }
 
-/// A certificate as a parent is named.
+/// The reference by which a header names this certificate as a parent.
 fn as_parent(certificate: &Certificate) -> ParentReference
     ensures { result ≡ proposing.as_parent certificate.now }
 {
@@ -145,7 +145,7 @@ fn as_parent(certificate: &Certificate) -> ParentReference
     }
 }
 
-/// What a slot holds as a parent is named.
+/// The parent reference to the certificate of a slot, if there is one.
 fn parent_at(certificates: &[Certificate], round: u64, author: u16) -> Option<ParentReference>
     ensures value { result ≡ option_map proposing.as_parent (slots_of certificates.now round author) }
     ensures author { IfSome result (λ parent. parent.author.0 ≡ author) }
@@ -156,7 +156,7 @@ fn parent_at(certificates: &[Certificate], round: u64, author: u16) -> Option<Pa
     }
 }
 
-/// All certificates of a round as parents are named.
+/// The parent references to all certificates of a round.
 fn parents_of(
     alloc: Global,
     size: u16,
@@ -182,7 +182,7 @@ fn digest_of_header(header: &HeaderBody) -> Digest
     header_digest(header)
 }
 
-/// The node's header of a round.
+/// The own header of a round, without its signature.
 pub fn proposal_of<S: Sign, H: Held>(
     alloc: Global,
     node: &Node<S>,
@@ -211,17 +211,17 @@ fn signed<S: Sign>(node: &Node<S>, body: HeaderBody) -> Header
     Header { body, signature }
 }
 
-/// A round has an own header.
+/// Whether a round has an own header.
 fn has_header<H: Held>(held: &H, round: u64) -> bool
     ensures { result ≡ is_some ((H.state held.now).own_headers round) }
 {
     held.own_header(round).is_some()
 }
 
-/// The header that the node proposes in its round, if it has none yet.
+/// The header that the node proposes in its round; None where the round has one already.
 ///
 /// # Errors
-/// When memory runs out.
+/// An allocation failed.
 pub fn propose_of<S: Sign, H: Held>(
     alloc: Global,
     node: &Node<S>,
@@ -242,10 +242,10 @@ pub fn propose_of<S: Sign, H: Held>(
     }
 }
 
-/// The header that the node proposes at a history.
+/// The header that the node proposes after a history.
 ///
 /// # Errors
-/// When memory runs out.
+/// An allocation failed.
 pub fn propose<S: Sign>(
     alloc: Global,
     node: &Node<S>,

@@ -1,4 +1,4 @@
-//! Admission over histories, one event after the other.
+//! Admission over histories.
 
 ghost use Rattle.std.specs.Prelude.{◌≡◌, ◌<◌, ◌++◌, ◌∷◌, [], IfOk, List, length};
 ghost use Rattle.spec_model.specs.Admitting as admitting;
@@ -12,7 +12,7 @@ use ref_order::past::Past;
 use sigface::Sign;
 use std::alloc::{AllocError, Global};
 
-/// What an event is answered at the history after which it comes.
+/// The answer to an event that comes after this history.
 pub fn admit<S: Sign>(
     alloc: Global,
     node: &Node<S>,
@@ -31,7 +31,7 @@ pub fn admit<S: Sign>(
     answer(alloc, node, &now, &later, arrival.event)
 }
 
-/// What the last of some events is answered, at the history of those before it.
+/// The answer to the last of these events, after the ones before it.
 pub fn admit_last<S: Sign>(
     alloc: Global,
     node: &Node<S>,
@@ -54,7 +54,7 @@ pub fn admit_last<S: Sign>(
     }
 }
 
-/// What events are answered one after the other, from an empty history on.
+/// The answers to events one after the other, from an empty history on.
 pub fn answers<S: Sign>(
     alloc: Global,
     node: &Node<S>,
@@ -75,7 +75,7 @@ pub fn answers<S: Sign>(
     Ok(found)
 }
 
-/// Whether events are each new at those before them.
+/// Whether each of these events is new after the ones before it.
 pub fn each_new<S: Sign>(
     alloc: Global,
     node: &Node<S>,

@@ -40,7 +40,8 @@ batch_test_more node batches i kept so_far tests all sound within at put is same
     ∙ same
 
 -- and none more
-pub batch_tests_done : (node : Node) (batches : List KeptBatch) (i : ℕ) (so_far all : List Bool) → length batches ≤ i → so_far ++ batch_tests node (take i batches) (drop i batches) ≡ all → so_far ≡ all
+pub batch_tests_done : (node : Node) (batches : List KeptBatch) (i : ℕ) (so_far all : List Bool) → length batches ≤ i
+    → so_far ++ batch_tests node (take i batches) (drop i batches) ≡ all → so_far ≡ all
 batch_tests_done node batches i so_far all past same =
     sym (append-nil so_far) ∙ ap (λ (l : List Bool). so_far ++ l) (sym (ap (batch_tests node (take i batches)) (drop_all i batches past) ∙ batch_end node (take i batches))) ∙ same
 

@@ -10,7 +10,7 @@ abbrev pub fault_view : LoadFault → loading.LoadFault
 fault_view (AtRecord place) = loading.at_record place
 fault_view OfWhole = loading.of_whole
 
--- what case files print of a fault, or where there is none
+-- what the files of cases print for a fault, or for none
 abbrev pub answer_text : Option loading.LoadFault → List ℕ
 answer_text None = codes "Ok"
 answer_text (Some (loading.at_record place)) = codes "2 Unsound " ++ decimal place

@@ -46,7 +46,7 @@ fn stakes_in(alloc: Global, committee: &Committee) -> Result<Vec<u64>, AllocErro
     Ok(stakes)
 }
 
-/// Puts keys after bytes.
+/// Adds keys to the bytes.
 fn put_keys(bytes: &mut Vec<u8>, keys: &[Key]) -> Result<(), AllocError>
     ensures { OnOk result (bytes.new.items ≡ bytes.old.items ++ flat_map (λ key. key.0) keys.now) }
 {
@@ -56,7 +56,7 @@ fn put_keys(bytes: &mut Vec<u8>, keys: &[Key]) -> Result<(), AllocError>
     Ok(())
 }
 
-/// Puts a stake after bytes, in four bytes.
+/// Adds a stake to the bytes, in four bytes.
 fn put_stake(bytes: &mut Vec<u8>, stake: u64) -> Result<(), AllocError>
     ensures { OnOk result (bytes.new.items ≡ bytes.old.items ++ to_be_bytes w32 stake) }
 {
@@ -64,7 +64,7 @@ fn put_stake(bytes: &mut Vec<u8>, stake: u64) -> Result<(), AllocError>
     Ok(())
 }
 
-/// Puts stakes after bytes.
+/// Adds stakes to the bytes.
 fn put_stakes(bytes: &mut Vec<u8>, stakes: &[u64]) -> Result<(), AllocError>
     ensures { OnOk result (bytes.new.items ≡ bytes.old.items ++ flat_map (to_be_bytes w32) stakes.now) }
 {
@@ -74,7 +74,7 @@ fn put_stakes(bytes: &mut Vec<u8>, stakes: &[u64]) -> Result<(), AllocError>
     Ok(())
 }
 
-/// Puts the stakes of a committee's members after bytes, where a version has them.
+/// Adds the stakes of a committee's members to the bytes, if the version has them.
 fn put_stakes_of(
     alloc: Global,
     bytes: &mut Vec<u8>,
@@ -89,8 +89,8 @@ fn put_stakes_of(
     }
 }
 
-/// The record of a node's configuration in a version: its kind, the version, the own number, the depth, how many workers a member
-/// has, how many batches a member holds, how many members there are, their keys, and their stakes where the version has them.
+/// The record of a node's configuration in a version: kind, version, own number, depth, workers of a member, batches of a member, number of
+/// members, their keys, and their stakes if the version has them.
 fn configuration(
     alloc: Global,
     version: Version,
@@ -111,14 +111,15 @@ fn configuration(
     Ok(bytes)
 }
 
-/// Each of these stakes is 1.
+/// Whether each of these stakes is 1.
 fn are_ones(stakes: &[u64]) -> bool
     ensures { result ≡ list_all (λ stake. stake == 1) stakes.now }
 {
     stakes.iter().all(|stake| *stake == 1)
 }
 
-/// A record is the node's configuration, in a version that can tell it: the second one can, and the first one where each stake is 1.
+/// Whether a record is the node's configuration, in a version that can express it: the second one always can, the first where each stake is
+/// 1.
 pub fn is_configuration<S: Sign>(
     alloc: Global,
     node: &Node<S>,

@@ -1,4 +1,4 @@
-//! The tests of a checkpoint's records, kind by kind, and that of the whole.
+//! The tests of a checkpoint's records, by kind, and the test of the whole.
 
 ghost use Rattle.std.specs.Prelude.{◌≡◌, ◌==◌, ◌&&◌, false, ℕ, [], length, not, nat_lt, is_some, IfOk};
 ghost use Rattle.std.specs.List.{list_any, list_all};
@@ -28,7 +28,7 @@ use wire::{
     encode,
 };
 
-/// A message from its sender passes the checks, whatever its signatures.
+/// Whether a message from its sender passes the checks, whatever its signatures.
 fn passes<S: Sign>(node: &Node<S>, sender: Author, message: Message) -> bool
     ensures { result ≡ faults.passes (node_view S.scheme node.now) sender message }
 {
@@ -45,7 +45,7 @@ fn digest_of(batch: &Batch) -> Digest
     batch_digest(batch)
 }
 
-/// One of these batches has this digest.
+/// Whether one of these batches has this digest.
 fn has_digest(before: &[KeptBatch], digest: &Digest) -> bool
     ensures { result ≡ list_any (λ other. same_digest (holdings.batch_digest other.batch) digest.now) before.now }
 {
@@ -54,15 +54,15 @@ fn has_digest(before: &[KeptBatch], digest: &Digest) -> bool
         .any(|other| digest_of(&other.batch) == *digest)
 }
 
-/// Each of these numbers is a member's.
+/// Whether each of these numbers is a member's.
 fn are_members(size: u16, members: &[u16]) -> bool
     ensures { result ≡ list_all (λ member. nat_lt member size) members.now }
 {
     members.iter().all(|member| *member < size)
 }
 
-/// A batch passes as from its author, none before it has its digest, and there is room for it. Who acknowledged it are members, and
-/// only an own one was acknowledged or named.
+/// Whether a batch is sound: it passes the checks as one from its author, no earlier batch has its digest, and there is room for it; those
+/// who acknowledged it are members, and only an own batch has acknowledgements or is named.
 pub fn is_batch_sound<S: Sign>(
     node: &Node<S>,
     before: &[KeptBatch],
@@ -81,7 +81,7 @@ pub fn is_batch_sound<S: Sign>(
     )
 }
 
-/// A vote is for another member, of a round that isn't low.
+/// Whether a vote is for another member's header, in a round that isn't low.
 pub fn is_vote_sound<S: Sign>(node: &Node<S>, checkpoint: &Checkpoint, vote: &KeptVote) -> bool
     ensures { result ≡ faults.is_vote_sound (node_view S.scheme node.now) checkpoint.now vote.now }
 {
@@ -89,14 +89,14 @@ pub fn is_vote_sound<S: Sign>(node: &Node<S>, checkpoint: &Checkpoint, vote: &Ke
     !is_low(floor, vote.round.number()) && vote.author < node.size() && vote.author != node.own.0
 }
 
-/// A member's vote on an own header is there, the node's own always.
+/// Whether a member has a vote on an own header; the node itself always has.
 fn has_kept<S: Sign>(node: &Node<S>, kept: &KeptHeader, voter: u16) -> bool
     ensures { result ≡ faults.has_kept (node_view S.scheme node.now) kept.now voter }
 {
     voter == node.own.0 || has_vote_of(kept.votes.as_slice(), voter)
 }
 
-/// The members whose votes on an own header are there.
+/// The members who have a vote on an own header.
 #[tactic(auto, using(ref_order::proofs::Sets::in_more, ref_order::proofs::Sets::out_more))]
 fn voters<S: Sign>(node: &Node<S>, kept: &KeptHeader) -> MemberSet
     ensures { (member : ℕ) → has result member ≡ (nat_lt member (length node.now.committee.keys) && faults.has_kept (node_view S.scheme node.now) kept.now member) }
@@ -111,21 +111,21 @@ fn voters<S: Sign>(node: &Node<S>, kept: &KeptHeader) -> MemberSet
     found
 }
 
-/// What the members weigh whose votes on an own header are there.
+/// The weight of the members who have a vote on an own header.
 fn weight_of_voters<S: Sign>(node: &Node<S>, kept: &KeptHeader) -> u64
     ensures { result ≡ weight node.now.committee (faults.has_kept (node_view S.scheme node.now) kept.now) }
 {
     node.committee.weight(&voters(node, kept))
 }
 
-/// A member's vote on an own header is there, and the member isn't this one.
+/// Whether a member has a vote on an own header, and isn't the one left out.
 fn has_kept_of_others<S: Sign>(node: &Node<S>, kept: &KeptHeader, left_out: u16, voter: u16) -> bool
     ensures { result ≡ (faults.has_kept (node_view S.scheme node.now) kept.now voter && not (voter == left_out)) }
 {
     has_kept(node, kept, voter) && voter != left_out
 }
 
-/// The members but this one whose votes on an own header are there.
+/// The members, this one left out, who have a vote on an own header.
 #[tactic(auto, using(ref_order::proofs::Sets::in_more, ref_order::proofs::Sets::out_more))]
 fn other_voters<S: Sign>(node: &Node<S>, kept: &KeptHeader, left_out: u16) -> MemberSet
     ensures { (member : ℕ) → has result member ≡ (nat_lt member (length node.now.committee.keys) && (faults.has_kept (node_view S.scheme node.now) kept.now member && not (member == left_out))) }
@@ -140,21 +140,21 @@ fn other_voters<S: Sign>(node: &Node<S>, kept: &KeptHeader, left_out: u16) -> Me
     found
 }
 
-/// What the members but this one weigh whose votes on an own header are there.
+/// The weight of the members, this one left out, who have a vote on an own header.
 fn weight_of_others<S: Sign>(node: &Node<S>, kept: &KeptHeader, left_out: u16) -> u64
     ensures { result ≡ weight node.now.committee (λ voter. faults.has_kept (node_view S.scheme node.now) kept.now voter && not (voter == left_out)) }
 {
     node.committee.weight(&other_voters(node, kept, left_out))
 }
 
-/// Without this vote those on an own header are no quorum.
+/// Whether without this vote those on an own header weigh less than a quorum.
 fn is_needed<S: Sign>(node: &Node<S>, kept: &KeptHeader, entry: &VoteEntry) -> bool
     ensures { let seen = node_view S.scheme node.now in result ≡ nat_lt (weight seen.charter (λ voter. faults.has_kept seen kept.now voter && not (voter == entry.now.voter.0))) (quorum seen) }
 {
     weight_of_others(node, kept, entry.voter.0) < node.quorum()
 }
 
-/// Without one of these votes those on an own header are no quorum.
+/// Whether without one of these votes those on an own header weigh less than a quorum.
 fn is_one_needed<S: Sign>(node: &Node<S>, kept: &KeptHeader, votes: &[VoteEntry]) -> bool
     ensures { let seen = node_view S.scheme node.now in result ≡ list_any (λ entry. nat_lt (weight seen.charter (λ voter. faults.has_kept seen kept.now voter && not (voter == entry.voter.0))) (quorum seen)) votes.now }
 {
@@ -170,7 +170,7 @@ fn certificate_bytes(alloc: Global, header: &HeaderBody) -> Result<Vec<u8>, Allo
     encode(alloc, &Message::Certificate(Certificate { header, votes }))
 }
 
-/// One body of a header is another: certificates of both have the same bytes.
+/// Whether two header bodies are equal, by comparing the bytes of certificates of both.
 #[tactic(auto, using(crate::proofs::SameBodies::same_with_votes))]
 fn same_body(alloc: Global, one: &HeaderBody, other: &HeaderBody) -> Result<bool, AllocError>
     ensures { IfOk result (λ same. same ≡ faults.same_body one.now other.now) }
@@ -178,7 +178,7 @@ fn same_body(alloc: Global, one: &HeaderBody, other: &HeaderBody) -> Result<bool
     Ok(certificate_bytes(alloc, one)? == certificate_bytes(alloc, other)?)
 }
 
-/// The slot of an own header holds its certificate.
+/// Whether the slot of an own header holds its certificate.
 fn has_certificate<S: Sign>(
     alloc: Global,
     node: &Node<S>,
@@ -194,8 +194,8 @@ fn has_certificate<S: Sign>(
     }
 }
 
-/// The votes on an own header are no quorum; or its slot holds the header's certificate, and without one of the votes of others they
-/// are none.
+/// Whether the votes on an own header weigh less than a quorum; or the header's slot holds its certificate, and without some other member's
+/// vote they would.
 fn is_completed_well<S: Sign>(
     alloc: Global,
     node: &Node<S>,
@@ -213,14 +213,14 @@ fn is_completed_well<S: Sign>(
     Ok(is_one_needed(node, kept, kept.votes.as_slice()))
 }
 
-/// All who voted are members.
+/// Whether all voters are members.
 fn are_voters(size: u16, votes: &[VoteEntry]) -> bool
     ensures { result ≡ list_all (λ entry. nat_lt entry.voter.0 size) votes.now }
 {
     votes.iter().all(|entry| entry.voter.0 < size)
 }
 
-/// The parents of a header are held.
+/// Whether the parents of a header are held.
 fn are_parents_held<S: Sign>(
     alloc: Global,
     node: &Node<S>,
@@ -233,7 +233,8 @@ fn are_parents_held<S: Sign>(
     Ok(all_held(&held, listed_floor(node, checkpoint), header))
 }
 
-/// An own header is of a round that isn't low, passes as from the node itself, and its parents are held. Who voted on it are members.
+/// Whether an own header is sound: its round isn't low, it passes the checks as the node's, its parents are held, and the voters on it are
+/// members.
 pub fn is_header_sound<S: Sign>(
     alloc: Global,
     node: &Node<S>,
@@ -258,7 +259,7 @@ pub fn is_header_sound<S: Sign>(
     is_completed_well(alloc, node, checkpoint, kept)
 }
 
-/// A certificate doesn't lie below the floor, passes, and its parents are held.
+/// Whether a certificate is sound: it isn't below the floor, passes the checks, and its parents are held.
 pub fn is_certificate_sound<S: Sign>(
     alloc: Global,
     node: &Node<S>,
@@ -280,14 +281,14 @@ pub fn is_certificate_sound<S: Sign>(
     are_parents_held(alloc, node, checkpoint, &certificate.header)
 }
 
-/// A leader is committed.
+/// Whether a leader is committed.
 fn is_committed<S: Sign>(node: &Node<S>, checkpoint: &Checkpoint) -> bool
     ensures { result ≡ is_some (ordering.top (holdings.ledger_of (node_view S.scheme node.now) (meaning.listed checkpoint.now) checkpoint.now.coins)) }
 {
     listed_top(node, checkpoint).is_some()
 }
 
-/// The order is empty exactly where no leader is committed.
+/// Whether the order is empty exactly where no leader is committed.
 pub fn is_whole_sound<S: Sign>(node: &Node<S>, checkpoint: &Checkpoint) -> bool
     ensures { result ≡ faults.is_whole_sound (node_view S.scheme node.now) checkpoint.now }
 {

@@ -1,4 +1,4 @@
-//! What the state of a checkpoint holds: its floor and its certificates.
+//! The floor and the certificates of a checkpoint's state.
 
 ghost use Rattle.std.specs.Prelude.{◌≡◌, ◌<◌, ◌≤◌, ◌==◌, [], length, not, filter, map, IfOk, IfSome, if◌then◌else◌};
 ghost use Rattle.committee.specs.Charter.{numbers};
@@ -17,8 +17,8 @@ use sigface::Sign;
 use std::alloc::{AllocError, Global};
 use wire::{Author, Certificate};
 
-/// The greatest wave that is directly committed. It turns once for each wave: a checkpoint may have so many values of coins that a call
-/// for each would take all of the stack.
+/// The greatest wave that is directly committed. It is a loop, since a checkpoint may have so many coins that a recursion over them would
+/// exhaust the stack.
 fn top_of(ledger: &Ledger) -> Option<u64>
     ensures value { result ≡ ordering.top (ledger_view ledger.now) }
     ensures within { IfSome result (λ wave. (0 < wave) × (wave ≤ length ledger.now.coins.now)) }
@@ -32,7 +32,7 @@ fn top_of(ledger: &Ledger) -> Option<u64>
     found
 }
 
-/// The floor.
+/// The floor of a ledger.
 fn floor_of(ledger: &Ledger) -> u64
     ensures { result ≡ ordering.floor_by (ledger_view ledger.now) }
 {
@@ -42,7 +42,7 @@ fn floor_of(ledger: &Ledger) -> u64
     }
 }
 
-/// A checkpoint's certificates and coins, with the committee.
+/// The ledger of a checkpoint: its certificates and coins, with the committee.
 fn ledger_of<'a, S: Sign>(node: &'a Node<S>, checkpoint: &'a Checkpoint) -> Ledger<'a>
     ensures { ledger_view result ≡ holdings.ledger_of (node_view S.scheme node.now) (meaning.listed checkpoint.now) checkpoint.now.coins }
 {
@@ -60,7 +60,7 @@ pub fn listed_top<S: Sign>(node: &Node<S>, checkpoint: &Checkpoint) -> Option<u6
     top_of(&ledger_of(node, checkpoint))
 }
 
-/// The floor that a checkpoint's certificates and coins have.
+/// The floor that a checkpoint's certificates and coins determine.
 pub fn listed_floor<S: Sign>(node: &Node<S>, checkpoint: &Checkpoint) -> u64
     ensures { result ≡ meaning.listed_floor (node_view S.scheme node.now) checkpoint.now }
 {
@@ -85,7 +85,7 @@ fn first(alloc: Global, size: u16) -> Result<Vec<Certificate>, AllocError>
     Ok(found)
 }
 
-/// The certificates of the genesis, which are there where the floor is 0.
+/// The genesis certificates where the floor is 0, and otherwise none.
 fn first_held<S: Sign>(
     alloc: Global,
     node: &Node<S>,
@@ -99,7 +99,7 @@ fn first_held<S: Sign>(
     Ok(Vec::new(alloc))
 }
 
-/// Those of some certificates that are above the genesis.
+/// Those of these certificates that are above the genesis.
 fn above_genesis(
     alloc: Global,
     certificates: &[Certificate],

@@ -1,4 +1,4 @@
-//! A test for each record of a checkpoint, by its place among them, and the first that fails.
+//! One test for each record of a checkpoint, in the order of the records, and the first that fails.
 
 ghost use Rattle.std.specs.Prelude.{◌≡◌, ◌++◌, [], map, not, IfOk, OnOk};
 ghost use Rattle.std.specs.List.{position_from};
@@ -14,7 +14,7 @@ use sigface::Sign;
 use std::alloc::{AllocError, Global};
 use wire::{Certificate, Digest};
 
-/// Puts a test after others for each piece of the order. Nothing in a piece can be at fault by itself.
+/// Adds a test for each piece of the order; it always passes, since a piece can't be unsound by itself.
 fn put_order_tests(tests: &mut Vec<bool>, digests: &[Digest]) -> Result<(), AllocError>
     ensures { OnOk result (tests.new.items ≡ tests.old.items ++ faults.piece_tests (cut ORDER_PIECE digests.now)) }
 {
@@ -25,7 +25,7 @@ fn put_order_tests(tests: &mut Vec<bool>, digests: &[Digest]) -> Result<(), Allo
     Ok(())
 }
 
-/// Puts the tests of batches after others.
+/// Adds the tests of batches.
 fn put_batch_tests<S: Sign>(
     tests: &mut Vec<bool>,
     node: &Node<S>,
@@ -39,7 +39,7 @@ fn put_batch_tests<S: Sign>(
     Ok(())
 }
 
-/// Puts the tests of votes after others.
+/// Adds the tests of votes.
 fn put_vote_tests<S: Sign>(
     tests: &mut Vec<bool>,
     node: &Node<S>,
@@ -54,7 +54,7 @@ fn put_vote_tests<S: Sign>(
     Ok(())
 }
 
-/// Puts the tests of own headers after others.
+/// Adds the tests of own headers.
 fn put_header_tests<S: Sign>(
     alloc: Global,
     tests: &mut Vec<bool>,
@@ -70,7 +70,7 @@ fn put_header_tests<S: Sign>(
     Ok(())
 }
 
-/// Puts the tests of certificates after others.
+/// Adds the tests of certificates.
 fn put_certificate_tests<S: Sign>(
     alloc: Global,
     tests: &mut Vec<bool>,
@@ -86,7 +86,7 @@ fn put_certificate_tests<S: Sign>(
     Ok(())
 }
 
-/// Puts a test after others for each piece of the coins. Nothing in a piece can be at fault by itself.
+/// Adds a test for each piece of the coins; it always passes, since a piece can't be unsound by itself.
 fn put_coin_tests(tests: &mut Vec<bool>, coins: &[u64]) -> Result<(), AllocError>
     ensures { OnOk result (tests.new.items ≡ tests.old.items ++ faults.piece_tests (cut COINS_PIECE coins.now)) }
 {
@@ -97,7 +97,7 @@ fn put_coin_tests(tests: &mut Vec<bool>, coins: &[u64]) -> Result<(), AllocError
     Ok(())
 }
 
-/// A test for each record of a state, by its place among them.
+/// One test for each record of a state, in the order of the records.
 fn record_tests<S: Sign>(
     alloc: Global,
     node: &Node<S>,
@@ -121,7 +121,7 @@ fn record_tests<S: Sign>(
     Ok(tests)
 }
 
-/// The place of the first test that fails, if those of a list have the places from 1 on.
+/// The place of the first test that fails, counted from 1.
 fn first_failing(tests: &[bool]) -> Option<u64>
     ensures { result ≡ position_from not 1 tests.now }
 {
@@ -135,7 +135,7 @@ fn first_failing(tests: &[bool]) -> Option<u64>
     None
 }
 
-/// The place of the first record of a state that is at fault, if its records have the places from 1 on.
+/// The place of the first record of a state that is at fault, counted from 1.
 pub fn first_unsound<S: Sign>(
     alloc: Global,
     node: &Node<S>,

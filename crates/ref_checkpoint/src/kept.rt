@@ -6,9 +6,9 @@ use wire::{Batch, Certificate, Digest, Header, Round, VoteEntries};
 /// A batch that is held.
 #[derive(Drop)]
 pub struct KeptBatch {
-    /// Whether an own header names it.
+    /// Whether an own header names the batch.
     pub named: bool,
-    /// The other members who acknowledged it, by rising number.
+    /// The other members who acknowledged the batch, sorted by number.
     pub members: Vec<u16>,
     /// The batch.
     pub batch: Batch,
@@ -22,14 +22,14 @@ impl Model for KeptBatch {
     ghost view = { λ kept. record { named = kept.named; members = kept.members.items; batch = kept.batch } };
 }
 
-/// The vote for another author and a round.
+/// The node's vote for another author's header in a round.
 #[derive(Drop)]
 pub struct KeptVote {
     /// The author.
     pub author: u16,
     /// The round.
     pub round: Round,
-    /// The digest of the header that has the vote.
+    /// The digest of the header that was voted for.
     pub header: Digest,
 }
 
@@ -41,12 +41,12 @@ impl Model for KeptVote {
     ghost view = { λ kept. record { author = kept.author; round = kept.round; header = kept.header } };
 }
 
-/// An own header, with the votes of others on it that count.
+/// An own header, with the counted votes of others on it.
 #[derive(Drop)]
 pub struct KeptHeader {
     /// The header.
     pub header: Header,
-    /// The votes of others, by rising number.
+    /// The votes of others, sorted by number.
     pub votes: VoteEntries,
 }
 

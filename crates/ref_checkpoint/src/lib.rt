@@ -1,5 +1,5 @@
-//! A plain, slow program of a checkpoint's records: how they are written, what records are read as, and what of them is at fault. It
-//! takes no part in the node: later bodies are compared with it.
+//! A reference implementation, plain and slow, of a checkpoint's records: how they are written, what records decode to, and which of them
+//! are at fault. It is no part of a node: the code of the node is compared with it.
 #![tactic(auto)]
 
 mod configuration;

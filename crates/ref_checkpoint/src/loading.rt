@@ -1,4 +1,4 @@
-//! Whether the records of a journal's beginning can be loaded.
+//! Whether the first records of a journal can be loaded.
 
 ghost use Rattle.std.specs.Prelude.{◌≡◌, IfOk, option_map};
 ghost use Rattle.spec_checkpoint.specs.Loading as loading;
@@ -17,7 +17,7 @@ use header::Node;
 use sigface::Sign;
 use std::alloc::{AllocError, Global};
 
-/// The fault of a checkpoint, after the configuration at place 0: the first record that is at fault, and then the whole.
+/// The first fault of a checkpoint whose records follow the configuration at place 0: the first record at fault, or else the whole.
 fn unsound<S: Sign>(
     alloc: Global,
     node: &Node<S>,
@@ -34,7 +34,7 @@ fn unsound<S: Sign>(
     Ok(Some(LoadFault::OfWhole))
 }
 
-/// The fault of the records of a state: the first that doesn't follow the format, or else that of what they are.
+/// The fault of a state's records: the first one that doesn't follow the format, or else the fault of the checkpoint that they are read as.
 fn state_fault<S: Sign>(
     alloc: Global,
     node: &Node<S>,
@@ -48,11 +48,11 @@ fn state_fault<S: Sign>(
     }
 }
 
-/// What records are at fault: the first has to be the node's configuration, the others those of a sound state. A record that doesn't
-/// follow the format is told before one that isn't sound.
+/// Which records are at fault: the first has to be the node's configuration, and the others those of a sound state. A record that doesn't
+/// follow the format is reported before one that isn't sound.
 ///
 /// # Errors
-/// When memory runs out.
+/// An allocation failed.
 #[tactic(auto, unfolding(spec_checkpoint::specs::Loading::load_fault))]
 pub fn load_fault<S: Sign>(
     alloc: Global,

@@ -1,4 +1,4 @@
-//! What each kind of record has after its kind, as it is read.
+//! Reading what follows the kind in each kind of record.
 
 ghost use Rattle.std.specs.Prelude.{◌≡◌, ◌&&◌, ◌==◌, not, nat_lt, IfOk};
 ghost use Rattle.std.specs.List.{list_any};
@@ -29,7 +29,7 @@ fn mark_of(reader: &mut Reader) -> Result<bool, WireError>
     }
 }
 
-/// A number may come next among those that rise.
+/// Whether a number is greater than all of those before it.
 fn member_may_follow(before: &[u16], member: u16) -> bool
     ensures { result ≡ follows (λ one. nat_lt one member) before.now }
 {
@@ -39,7 +39,7 @@ fn member_may_follow(before: &[u16], member: u16) -> bool
     }
 }
 
-/// Another member's number after those before it.
+/// Reads another member's number, which has to be greater than those before it.
 #[tactic(auto, unfolding(spec_checkpoint::specs::Reading::member_at))]
 fn member_of<S: Sign>(node: &Node<S>, before: &[u16], reader: &mut Reader) -> Result<u16, WireError>
     ensures { Gives (λ x. (x, reader.new)) result (member_at (node_view S.scheme node.now) before.now reader.old) }
@@ -51,7 +51,7 @@ fn member_of<S: Sign>(node: &Node<S>, before: &[u16], reader: &mut Reader) -> Re
     Ok(member)
 }
 
-/// Other members after their count.
+/// Reads other members' numbers after their count.
 fn members_of<S: Sign>(
     alloc: Global,
     node: &Node<S>,
@@ -68,7 +68,7 @@ fn members_of<S: Sign>(
     Ok(members)
 }
 
-/// Whether an own header names a batch, who acknowledged it, the batch.
+/// Reads whether an own header names the batch, who acknowledged it, and the batch.
 #[tactic(auto, unfolding(spec_checkpoint::specs::Reading::kept_batch_at))]
 pub fn kept_batch_of<S: Sign>(
     alloc: Global,
@@ -87,14 +87,14 @@ pub fn kept_batch_of<S: Sign>(
     })
 }
 
-/// Of two places by round and author, the first comes before the second.
+/// Whether the first of two slots comes before the second, by round and then author.
 fn place_before(round: u64, author: u16, other_round: u64, other_author: u16) -> bool
     ensures { result ≡ place_before round author other_round other_author }
 {
     round < other_round || (round == other_round && author < other_author)
 }
 
-/// A vote for this author and round may come next.
+/// Whether a vote in this slot may follow these.
 fn vote_may_follow(before: &[KeptVote], round: u64, author: u16) -> bool
     ensures { result ≡ vote_may_follow before.now round author }
 {
@@ -104,7 +104,7 @@ fn vote_may_follow(before: &[KeptVote], round: u64, author: u16) -> bool
     }
 }
 
-/// Author, round, header digest.
+/// Reads author, round and header digest.
 #[tactic(auto, unfolding(spec_checkpoint::specs::Reading::kept_vote_at))]
 pub fn kept_vote_of(before: &[KeptVote], reader: &mut Reader) -> Result<KeptVote, WireError>
     ensures { Gives (λ x. (x, reader.new)) result (kept_vote_at before.now reader.old) }
@@ -122,7 +122,7 @@ pub fn kept_vote_of(before: &[KeptVote], reader: &mut Reader) -> Result<KeptVote
     })
 }
 
-/// An own header of this round may come next.
+/// Whether an own header of this round may follow these.
 fn header_may_follow(before: &[KeptHeader], round: u64) -> bool
     ensures { result ≡ header_may_follow before.now round }
 {
@@ -132,21 +132,21 @@ fn header_may_follow(before: &[KeptHeader], round: u64) -> bool
     }
 }
 
-/// One of these votes is by this member.
+/// Whether one of these votes is by this member.
 pub fn has_vote_of(votes: &[VoteEntry], voter: u16) -> bool
     ensures { result ≡ list_any (λ entry. entry.voter.0 == voter) votes.now }
 {
     votes.iter().any(|entry| entry.voter.0 == voter)
 }
 
-/// None of the votes is the node's own.
+/// Whether none of the votes is the node's own.
 fn are_of_others<S: Sign>(node: &Node<S>, votes: &[VoteEntry]) -> bool
     ensures { result ≡ are_of_others (node_view S.scheme node.now) votes.now }
 {
     !has_vote_of(votes, node.own.0)
 }
 
-/// A header with its signature, and votes, whichever they are.
+/// Reads a header with its signature, and any votes.
 #[tactic(auto, unfolding(crate::specs::HeadersRead::header_with_votes_at))]
 fn header_with_votes_of(alloc: Global, reader: &mut Reader) -> Result<KeptHeader, WireError>
     ensures { Gives (λ x. (x, reader.new)) result (header_with_votes_at reader.old) }
@@ -156,7 +156,7 @@ fn header_with_votes_of(alloc: Global, reader: &mut Reader) -> Result<KeptHeader
     Ok(KeptHeader { header, votes })
 }
 
-/// An own header may come next, and none of its votes is the node's own.
+/// Whether an own header may follow these, and none of its votes is the node's own.
 fn is_header_kept<S: Sign>(node: &Node<S>, before: &[KeptHeader], kept: &KeptHeader) -> bool
     ensures { result ≡ (header_may_follow before.now kept.now.header.body.round && are_of_others (node_view S.scheme node.now) kept.now.votes) }
 {
@@ -164,7 +164,7 @@ fn is_header_kept<S: Sign>(node: &Node<S>, before: &[KeptHeader], kept: &KeptHea
         && are_of_others(node, kept.votes.as_slice())
 }
 
-/// An own header with its signature, the votes of others.
+/// Reads an own header with its signature, and the other members' votes on it.
 #[tactic(auto, using(crate::proofs::HeadersTested::kept_header_tested))]
 pub fn kept_header_of<S: Sign>(
     alloc: Global,
@@ -181,7 +181,7 @@ pub fn kept_header_of<S: Sign>(
     Ok(kept)
 }
 
-/// A certificate of this header may come next.
+/// Whether a certificate with this header may follow these.
 fn certificate_may_follow(before: &[Certificate], header: &HeaderBody) -> bool
     ensures { result ≡ certificate_may_follow before.now header.now }
 {
@@ -196,14 +196,14 @@ fn certificate_may_follow(before: &[Certificate], header: &HeaderBody) -> bool
     }
 }
 
-/// A certificate of this header is above the genesis, and may come next.
+/// Whether a certificate with this header is above the genesis and may follow these.
 fn is_certificate_kept(before: &[Certificate], header: &HeaderBody) -> bool
     ensures { result ≡ (certificate_may_follow before.now header.now && nat_lt 0 header.now.round) }
 {
     certificate_may_follow(before, header) && 0 < header.round.number()
 }
 
-/// A certificate above the genesis.
+/// Reads a certificate above the genesis.
 #[tactic(auto, unfolding(spec_checkpoint::specs::Reading::kept_certificate_at))]
 pub fn kept_certificate_of(
     alloc: Global,

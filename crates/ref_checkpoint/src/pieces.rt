@@ -1,4 +1,4 @@
-//! Pieces of the order and of the coins, as they are read.
+//! Reading pieces of the order and of the coins.
 
 ghost use Rattle.std.specs.Prelude.{◌≡◌};
 ghost use Rattle.std.specs.Int.{w32, w64};
@@ -9,13 +9,13 @@ use std::alloc::Global;
 use wire::{Digest, WireError};
 use wire_read::Reader;
 
-/// How many digests a piece of the order has, but for the last.
+/// How many digests a piece of the order has, except the last one.
 pub const ORDER_PIECE: u32 = 65_536;
 
-/// How many values a piece of the coins has, but for the last.
+/// How many values a piece of the coins has, except the last one.
 pub const COINS_PIECE: u32 = 131_072;
 
-/// Digests after their count.
+/// Reads digests after their count.
 fn some_digests_of(alloc: Global, reader: &mut Reader) -> Result<Vec<Digest>, WireError>
     ensures { Gives (λ x. (x.items, reader.new)) result (counted_at w32 ORDER_PIECE (λ before. digest_at) reader.old) }
 {
@@ -28,7 +28,7 @@ fn some_digests_of(alloc: Global, reader: &mut Reader) -> Result<Vec<Digest>, Wi
     Ok(digests)
 }
 
-/// The digests of a piece, of which there is one at least.
+/// Reads the digests of one piece of the order, at least one.
 #[tactic(auto, unfolding(spec_checkpoint::specs::Reading::digests_at))]
 pub fn digests_of(alloc: Global, reader: &mut Reader) -> Result<Vec<Digest>, WireError>
     ensures { Gives (λ x. (x.items, reader.new)) result (digests_at reader.old) }
@@ -40,7 +40,7 @@ pub fn digests_of(alloc: Global, reader: &mut Reader) -> Result<Vec<Digest>, Wir
     Ok(digests)
 }
 
-/// Values of coins after their count.
+/// Reads values of coins after their count.
 fn some_coins_of(alloc: Global, reader: &mut Reader) -> Result<Vec<u64>, WireError>
     ensures { Gives (λ x. (x.items, reader.new)) result (counted_at w32 COINS_PIECE (λ before. number_at w64) reader.old) }
 {
@@ -53,7 +53,7 @@ fn some_coins_of(alloc: Global, reader: &mut Reader) -> Result<Vec<u64>, WireErr
     Ok(coins)
 }
 
-/// The values of a piece of coins, of which there is one at least.
+/// Reads the values of one piece of coins, at least one.
 #[tactic(auto, unfolding(spec_checkpoint::specs::Reading::coins_at))]
 pub fn coins_of(alloc: Global, reader: &mut Reader) -> Result<Vec<u64>, WireError>
     ensures { Gives (λ x. (x.items, reader.new)) result (coins_at reader.old) }

@@ -1,4 +1,4 @@
-//! What records are read as, one after the other.
+//! What records decode to, one after the other.
 
 ghost use Rattle.std.specs.Prelude.{◌≡◌, ◌<◌, ◌++◌, [], ◌∷◌, List, ℕ, length, not, IfOk, IfErr, option_map};
 ghost use Rattle.spec_checkpoint.specs.Data.{blank};
@@ -17,7 +17,7 @@ use std::alloc::{AllocError, Global};
 use wire::WireError;
 use wire_read::Reader;
 
-/// What all of the bytes are read as, if they follow the format and none is left.
+/// The value that was read, if the bytes follow the format and none is left.
 fn whole<T: Drop>(read: Result<T, WireError>, reader: &Reader) -> Result<Option<T>, AllocError>
     ensures { (text : Read T) → Gives (λ x. (x, reader.now)) read text → IfOk result (λ found. found ≡ reading.whole text) }
 {
@@ -33,7 +33,7 @@ fn whole<T: Drop>(read: Result<T, WireError>, reader: &Reader) -> Result<Option<
     }
 }
 
-/// So too of a list.
+/// The list that was read, if the bytes follow the format and none is left.
 fn whole_list<T: Drop>(
     read: Result<Vec<T>, WireError>,
     reader: &Reader,
@@ -52,7 +52,7 @@ fn whole_list<T: Drop>(
     }
 }
 
-/// The checkpoint of a node that has taken nothing.
+/// The checkpoint of a node that has taken no event.
 fn blank(alloc: Global) -> Checkpoint
     ensures { result ≡ blank }
 {
@@ -88,7 +88,7 @@ fn last_kind(checkpoint: &Checkpoint) -> u8
     }
 }
 
-/// What was read so far with a piece of the order.
+/// The checkpoint so far with a piece of the order.
 fn with_order(
     alloc: Global,
     mut so_far: Checkpoint,
@@ -107,7 +107,7 @@ fn with_order(
     }
 }
 
-/// What was read so far with a batch.
+/// The checkpoint so far with a batch.
 fn with_batch<S: Sign>(
     alloc: Global,
     node: &Node<S>,
@@ -127,7 +127,7 @@ fn with_batch<S: Sign>(
     }
 }
 
-/// What was read so far with a vote.
+/// The checkpoint so far with a vote.
 fn with_vote(mut so_far: Checkpoint, bytes: &[u8]) -> Result<Option<Checkpoint>, AllocError>
     ensures { IfOk result (λ found. found ≡ option_map (λ kept. record so_far { votes = so_far.votes ++ kept ∷ [] }) (reading.whole (kept_vote_at so_far.votes bytes.now))) }
 {
@@ -142,7 +142,7 @@ fn with_vote(mut so_far: Checkpoint, bytes: &[u8]) -> Result<Option<Checkpoint>,
     }
 }
 
-/// What was read so far with an own header.
+/// The checkpoint so far with an own header.
 fn with_header<S: Sign>(
     alloc: Global,
     node: &Node<S>,
@@ -162,7 +162,7 @@ fn with_header<S: Sign>(
     }
 }
 
-/// What was read so far with a certificate.
+/// The checkpoint so far with a certificate.
 fn with_certificate(
     alloc: Global,
     mut so_far: Checkpoint,
@@ -181,7 +181,7 @@ fn with_certificate(
     }
 }
 
-/// What was read so far with a piece of the coins.
+/// The checkpoint so far with a piece of the coins.
 fn with_coins(
     alloc: Global,
     mut so_far: Checkpoint,
@@ -200,7 +200,7 @@ fn with_coins(
     }
 }
 
-/// What was read so far with one record more, where that follows the format.
+/// The checkpoint so far with one more record, if that follows the format.
 #[tactic(auto, unfolding(spec_checkpoint::specs::Reading::with_record))]
 fn with_record<S: Sign>(
     alloc: Global,
@@ -227,7 +227,7 @@ fn with_record<S: Sign>(
     }
 }
 
-/// The kind of a record is its first byte.
+/// The kind of a record: its first byte.
 fn kind_of(record: &[u8]) -> u8
     ensures { result ≡ reading.kind_of record.now }
 {
@@ -237,7 +237,7 @@ fn kind_of(record: &[u8]) -> u8
     }
 }
 
-/// The last piece isn't full, and one more piece comes after it.
+/// Whether the last record is a piece that isn't full, and a record of this kind would be one more piece.
 fn is_cut_short(checkpoint: &Checkpoint, kind: u8) -> bool
     ensures { result ≡ reading.is_cut_short checkpoint.now kind }
 {
@@ -251,10 +251,10 @@ fn is_cut_short(checkpoint: &Checkpoint, kind: u8) -> bool
     }
 }
 
-/// The checkpoint of which these are the records, or the place of the first record that doesn't follow the format.
+/// The checkpoint that these records decode to, or the place of the first record that doesn't follow the format.
 ///
 /// # Errors
-/// When memory runs out.
+/// An allocation failed.
 pub fn checkpoint_read<S: Sign>(
     alloc: Global,
     node: &Node<S>,

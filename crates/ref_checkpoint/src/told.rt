@@ -1,4 +1,4 @@
-//! What loading records is answered, as text.
+//! The result of loading records, as text.
 
 ghost use Rattle.std.specs.Prelude.{◌≡◌, IfOk, string_bytes};
 ghost use Rattle.spec_checkpoint.specs.Loading.{load_fault};
@@ -12,10 +12,10 @@ use header::Node;
 use sigface::Sign;
 use std::alloc::{AllocError, Global};
 
-/// What loading records is answered, as case files have it: `Ok`, or the number and the name of the fault, with the place of a record.
+/// The result of loading records, as the files of cases have it: `Ok`, or the number and the name of the fault, with the place of a record.
 ///
 /// # Errors
-/// When memory runs out.
+/// An allocation failed.
 pub fn load_answer<S: Sign>(
     alloc: Global,
     node: &Node<S>,

@@ -1,4 +1,4 @@
-//! The records of a checkpoint's state, as they are written.
+//! Writing the records of a checkpoint's state.
 
 ghost use Rattle.std.specs.Prelude.{◌≡◌, ◌<◌, ◌≤◌, ◌*◌, ◌++◌, ◌∷◌, List, ℕ, length, map, take, drop, IfOk, OnOk, flat_map, if◌then◌else◌};
 ghost use Rattle.std.specs.Int.{w16, w64, to_be_bytes};
@@ -12,7 +12,7 @@ use std::alloc::{AllocError, Global};
 use wire::numbers::two_bytes;
 use wire::{Certificate, Digest, Message, VoteEntry, encode};
 
-/// A piece of a list, which is cut into pieces of so many.
+/// One piece of a list that is cut into pieces of this size.
 fn piece_at<T>(list: &[T], size: usize, piece: usize) -> &[T]
     requires { size * piece < length list.now }
     ensures value { result.now ≡ take size (drop (size * piece) list.now) }
@@ -30,7 +30,7 @@ fn count_bytes(count: usize) -> [u8; 2]
     two_bytes((count % 65_536) as u16)
 }
 
-/// Puts digests after bytes.
+/// Adds digests to the bytes.
 fn put_digests(bytes: &mut Vec<u8>, digests: &[Digest]) -> Result<(), AllocError>
     ensures { OnOk result (bytes.new.items ≡ bytes.old.items ++ flat_map (λ digest. digest.0) digests.now) }
 {
@@ -40,7 +40,7 @@ fn put_digests(bytes: &mut Vec<u8>, digests: &[Digest]) -> Result<(), AllocError
     Ok(())
 }
 
-/// A piece of the order: its kind, how many digests, and these.
+/// A piece of the order: its kind, the number of digests, the digests.
 fn order_record(alloc: Global, digests: &[Digest]) -> Result<Vec<u8>, AllocError>
     requires { length digests.now ≤ ORDER_PIECE }
     ensures { IfOk result (λ bytes. bytes.items ≡ records.order_record digests.now) }
@@ -52,7 +52,7 @@ fn order_record(alloc: Global, digests: &[Digest]) -> Result<Vec<u8>, AllocError
     Ok(bytes)
 }
 
-/// Puts numbers of two bytes after bytes.
+/// Adds numbers of two bytes to the bytes.
 fn put_members(bytes: &mut Vec<u8>, members: &[u16]) -> Result<(), AllocError>
     ensures { OnOk result (bytes.new.items ≡ bytes.old.items ++ flat_map (to_be_bytes w16) members.now) }
 {
@@ -62,14 +62,14 @@ fn put_members(bytes: &mut Vec<u8>, members: &[u16]) -> Result<(), AllocError>
     Ok(())
 }
 
-/// The byte of a mark.
+/// The byte that says whether a batch is named.
 fn mark_byte(named: bool) -> u8
     ensures { result ≡ (if named then 1 else 0) }
 {
     if named { 1 } else { 0 }
 }
 
-/// A batch: its kind, whether an own header names it, the other members who acknowledged it after their count, and its body.
+/// A batch: its kind, whether an own header names it, the number of other members who acknowledged it, these members, and its body.
 fn batch_record(alloc: Global, kept: &KeptBatch) -> Result<Vec<u8>, AllocError>
     ensures { IfOk result (λ bytes. bytes.items ≡ records.batch_record kept.now) }
 {
@@ -82,7 +82,7 @@ fn batch_record(alloc: Global, kept: &KeptBatch) -> Result<Vec<u8>, AllocError>
     Ok(bytes)
 }
 
-/// A vote for another author: its kind, author, round, header digest.
+/// A vote for another author's header: its kind, author, round, header digest.
 fn vote_record(alloc: Global, vote: &KeptVote) -> Result<Vec<u8>, AllocError>
     ensures { IfOk result (λ bytes. bytes.items ≡ records.vote_record vote.now) }
 {
@@ -94,7 +94,7 @@ fn vote_record(alloc: Global, vote: &KeptVote) -> Result<Vec<u8>, AllocError>
     Ok(bytes)
 }
 
-/// Puts a vote on a header after bytes.
+/// Adds a vote on a header to the bytes.
 fn put_vote_entry(bytes: &mut Vec<u8>, entry: &VoteEntry) -> Result<(), AllocError>
     ensures { OnOk result (bytes.new.items ≡ bytes.old.items ++ vote_entry_bytes entry.now) }
 {
@@ -103,7 +103,7 @@ fn put_vote_entry(bytes: &mut Vec<u8>, entry: &VoteEntry) -> Result<(), AllocErr
     Ok(())
 }
 
-/// Puts votes on a header after bytes.
+/// Adds votes on a header to the bytes.
 fn put_entries(bytes: &mut Vec<u8>, votes: &[VoteEntry]) -> Result<(), AllocError>
     ensures { OnOk result (bytes.new.items ≡ bytes.old.items ++ flat_map vote_entry_bytes votes.now) }
 {
@@ -113,7 +113,7 @@ fn put_entries(bytes: &mut Vec<u8>, votes: &[VoteEntry]) -> Result<(), AllocErro
     Ok(())
 }
 
-/// An own header: its kind, the header's body, its signature, and the votes of others after their count.
+/// An own header: its kind, the header's body, its signature, the number of others' votes on it, and these votes.
 fn header_record(alloc: Global, kept: &KeptHeader) -> Result<Vec<u8>, AllocError>
     ensures { IfOk result (λ bytes. bytes.items ≡ records.header_record kept.now) }
 {
@@ -123,7 +123,7 @@ fn header_record(alloc: Global, kept: &KeptHeader) -> Result<Vec<u8>, AllocError
     Ok(bytes)
 }
 
-/// A message with a kind in the place of its tag.
+/// The bytes of a message, with a record's kind in the place of the message's tag.
 fn of_kind(alloc: Global, kind: u8, message: &Message) -> Result<Vec<u8>, AllocError>
     ensures { IfOk result (λ bytes. bytes.items ≡ kind ∷ drop 1 (spelling message.now)) }
 {
@@ -136,14 +136,14 @@ fn of_kind(alloc: Global, kind: u8, message: &Message) -> Result<Vec<u8>, AllocE
     Ok(bytes)
 }
 
-/// A certificate: its kind, the header's body, and the votes after their count.
+/// A certificate: its kind, the header's body, the number of votes, and the votes.
 fn certificate_record(alloc: Global, certificate: &Certificate) -> Result<Vec<u8>, AllocError>
     ensures { IfOk result (λ bytes. bytes.items ≡ records.certificate_record certificate.now) }
 {
     of_kind(alloc, 7, &Message::Certificate(certificate.try_clone()?))
 }
 
-/// Puts values of coins after bytes.
+/// Adds values of coins to the bytes.
 fn put_values(bytes: &mut Vec<u8>, coins: &[u64]) -> Result<(), AllocError>
     ensures { OnOk result (bytes.new.items ≡ bytes.old.items ++ flat_map (to_be_bytes w64) coins.now) }
 {
@@ -153,7 +153,7 @@ fn put_values(bytes: &mut Vec<u8>, coins: &[u64]) -> Result<(), AllocError>
     Ok(())
 }
 
-/// A piece of the coins: its kind, how many values, and these.
+/// A piece of the coins: its kind, the number of values, the values.
 fn coins_record(alloc: Global, coins: &[u64]) -> Result<Vec<u8>, AllocError>
     requires { length coins.now ≤ COINS_PIECE }
     ensures { IfOk result (λ bytes. bytes.items ≡ records.coins_record coins.now) }
@@ -165,7 +165,7 @@ fn coins_record(alloc: Global, coins: &[u64]) -> Result<Vec<u8>, AllocError>
     Ok(bytes)
 }
 
-/// Puts the records of pieces of the order after others.
+/// Adds the records of the pieces of the order.
 fn put_order(alloc: Global, rows: &mut Vec<Vec<u8>>, digests: &[Digest]) -> Result<(), AllocError>
     ensures { OnOk result (contents rows.new.items ≡ contents rows.old.items ++ map records.order_record (records.cut ORDER_PIECE digests.now)) }
 {
@@ -177,7 +177,7 @@ fn put_order(alloc: Global, rows: &mut Vec<Vec<u8>>, digests: &[Digest]) -> Resu
     Ok(())
 }
 
-/// Puts the records of batches after others.
+/// Adds the records of batches.
 #[tactic(auto, using(crate::proofs::RowsMore::row_more))]
 fn put_batches(
     alloc: Global,
@@ -192,7 +192,7 @@ fn put_batches(
     Ok(())
 }
 
-/// Puts the records of votes after others.
+/// Adds the records of votes.
 #[tactic(auto, using(crate::proofs::RowsMore::row_more))]
 fn put_votes(alloc: Global, rows: &mut Vec<Vec<u8>>, votes: &[KeptVote]) -> Result<(), AllocError>
     ensures { OnOk result (contents rows.new.items ≡ contents rows.old.items ++ map records.vote_record votes.now) }
@@ -203,7 +203,7 @@ fn put_votes(alloc: Global, rows: &mut Vec<Vec<u8>>, votes: &[KeptVote]) -> Resu
     Ok(())
 }
 
-/// Puts the records of own headers after others.
+/// Adds the records of own headers.
 #[tactic(auto, using(crate::proofs::RowsMore::row_more))]
 fn put_headers(
     alloc: Global,
@@ -218,7 +218,7 @@ fn put_headers(
     Ok(())
 }
 
-/// Puts the records of certificates after others.
+/// Adds the records of certificates.
 #[tactic(auto, using(crate::proofs::RowsMore::row_more))]
 fn put_certificates(
     alloc: Global,
@@ -233,7 +233,7 @@ fn put_certificates(
     Ok(())
 }
 
-/// Puts the records of pieces of the coins after others.
+/// Adds the records of the pieces of the coins.
 fn put_coins(alloc: Global, rows: &mut Vec<Vec<u8>>, coins: &[u64]) -> Result<(), AllocError>
     ensures { OnOk result (contents rows.new.items ≡ contents rows.old.items ++ map records.coins_record (records.cut COINS_PIECE coins.now)) }
 {
@@ -245,10 +245,10 @@ fn put_coins(alloc: Global, rows: &mut Vec<Vec<u8>>, coins: &[u64]) -> Result<()
     Ok(())
 }
 
-/// The records of a state, by their kinds.
+/// The records of a state, kind after kind.
 ///
 /// # Errors
-/// When memory runs out.
+/// An allocation failed.
 pub fn state_records(alloc: Global, checkpoint: &Checkpoint) -> Result<Vec<Vec<u8>>, AllocError>
     ensures { IfOk result (λ rows. contents rows.items ≡ records.state_records checkpoint.now) }
 {

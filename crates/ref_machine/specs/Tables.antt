@@ -1,4 +1,4 @@
--- What tables in lists are as a state: of each list the first that fits.
+-- The state that tables of plain lists stand for: of each list the first entry that fits.
 use Rattle.std.specs.Prelude.{ℕ, ◌==◌, ◌&&◌, Bool, List, find, Option, Some, None, option_map, option_and_then, if◌then◌else◌}
 use Rattle.std.specs.List.{list_any}
 use Rattle.std.specs.Option.{option_or}
@@ -24,7 +24,7 @@ votes_for round author vote = (vote.round == round) && (vote.author.0 == author)
 abbrev pub of_round : ℕ → Header → Bool
 of_round round header = header.body.round == round
 
--- a vote is one on the own header of a round, by a member
+-- a vote is one by this member on the own header of a round
 abbrev pub counts_for : ℕ → ℕ → Vote → Bool
 counts_for round voter vote = (vote.round == round) && (vote.voter.0 == voter)
 
@@ -38,7 +38,7 @@ acked_in acks digest member = list_any (acks_it digest member) acks
 abbrev pub named_in : List Digest → Digest → Bool
 named_in digests digest = list_any (λ named. same_digest named digest) digests
 
--- the digest that has the vote for a round and author
+-- the digest that the node voted for in a slot
 abbrev pub votes_in : List SlotVote → ℕ → ℕ → Option Digest
 votes_in votes round author = option_map (λ vote. vote.digest) (find (votes_for round author) votes)
 
@@ -46,25 +46,25 @@ votes_in votes round author = option_map (λ vote. vote.digest) (find (votes_for
 abbrev pub headers_in : List Header → ℕ → Option Header
 headers_in headers round = find (of_round round) headers
 
--- the vote that counts on the own header of a round by a member
+-- the counted vote of a member on the own header of a round
 abbrev pub counted_in : List Vote → ℕ → ℕ → Option Vote
 counted_in votes round voter = find (counts_for round voter) votes
 
--- a vote where it is one on the own header of a round by a member
+-- a vote, if it is by this member on the own header of a round
 abbrev pub vote_if : Vote → ℕ → ℕ → Option Vote
 vote_if vote round voter = if counts_for round voter vote then Some vote else None
 
--- the votes that count on the own header of a vote's round, with that vote
+-- the counted votes on the own header of a vote's round, with that vote
 abbrev pub counted_and : State → Vote → ℕ → Option Vote
 counted_and state vote voter = option_or (state.counted vote.round voter) (vote_if vote vote.round voter)
 
--- the certificate of the own header of a vote's round, if those whose votes count with that vote are a quorum
+-- the certificate of the own header of a vote's round, if the counted votes with that one weigh a quorum
 abbrev pub completed_by : Node → State → Vote → Option Certificate
 completed_by node state vote = option_and_then (certificate_by node (counted_and state vote)) (state.own_headers vote.round)
 
 -- ---- the state
 
--- what tables hold
+-- the state that the tables hold
 abbrev pub state_of : declared.Tables → State
 state_of tables = record {
   batches = tables.batches.items;

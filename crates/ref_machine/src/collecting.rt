@@ -15,7 +15,7 @@ use sigface::Sign;
 use std::alloc::{AllocError, Global};
 use wire::{Certificate, Header, Vote};
 
-/// Keeps the votes for authors and rounds that aren't low.
+/// Keeps the votes in slots whose rounds aren't low.
 fn keep_votes(votes: &mut Vec<SlotVote>, floor: u64)
     ensures { (round author : ℕ) → votes_in votes.new.items round author ≡ unless_low floor round (votes_in votes.old.items round author) }
 {
@@ -43,11 +43,11 @@ fn keep_certificates(certificates: &mut Vec<Certificate>, floor: u64)
     certificates.retain(|certificate| certificate.header.round.number() >= floor);
 }
 
-/// What is kept of tables: of the votes, the own headers and the votes on them the rounds that aren't low, and of
-/// the certificates those at or above the floor.
+/// What is kept of tables: votes, own headers and the votes on them only of rounds that aren't low, and certificates only from the floor
+/// up.
 ///
 /// # Errors
-/// When memory runs out.
+/// An allocation failed.
 pub fn collected<S: Sign>(
     alloc: Global,
     node: &Node<S>,

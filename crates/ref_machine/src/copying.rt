@@ -1,4 +1,4 @@
-//! Lists once more.
+//! Copies of lists.
 
 ghost use Rattle.std.specs.Prelude.{◌≡◌, IfOk};
 
@@ -6,7 +6,7 @@ use crate::tables::SlotVote;
 use std::alloc::{AllocError, Global};
 use wire::{Batch, BatchAck, Certificate, Digest, Header, Vote};
 
-/// A list of batches once more, over the same bytes.
+/// A copy of a list of batches, which share their bytes.
 pub fn batches_again(alloc: Global, batches: &[Batch]) -> Result<Vec<Batch>, AllocError>
     ensures { IfOk result (λ found. found.items ≡ batches.now) }
 {
@@ -17,7 +17,7 @@ pub fn batches_again(alloc: Global, batches: &[Batch]) -> Result<Vec<Batch>, All
     Ok(found)
 }
 
-/// A list of acknowledgements once more.
+/// A copy of a list of acknowledgements.
 pub fn acks_again(alloc: Global, acks: &[BatchAck]) -> Result<Vec<BatchAck>, AllocError>
     ensures { IfOk result (λ found. found.items ≡ acks.now) }
 {
@@ -26,7 +26,7 @@ pub fn acks_again(alloc: Global, acks: &[BatchAck]) -> Result<Vec<BatchAck>, All
     Ok(found)
 }
 
-/// A list of digests once more.
+/// A copy of a list of digests.
 pub fn digests_again(alloc: Global, digests: &[Digest]) -> Result<Vec<Digest>, AllocError>
     ensures { IfOk result (λ found. found.items ≡ digests.now) }
 {
@@ -35,7 +35,7 @@ pub fn digests_again(alloc: Global, digests: &[Digest]) -> Result<Vec<Digest>, A
     Ok(found)
 }
 
-/// A list of votes for authors and rounds once more.
+/// A copy of a list of votes in slots.
 pub fn slot_votes_again(alloc: Global, votes: &[SlotVote]) -> Result<Vec<SlotVote>, AllocError>
     ensures { IfOk result (λ found. found.items ≡ votes.now) }
 {
@@ -44,7 +44,7 @@ pub fn slot_votes_again(alloc: Global, votes: &[SlotVote]) -> Result<Vec<SlotVot
     Ok(found)
 }
 
-/// A list of headers once more.
+/// A copy of a list of headers.
 pub fn headers_again(alloc: Global, headers: &[Header]) -> Result<Vec<Header>, AllocError>
     ensures { IfOk result (λ found. found.items ≡ headers.now) }
 {
@@ -55,7 +55,7 @@ pub fn headers_again(alloc: Global, headers: &[Header]) -> Result<Vec<Header>, A
     Ok(found)
 }
 
-/// A list of votes once more.
+/// A copy of a list of votes.
 pub fn votes_again(alloc: Global, votes: &[Vote]) -> Result<Vec<Vote>, AllocError>
     ensures { IfOk result (λ found. found.items ≡ votes.now) }
 {
@@ -64,7 +64,7 @@ pub fn votes_again(alloc: Global, votes: &[Vote]) -> Result<Vec<Vote>, AllocErro
     Ok(found)
 }
 
-/// A list of certificates once more.
+/// A copy of a list of certificates.
 pub fn certificates_again(
     alloc: Global,
     certificates: &[Certificate],
@@ -78,7 +78,7 @@ pub fn certificates_again(
     Ok(found)
 }
 
-/// A list of numbers once more.
+/// A copy of a list of numbers.
 pub fn numbers_again(alloc: Global, numbers: &[u64]) -> Result<Vec<u64>, AllocError>
     ensures { IfOk result (λ found. found.items ≡ numbers.now) }
 {

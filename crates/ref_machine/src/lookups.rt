@@ -1,4 +1,4 @@
-//! What fits a look-up in a table.
+//! Which entries of a table fit a look-up.
 
 ghost use Rattle.std.specs.Prelude.{◌≡◌, IfSome};
 ghost use Rattle.spec_model.specs.Holdings.{batch_digest};
@@ -8,42 +8,42 @@ ghost use Rattle.ref_machine.specs.Tables.{acks_it, votes_for, of_round, counts_
 use crate::tables::SlotVote;
 use wire::{Batch, BatchAck, Digest, Header, Vote};
 
-/// A batch has this digest.
+/// Whether a batch has this digest.
 pub fn is_batch(batch: &Batch, digest: &Digest) -> bool
     ensures { result ≡ same_digest (batch_digest batch.now) digest.now }
 {
     wire::batch_digest(batch) == *digest
 }
 
-/// An acknowledgement is of the batch of this digest, by this member.
+/// Whether an acknowledgement is of the batch with this digest, by this member.
 pub fn is_ack(ack: &BatchAck, digest: &Digest, member: u16) -> bool
     ensures { result ≡ acks_it digest.now member ack.now }
 {
     ack.batch == *digest && ack.author.0 == member
 }
 
-/// A vote is for this author and round.
+/// Whether a vote is in this slot.
 pub fn is_of_slot(vote: &SlotVote, round: u64, author: u16) -> bool
     ensures { result ≡ votes_for round author vote.now }
 {
     vote.round.number() == round && vote.author.0 == author
 }
 
-/// A header is of this round.
+/// Whether a header is of this round.
 pub fn is_of_round(header: &Header, round: u64) -> bool
     ensures { result ≡ of_round round header.now }
 {
     header.body.round.number() == round
 }
 
-/// A vote is one on the own header of this round, by this member.
+/// Whether a vote is one by this member on the own header of this round.
 pub fn is_counted(vote: &Vote, round: u64, voter: u16) -> bool
     ensures { result ≡ counts_for round voter vote.now }
 {
     vote.round.number() == round && vote.voter.0 == voter
 }
 
-/// The vote of a member that counts on the own header of a round.
+/// The counted vote of a member on the own header of a round.
 pub fn first_vote(votes: &[Vote], round: u64, voter: u16) -> Option<Vote>
     ensures value { result ≡ counted_in votes.now round voter }
     ensures voter { IfSome result (λ vote. vote.voter.0 ≡ voter) }

@@ -12,7 +12,7 @@ use ref_order::holdings::is_full;
 use sigface::Sign;
 use wire::Certificate;
 
-/// The greatest round up to a given one of which a quorum of authors has certificates, or 0.
+/// The greatest round up to this one in which a quorum of authors has certificates, or 0.
 fn full_to<S: Sign>(node: &Node<S>, certificates: &[Certificate], round: u64) -> u64
     ensures value { result ≡ machine.full_to (node_view S.scheme node.now) (slots_of certificates.now) round }
     ensures limit { result ≤ round }

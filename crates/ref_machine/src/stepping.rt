@@ -1,4 +1,4 @@
-//! What a node answers an event by its tables, what it keeps after it, and what it proposes.
+//! What a node answers to an event from its tables, its tables after an event, and what it proposes.
 
 ghost use Rattle.std.specs.Prelude.{◌≡◌, IfOk};
 ghost use Rattle.spec_machine.specs.Machine as machine;
@@ -17,10 +17,10 @@ use sigface::Sign;
 use std::alloc::{AllocError, Global};
 use wire::{Header, Round};
 
-/// The tables of a node that has taken nothing: they have the genesis.
+/// The tables of a node that has taken no event: they have the genesis certificates.
 ///
 /// # Errors
-/// When memory runs out.
+/// An allocation failed.
 pub fn fresh<S: Sign>(alloc: Global, node: &Node<S>) -> Result<Tables, AllocError>
     ensures { IfOk result (λ tables. state_of tables ≡ machine.fresh (node_view S.scheme node.now)) }
 {
@@ -38,10 +38,10 @@ pub fn fresh<S: Sign>(alloc: Global, node: &Node<S>) -> Result<Tables, AllocErro
     })
 }
 
-/// The tables after a new event: with what it adds, and without what then lies below the floor.
+/// The tables after a new event: with all that it adds, and then without what falls below the new floor.
 ///
 /// # Errors
-/// When memory runs out.
+/// An allocation failed.
 pub fn after<S: Sign>(
     alloc: Global,
     node: &Node<S>,
@@ -53,10 +53,10 @@ pub fn after<S: Sign>(
     collected(alloc, node, grown(alloc, node, tables, &event.message)?)
 }
 
-/// What an event is answered.
+/// The answer to an event.
 ///
 /// # Errors
-/// When memory runs out.
+/// An allocation failed.
 pub fn answered<S: Sign>(
     alloc: Global,
     node: &Node<S>,
@@ -69,10 +69,10 @@ pub fn answered<S: Sign>(
     answer(alloc, node, tables, &later, event)
 }
 
-/// The header that the node proposes, if its round has none yet.
+/// The header that the node proposes; None where its round has one already.
 ///
 /// # Errors
-/// When memory runs out.
+/// An allocation failed.
 pub fn proposed<S: Sign>(
     alloc: Global,
     node: &Node<S>,
@@ -83,17 +83,17 @@ pub fn proposed<S: Sign>(
     propose_of(alloc, node, tables, round_in(node, tables))
 }
 
-/// An answer is that parents are missing.
+/// Whether an answer says that parents are missing.
 fn is_missing_parents(answer: &Admission) -> bool
     ensures { result ≡ machine.is_missing_parents answer.now }
 {
     matches!(answer, Admission::Refused(Refusal::MissingParents))
 }
 
-/// Whether a message is ready: its answer isn't that parents are missing.
+/// Whether an event is ready: its answer isn't that parents are missing.
 ///
 /// # Errors
-/// When memory runs out.
+/// An allocation failed.
 pub fn is_ready<S: Sign>(
     alloc: Global,
     node: &Node<S>,

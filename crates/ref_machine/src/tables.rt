@@ -12,7 +12,7 @@ use ref_order::held::Held;
 use std::alloc::{AllocError, Global};
 use wire::{Author, Batch, BatchAck, Certificate, Digest, Header, Round, Vote};
 
-/// The digest that has the vote for an author and round.
+/// The digest that the node voted for in a slot.
 #[derive(Clone, Copy, PartialEq, Eq)]
 pub struct SlotVote {
     /// The round.
@@ -23,7 +23,7 @@ pub struct SlotVote {
     pub digest: Digest,
 }
 
-/// What a node keeps, in lists. Where more than one in a list fits, the first one counts.
+/// The tables of a node, as lists. Where several entries of a list fit, the first one counts.
 #[derive(Drop)]
 pub struct Tables {
     /// The batches, in the order of acceptance.
@@ -32,15 +32,15 @@ pub struct Tables {
     pub acks: Vec<BatchAck>,
     /// The digests of the batches that own headers named.
     pub named: Vec<Digest>,
-    /// The digests that have the votes.
+    /// The digests that the node voted for.
     pub votes: Vec<SlotVote>,
     /// The own headers.
     pub own_headers: Vec<Header>,
-    /// The votes that count on the own headers.
+    /// The counted votes on the own headers.
     pub counted: Vec<Vote>,
     /// The certificates.
     pub certificates: Vec<Certificate>,
-    /// The greatest round of which there was a certificate.
+    /// The greatest round of any certificate so far.
     pub highest: Round,
     /// The values of the coins, that of wave 1 first.
     pub coins: Vec<u64>,
@@ -49,10 +49,10 @@ pub struct Tables {
 }
 
 impl Tables {
-    /// The same tables once more.
+    /// A copy of the tables.
     ///
     /// # Errors
-    /// When memory runs out.
+    /// An allocation failed.
     pub fn try_clone(&self, alloc: Global) -> Result<Tables, AllocError>
         ensures { IfOk result (λ tables. state_of tables ≡ state_of self.now) }
     {

@@ -1,4 +1,4 @@
--- What contracts see of the values that the programs of the order take.
+-- What contracts see of the values that the reference implementation of the order takes.
 use Rattle.spec_model.specs.Ordering.{Ledger}
 use Rattle.spec_model.specs.Slots.{slots_of}
 use Rattle.ref_order.specs.declared.ledger.Ledger as declared

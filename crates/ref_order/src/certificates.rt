@@ -17,7 +17,7 @@ use sigface::Sign;
 use std::alloc::{AllocError, Global};
 use wire::{Author, Certificate, Digest, Header, HeaderBody, Vote, VoteEntries};
 
-/// A header of a node's history, for the votes on it.
+/// An own header in a node's history, for the counted votes on it.
 struct OnHeader<'a, S: Sign> {
     node: &'a Node<S>,
     history: &'a [Event],
@@ -40,7 +40,7 @@ impl<'a, S: Sign> Counted for OnHeader<'a, S> {
     }
 }
 
-/// The votes on an own header, rising by voter.
+/// The counted votes on an own header, sorted by voter.
 pub fn votes_on<S: Sign>(
     alloc: Global,
     node: &Node<S>,
@@ -57,7 +57,7 @@ pub fn votes_on<S: Sign>(
     votes_by(alloc, node, &counted)
 }
 
-/// The certificate of an own header, if those who voted for it are a quorum.
+/// The certificate of an own header, if the votes on it weigh a quorum.
 pub fn completed<S: Sign>(
     alloc: Global,
     node: &Node<S>,
@@ -167,7 +167,7 @@ pub fn highest_of(certificates: &[Certificate]) -> u64
     highest
 }
 
-/// 1 plus the greatest round of which a quorum of authors has certificates.
+/// 1 plus the greatest round in which a quorum of authors has certificates.
 pub fn round_by<S: Sign>(node: &Node<S>, certificates: &[Certificate]) -> u64
     ensures { result ≡ holdings.round_by (node_view S.scheme node.now) certificates.now }
 {

@@ -1,4 +1,4 @@
-//! What a node holds, wherever it stands.
+//! What a node holds: a history, or tables.
 
 ghost use Rattle.std.specs.Prelude.{◌≡◌, ℕ, List, Option, ◌&&◌, nat_lt, length, IfOk, IfSome, option_copied};
 ghost use Rattle.committee.specs.Charter.{weight};
@@ -20,31 +20,31 @@ use sigface::Sign;
 use std::alloc::{AllocError, Global};
 use wire::{Author, Batch, Certificate, Digest, Header, Vote};
 
-/// What a node holds: a history, or tables. What reads it is written once over both.
+/// What a node holds, as a history or as tables, so that code that reads it is written only once.
 pub trait Held {
     /// What is held.
     ghost state: { Self → State };
 
-    /// The batch of a digest.
+    /// The batch with this digest.
     fn batch(&self, digest: &Digest) -> Option<&Batch>
         ensures { option_copied result ≡ states.batch_in (state self.now) digest.now };
 
     /// The batches, in the order of acceptance.
     ///
     /// # Errors
-    /// When memory runs out.
+    /// An allocation failed.
     fn batches(&self, alloc: Global) -> Result<Vec<Batch>, AllocError>
         ensures { IfOk result (λ found. found.items ≡ (state self.now).batches) };
 
-    /// A member has acknowledged the batch of this digest.
+    /// Whether a member has acknowledged the batch with this digest.
     fn has_acked(&self, digest: &Digest, member: u16) -> bool
         ensures { result ≡ (state self.now).acked digest.now member };
 
-    /// An own header has named the batch of this digest.
+    /// Whether an own header has named the batch with this digest.
     fn was_named(&self, digest: &Digest) -> bool
         ensures { result ≡ (state self.now).named digest.now };
 
-    /// The digest that has the vote for an author and round.
+    /// The digest that the node voted for in a slot.
     fn voted_digest(&self, round: u64, author: u16) -> Option<Digest>
         ensures { result ≡ (state self.now).votes round author };
 
@@ -57,36 +57,36 @@ pub trait Held {
         ensures value { result ≡ (state self.now).counted round voter }
         ensures voter { IfSome result (λ vote. vote.voter.0 ≡ voter) };
 
-    /// The certificates, of which the first in each slot counts.
+    /// The certificates; the first one in each slot counts.
     ///
     /// # Errors
-    /// When memory runs out.
+    /// An allocation failed.
     fn certificates(&self, alloc: Global) -> Result<Vec<Certificate>, AllocError>
         ensures { IfOk result (λ found. slots_of found.items ≡ (state self.now).slots) };
 
-    /// The greatest round of which there was a certificate.
+    /// The greatest round of any certificate so far.
     ///
     /// # Errors
-    /// When memory runs out.
+    /// An allocation failed.
     fn highest(&self, alloc: Global) -> Result<u64, AllocError>
         ensures { IfOk result (λ highest. highest ≡ (state self.now).highest) };
 
     /// The values of the coins, that of wave 1 first.
     ///
     /// # Errors
-    /// When memory runs out.
+    /// An allocation failed.
     fn coins(&self, alloc: Global) -> Result<Vec<u64>, AllocError>
         ensures { IfOk result (λ found. found.items ≡ (state self.now).coins) };
 
     /// The order.
     ///
     /// # Errors
-    /// When memory runs out.
+    /// An allocation failed.
     fn order(&self, alloc: Global) -> Result<Vec<Digest>, AllocError>
         ensures { IfOk result (λ found. found.items ≡ (state self.now).order) };
 }
 
-/// The node has an own batch of this digest.
+/// Whether the node has an own batch with this digest.
 pub fn has_own_batch<S: Sign, H: Held>(node: &Node<S>, held: &H, digest: &Digest) -> bool
     ensures { result ≡ states.has_own_batch (node_view S.scheme node.now) (H.state held.now) digest.now }
 {
@@ -96,7 +96,7 @@ pub fn has_own_batch<S: Sign, H: Held>(node: &Node<S>, held: &H, digest: &Digest
     }
 }
 
-/// The members who hold an own batch: the node itself, and who has acknowledged it.
+/// The members who hold an own batch: the node itself, and those who acknowledged it.
 #[tactic(auto, using(crate::proofs::Sets::in_more, crate::proofs::Sets::out_more))]
 fn holders<S: Sign, H: Held>(node: &Node<S>, held: &H, digest: &Digest) -> MemberSet
     ensures { (member : ℕ) → has result member ≡ (nat_lt member (length node.now.committee.keys) && states.holds (node_view S.scheme node.now) (H.state held.now) digest.now member) }
@@ -111,21 +111,21 @@ fn holders<S: Sign, H: Held>(node: &Node<S>, held: &H, digest: &Digest) -> Membe
     found
 }
 
-/// What the members weigh who hold an own batch.
+/// The weight of the members who hold an own batch.
 fn weight_of_holders<S: Sign, H: Held>(node: &Node<S>, held: &H, digest: &Digest) -> u64
     ensures { result ≡ weight node.now.committee (states.holds (node_view S.scheme node.now) (H.state held.now) digest.now) }
 {
     node.committee.weight(&holders(node, held, digest))
 }
 
-/// An own batch is available.
+/// Whether an own batch is available.
 pub fn is_available<S: Sign, H: Held>(node: &Node<S>, held: &H, digest: &Digest) -> bool
     ensures { result ≡ states.is_available (node_view S.scheme node.now) (H.state held.now) digest.now }
 {
     has_own_batch(node, held, digest) && node.quorum() <= weight_of_holders(node, held, digest)
 }
 
-/// A round of what a node holds, for the votes on its own header.
+/// One round of what a node holds, for the counted votes on its own header of that round.
 struct OfRound<'a, H: Held> {
     held: &'a H,
     round: u64,
@@ -147,10 +147,10 @@ impl<'a, H: Held> Counted for OfRound<'a, H> {
     }
 }
 
-/// The certificate of the own header of a round, if those whose votes count are a quorum.
+/// The certificate of the own header of a round, if the counted votes on it weigh a quorum.
 ///
 /// # Errors
-/// When memory runs out.
+/// An allocation failed.
 pub fn completed_at<S: Sign, H: Held>(
     alloc: Global,
     node: &Node<S>,
@@ -168,7 +168,7 @@ pub fn completed_at<S: Sign, H: Held>(
 /// The floor.
 ///
 /// # Errors
-/// When memory runs out.
+/// An allocation failed.
 pub fn floor_in<S: Sign, H: Held>(
     alloc: Global,
     node: &Node<S>,
@@ -186,10 +186,10 @@ pub fn floor_in<S: Sign, H: Held>(
     Ok(floor_by(&ledger))
 }
 
-/// The authors who have certificates of a round are a quorum.
+/// Whether the authors who have certificates of a round weigh a quorum.
 ///
 /// # Errors
-/// When memory runs out.
+/// An allocation failed.
 pub fn is_full_in<S: Sign, H: Held>(
     alloc: Global,
     node: &Node<S>,

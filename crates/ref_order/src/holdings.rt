@@ -18,7 +18,7 @@ use wire::{
     ParentReference, Vote, batch_digest, header_digest,
 };
 
-/// The batch of a digest, if it is held.
+/// The batch with this digest, if it is held.
 pub fn batch_at<'a>(history: &'a [Event], digest: &Digest) -> Option<&'a Batch>
     ensures { option_copied result ≡ holdings.batch_at history.now digest.now }
 {
@@ -32,7 +32,7 @@ pub fn batch_at<'a>(history: &'a [Event], digest: &Digest) -> Option<&'a Batch>
     None
 }
 
-/// A member has acknowledged the batch of this digest.
+/// Whether a member has acknowledged the batch with this digest.
 pub fn has_acked(history: &[Event], digest: &Digest, member: u16) -> bool
     ensures { result ≡ holdings.has_acked history.now digest.now member }
 {
@@ -46,14 +46,14 @@ pub fn has_acked(history: &[Event], digest: &Digest, member: u16) -> bool
     false
 }
 
-/// Batches that a header names have this digest among them.
+/// Whether one of the batches that a header names has this digest.
 fn names(batches: &[BatchReference], digest: &Digest) -> bool
     ensures { result ≡ list_any (λ named. same_digest named.digest digest.now) batches.now }
 {
     batches.iter().any(|named| named.digest == *digest)
 }
 
-/// An own header has named the batch of this digest.
+/// Whether an own header has named the batch with this digest.
 pub fn was_named<S: Sign>(node: &Node<S>, history: &[Event], digest: &Digest) -> bool
     ensures { result ≡ holdings.was_named (node_view S.scheme node.now) history.now digest.now }
 {
@@ -67,7 +67,7 @@ pub fn was_named<S: Sign>(node: &Node<S>, history: &[Event], digest: &Digest) ->
     false
 }
 
-/// The header that has the vote for an author and round.
+/// The header that the node voted for in a slot.
 pub fn voted_header(history: &[Event], round: u64, author: u16) -> Option<&Header>
     ensures { option_copied result ≡ holdings.voted_header history.now round author }
 {
@@ -81,7 +81,7 @@ pub fn voted_header(history: &[Event], round: u64, author: u16) -> Option<&Heade
     None
 }
 
-/// The digest that has the vote for an author and round.
+/// The digest that the node voted for in a slot.
 pub fn voted_digest(history: &[Event], round: u64, author: u16) -> Option<Digest>
     ensures { result ≡ holdings.voted_digest history.now round author }
 {
@@ -91,7 +91,7 @@ pub fn voted_digest(history: &[Event], round: u64, author: u16) -> Option<Digest
     }
 }
 
-/// A vote is one on this header by this member.
+/// Whether a vote is one on this header, by this member.
 pub fn is_vote_on(header: &HeaderBody, voter: u16, vote: &Vote) -> bool
     ensures { result ≡ holdings.is_vote_on header.now voter vote.now }
 {
@@ -160,7 +160,7 @@ pub fn counted_at<S: Sign>(
     }
 }
 
-/// A round is low.
+/// Whether a round is low.
 pub fn is_low(floor: u64, round: u64) -> bool
     ensures { result ≡ holdings.is_low floor round }
 {
@@ -182,21 +182,21 @@ fn authors_of(committee: &Committee, certificates: &[Certificate], round: u64) -
     held
 }
 
-/// What the members weigh who have certificates of a round.
+/// The weight of the members who have certificates of a round.
 fn weight_of_authors(committee: &Committee, certificates: &[Certificate], round: u64) -> u64
     ensures { result ≡ weight committee.now (λ author. is_some (slots_of certificates.now round author)) }
 {
     committee.weight(&authors_of(committee, certificates, round))
 }
 
-/// The authors who have certificates of a round are a quorum.
+/// Whether the authors who have certificates of a round weigh a quorum.
 pub fn is_full<S: Sign>(node: &Node<S>, certificates: &[Certificate], round: u64) -> bool
     ensures { result ≡ holdings.is_full (node_view S.scheme node.now) (slots_of certificates.now) round }
 {
     node.quorum() <= weight_of_authors(&node.committee, certificates, round)
 }
 
-/// A parent of a header of a round is held.
+/// Whether a parent of a header of a round is held.
 pub fn is_held(
     certificates: &[Certificate],
     floor: u64,
@@ -212,7 +212,7 @@ pub fn is_held(
     }
 }
 
-/// All parents of a header are held.
+/// Whether all parents of a header are held.
 pub fn all_held(certificates: &[Certificate], floor: u64, header: &HeaderBody) -> bool
     ensures { result ≡ holdings.all_held (slots_of certificates.now) floor header.now }
 {

@@ -14,7 +14,7 @@ use wire::Certificate;
 pub struct Ledger<'a> {
     /// The committee.
     pub committee: &'a Committee,
-    /// The certificates, the first of which counts in each slot.
+    /// The certificates; the first one in each slot counts.
     pub certificates: &'a [Certificate],
     /// The values of the coins, that of wave 1 first.
     pub coins: &'a [u64],
@@ -35,7 +35,7 @@ pub fn round_in(alloc: Global, ledger: &Ledger, round: u64) -> Result<Vec<Certif
     crate::slots::round_of(alloc, size_in(ledger), ledger.certificates, round)
 }
 
-/// One certificate reaches another.
+/// Whether one certificate reaches another.
 pub fn reaches_in(
     alloc: Global,
     ledger: &Ledger,

@@ -1,5 +1,5 @@
-//! Plain, slow programs for what a history holds: one for each definition of the model that computes. They take
-//! no part in the node: later bodies are compared with them.
+//! A reference implementation, plain and slow, of what a history holds: one function for each definition of the model that computes. It is
+//! no part of a node: the code of the node is compared with it.
 #![tactic(auto)]
 
 pub mod certificates;

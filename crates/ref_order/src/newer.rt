@@ -1,4 +1,4 @@
-//! The leaders that are newer than a wave.
+//! The committed leaders that are newer than a wave.
 
 ghost use Rattle.std.specs.Prelude.{◌≡◌, [], ◌∷◌, IfOk};
 ghost use Rattle.spec_model.specs.Ordering.{newer_to, newer_at, newer, last_wave};
@@ -9,7 +9,7 @@ use crate::ordering::{leader, top};
 use std::alloc::{AllocError, Global};
 use wire::Certificate;
 
-/// A leader by itself.
+/// A list of one leader.
 fn alone(alloc: Global, last: &Certificate) -> Result<Vec<Certificate>, AllocError>
     ensures { IfOk result (λ found. found.items ≡ last.now ∷ []) }
 {
@@ -18,7 +18,7 @@ fn alone(alloc: Global, last: &Certificate) -> Result<Vec<Certificate>, AllocErr
     Ok(found)
 }
 
-/// A leader after those of the waves above a base that are committed with it, from the waves up to one.
+/// The leaders that are committed together with `last`, of the waves above `base` up to a given wave, oldest first, and then `last`.
 pub fn newer_to(
     alloc: Global,
     ledger: &Ledger,
@@ -44,7 +44,7 @@ pub fn newer_to(
     newer_to(alloc, ledger, base, wave - 1, last)
 }
 
-/// The leaders of the waves above a base that are committed with that of a wave.
+/// The leaders of the waves above `base` that are committed when this wave's leader is, oldest first.
 pub fn newer_at(
     alloc: Global,
     ledger: &Ledger,
@@ -62,7 +62,7 @@ pub fn newer_at(
     }
 }
 
-/// The leaders of the waves above a base that are committed.
+/// The committed leaders of the waves above `base`.
 pub fn newer(alloc: Global, ledger: &Ledger, base: u64) -> Result<Vec<Certificate>, AllocError>
     ensures { IfOk result (λ found. found.items ≡ newer (ledger_view ledger.now) base) }
 {

@@ -30,7 +30,7 @@ pub fn leader<'a>(ledger: &Ledger<'a>, wave: u64) -> Option<&'a Certificate>
     }
 }
 
-/// A member supports a certificate: its own of the next round has it as a parent.
+/// Whether a member supports a certificate: the member's certificate of the next round names it as a parent.
 pub fn supports(ledger: &Ledger, certificate: &Certificate, member: u16) -> bool
     ensures { result ≡ supports (ledger_view ledger.now) certificate.now member }
 {
@@ -59,21 +59,21 @@ fn supporters(ledger: &Ledger, certificate: &Certificate) -> MemberSet
     supporting
 }
 
-/// What the members weigh who support a certificate.
+/// The weight of the members who support a certificate.
 fn weight_of_supporters(ledger: &Ledger, certificate: &Certificate) -> u64
     ensures { result ≡ weight (ledger_view ledger.now).charter (supports (ledger_view ledger.now) certificate.now) }
 {
     ledger.committee.weight(&supporters(ledger, certificate))
 }
 
-/// A certificate has support.
+/// Whether a certificate has support.
 pub fn has_support(ledger: &Ledger, certificate: &Certificate) -> bool
     ensures { result ≡ has_support (ledger_view ledger.now) certificate.now }
 {
     ledger.committee.support() <= weight_of_supporters(ledger, certificate)
 }
 
-/// A wave has a leader with support.
+/// Whether a wave is directly committed: its leader has support.
 pub fn is_directly_committed(ledger: &Ledger, wave: u64) -> bool
     ensures { result ≡ is_directly_committed (ledger_view ledger.now) wave }
 {
@@ -83,7 +83,7 @@ pub fn is_directly_committed(ledger: &Ledger, wave: u64) -> bool
     }
 }
 
-/// The greatest wave up to one that is directly committed.
+/// The greatest wave up to this one that is directly committed.
 pub fn top_to(ledger: &Ledger, wave: u64) -> Option<u64>
     ensures value { result ≡ top_to (ledger_view ledger.now) wave }
     ensures within { IfSome result (λ top. (0 < top) × (top ≤ wave)) }
@@ -105,14 +105,14 @@ pub fn top(ledger: &Ledger) -> Option<u64>
     top_to(ledger, ledger.coins.len() as u64)
 }
 
-/// The leaders that are committed with that of a wave.
+/// The leaders that are committed when this wave's leader is.
 pub fn chain(alloc: Global, ledger: &Ledger, wave: u64) -> Result<Vec<Certificate>, AllocError>
     ensures { IfOk result (λ found. found.items ≡ chain (ledger_view ledger.now) wave) }
 {
     newer_at(alloc, ledger, 0, wave)
 }
 
-/// The leader before has it already.
+/// Whether the previous committed leader reaches this certificate, and so has ordered it already.
 fn is_past(
     alloc: Global,
     ledger: &Ledger,
@@ -127,7 +127,7 @@ fn is_past(
     }
 }
 
-/// The certificates of rounds 1 to this one, by round and then author.
+/// The certificates of rounds 1 to this round, by round and then author.
 #[tactic(auto, using(crate::proofs::Ranges::round_more))]
 pub fn rounds_to(alloc: Global, ledger: &Ledger, round: u64) -> Result<Vec<Certificate>, AllocError>
     ensures { IfOk result (λ found. found.items ≡ rounds_to (ledger_view ledger.now) round) }
@@ -140,7 +140,7 @@ pub fn rounds_to(alloc: Global, ledger: &Ledger, round: u64) -> Result<Vec<Certi
     Ok(found)
 }
 
-/// A leader orders a certificate, after the leader before.
+/// Whether a leader orders a certificate, given the previous leader.
 fn is_ordered_by(
     alloc: Global,
     ledger: &Ledger,
@@ -159,7 +159,7 @@ fn is_ordered_by(
     Ok(!is_past(alloc, ledger, previous, certificate)?)
 }
 
-/// What a leader orders, after the leader before.
+/// What a leader orders, given the previous leader.
 pub fn segment(
     alloc: Global,
     ledger: &Ledger,
@@ -178,7 +178,7 @@ pub fn segment(
     Ok(found)
 }
 
-/// What leaders order one after the other.
+/// What several leaders order, one after the other.
 pub fn segments(
     alloc: Global,
     ledger: &Ledger,

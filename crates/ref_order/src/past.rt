@@ -16,7 +16,7 @@ use wire::{Batch, Certificate, Digest, Header, Vote};
 pub struct Past<'a, S: Sign> {
     /// The node.
     pub node: &'a Node<S>,
-    /// Its history.
+    /// The node's history.
     pub history: &'a [Event],
 }
 

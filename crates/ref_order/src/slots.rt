@@ -1,4 +1,4 @@
-//! Certificates by their slots, and the paths between them.
+//! Certificates by slot, and the paths between them.
 
 ghost use Rattle.std.specs.Prelude.{◌≡◌, ◌+◌, IfOk, option_copied};
 ghost use Rattle.std.specs.List.{list_any};
@@ -7,7 +7,7 @@ ghost use Rattle.spec_model.specs.Slots.{slots_of, is_of_slot, is_named, is_pare
 use std::alloc::{AllocError, Global};
 use wire::{Certificate, Digest, HeaderBody, ParentReference, certificate_digest, header_digest};
 
-/// A header is that of a slot.
+/// Whether a header is of this slot.
 pub fn is_of_slot(round: u64, author: u16, header: &HeaderBody) -> bool
     ensures { result ≡ is_of_slot round author header.now }
 {
@@ -30,7 +30,7 @@ pub fn slot(certificates: &[Certificate], round: u64, author: u16) -> Option<&Ce
         .find(|c| is_of_slot(round, author, &c.header))
 }
 
-/// A certificate is what a header names as a parent.
+/// Whether a parent reference names this certificate.
 pub fn is_named(certificate: &Certificate, parent: &ParentReference) -> bool
     ensures { result ≡ is_named certificate.now parent.now }
 {
@@ -38,14 +38,14 @@ pub fn is_named(certificate: &Certificate, parent: &ParentReference) -> bool
         && parent.certificate == digest_of(&certificate.header)
 }
 
-/// A header's parents name a certificate.
+/// Whether one of a header's parent references names this certificate.
 fn is_named_in(certificate: &Certificate, parents: &[ParentReference]) -> bool
     ensures { result ≡ list_any (is_named certificate.now) parents.now }
 {
     parents.iter().any(|p| is_named(certificate, p))
 }
 
-/// A certificate is a parent of another.
+/// Whether a certificate is a parent of another one.
 pub fn is_parent(parent: &Certificate, child: &Certificate) -> bool
     ensures { result ≡ is_parent parent.now child.now }
 {
@@ -72,7 +72,7 @@ pub fn round_of(
     Ok(found)
 }
 
-/// A path of so many steps leads from one certificate to another.
+/// Whether a path of so many steps leads from one certificate to another.
 pub fn has_path(
     alloc: Global,
     size: u16,
@@ -99,7 +99,7 @@ pub fn has_path(
     Ok(false)
 }
 
-/// One certificate reaches another.
+/// Whether one certificate reaches another.
 pub fn reaches(
     alloc: Global,
     size: u16,

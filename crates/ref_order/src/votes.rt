@@ -1,4 +1,4 @@
-//! The votes of members on an own header, and the certificate that they complete.
+//! The counted votes on an own header, and the certificate that they make.
 
 ghost use Rattle.std.specs.Prelude.{◌≡◌, ◌≤◌, ℕ, ◌&&◌, nat_lt, length, IfOk, IfSome, Option, filter_map, is_some, option_map};
 ghost use Rattle.spec_model.specs.Holdings as holdings;
@@ -14,7 +14,7 @@ use sigface::Sign;
 use std::alloc::{AllocError, Global};
 use wire::{Author, Certificate, Header, Vote, VoteEntries, VoteEntry};
 
-/// The votes that count on an own header.
+/// The counted votes on an own header.
 pub trait Counted {
     /// Each member's vote.
     ghost vote_of: { Self → ℕ → Option Vote };
@@ -25,7 +25,7 @@ pub trait Counted {
         ensures voter { IfSome result (λ vote. vote.voter.0 ≡ voter) };
 }
 
-/// A member's vote, as a certificate has it.
+/// A member's vote, as an entry of a certificate.
 fn entry<C: Counted>(counted: &C, voter: u16) -> Option<VoteEntry>
     ensures value { result ≡ option_map holdings.entry_of (C.vote_of counted.now voter) }
     ensures voter { IfSome result (λ entry. entry.voter.0 ≡ voter) }
@@ -39,7 +39,7 @@ fn entry<C: Counted>(counted: &C, voter: u16) -> Option<VoteEntry>
     }
 }
 
-/// The votes of the first members, rising by voter.
+/// The votes of the first members, sorted by voter.
 #[tactic(auto, using(crate::proofs::Ranges::one_more, crate::proofs::Ranges::none_more, crate::proofs::Voters::follows_more, crate::proofs::Voters::follows_next))]
 fn votes_of<C: Counted>(alloc: Global, counted: &C, size: u16) -> Result<VoteEntries, AllocError>
     requires { size ≤ MAX_VOTES }
@@ -54,7 +54,7 @@ fn votes_of<C: Counted>(alloc: Global, counted: &C, size: u16) -> Result<VoteEnt
     Ok(found)
 }
 
-/// The votes of all members, rising by voter.
+/// The votes of all members, sorted by voter.
 pub fn votes_by<S: Sign, C: Counted>(
     alloc: Global,
     node: &Node<S>,
@@ -65,7 +65,7 @@ pub fn votes_by<S: Sign, C: Counted>(
     votes_of(alloc, counted, node.size())
 }
 
-/// The members who have votes.
+/// The members who have a counted vote.
 #[tactic(auto, using(crate::proofs::Sets::in_more, crate::proofs::Sets::out_more))]
 fn voters<S: Sign, C: Counted>(node: &Node<S>, counted: &C) -> MemberSet
     ensures { (member : ℕ) → has result member ≡ (nat_lt member (length node.now.committee.keys) && is_some (C.vote_of counted.now member)) }
@@ -80,14 +80,14 @@ fn voters<S: Sign, C: Counted>(node: &Node<S>, counted: &C) -> MemberSet
     voted
 }
 
-/// What the members weigh who have votes.
+/// The weight of the members who have a counted vote.
 fn weight_of_voters<S: Sign, C: Counted>(node: &Node<S>, counted: &C) -> u64
     ensures { result ≡ weight node.now.committee (λ voter. is_some (C.vote_of counted.now voter)) }
 {
     node.committee.weight(&voters(node, counted))
 }
 
-/// The certificate of an own header with these votes, if they are a quorum.
+/// The certificate of an own header with these votes, if they weigh a quorum.
 pub fn certificate_by<S: Sign, C: Counted>(
     alloc: Global,
     node: &Node<S>,

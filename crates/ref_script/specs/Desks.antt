@@ -1,4 +1,4 @@
--- What the program's commands, and what it has between two of them, are to the definitions.
+-- What the program's commands and desks are in the definitions.
 use Rattle.std.specs.Prelude.{take}
 use Rattle.ref_machine.specs.Tables.{state_of}
 use Rattle.ref_script.specs.declared.command.Command.{Command}
@@ -6,14 +6,15 @@ use Rattle.ref_script.specs.declared.command.Command.TheVariants.{Event, Flush, 
 use Rattle.ref_script.specs.declared.desk.Desk as declared
 use Rattle.spec_world.specs.Text as script
 
--- a command as one of a script
+-- a command as the definition of a script has it
 abbrev pub said : Command → script.Command
 said (Event event) = script.take_in event
 said Flush = script.flush
 said Checkpoint = script.checkpoint
 said Stop = script.stop
 
--- a desk: the run began with the state that its tables are, and of the events that it accepted the first are settled
+-- a desk as the definition has it: the run began with the state that the tables hold, and the first `settled` of the accepted events are
+-- settled
 abbrev pub desk_of : declared.Desk → script.Desk
 desk_of desk = record {
   base = state_of desk.base;

@@ -1,15 +1,15 @@
-//! What a node is told.
+//! The commands of a script.
 
 use header::Event;
 
-/// What a node is told.
+/// A command to a node.
 #[derive(Drop)]
 pub enum Command {
     /// An event comes in.
     Event(Event),
-    /// What is pending is settled, as far as it fits a group.
+    /// The longest prefix of the pending records that fits a group is settled.
     Flush,
-    /// All that is accepted is settled, by a checkpoint.
+    /// All accepted events are settled, by a checkpoint.
     Checkpoint,
     /// The machine stops, and the node is opened again.
     Stop,

@@ -1,4 +1,4 @@
-//! What there is between two commands.
+//! The state between two commands.
 
 ghost use Rattle.std.specs.Prelude.{◌≤◌, vec_len};
 
@@ -7,7 +7,7 @@ use ref_machine::Tables;
 use std::marker::Model;
 use wire::Output;
 
-/// An output that waits until so many events of its run are settled.
+/// An output that waits until this many events of its run are settled.
 #[derive(Drop)]
 pub struct Waiting {
     pub ticket: usize,
@@ -22,14 +22,14 @@ impl Model for Waiting {
     ghost view = { λ w. record { ticket = w.ticket; output = w.output } };
 }
 
-/// What there is between two commands.
+/// The state between two commands.
 #[derive(Drop)]
 pub struct Desk {
     /// The tables with which this run began.
     pub base: Tables,
-    /// The events that it accepted.
+    /// The events that the run accepted.
     pub accepted: Vec<Event>,
-    /// How many of them are settled: the first ones.
+    /// How many of the accepted events, from the first on, are settled.
     pub settled: usize,
     /// The outputs that wait, oldest first.
     pub waiting: Vec<Waiting>,

@@ -9,7 +9,7 @@ use crate::desk::{Desk, Waiting};
 use std::alloc::{AllocError, Global};
 use wire::{Output, encode_output};
 
-/// Puts an output as a frame: the length of its bytes in four, the highest first, and its bytes.
+/// Adds an output as a frame: the number of its bytes, in four bytes, big-endian, and the bytes.
 fn put_frame(alloc: Global, bytes: &mut Vec<u8>, output: &Output) -> Result<(), AllocError>
     ensures { OnOk result (bytes.new.items ≡ bytes.old.items ++ frame_of output.now) }
 {
@@ -19,14 +19,14 @@ fn put_frame(alloc: Global, bytes: &mut Vec<u8>, output: &Output) -> Result<(), 
     Ok(())
 }
 
-/// All that an output rests on is settled.
+/// Whether an output's ticket is settled.
 fn is_due(desk: &Desk, waiting: &Waiting) -> bool
     ensures { result ≡ script.is_due (desk_of desk.now) waiting.now }
 {
     waiting.ticket <= desk.settled
 }
 
-/// Puts the outputs that are due, each as a frame.
+/// Adds the outputs that are due, each as a frame.
 pub fn put_due(alloc: Global, bytes: &mut Vec<u8>, desk: &Desk) -> Result<(), AllocError>
     ensures { OnOk result (bytes.new.items ≡ bytes.old.items ++ script.frames (script.due (desk_of desk.now))) }
 {

@@ -1,4 +1,4 @@
-//! The longest beginning of events whose records fit a group.
+//! The longest prefix of events whose records fit a group.
 
 ghost use Rattle.std.specs.Prelude.{◌≡◌, ◌+◌, ◌≤◌, length, map, take};
 ghost use Rattle.journal.specs.Format as format;
@@ -34,14 +34,14 @@ fn body_len(events: &[Event]) -> usize
     total
 }
 
-/// The records of events are within the limits of a group.
+/// Whether the records of events are within the limits of a group.
 fn fits_group(events: &[Event]) -> bool
     ensures { result ≡ script.fits_group (map record_of events.now) }
 {
     !events.is_empty() && events.len() <= MAX_GROUP_RECORDS && body_len(events) <= MAX_GROUP_BYTES
 }
 
-/// The longest beginning of events whose records fit a group.
+/// The longest prefix of events whose records fit a group.
 pub fn group_of(events: &[Event]) -> &[Event]
     ensures value { result.now ≡ script.group_of events.now }
     ensures beginning { result.now ≡ take (length result.now) events.now }

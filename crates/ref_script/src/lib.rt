@@ -1,4 +1,4 @@
-//! A plain, slow program of the text of a script: what a node with one owner writes for commands. It takes no part in the
+//! A reference implementation, plain and slow, of the text of a script: what a node with one owner writes for commands. It is no part of a
 //! node: the running code is compared with it.
 #![tactic(auto)]
 

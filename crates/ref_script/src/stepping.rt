@@ -1,4 +1,4 @@
-//! What a command makes of what there is.
+//! What a command does to a desk.
 
 ghost use Rattle.std.specs.Prelude.{◌≡◌, ◌++◌, IfOk, OnOk};
 ghost use Rattle.ref_machine.specs.Tables.{state_of};
@@ -16,10 +16,10 @@ use ref_machine::{Tables, after as after_one, answered};
 use sigface::Sign;
 use std::alloc::{AllocError, Global};
 
-/// The tables after all of these events, the oldest of which comes first.
+/// The tables after these events, the first of which is the oldest.
 ///
 /// # Errors
-/// When memory runs out.
+/// An allocation failed.
 pub fn after_all<S: Sign>(
     alloc: Global,
     node: &Node<S>,
@@ -35,7 +35,7 @@ pub fn after_all<S: Sign>(
     Ok(tables)
 }
 
-/// A run that has just begun, with the state that these tables are.
+/// The desk of a run that has just begun, in the state of these tables.
 pub fn desk_on(alloc: Global, base: Tables) -> Desk
     ensures { desk_of result ≡ script.desk_on (state_of base) }
 {
@@ -47,7 +47,7 @@ pub fn desk_on(alloc: Global, base: Tables) -> Desk
     }
 }
 
-/// Puts outputs after those that wait, each with this ticket.
+/// Adds outputs to those that wait, each with this ticket.
 fn put_ticketed(
     waiting: &mut Vec<Waiting>,
     ticket: usize,
@@ -61,8 +61,8 @@ fn put_ticketed(
     Ok(())
 }
 
-/// With what an event is answered: a new one is accepted, and its outputs wait until it is settled; those of a known one wait
-/// until all that was accepted is; where it is refused, nothing happens.
+/// The desk after an event with this answer: a new event is accepted, and its outputs wait until it is settled; those of a known event wait
+/// until all accepted events are; a refused event changes nothing.
 fn with_event<S: Sign>(
     alloc: Global,
     node: &Node<S>,
@@ -87,7 +87,7 @@ fn with_event<S: Sign>(
     }
 }
 
-/// The next group of what is accepted and not settled is settled.
+/// The next group of the accepted events that aren't settled is settled.
 fn flushed(mut desk: Desk) -> Desk
     ensures { desk_of result ≡ script.flushed (desk_of desk) }
 {
@@ -96,7 +96,7 @@ fn flushed(mut desk: Desk) -> Desk
     desk
 }
 
-/// All that is accepted is settled.
+/// All accepted events are settled.
 fn settled_all(mut desk: Desk) -> Desk
     ensures { desk_of result ≡ record (desk_of desk) { settled = desk.accepted.items } }
 {
@@ -104,7 +104,7 @@ fn settled_all(mut desk: Desk) -> Desk
     desk
 }
 
-/// A run that has just begun with what was settled.
+/// The desk of a run that has just begun with what was settled.
 fn stopped<S: Sign>(alloc: Global, node: &Node<S>, desk: Desk) -> Result<Desk, AllocError>
     ensures { IfOk result (λ next. desk_of next ≡ script.desk_on (script.settled_in (node_view S.scheme node.now) (desk_of desk))) }
 {
@@ -112,10 +112,10 @@ fn stopped<S: Sign>(alloc: Global, node: &Node<S>, desk: Desk) -> Result<Desk, A
     Ok(desk_on(alloc, settled))
 }
 
-/// What a command makes of it, before anything is written.
+/// The desk after a command, before any output is written.
 ///
 /// # Errors
-/// When memory runs out.
+/// An allocation failed.
 #[tactic(auto, unfolding(spec_world::specs::Text::after))]
 pub fn after<S: Sign>(
     alloc: Global,

@@ -15,11 +15,11 @@ use ref_machine::fresh;
 use sigface::Sign;
 use std::alloc::{AllocError, Global};
 
-/// What a node writes for commands, where its run begins with the state after the events of `history`: after each command the outputs
-/// that are due, in their order, each as a frame.
+/// What a node writes for commands, if its run begins with the state after the events of `history`: after each command the outputs that are
+/// then due, in their order, each as a frame.
 ///
 /// # Errors
-/// When memory runs out.
+/// An allocation failed.
 #[tactic(auto, unfolding(spec_world::specs::Text::text))]
 pub fn text<S: Sign>(
     alloc: Global,

@@ -247,12 +247,14 @@ floor_limit node state parts are =
           omega (arith, same, limit, lower)
     ]
 
-slots_are : FreshIsSound → (node : Node) (state : State) (parts : Parts) (empty dag : DagView) → ArePartsOf node state parts → IsEmpty parts.charter parts.floor empty → HaveEntered empty dag parts.held
+slots_are : FreshIsSound → (node : Node) (state : State) (parts : Parts) (empty dag : DagView) → ArePartsOf node state parts → IsEmpty parts.charter parts.floor empty
+    → HaveEntered empty dag parts.held
     → slots_in dag ≡ state.slots
 slots_are fresh_is_sound node state parts empty dag are is entered =
     fun_ext (λ round. fun_ext (λ author. entered.slots round author ∙ filled fresh_is_sound node state parts empty are is round author))
 
-pub leader_is_held : FreshIsSound → (node : Node) (state : State) (parts : Parts) (empty dag : DagView) → ArePartsOf node state parts → IsEmpty parts.charter parts.floor empty → HaveEntered empty dag parts.held
+pub leader_is_held : FreshIsSound → (node : Node) (state : State) (parts : Parts) (empty dag : DagView) → ArePartsOf node state parts
+    → IsEmpty parts.charter parts.floor empty → HaveEntered empty dag parts.held
     → IfSome parts.last (λ (slot : ℕ × Author). is_some (slots_in dag slot.0 slot.1.0) ≡ true)
 leader_is_held fresh_is_sound node state parts empty dag are is entered = on parts.last refl
   where

@@ -1,4 +1,4 @@
--- What stays as it is, and what ties a DAG to histories.
+-- What doesn't change in a sequencer, and how its DAG agrees with histories.
 use Rattle.std.specs.Prelude.{◌≡◌, ◌≤◌, ◌++◌, ℕ, List, None, ◌<◌, length, Ok, Some}
 use Rattle.spec_laws.specs.Laws.{HoldsFrom, IsEnough}
 use Rattle.spec_machine.specs.Laws.{SoundStays, StateStands, HeldIsEnoughNow, HeldIsEnoughAfter}
@@ -15,18 +15,18 @@ use Rattle.dag.specs.declared.answers.Added.TheVariants.{New}
 use Rattle.tusk.specs.Chain.{ledger_in}
 use Rattle.sequencer.specs.Sequence.{SequencerView, IsAt, ComesTo}
 
--- an event that adds neither a certificate nor a coin leaves it at the state after
+-- an event that adds neither a certificate nor a coin leaves a sequencer that agrees with the state after it
 abbrev pub SequenceStays : Type 0
 SequenceStays = (node : Node) (state : State) (event : Event) (sequence : SequencerView) → ComesTo node state event sequence
     → certificate_of node state event.message ≡ None → as_coin event.message ≡ None → IsAt node (after node state event) sequence
 
--- a certificate is new to a sequencer's DAG, and a member's that names a parent
+-- a certificate is new to a sequencer's DAG, is of a member, and names at least one parent
 pub record IsNewTo (sequence : SequencerView) (certificate : Certificate) : Type 0 where
   pub new : answer sequence.graph certificate ≡ Ok New
   pub member : certificate.header.author.0 < size_in sequence.graph
   pub named : 0 < length certificate.header.parents
 
--- so is the one that an event adds
+-- the certificate that a new event adds is such a one
 abbrev pub CertificatesAreNew : Type 0
 CertificatesAreNew = (node : Node) (state : State) (event : Event) (sequence : SequencerView) (certificate : Certificate) → ComesTo node state event sequence
     → certificate_of node state event.message ≡ Some certificate → IsNewTo sequence certificate
@@ -35,13 +35,13 @@ CertificatesAreNew = (node : Node) (state : State) (event : Event) (sequence : S
 abbrev pub IsLedgerOf : Type 0
 IsLedgerOf = (node : Node) (graph : DagView) (values : List ℕ) → graph.charter ≡ node.charter → ledger_in graph values ≡ ledger_of node (slots_in graph) values
 
--- a DAG that holds what a legal history holds from a round on, which is no higher than the floor of one that begins it, says of
--- leaders, support, the last committed wave, the floor and the segments what that history says
+-- take a DAG with what a legal history holds from a round on, which is not above the floor of a prefix of it: leaders, support, the last
+-- committed wave, the floor and the segments are the same over the DAG as over the history
 abbrev pub DagIsEnough : Type 0
 DagIsEnough = (node : Node) (before more : History) (low : ℕ) (graph : DagView) → IsLegal node (before ++ more) → low ≤ floor node before
     → HoldsFrom low (slots_in graph) (slots node (before ++ more)) → IsEnough node before (before ++ more) low (slots_in graph)
 
--- what a state is after an event, by the laws of the machine
+-- the laws of the machine about the state after an event
 pub record AreKnown : Type 0 where
   pub sound_stays : SoundStays
   pub state_stands : StateStands

@@ -1,4 +1,4 @@
--- The last committed wave of certificates that stand in a list.
+-- The last committed wave of certificates in a list.
 use Rattle.std.specs.Prelude.{◌≡◌, ℕ, ◌==◌, ◌&&◌, ◌||◌, nat_lt, Bool, List}
 use Rattle.committee.specs.Charter.{Charter}
 use Rattle.spec_model.specs.Ordering.{Ledger, top}
@@ -10,12 +10,12 @@ abbrev pub comes_before : ℕ → ℕ → Digested → Bool
 comes_before round author one =
     nat_lt one.0.header.round round || ((one.0.header.round == round) && nat_lt one.0.header.author.0 author)
 
--- the ledger of a list
+-- the ledger of listed certificates
 abbrev pub ledger_of : Charter → List Digested → List ℕ → Ledger
 ledger_of charter held coins = record { charter = charter; slots = listed held; coins = coins }
 
--- slots that hold, above the genesis, what is listed have the last committed wave of the list: no leader and no supporter is of the
--- genesis
+-- slots that hold just the listed certificates above the genesis have the last committed wave of the list, since no leader or supporter is
+-- of the genesis
 abbrev pub ListedIsEnough : Type 0
 ListedIsEnough = (charter : Charter) (held : List Digested) (coins : List ℕ) (slots : Slots) → HoldsListed slots held
     → top (record { charter = charter; slots = slots; coins = coins }) ≡ top (ledger_of charter held coins)

@@ -1,4 +1,4 @@
--- What a sequencer is restored from.
+-- The parts from which a sequencer is restored.
 use Rattle.std.specs.Prelude.{◌≡◌, ℕ, ◌+◌, ◌<◌, ◌≤◌, ◌==◌, ◌&&◌, ◌||◌, nat_lt, max, Bool, true, false, List, All, AllPairs, map, length, Option, Some, None, option_map, if◌then◌else◌}
 use Rattle.std.specs.Option.{option_or}
 use Rattle.committee.specs.Charter.{Charter, numbers}
@@ -18,7 +18,7 @@ use Rattle.sequencer.specs.Sequence.{SequencerView, IsCommitted}
 abbrev pub Digested : Type 0
 Digested = Certificate × Digest
 
--- what each slot holds of a list of certificates
+-- the slots of a list of certificates
 abbrev pub listed : List Digested → Slots
 listed held = slots_of (map (λ (one : Digested). one.0) held)
 
@@ -28,17 +28,17 @@ is_before one other =
     nat_lt one.0.header.round other.0.header.round
     || ((one.0.header.round == other.0.header.round) && nat_lt one.0.header.author.0 other.0.header.author.0)
 
--- certificates above the genesis, rising by round and then by author, each with its digest
+-- certificates above the genesis, sorted by round and then author, each with its digest
 pub record AreListed (held : List Digested) : Type 0 where
   pub rising : AllPairs (λ one other. is_before one other ≡ true) held
   pub positive : All (λ one. 0 < one.0.header.round) held
   pub digested : All (λ one. one.1 ≡ certificate_digest one.0.header) held
 
--- slots hold, above the genesis, what a list has
+-- above the genesis, slots hold just what is in the list
 abbrev pub HoldsListed : Slots → List Digested → Type 0
 HoldsListed slots held = (round author : ℕ) → 0 < round → slots round author ≡ listed held round author
 
--- what a sequencer is restored from: the committee, the floor, the slot of the last committed leader, the certificates above the
+-- the parts from which a sequencer is restored: the committee, the floor, the slot of the last committed leader, the certificates above the
 -- genesis, the coins and the order
 pub record Parts : Type 0 where
   pub charter : Charter
@@ -60,13 +60,13 @@ pub record ArePartsOf (node : Node) (state : State) (parts : Parts) : Type 0 whe
   pub coins : parts.coins ≡ state.coins
   pub order : parts.order ≡ state.order
 
--- there are such a node and a state
+-- these are the parts of some sound state of some node
 abbrev pub AreParts : Parts → Type 0
 AreParts parts = (node : Node) × (state : State) × ArePartsOf node state parts
 
--- ---- a DAG that is filled
+-- ---- filling a DAG
 
--- a DAG with this floor holds nothing but the genesis, and that at a floor of 0
+-- a DAG with this floor that holds only the genesis, at floor 0, and otherwise nothing
 pub record IsEmpty (members : Charter) (low : ℕ) (graph : DagView) : Type 0 where
   pub charter : graph.charter ≡ members
   pub floor : graph.floor ≡ low
@@ -75,11 +75,12 @@ pub record IsEmpty (members : Charter) (low : ℕ) (graph : DagView) : Type 0 wh
   pub marked : (round author : ℕ) → marked_in graph round author ≡ false
   pub end : end_in graph ≡ max low 1
 
--- the slots of a DAG with a list of certificates more
+-- the slots of a DAG with the listed certificates added
 abbrev pub with_listed : DagView → List Digested → Slots
 with_listed graph held round author = option_or (slots_in graph round author) (listed held round author)
 
--- certificates can come into a DAG one after the other: none is of a round that it holds, and the parents of each come before it
+-- the listed certificates can be added to a DAG one by one: the DAG has no row of their rounds yet, and the parents of each are in the DAG
+-- or in the list
 pub record CanEnter (graph : DagView) (held : List Digested) : Type 0 where
   pub listed : AreListed held
   pub members : All (λ one. one.0.header.author.0 < size_in graph) held
@@ -88,7 +89,7 @@ pub record CanEnter (graph : DagView) (held : List Digested) : Type 0 where
   pub later : All (λ one. end_in graph ≤ one.0.header.round) held
   pub parents : All (λ one. all_held (with_listed graph held) graph.floor one.0.header ≡ true) held
 
--- they have come into it, without marks
+-- the listed certificates were added, without marks
 pub record HaveEntered (before after : DagView) (held : List Digested) : Type 0 where
   pub charter : after.charter ≡ before.charter
   pub floor : after.floor ≡ before.floor
@@ -98,12 +99,12 @@ pub record HaveEntered (before after : DagView) (held : List Digested) : Type 0 
 
 -- ---- the marks
 
--- a sequencer has no last leader, and nothing is marked
+-- a sequencer without a last leader, in which nothing is marked
 pub record HasNoMarks (sequence : SequencerView) : Type 0 where
   pub last : sequence.last ≡ None
   pub marked : (round author : ℕ) → marked_in sequence.graph round author ≡ false
 
--- a sequencer after the commit of a last leader, with none before it: what it reaches is marked, and the coins and the order stay
+-- this leader was committed as the first one: what it reaches is marked now, and the coins and the order are unchanged
 pub record IsMarkedBy (before after : SequencerView) (leader : ℕ × Author) : Type 0 where
   pub made : LengtheningView
   pub of : made.last ≡ leader
@@ -113,7 +114,7 @@ pub record IsMarkedBy (before after : SequencerView) (leader : ℕ × Author) : 
   pub coins : after.coins ≡ before.coins
   pub order : after.order ≡ before.order
 
--- so it is where there is a last leader, and else it stays
+-- the last leader, if there is one, was committed so; otherwise nothing has changed
 abbrev pub IsMarkedTo : SequencerView → SequencerView → Option (ℕ × Author) → Type 0
 IsMarkedTo before after None = after ≡ before
 IsMarkedTo before after (Some leader) = IsMarkedBy before after leader

@@ -1,4 +1,4 @@
--- What a sequencer has, and when that is what a state has.
+-- The parts of a sequencer, and when they agree with a state.
 use Rattle.std.specs.Prelude.{◌≡◌, ◌<◌, ℕ, ◌+◌, ◌-◌, ◌/◌, max, List, [], length, slice_get, Option, Some, None, option_map}
 use Rattle.std.specs.Option.{option_map_or}
 use Rattle.spec_model.specs.Nodes.{Node}
@@ -22,7 +22,7 @@ pub record SequencerView : Type 0 where
   pub last : Option (ℕ × Author)
   pub order : List Digest
 
--- it has the certificates, coins and order of a state, and with them the last committed leader, whose history is marked
+-- a sequencer agrees with a state: it has the state's certificates, coins and order, and the last committed leader, whose history is marked
 pub record IsAt (node : Node) (state : State) (sequence : SequencerView) : Type 0 where
   pub charter : sequence.graph.charter ≡ node.charter
   pub slots : slots_in sequence.graph ≡ state.slots
@@ -38,16 +38,16 @@ pub record IsAt (node : Node) (state : State) (sequence : SequencerView) : Type 
 abbrev pub wave_in : Option (ℕ × Author) → Option ℕ
 wave_in last = option_map (λ slot. (slot.0 + 1) / 2) last
 
--- an event is new at a sound state, which a sequencer is at
+-- an event is new at a sound state, with which a sequencer agrees
 pub record ComesTo (node : Node) (state : State) (event : Event) (sequence : SequencerView) : Type 0 where
   pub comes : Comes node state event
   pub at : IsAt node state sequence
 
--- the digests that are prepared
+-- the digests that were prepared
 abbrev pub prepared_digests : Prepared → List Digest
 prepared_digests prepared = option_map_or (λ (made : LengtheningView). made.digests) prepared.committed []
 
--- what is prepared is what an event adds to the order: its digests, and the marks of leaders newer than the last one
+-- what is prepared is what the event adds to the order: its digests, and the marks of the leaders newer than the last one
 pub record IsPrepared (node : Node) (state : State) (event : Event) (sequence : SequencerView) (prepared : Prepared) : Type 0 where
   pub digests : prepared_digests prepared ≡ newly_ordered (ledger_in node state) (ledger_in node (grown node state event.message))
   pub last : option_map slot_of (last_leader (ledger_in node (grown node state event.message)))
@@ -57,8 +57,8 @@ pub record IsPrepared (node : Node) (state : State) (event : Event) (sequence : 
 
 -- ---- a commit
 
--- a DAG after the commit of what was made: it has its marks, its base is the last leader's round or higher, and nothing is held at
--- more than the depth below that leader
+-- a DAG after leaders were committed: it has their marks, its base is at least the last leader's round, and everything more than the depth
+-- below that leader is dropped
 pub record IsCommitted (before after : DagView) (made : LengtheningView) : Type 0 where
   pub marked : DagView
   pub sound : IsGraph marked
@@ -69,21 +69,21 @@ pub record IsCommitted (before after : DagView) (made : LengtheningView) : Type 
   pub marks : FitsTo before made → IsMarkedPast marked (made.last.0 - before.charter.depth) (leader_held marked (Some made.last))
   pub dropped : IsDropped marked after (made.last.0 - before.charter.depth)
 
--- so it is with the last leader's slot, where leaders are committed, and else both stay
+-- the DAG and the slot of the last leader after leaders were committed; where none was, neither has changed
 abbrev pub CommitsTo : DagView → Option (ℕ × Author) → Option LengtheningView → DagView → Option (ℕ × Author) → Type 0
 CommitsTo before last None after new_last = (after ≡ before) × (new_last ≡ last)
 CommitsTo before last (Some made) after new_last = IsCommitted before after made × (new_last ≡ Some made.last)
 
--- ---- what is made of a chain
+-- ---- what is made of a chain of leaders
 
--- what was made of leaders of these slots after the last one
+-- what was made of the leaders in these slots, which follow the last one
 pub record IsMadeOfAll (graph : DagView) (last : Option (ℕ × Author)) (slots : List (ℕ × Author)) (made : LengtheningView) : Type 0 where
   pub digests : (coins : List ℕ) → AreLinked graph last slots → IsMarkedFor graph last slots
       → made.digests ≡ digests_of (segments (chain.ledger_in graph coins) (leader_held graph last) (leaders_in graph slots))
   pub last_slot : slice_get slots (length slots - 1) ≡ Some made.last
   pub of : AreLinked graph last slots → IsMarkedFor graph last slots → FitsTo graph made
 
--- nothing is made of none
+-- where there are no leaders, nothing is made
 abbrev pub IsMadeOf : DagView → Option (ℕ × Author) → List (ℕ × Author) → Option LengtheningView → Type 0
 IsMadeOf graph last slots None = slots ≡ []
 IsMadeOf graph last slots (Some made) = IsMadeOfAll graph last slots made

@@ -4,12 +4,12 @@ ghost use Rattle.sequencer.specs.ByHistory.{ChainsByHistory, OrdersByHistory};
 ghost use Rattle.sequencer.specs.Listing.{ListedIsEnough};
 ghost use Rattle.sequencer.specs.Laws.{SequenceStays, CertificatesAreNew, IsLedgerOf, DagIsEnough, AreKnown};
 
-/// An event that adds neither a certificate nor a coin leaves a sequencer at the state after it.
+/// An event that adds neither a certificate nor a coin leaves a sequencer that agrees with the state after it.
 pub fn sequence_stays()
     ensures { SequenceStays }
 {}
 
-/// The certificate that a new event adds is new to the DAG, and it is a member's that names a parent.
+/// The certificate that a new event adds is new to the DAG, is of a member, and names at least one parent.
 pub fn certificates_are_new()
     ensures { CertificatesAreNew }
 {}
@@ -19,31 +19,31 @@ pub fn is_ledger_of()
     ensures { IsLedgerOf }
 {}
 
-/// A DAG that holds what a legal history holds from a round on, which is no higher than the floor of one that begins it, says
-/// of leaders, support, the last committed wave, the floor and the segments what that history says.
+/// Take a DAG with what a legal history holds from a round on, which is not above the floor of a prefix of it. Leaders, support, the last
+/// committed wave, the floor and the segments are the same over the DAG as over the history.
 pub fn dag_is_enough()
     ensures { DagIsEnough }
 {}
 
-/// A DAG that holds as much, whose base is the round of the last leader that was committed at the history that begins the
-/// other, has with the coins of that one its leaders, its greatest committed wave and the slots of its newer leaders.
+/// If the base of such a DAG is the round of the last leader that the prefix commits, then with the whole history's coins the DAG has the
+/// history's leaders, last committed wave and slots of newer leaders.
 pub fn chains_by_history()
     ensures { ChainsByHistory }
 {}
 
-/// What each of these leaders orders there, after the one before it, is what it orders at that history.
+/// What each newer leader orders in such a DAG, after the leader before it, is what it orders at the history.
 pub fn orders_by_history()
     ensures { OrdersByHistory }
 {
     flatten::each_follows();
 }
 
-/// Certificates that are listed have the last committed wave of slots that hold them above the genesis.
+/// Listed certificates have the same last committed wave as slots that hold just these above the genesis.
 pub fn listed_is_enough()
     ensures { ListedIsEnough }
 {}
 
-// What a state is after an event.
+// The laws of the machine about the state after an event.
 pub(crate) fn states_go_on()
     ensures { AreKnown }
 {

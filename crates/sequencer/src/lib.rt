@@ -1,5 +1,5 @@
-//! The certificates, the coins and the order of one validator: what a certificate or a coin commits is prepared with all
-//! the memory that it needs, and then taken at once.
+//! The certificates, the coins and the order of one validator. What a certificate or a coin commits is prepared first, with all memory that
+//! it needs, and then applied without fail.
 #![tactic(auto)]
 
 mod facts;

@@ -1,4 +1,4 @@
-//! The last committed wave of certificates that stand in a list, before a DAG holds them.
+//! The last committed wave of certificates in a list, before a DAG holds them.
 
 ghost use Rattle.std.specs.Prelude.{◌≡◌, ℕ, ◌<◌, ◌≤◌, ◌*◌, ◌==◌, ◌&&◌, nat_lt, true, false, length, List, option_map, option_copied, IfSome};
 ghost use Rattle.std.specs.List.{list_any};
@@ -38,7 +38,7 @@ fn is_of(one: &(Certificate, Digest), round: u64, author: u16) -> bool
     header.round.number() == round && header.author.0 == author
 }
 
-// What the list has in a slot, with its digest. The list is halved until that is known.
+// The certificate of a slot in the list, with its digest, by binary search.
 fn entry_of(
     list: &[(Certificate, Digest)],
     round: u64,
@@ -55,7 +55,7 @@ fn entry_of(
     None
 }
 
-// Whether a parent of this author and digest is named.
+// Whether a parent with this author and digest is named.
 fn is_among(parents: &[ParentReference], author: Author, digest: &Digest) -> bool
     ensures { result ≡ list_any (λ parent. (parent.author.0 == author.0) && same_digest parent.certificate digest.now) parents.now }
 {
@@ -95,7 +95,7 @@ fn is_supported(
     committee.support() <= committee.weight(&supporters)
 }
 
-// Whether a wave is committed by itself.
+// Whether a wave is directly committed.
 fn is_committed(
     committee: &Committee,
     coins: &Coins,
@@ -117,9 +117,9 @@ fn is_committed(
     }
 }
 
-/// The greatest wave that is committed by itself over certificates above the genesis and coins. The certificates rise by round,
-/// and within a round by author, and each stands beside its digest. The waves are asked from the last one downwards of which
-/// a leader can have support, until one is; each takes time in proportion to the members and to the logarithm of the list.
+/// The greatest wave that these certificates above the genesis and these coins directly commit. The certificates are sorted by round and
+/// then author, each with its digest. The waves are tried downwards from the last one whose leader can have support; each try takes time in
+/// proportion to the members and to the logarithm of the list.
 pub fn listed_top(
     committee: &Committee,
     coins: &Coins,

@@ -9,9 +9,9 @@ use flatten::Lengthening;
 use std::alloc::{AllocError, Global};
 use wire::{Author, Digest, Round};
 
-/// What a certificate or a coin will add to the order, and mark. All of the memory that it needs is taken.
+/// What a certificate or a coin will add to the order, and mark. All memory for it is allocated already.
 pub struct Prepared {
-    // None where no leader is committed.
+    // What the committed leaders order; None where no leader is committed.
     pub(crate) committed: Option<Lengthening>,
 }
 
@@ -22,8 +22,8 @@ impl Drop for Prepared {
 }
 
 impl Prepared {
-    // What leaders of these slots, the oldest first, add to the order after the one that was committed last. `AllocError`
-    // where an allocation failed.
+    // What leaders of these slots, oldest first, add to the order after the leader that was committed last. On `AllocError` an allocation
+    // failed.
     pub(crate) fn new(
         alloc: Global,
         dag: &Dag,
@@ -40,7 +40,7 @@ impl Prepared {
         })
     }
 
-    /// The digests that it adds to the order.
+    /// The digests that are added to the order.
     pub fn digests(&self) -> &[Digest]
         ensures { result.now ≡ prepared_digests self.now }
     {

@@ -66,7 +66,7 @@ fn round_of(number: u64) -> Round
     }
 }
 
-// The round at the depth below another one, or that of the genesis.
+// The round that is the depth below another one, or round 0.
 fn below(committee: &Committee, round: Round) -> Round
     ensures { result ≡ round - committee.now.depth }
 {
@@ -83,7 +83,7 @@ fn wave_of(last: Option<(Round, Author)>) -> Option<u64>
     }
 }
 
-// Adds digests after others, in room that is there.
+// Adds digests to a list that has room for them.
 fn add_all(digests: &mut Vec<Digest>, more: &[Digest])
     requires { vec_len digests.old + length more.now ≤ vec_capacity digests.old }
     ensures { digests.new.items ≡ digests.old.items ++ more.now }
@@ -94,7 +94,7 @@ fn add_all(digests: &mut Vec<Digest>, more: &[Digest])
 }
 
 impl<'a> Sequencer<'a> {
-    /// That of a validator that has taken nothing: it holds the genesis. `AllocError` where an allocation failed.
+    /// The sequencer of a validator that has taken no event: it holds the genesis certificates. On `AllocError` an allocation failed.
     pub fn new(alloc: Global, committee: &'a Committee) -> Result<Sequencer<'a>, AllocError>
         ensures { IfOk result (λ made. (node : Node) → node.charter ≡ committee.now → IsAt node (fresh node) made) }
     {
@@ -106,10 +106,9 @@ impl<'a> Sequencer<'a> {
         })
     }
 
-    /// That of a validator that is at a sound state with this floor, this slot of the last committed leader, these certificates
-    /// above the genesis, each beside its digest, these coins and this order. The certificates rise by round, and within a round
-    /// by author. It walks over no more rounds than the depth to mark what the last leader reaches. `AllocError` where an
-    /// allocation failed.
+    /// The sequencer of a validator in a sound state that has this floor, slot of the last committed leader, certificates above the
+    /// genesis, coins and order. The certificates are sorted by round and then author, each with its digest. To mark what the last leader
+    /// reaches it walks over no more rounds than the depth. On `AllocError` an allocation failed.
     pub fn restore(
         alloc: Global,
         committee: &'a Committee,
@@ -136,8 +135,8 @@ impl<'a> Sequencer<'a> {
         Ok(restored)
     }
 
-    // Marks what the last committed leader reaches, of which nothing is marked yet. What it orders is in the order already.
-    // `AllocError` where an allocation failed: nothing has changed then.
+    // Marks what the last committed leader reaches, where nothing is marked yet. What the leader orders is in the order already. On
+    // `AllocError` an allocation failed, and nothing has changed.
     fn mark(&mut self, alloc: Global, last: Option<(Round, Author)>) -> Result<(), AllocError>
         requires unmarked { HasNoMarks self.old }
         requires held { IfSome last (λ slot. is_some (slots_in self.old.graph slot.0 slot.1.0) ≡ true) }
@@ -166,15 +165,15 @@ impl<'a> Sequencer<'a> {
         &self.coins
     }
 
-    /// The digests of the certificates that are ordered.
+    /// The digests of the ordered certificates.
     pub fn order(&self) -> &[Digest]
         ensures { result.now ≡ self.now.order }
     {
         &self.order
     }
 
-    /// 1 plus the greatest round of which a quorum of authors has certificates. The rounds are asked from the last one that
-    /// is held downwards to the floor.
+    /// 1 plus the greatest round in which a quorum of authors has certificates. The rounds are tried from the last one that is held down to
+    /// the floor.
     pub fn round(&self) -> u64
         ensures value { (node : Node) (state : State) → IsSound node state → IsAt node state self.now → result ≡ round_in node state }
         ensures limit { result ≤ MAX + 1 }
@@ -191,7 +190,7 @@ impl<'a> Sequencer<'a> {
         1
     }
 
-    /// What a new certificate will add to the order, before it is held. `AllocError` where an allocation failed.
+    /// What a new certificate will add to the order once it is added. On `AllocError` an allocation failed.
     pub fn prepare(&self, alloc: Global, certificate: &Certificate) -> Result<Prepared, AllocError>
         requires member { certificate.now.header.author.0 < length self.now.graph.charter.keys }
         ensures { IfOk result (λ prepared. (node : Node) (state : State) (event : Event) → ComesTo node state event self.now
@@ -205,7 +204,7 @@ impl<'a> Sequencer<'a> {
         Prepared::new(alloc, &self.dag, &chain)
     }
 
-    /// What the coin of the next wave will add to the order. `AllocError` where an allocation failed.
+    /// What the coin of the next wave will add to the order. On `AllocError` an allocation failed.
     pub fn prepare_coin(&self, alloc: Global, value: u64) -> Result<Prepared, AllocError>
         ensures { IfOk result (λ prepared. (node : Node) (state : State) (event : Event) → ComesTo node state event self.now
             → as_coin event.message ≡ Some value → IsPrepared node state event self.now prepared) }
@@ -216,8 +215,8 @@ impl<'a> Sequencer<'a> {
         Prepared::new(alloc, &self.dag, &chain)
     }
 
-    /// Holds a new certificate of this digest, and orders what was prepared for it. `AllocError` where an allocation failed:
-    /// nothing has changed then.
+    /// Adds a new certificate with this digest, and orders what was prepared for it. On `AllocError` an allocation failed, and nothing has
+    /// changed.
     pub fn hold(
         &mut self,
         certificate: Certificate,
@@ -236,7 +235,7 @@ impl<'a> Sequencer<'a> {
         ensures err { OnErr result (self.new ≡ self.old) }
     {
         self.dag.limits_hold();
-        // What can fail comes first.
+        // Allocations come first, so that a failure changes nothing.
         self.order.reserve(prepared.digests().len())?;
         self.dag.hold(certificate, digest)?;
         self.dag.limits_hold();
@@ -247,8 +246,7 @@ impl<'a> Sequencer<'a> {
         Ok(())
     }
 
-    /// Takes the coin of the next wave, and orders what was prepared for it. `AllocError` where an allocation failed: nothing
-    /// has changed then.
+    /// Adds the coin of the next wave, and orders what was prepared for it. On `AllocError` an allocation failed, and nothing has changed.
     pub fn push(&mut self, value: u64, prepared: &Prepared) -> Result<(), AllocError>
         ensures order { OnOk result (self.new.order ≡ self.old.order ++ prepared_digests prepared.now) }
         ensures charter { OnOk result (self.new.graph.charter ≡ self.old.graph.charter) }
@@ -258,7 +256,7 @@ impl<'a> Sequencer<'a> {
         ensures err { OnErr result (self.new ≡ self.old) }
     {
         self.dag.limits_hold();
-        // What can fail comes first.
+        // Allocations come first, so that a failure changes nothing.
         self.order.reserve(prepared.digests().len())?;
         self.coins.push(value)?;
         add_all(&mut self.order, prepared.digests());
@@ -267,7 +265,7 @@ impl<'a> Sequencer<'a> {
         Ok(())
     }
 
-    // Marks what was prepared, and drops what lies below the new floor. It takes no memory.
+    // Marks what was prepared, and drops what is below the new floor. The call allocates no memory.
     fn commit(&mut self, prepared: &Prepared)
         ensures graph { CommitsTo self.old.graph self.old.last prepared.now.committed self.new.graph self.new.last }
         ensures charter { self.new.graph.charter ≡ self.old.graph.charter }

@@ -1,5 +1,5 @@
-//! Signatures as the other crates see them, an insecure pair of a signer and a verifier for tests, and the seed that a
-//! signer gives to hash tables.
+//! Signatures as the other crates see them; an insecure pair of a signer and a verifier for tests; and the seed that a signer gives to hash
+//! tables.
 #![tactic(auto)]
 
 mod pair;

@@ -12,14 +12,13 @@ use sha2::{Digest as Hasher, Sha256};
 use std::marker::Model;
 use wire::{Digest, Key, Signature};
 
-/// What comes before the key and the digest in the first half of a signature: the letter S.
+/// The letter S, which precedes the key and the digest in the first half of a signature.
 const FIRST_LETTER: u8 = 0x53;
 
-/// What comes before them in the second half: the letter T.
+/// The letter T, which precedes the key and the digest in the second half of a signature.
 const SECOND_LETTER: u8 = 0x54;
 
-/// Signs by hashing the key with the digest. INSECURE, for tests alone: whoever knows the key can sign,
-/// and verifying takes the same key.
+/// Signs by hashing the key with the digest. INSECURE, for tests only: whoever knows the key can sign, and verifying takes the same key.
 #[derive(Clone, Copy, Debug, PartialEq, Eq)]
 pub struct HashSign {
     key: Key,
@@ -44,7 +43,7 @@ impl HashSign {
     }
 }
 
-/// Verifies the signatures of `HashSign`. INSECURE, for tests alone: whoever knows the key can sign.
+/// Verifies the signatures of `HashSign`. INSECURE, for tests only: whoever knows the key can sign.
 #[derive(Clone, Copy, Debug, PartialEq, Eq)]
 pub struct HashVerify;
 
@@ -96,7 +95,7 @@ impl Verify for HashVerify {
     }
 }
 
-/// The two are a pair: whatever a `HashSign` signs, a `HashVerify` accepts for its key. The call does nothing.
+/// The two belong together: whatever a `HashSign` signs, a `HashVerify` accepts for its key. The call does nothing.
 pub fn pair_is_tied(signer: &HashSign, verifier: &HashVerify)
     ensures { AreAccepted (⟦<HashVerify as Verify>⟧.accepts verifier.now) (⟦<HashSign as Sign>⟧.scheme.own_key signer.now) (⟦<HashSign as Sign>⟧.scheme.signature_of signer.now) }
 {}

@@ -1,4 +1,4 @@
-//! Where the tables of a node begin their hashes: at bytes that its signer alone can make.
+//! The seed with which a node's tables hash: bytes that only its signer can make.
 
 ghost use Rattle.std.specs.Prelude.{◌≡◌};
 ghost use Rattle.sigface.specs.Seeds.{seed_of};
@@ -8,19 +8,19 @@ use sha2::{Digest as Hashing, Sha256};
 use std::hash::{BuildHasher, DefaultHasher, Hasher};
 use wire::Digest;
 
-/// What is digested and signed for a seed: the letter L. No other digest that is signed begins with it.
+/// The letter L, which is digested and signed for a seed. No other digest that is signed is of bytes that begin with it.
 const SEED_LETTER: u8 = 0x4c;
 
-/// Where a table begins its hashes: SipHash-1-3 (Aumasson and Bernstein, 2012) that has read secret bytes. Who
-/// doesn't know these can't choose keys that lie in one place. It needs no randomness, and is the same in each run.
+/// The seed of a hash table: SipHash-1-3 (Aumasson and Bernstein, 2012) that has read secret bytes. Whoever doesn't know these can't choose
+/// keys that collide. It needs no randomness, and is the same in each run.
 #[derive(Clone, Copy)]
 pub struct TableSeed {
     begun: DefaultHasher,
 }
 
 impl TableSeed {
-    /// The seed of this signer: begun with its signature of the SHA-256 (FIPS 180-4) of the letter L. It is as
-    /// secret as the signer's key.
+    /// The seed of this signer: a hasher that has read its signature of the SHA-256 (FIPS 180-4) of the letter L. It is as secret as the
+    /// signer's key.
     pub fn of<S: Sign>(signer: &S) -> TableSeed
         ensures { result ≡ seed_of (S.scheme.signature_of signer.now) }
     {

@@ -9,10 +9,10 @@ ghost use Rattle.wire.specs.declared.keys.Signature.{Signature};
 
 use wire::{Digest, Key, Signature};
 
-/// Tells good signatures from others. Each answer follows from the verifier, the key, the digest and the
-/// signature alone, so the same question always has the same answer.
+/// Tells good signatures from bad ones. The answer depends only on the verifier, the key, the digest and the signature, so the same
+/// question always has the same answer.
 pub trait Verify {
-    /// Which signatures of a digest this verifier takes as good for a key.
+    /// Which signatures of a digest this verifier accepts for a key.
     ghost accepts: { Self → Key → Digest → Signature → Bool };
 
     /// Whether the signature of the digest is good for the key.
@@ -20,9 +20,9 @@ pub trait Verify {
         ensures { result ≡ accepts self.now key.now digest.now signature.now };
 }
 
-/// Signs digests with one key. The signature follows from the signer and the digest alone.
+/// Signs digests with one key. The signature depends only on the signer and the digest.
 pub trait Sign {
-    /// The key for which a signer's signatures are good, and the signature that it gives to a digest.
+    /// The key for which a signer's signatures are good, and its signature of each digest.
     ghost scheme: { Scheme Self };
 
     /// Which signatures of a digest are good for a key.

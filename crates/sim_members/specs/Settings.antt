@@ -1,4 +1,4 @@
--- What the settings of the members are.
+-- The settings of the members of a simulated committee.
 use Rattle.std.specs.Prelude.{◌≡◌, ◌<◌, ℕ, List, Ok, All}
 use Rattle.cluster.specs.Cluster.{AreOfOne, AreDistinct}
 use Rattle.committee.specs.Answer.{answer_to}
@@ -11,7 +11,7 @@ pub record AreOfFile {S : Type 0} (file : List ℕ) (next : ℕ) (settings : Lis
   pub below : All (λ setting. setting.own.0 < next) settings
   pub distinct : AreDistinct settings
 
--- settings that a cluster is made of
+-- settings of which a cluster can be made
 pub record AreSettings {S : Type 0} (settings : List (ConfigView S)) : Type 0 where
   pub one : AreOfOne settings
   pub distinct : AreDistinct settings

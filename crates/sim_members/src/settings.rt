@@ -1,4 +1,4 @@
-//! How the members are set up.
+//! The settings of the members.
 
 ghost use Rattle.std.specs.Prelude.{◌≡◌, ◌+◌, length, Ok, OnOk, IfOk, IfSome};
 ghost use Rattle.cluster.specs.Cluster.{AreOfOne, AreDistinct};
@@ -30,8 +30,7 @@ impl Drop for Settings {
 }
 
 impl Settings {
-    /// Those of a committee of this depth, in which a member holds at most so many batches. `AllocError` where an allocation
-    /// failed.
+    /// The settings for a committee of this depth, in which a member holds at most so many batches. On `AllocError` an allocation failed.
     pub fn new(alloc: Global, depth: u64, batches: u64) -> Result<Settings, AllocError> {
         let file = committee_file(alloc, depth, batches)?;
         let configs = configs_of(alloc, file.as_str())?;
@@ -45,7 +44,7 @@ impl Settings {
         &self.configs
     }
 
-    /// Those of the first so many members, if there are so many.
+    /// The settings of the first `count` members, if there are so many.
     pub fn first(&self, count: usize) -> Option<&[Config<HashSign>]>
         ensures sound { IfSome result (λ configs. AreSettings configs.now) }
         ensures many { IfSome result (λ configs. length configs.now ≡ count) }
@@ -54,7 +53,7 @@ impl Settings {
     }
 }
 
-// What all members of the committee in a file are set up with.
+// The settings of all members of the committee in a file.
 fn configs_of(alloc: Global, file: &str) -> Result<Vec<Config<HashSign>>, AllocError>
     ensures { IfOk result (λ configs. AreSettings configs.items) }
 {
@@ -79,7 +78,7 @@ fn add_config(
     Ok(())
 }
 
-// What a member is set up with. The committee's file is sound, so only memory can be wanting.
+// The setting of one member. The committee's file is valid, so only an allocation can fail.
 fn config_of(alloc: Global, file: &str, own: Author) -> Result<Config<HashSign>, AllocError>
     ensures own { IfOk result (λ config. config.own ≡ own) }
     ensures read { IfOk result (λ config. answer_to (parse_document file.now) ≡ Ok config.charter) }

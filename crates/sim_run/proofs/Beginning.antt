@@ -63,7 +63,8 @@ holds_first scheme node areas is_node held =
 pub begun_one : {S D : Type 0} (scheme : Scheme S) (device : Device D) (node : NodeView S) (own : SeatView) (flusher : Flusher D) (journal : Journal D) (seat : FlushSeat) (setting : ConfigView S)
     (tables : Tables)
     → node.setting ≡ setting → node.begun ≡ tables → journal_of flusher ≡ journal → seat_of flusher ≡ seat → IsOf node own → IsFlushOf node seat → HasNothing seat.seat → seat.taken ≡ 0
-    → seat.rewriting ≡ false → seat.seat.view.may_fail ≡ true → is_down flusher ≡ false → IsNode (node_of scheme setting) → IsAlive device journal → IsSome (spare_of journal) → HoldsIn (node_of scheme setting) (areas_of device journal) tables
+    → seat.rewriting ≡ false → seat.seat.view.may_fail ≡ true → is_down flusher ≡ false → IsNode (node_of scheme setting) → IsAlive device journal
+    → IsSome (spare_of journal) → HoldsIn (node_of scheme setting) (areas_of device journal) tables
     → AreOne scheme device setting node own flusher
 begun_one {S} {D} scheme device node own flusher journal seat setting tables setting_is begun_is journal_is seat_is of_node of nothing taken idle right up is_node alive two held =
     let areas = areas_of device journal in

@@ -1,4 +1,4 @@
--- What the parts of a running node are to each other.
+-- How the parts of a running node belong together.
 use Rattle.std.specs.Prelude.{◌≡◌, IsSome}
 use Rattle.flusher.specs.Rounds.{IsFlusherOf, journal_of}
 use Rattle.flusher.specs.declared.flusher.Flusher.{Flusher}
@@ -9,7 +9,7 @@ use Rattle.validator.specs.Setting.{ConfigView}
 use Rattle.diskmodel.specs.Disk.{Device}
 use Rattle.sigface.specs.Scheme.{Scheme}
 
--- a node is of a configuration, with a seat of its own and a flusher of its own, whose journal is on two disks
+-- a node has this configuration, and the seat and the flusher are its own; its journal is on two disks
 pub record AreOne {S D : Type 0} (scheme : Scheme S) (device : Device D) (config : ConfigView S) (node : NodeView S) (seat : SeatView) (flusher : Flusher D) : Type 0 where
   pub set : node.setting ≡ config
   pub of_node : IsOf node seat

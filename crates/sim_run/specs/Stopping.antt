@@ -1,4 +1,4 @@
--- What clauses see of a disk whose machine stops right before a sync.
+-- What contracts see of a disk whose machine stops right before a sync.
 use Rattle.std.specs.Prelude.{ℕ, ◌+◌, if◌then◌else◌}
 use Rattle.diskmodel.specs.declared.memory.MemDisk.{MemDisk}
 use Rattle.sim_run.specs.declared.stopping.StoppingDisk.{StoppingDisk}
@@ -7,6 +7,6 @@ use Rattle.sim_run.specs.declared.stopping.StoppingDisk.{StoppingDisk}
 abbrev pub memory_of : StoppingDisk → MemDisk
 memory_of stopping = stopping.disk
 
--- how often it has failed: as often as the disk in memory has, and once more where the machine stopped before a sync
+-- how often it has failed: as often as the disk in memory, and once more if the machine stopped before a sync
 abbrev pub faults_in : StoppingDisk → ℕ
 faults_in stopping = stopping.disk.faults.count + (if stopping.is_stopped then 1 else 0)

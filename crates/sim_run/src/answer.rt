@@ -1,10 +1,10 @@
-//! What the commands answer.
+//! The answers to commands.
 
 use header::CheckError;
 use node::{FlushError, Refusal};
 use wire::{Digest, Output, WireError};
 
-/// What a command answers.
+/// The answer to a command.
 #[derive(Drop)]
 pub enum Answer {
     /// Nothing is printed.
@@ -19,24 +19,24 @@ pub enum Answer {
     Unchecked(CheckError),
     /// The event, or a reading of the order, is refused.
     Refused(Refusal),
-    /// So many records were settled.
+    /// This many records were settled.
     Settled(u64),
     /// The journal was rewritten to a checkpoint of this generation.
     Generation(u64),
     /// The round or the checkpoint failed.
     Fault(FlushError),
-    /// Nothing goes out.
+    /// No output may leave.
     OutNone,
-    /// This goes out.
+    /// This output left.
     Out(Output),
     /// The order after the settled records: the digests of its certificates.
     Order(Vec<Digest>),
-    /// The round after the accepted records.
+    /// The round after all accepted records.
     Round(u64),
-    /// The header that has the vote of an author and round.
+    /// The digest of the header that the node voted for in a slot.
     Voted(Option<Digest>),
     /// A number of records.
     Count(u64),
-    /// The node was opened again, with so many records of events.
+    /// The node was opened again, on a journal with this many records of events.
     Reopened(u64),
 }

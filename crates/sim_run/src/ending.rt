@@ -1,16 +1,16 @@
-//! What ends a run.
+//! Why a run ends early.
 
 use diskmodel::TooManyTold;
 use journal::JournalError;
 use std::alloc::{AllocError, AllocFailed};
 use std::io;
 
-/// Why a run ends before its script does.
+/// Why a run ended before its script did.
 #[derive(Drop)]
 pub enum Ending {
     /// The line is no command.
     BadCommand,
-    /// Memory was refused outside an event, or more calls were told to fail than can stand at once.
+    /// An allocation failed outside the handling of an event, or more calls were set to fail than is possible at once.
     Memory,
     /// The journal couldn't be opened.
     Fault(JournalError),
@@ -18,7 +18,7 @@ pub enum Ending {
     InputOutput,
     /// The script has more lines than are counted.
     TooLong,
-    /// A group or a checkpoint was written to its end, though the machine was to stop before a sync of it.
+    /// A group or a checkpoint was completely written, although the machine was to stop before a sync of it.
     Unstopped,
 }
 

@@ -8,7 +8,7 @@ use sim_script::Labels;
 use std::alloc::Global;
 use std::io::{self, Write};
 
-/// Bytes of lines that are gathered before they are written.
+/// How many bytes of lines are collected before they are written.
 const ENOUGH: usize = 65_536;
 
 /// Lines that wait to be written together.
@@ -34,12 +34,12 @@ impl Gathered {
         Ok(writeln!(self.lines, "fault {error}")?)
     }
 
-    /// Whether the lines should be written before others are added.
+    /// Whether the lines should be written before more are added.
     pub fn is_enough(&self) -> bool {
         self.lines.len() >= ENOUGH
     }
 
-    /// Writes the lines at once. Where that fails they are gone.
+    /// Writes all lines. If that fails they are lost.
     pub fn write_to<W: Write>(&mut self, writer: &mut W) -> io::Result<()> {
         if self.lines.is_empty() {
             return Ok(());

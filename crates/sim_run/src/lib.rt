@@ -1,4 +1,4 @@
-//! The simulated node: member 0 of four over two disks in memory, driven by a script that gets one line a command.
+//! The simulated node: member 0 of four on two disks in memory, driven by a script that gets one line for each command.
 #![tactic(auto)]
 
 mod answer;

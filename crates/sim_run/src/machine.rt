@@ -5,16 +5,16 @@ use diskmodel::{CallKind, MemDisk, Switch};
 use std::alloc::{AllocError, Global};
 use std::cell::Cell;
 
-/// A machine with two disks. Calls of either are told to fail by one switch.
+/// A machine with two disks. One switch sets calls of both disks to fail.
 #[derive(Drop)]
 pub struct Machine {
     switch: Switch,
-    // The machine stops right before the sync of this number from now on; at 0 it goes on.
+    // The machine stops right before the sync with this number from now on; 0 means that it doesn't stop.
     syncs_left: Cell<u64>,
 }
 
 impl Machine {
-    /// A machine of which no call fails, and which goes on.
+    /// A machine of which no call is set to fail, and which doesn't stop.
     pub fn new(alloc: Global) -> Result<Machine, AllocError> {
         Ok(Machine {
             switch: Switch::new(alloc)?,
@@ -27,18 +27,18 @@ impl Machine {
         MemDisk::with_switch(alloc, Vec::new(alloc), &self.switch)
     }
 
-    /// Tells the call of this kind and number, from now on, of both disks, to fail.
+    /// Sets a call of this kind to fail: the one with this number from now on, counting both disks.
     pub fn fail(&self, call: CallKind, count: u64) -> Result<(), Ending> {
         self.switch.fail(call, count)?;
         Ok(())
     }
 
-    /// Has the machine stop right before the sync of this number, from now on, of both disks; at 0 it goes on.
+    /// Lets the machine stop right before the sync with this number from now on, counting both disks; 0 means that it doesn't stop.
     pub fn stop_before(&self, sync: u64) {
         self.syncs_left.set(sync);
     }
 
-    /// Counts down to the moment of the stop before a sync; says whether it has come.
+    /// Counts down to the stop before a sync; gives whether its moment has come.
     pub fn comes_to_stop(&self) -> bool {
         let left = self.syncs_left.get();
         self.syncs_left.set(left.saturating_sub(1));

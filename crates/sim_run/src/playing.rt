@@ -1,4 +1,4 @@
-//! A script, line by line.
+//! Playing a script, line by line.
 
 use crate::answer::Answer;
 use crate::ending::Ending;
@@ -14,12 +14,11 @@ use std::io::{self, Read, Write};
 use std::sync::Wait;
 use wire::{Output, Vote};
 
-/// Runs the script that is read, and writes a line for each command. Where several lines of the script are there, their
-/// answers may be written together, but always before more input is waited for. Answers the exit status: 0, or 2 after
-/// a bad line (told as an error), 3 where memory was refused outside an event or more calls were told to fail than can
-/// stand at once, 4 where the journal couldn't be opened or had no room for a group that was to be stopped (told as that
-/// line's answer), 5 where a read or write failed, 6 after more lines than are counted, 7 where a group was written to its
-/// end though it was to be stopped.
+/// Runs the script that is read, and writes a line for each command. Where several lines of the script are available, their answers may be
+/// written together, but always before more input is waited for. Gives the exit status: 0, or 2 after a bad line (which is reported to the
+/// errors), 3 where an allocation failed outside the handling of an event or more calls were set to fail than is possible at once, 4 where
+/// the journal couldn't be opened or had no room for a group that was to be stopped (which is that line's answer), 5 where a read or write
+/// failed, 6 after more lines than can be counted, 7 where a group was completely written though it was to be stopped.
 pub fn run<R: Wait, I: Read + Drop, W: Write, E: Write>(
     rt: &R,
     alloc: Global,
@@ -50,12 +49,13 @@ pub fn run<R: Wait, I: Read + Drop, W: Write, E: Write>(
     }
 }
 
-/// Both disks of the journal after a script, or nothing where the script isn't run to its end.
+/// Both disks of the journal after a script; None where the script wasn't run to its end.
 pub fn disks_after<R: Wait>(rt: &R, alloc: Global, script: &[u8]) -> Option<Disks> {
     Some(left_by(rt, alloc, script)?.disks)
 }
 
-/// The vote that may go out next after a script; nothing where it is another output or none, or the script isn't run to its end.
+/// The vote that may leave next after a script; None where the next output is another one or there is none, or the script wasn't run to its
+/// end.
 pub fn vote_after<R: Wait>(rt: &R, alloc: Global, script: &[u8]) -> Option<Vote> {
     match left_by(rt, alloc, script)?.output? {
         Output::Vote(vote) => Some(vote),
@@ -98,14 +98,14 @@ fn tell_bad_line<E: Write>(alloc: Global, errors: &mut E, number: u64) {
     }
 }
 
-/// What a script leaves: both disks of the journal, and the output that may go out next.
+/// What is left after a script: both disks of the journal, and the next output that may leave.
 #[derive(Drop)]
 struct Left {
     disks: Disks,
     output: Option<Output>,
 }
 
-// Plays the lines. The node is opened at the first one that sets nothing.
+// Plays the lines. The node is opened at the first line that isn't a setting.
 fn play<R: Wait, I: Read + Drop, W: Write>(
     rt: &R,
     alloc: Global,
@@ -128,7 +128,7 @@ fn play<R: Wait, I: Read + Drop, W: Write>(
     obey_all(rt, alloc, running, script, writer, gathered)
 }
 
-// Reads what is set, up to a line that sets nothing; there may be none.
+// Reads the settings, up to a line that isn't one, if there is such a line.
 fn read_settings<I: Read + Drop, W: Write>(
     alloc: Global,
     script: &mut Script<I>,
@@ -151,7 +151,7 @@ fn read_settings<I: Read + Drop, W: Write>(
     Err(Ending::TooLong)
 }
 
-// Carries out the line that was read last, and those after it.
+// Carries out the line that was read last, and those that follow.
 fn obey_all<R: Wait, I: Read + Drop, W: Write>(
     rt: &R,
     alloc: Global,
@@ -171,7 +171,7 @@ fn obey_all<R: Wait, I: Read + Drop, W: Write>(
     Err(Ending::TooLong)
 }
 
-// Carries out the line that was read last; says whether there is one after it.
+// Carries out the line that was read last; gives whether another one follows.
 fn obey<'a, R: Wait, I: Read + Drop, W: Write>(
     rt: &R,
     alloc: Global,
@@ -189,7 +189,7 @@ fn obey<'a, R: Wait, I: Read + Drop, W: Write>(
     Ok((next, goes_on))
 }
 
-// Tells the answer, and reads the next line; says whether there is one.
+// Writes the answer, and reads the next line; gives whether there is one.
 fn tell<I: Read + Drop, W: Write>(
     script: &mut Script<I>,
     writer: &mut W,
@@ -201,7 +201,7 @@ fn tell<I: Read + Drop, W: Write>(
     script.next(writer, gathered)
 }
 
-// What the node leaves.
+// What is left after the node has run.
 fn left_of<R: Wait>(rt: &R, mut running: Running<'_>) -> Left {
     let output = running.collect(rt);
     let disks = running.into_disks();

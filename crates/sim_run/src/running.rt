@@ -1,4 +1,4 @@
-//! The simulated node: what it is, and what it does.
+//! The simulated node.
 
 ghost use Rattle.std.specs.Prelude.{◌≡◌, None, IfOk};
 ghost use Rattle.header.specs.Checks.{fault_of, accepts_all};
@@ -24,18 +24,18 @@ use std::sync::Wait;
 use validator::Config;
 use wire::{Author, Digest, Output, Round};
 
-/// What the bytes of a group hold that a stop came upon before their sync.
+/// The byte that a group has in all its places when a stop comes before its sync.
 const TORN_BYTE: u8 = 0xee;
 
-/// The syncs of a round: that of the group's body, and that of its gate.
+/// The numbers of the syncs in a round: of the group's body, and of its gate.
 const BODY_SYNC: u64 = 1;
 
 const GATE_SYNC: u64 = 2;
 
-/// The sync of a checkpoint's first gate. Before it come those of the closed gate, of the cut and of the groups.
+/// The number of the sync of a checkpoint's first gate. It follows those of the closed gate, of the cut and of the groups.
 const CHECKPOINT_SYNC: u64 = 4;
 
-/// Both disks of a machine: that of the first area, and that of the second.
+/// Both disks of a machine, in the order of their areas.
 pub type Disks = (MemDisk, MemDisk);
 
 /// A node of a configuration, on both disks of a machine.
@@ -63,7 +63,7 @@ impl<'a> Model for Running<'a> {
 }
 
 impl<'a> Running<'a> {
-    /// The node of a configuration after what is on both disks of a machine.
+    /// Opens the node of a configuration on what is on both disks of a machine.
     pub fn open(
         alloc: Global,
         config: &'a Config<HashSign>,
@@ -77,7 +77,7 @@ impl<'a> Running<'a> {
         Ok(Running::new(config, machine, started))
     }
 
-    /// The node of a configuration on both disks of a machine, which are empty. Its journal begins in this version.
+    /// Starts the node of a configuration on both disks of a machine, which are empty. Its journal begins in this version.
     pub fn begin(
         alloc: Global,
         config: &'a Config<HashSign>,
@@ -97,7 +97,7 @@ impl<'a> Running<'a> {
         }
     }
 
-    // With what was started for this configuration.
+    // The simulated node around what was started for this configuration.
     fn new(
         config: &'a Config<HashSign>,
         machine: &'a Machine,
@@ -117,7 +117,7 @@ impl<'a> Running<'a> {
         }
     }
 
-    /// Its committee.
+    /// The committee of the node.
     pub fn committee(&self) -> &Committee
         ensures { result.now ≡ self.now.charter }
     {
@@ -135,7 +135,7 @@ impl<'a> Running<'a> {
         }
     }
 
-    /// The next output that may go out.
+    /// The next output that may leave.
     pub fn collect<R: Wait>(&mut self, rt: &R) -> Option<Output> {
         self.node.collect(rt, &mut self.seat)
     }
@@ -145,12 +145,12 @@ impl<'a> Running<'a> {
         self.node.order(rt, &mut self.seat, 0)
     }
 
-    /// The round after the accepted records.
+    /// The round after all accepted records.
     pub fn round<R: Wait>(&mut self, rt: &R) -> u64 {
         self.node.round_now(rt, &mut self.seat)
     }
 
-    /// The header that has the vote of an author and round.
+    /// The digest of the header that the node voted for in a slot.
     pub fn voted<R: Wait>(&mut self, rt: &R, author: Author, round: Round) -> Option<Digest> {
         self.node.peek_voted(rt, &mut self.seat, author, round)
     }
@@ -160,12 +160,12 @@ impl<'a> Running<'a> {
         self.node.accepted(&mut self.seat)
     }
 
-    /// How many of them are settled.
+    /// How many of the accepted records are settled.
     pub fn synced(&mut self) -> u64 {
         self.node.synced(&mut self.seat)
     }
 
-    /// Tells the call of this kind and number, from now on, to fail.
+    /// Sets a call of this kind to fail: the one with this number from now on.
     pub fn fail(&self, call: CallKind, count: u64) -> Result<(), Ending> {
         self.machine.fail(call, count)
     }
@@ -177,7 +177,7 @@ impl<'a> Running<'a> {
         flushed
     }
 
-    /// Rewrites the journal to a checkpoint of all that was accepted; answers its generation.
+    /// Rewrites the journal to a checkpoint of all accepted events, and gives the checkpoint's generation.
     #[tactic(auto, using(crate::proofs::Keeping::pair_kept))]
     pub fn checkpoint<R: Wait>(&mut self, rt: &R) -> Result<u64, FlushError> {
         let rewritten = self.flusher.checkpoint(rt, &self.node, &mut self.seat);
@@ -185,7 +185,7 @@ impl<'a> Running<'a> {
         rewritten
     }
 
-    // Notes where a round or a checkpoint took the node down.
+    // Notes whether a round or a checkpoint took the node down.
     fn note(&mut self, outcome: &Result<u64, FlushError>)
         ensures { self.new ≡ self.old }
     {
@@ -200,7 +200,7 @@ impl<'a> Running<'a> {
         (first.into_memory(), second.into_memory())
     }
 
-    /// Stops the machine and opens the node again; answers how many records of events were found.
+    /// Stops the machine and opens the node again; gives how many records of events were found.
     pub fn stop<R: Wait>(
         self,
         rt: &R,
@@ -218,7 +218,7 @@ impl<'a> Running<'a> {
         Ok((running, events))
     }
 
-    // Both disks, of which the next stop leaves what this kind of stop does.
+    // Both disks, set so that the next stop leaves what this kind of stop says.
     fn stopping_disks<R: Wait>(
         self,
         rt: &R,
@@ -237,8 +237,8 @@ impl<'a> Running<'a> {
         }
     }
 
-    // Both disks in the midst of a round, right before this sync of it, or at a call before it that fails. With nothing to write they are
-    // as they were.
+    // Both disks in the middle of a round, right before this sync of it, or at an earlier call that failed. If there is nothing to write,
+    // they are unchanged.
     fn interrupted_round<R: Wait>(
         mut self,
         rt: &R,
@@ -254,8 +254,8 @@ impl<'a> Running<'a> {
         self.torn(alloc, flushed, byte)
     }
 
-    // Both disks in the midst of a checkpoint, right before the sync of its first gate, or at a call before it that fails. On a node that
-    // is down they are as they were.
+    // Both disks in the middle of a checkpoint, right before the sync of its first gate, or at an earlier call that failed. If the node is
+    // down, they are unchanged.
     fn interrupted_checkpoint<R: Wait>(
         mut self,
         rt: &R,
@@ -270,8 +270,8 @@ impl<'a> Running<'a> {
         self.torn(alloc, rewritten, byte)
     }
 
-    // Both disks after a round or a checkpoint that the machine's stop has ended. The next stop leaves this byte wherever one was written
-    // since the sync before.
+    // Both disks after a round or a checkpoint that the machine's stop has ended. The next stop leaves this byte at each place that was
+    // written since the sync before.
     fn torn(
         self,
         alloc: Global,
@@ -291,7 +291,7 @@ impl<'a> Running<'a> {
     }
 }
 
-// Both disks, as those of a machine that can stop.
+// Both disks, as disks of a machine that can stop.
 fn disks_of(machine: &Machine, disks: Disks) -> (StoppingDisk<'_>, StoppingDisk<'_>) {
     let (first, second) = disks;
     (
@@ -300,7 +300,7 @@ fn disks_of(machine: &Machine, disks: Disks) -> (StoppingDisk<'_>, StoppingDisk<
     )
 }
 
-// How many records of events the journal on both disks has, in the area that is read.
+// How many records of events the area has that is read, and the disks.
 fn count_events(alloc: Global, disks: Disks) -> Result<(u64, Disks), Ending> {
     let (first, second) = disks;
     match Journal::open_pair(alloc, first, second) {

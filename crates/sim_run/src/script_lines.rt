@@ -6,7 +6,7 @@ use sim_script::{Command, parse};
 use std::alloc::Global;
 use std::io::{self, BufRead, BufReader, Read, Write};
 
-/// A script, and the line of it that was read last.
+/// A script, and its line that was read last.
 #[derive(Drop)]
 pub struct Script<I: Read + Drop> {
     reader: BufReader<I>,
@@ -34,8 +34,8 @@ impl<I: Read + Drop> Script<I> {
         parse(&self.line)
     }
 
-    /// Reads the next line, without its newline; `false` at the end. Writes the gathered lines first where reading may wait,
-    /// or where they are many.
+    /// Reads the next line, without its newline; `false` at the end. Writes the collected lines first if reading may wait, or if they are
+    /// many.
     pub fn next<W: Write>(
         &mut self,
         writer: &mut W,

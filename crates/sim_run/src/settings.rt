@@ -1,5 +1,5 @@
-//! What a script may set: the limits and the stakes of the committee of four, of which the simulator is member 0, and the
-//! version of its first journal.
+//! The settings of a script: the limits and the stakes of the committee of four of which the simulator is member 0, and the version of its
+//! first journal.
 
 use committee::{Committee, CommitteeError};
 use journal::Version;
@@ -9,7 +9,7 @@ use sim_script::{BATCHES, DEPTH, OWN, Setting, committee_file, signer};
 use std::alloc::{AllocError, Global};
 use validator::Config;
 
-/// What is set.
+/// The settings.
 #[derive(Clone, Copy)]
 pub struct Settings {
     depth: u64,
@@ -19,7 +19,7 @@ pub struct Settings {
 }
 
 impl Settings {
-    /// Those that apply where none is set.
+    /// The default settings.
     pub fn new() -> Settings {
         Settings {
             depth: DEPTH,
@@ -29,7 +29,7 @@ impl Settings {
         }
     }
 
-    /// With one more set; `None` where it is out of its range, or where the version can't tell the stakes.
+    /// The settings with one more; None where it is out of its range, or where the version can't express the stakes.
     pub fn with(&self, alloc: Global, setting: Setting) -> Result<Option<Settings>, AllocError> {
         let mut settings = *self;
         match setting {
@@ -44,7 +44,7 @@ impl Settings {
         }
     }
 
-    /// The node's configuration. With settings in their ranges there is one.
+    /// The node's configuration; there is one if the settings are in their ranges.
     pub fn config(&self, alloc: Global) -> Result<Option<Config<HashSign>>, AllocError> {
         match self.committee(alloc)? {
             Some(committee) => Ok(Config::new(committee, OWN, signer(OWN))),
@@ -52,7 +52,7 @@ impl Settings {
         }
     }
 
-    // The committee, where all is in its range.
+    // The committee, if all settings are in their ranges.
     fn committee(&self, alloc: Global) -> Result<Option<Committee>, AllocError> {
         let mut file = committee_file(alloc, self.depth, self.batches)?;
         let [first, second, third, fourth] = self.stakes;

@@ -68,7 +68,7 @@ fn add_certificate(
     add_voters(lines, certificate.votes.as_slice())
 }
 
-// The voters after a space, parted by commas, and the line's end.
+// Adds the voters after a space, separated by commas, and a newline.
 fn add_voters(lines: &mut String, votes: &[VoteEntry]) -> Result<(), AllocError> {
     let mut mark = ' ';
     for vote in votes {
@@ -87,7 +87,7 @@ fn add_order(lines: &mut String, labels: &Labels, digests: &[Digest]) -> Result<
     add_labels(lines, labels, digests)
 }
 
-// The labels of certificates, each after a space, and the line's end.
+// Adds the labels of certificates, each after a space, and a newline.
 fn add_labels(lines: &mut String, labels: &Labels, digests: &[Digest]) -> Result<(), AllocError> {
     for digest in digests {
         lines.push(' ')?;
@@ -96,7 +96,7 @@ fn add_labels(lines: &mut String, labels: &Labels, digests: &[Digest]) -> Result
     lines.push('\n')
 }
 
-// What has no label is shown as a dash. Whatever a script submits has one.
+// A batch without a label is shown as a dash. Whatever a script submits has one.
 fn batch_label<'a>(labels: &'a Labels, digest: &Digest) -> &'a str {
     labels.batch_name(digest).unwrap_or("-")
 }

@@ -1,4 +1,4 @@
-//! How a simulated node begins, on both its disks.
+//! Starting a simulated node on its two disks.
 
 ghost use Rattle.std.specs.Prelude.{◌≡◌, [], Ok, IfOk, IsSome};
 ghost use Rattle.journal.specs.Areas.{stands_in};
@@ -21,7 +21,7 @@ use validator::{Config, Validator};
 /// A node with its seat, and its flusher.
 pub type Started<'a, S, D> = (Node<'a, S>, Seat, Flusher<D>);
 
-/// The node of a configuration after what is on both disks.
+/// Starts the node of a configuration on what is on both disks.
 pub fn start<'a, S: Sign, D: Disk + Drop>(
     alloc: Global,
     config: &'a Config<S>,
@@ -36,8 +36,8 @@ pub fn start<'a, S: Sign, D: Disk + Drop>(
     }
 }
 
-/// The same on two empty disks, whose journal gets its first group in the first version. An opening would write the second version, and
-/// rewrite a journal in the first one.
+/// Starts a node on two empty disks, where the journal gets its first group in the first version. An opening would write the second
+/// version, and rewrite a journal that is in the first one.
 pub fn start_in_first_version<'a, S: Sign, D: Disk + Drop>(
     alloc: Global,
     config: &'a Config<S>,
@@ -77,7 +77,7 @@ fn begin_in_first_version<'a, S: Sign, D: Disk + Drop>(
     begin(alloc, validator, journal)
 }
 
-// The node over a validator and a journal on two disks that stand at the same.
+// The node over a validator and a journal on two disks that are in the same state.
 fn begin<'a, S: Sign, D: Disk + Drop>(
     alloc: Global,
     validator: Validator<'a, S>,

@@ -9,7 +9,7 @@ ghost use Rattle.sim_run.specs.Stopping.{memory_of, faults_in};
 use crate::machine::Machine;
 use diskmodel::{Disk, DiskFault, MemDisk};
 
-/// A disk in memory of a machine. The sync before which the machine stops isn't made, so it counts for no failure.
+/// A disk in memory of a machine. The sync before which the machine stops isn't made, and isn't counted as a failure.
 #[derive(Drop)]
 pub struct StoppingDisk<'a> {
     disk: MemDisk,

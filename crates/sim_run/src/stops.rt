@@ -1,4 +1,4 @@
-//! What a stop is to leave of a disk in memory.
+//! Choosing what a stop leaves of a disk in memory.
 
 ghost use Rattle.std.specs.Prelude.{ℕ, List, IfOk};
 ghost use Rattle.diskmodel.specs.Memory.{state_of};
@@ -7,7 +7,7 @@ ghost use Rattle.sim_run.specs.Stops.{WillLeave, IsTornBy};
 use diskmodel::MemDisk;
 use std::alloc::{AllocError, Global};
 
-/// The disk, of which the next stop leaves the bytes of the last sync. `AllocError` where an allocation failed.
+/// The same disk, whose next stop leaves the bytes of the last sync. On `AllocError` an allocation failed.
 pub fn losing(alloc: Global, mut disk: MemDisk) -> Result<MemDisk, AllocError>
     ensures { IfOk result (λ left. WillLeave disk left (state_of disk).durable) }
 {
@@ -16,7 +16,7 @@ pub fn losing(alloc: Global, mut disk: MemDisk) -> Result<MemDisk, AllocError>
     Ok(disk)
 }
 
-/// The disk, of which the next stop leaves this byte wherever one was written since the last sync. `AllocError` where an allocation
+/// The same disk, whose next stop leaves this byte at each place that was written since the last sync. On `AllocError` an allocation
 /// failed.
 pub fn tearing(alloc: Global, mut disk: MemDisk, byte: u8) -> Result<MemDisk, AllocError>
     ensures { IfOk result (λ left. (found : List ℕ) × IsTornBy byte disk found × WillLeave disk left found) }
@@ -26,7 +26,7 @@ pub fn tearing(alloc: Global, mut disk: MemDisk, byte: u8) -> Result<MemDisk, Al
     Ok(disk)
 }
 
-// What a read of the disk gives, with this byte wherever one was written since the last sync.
+// What a read of the disk gives, but with this byte at each place that was written since the last sync.
 fn torn(alloc: Global, disk: &MemDisk, byte: u8) -> Result<Vec<u8>, AllocError>
     ensures { IfOk result (λ torn. IsTornBy byte disk.now torn.items) }
 {

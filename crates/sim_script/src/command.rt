@@ -7,7 +7,7 @@ use wire::Author;
 /// The version of the journal that a script may set.
 const FIRST_VERSION: u64 = 1;
 
-/// What is set before all else.
+/// A setting, which precedes all other commands.
 #[derive(Clone, Copy)]
 pub enum Setting {
     /// The committee's depth.
@@ -23,28 +23,28 @@ pub enum Setting {
 /// A batch that a script defines.
 #[derive(Clone, Copy)]
 pub struct Pack<'a> {
-    /// Its label.
+    /// The label of the batch.
     pub label: &'a str,
-    /// Its author.
+    /// The author of the batch.
     pub author: Author,
-    /// The worker that gathered it.
+    /// The worker that gathered the batch.
     pub worker: u16,
-    /// Its transactions in hexadecimal, parted by one space, as they are written.
+    /// Its transactions in hexadecimal, separated by one space, as the script has them.
     pub transactions: &'a str,
 }
 
 /// A header that a script defines.
 #[derive(Clone, Copy)]
 pub struct Form<'a> {
-    /// Its label.
+    /// The label of the header.
     pub label: &'a str,
-    /// Its author.
+    /// The author of the header.
     pub author: Author,
-    /// Its round, which may be above the limit.
+    /// The round of the header, which may be above the limit.
     pub round: u64,
-    /// The labels of its parents, parted by commas, as they are written.
+    /// The labels of its parents, separated by commas, as the script has them.
     pub parents: &'a str,
-    /// The labels of its batches, parted by commas, as they are written.
+    /// The labels of its batches, separated by commas, as the script has them.
     pub batches: &'a str,
 }
 
@@ -64,15 +64,15 @@ pub enum Call {
 /// How the machine stops.
 #[derive(Clone, Copy)]
 pub enum Stopping {
-    /// With the bytes of the last sync.
+    /// The stop leaves the bytes of the last sync.
     Lose,
-    /// With all that a read gives.
+    /// The stop leaves all that a read gives.
     Keep,
-    /// While a group is written, before its sync.
+    /// The stop comes while a group is written, before the group's sync.
     Body,
-    /// While a group's gate is written; the gate holds this byte.
+    /// The stop comes while a group's gate is written; the gate has this byte.
     Gate(u8),
-    /// While the first gate of a checkpoint is written; the gate holds this byte.
+    /// The stop comes while the first gate of a checkpoint is written; the gate has this byte.
     Checkpoint(u8),
 }
 
@@ -85,42 +85,42 @@ pub enum Command<'a> {
     Pack(Pack<'a>),
     /// Defines a header.
     Form(Form<'a>),
-    /// Submits the batch of a label as from its author.
+    /// Submits the batch with a label, as from its author.
     Batch(&'a str),
-    /// Submits the header of a label as from its author.
+    /// Submits the header with a label, as from its author.
     Header(&'a str),
-    /// Submits that a member holds the batch of a label.
+    /// Submits a member's acknowledgement of the batch with a label.
     Ack { batch: &'a str, sender: Author },
-    /// Submits the vote of a member on the header of a label.
+    /// Submits a member's vote on the header with a label.
     Vote { header: &'a str, voter: Author },
-    /// Submits the certificate of the header of a label with the votes of these members, parted by commas, as written.
+    /// Submits the certificate of the header with a label, with the votes of these members, separated by commas, as the script has them.
     Cert { header: &'a str, voters: &'a str },
     /// Submits the coin of a wave, which may be out of its range.
     Coin { wave: u64, value: u64 },
     /// One round of the flusher.
     Flush,
-    /// Rewrites the journal to a checkpoint of all that was accepted.
+    /// Rewrites the journal to a checkpoint of all accepted events.
     Checkpoint,
-    /// The next output that may go out.
+    /// Gives the next output that may leave.
     Collect,
-    /// The order of the settled records.
+    /// Gives the order after the settled records.
     Order,
-    /// The round of the accepted records.
+    /// Gives the round after the accepted records.
     Round,
-    /// The vote for an author and round.
+    /// Gives the vote in a slot.
     Peek { author: Author, round: u64 },
     /// How many records were accepted.
     Accepted,
-    /// How many of them are settled.
+    /// How many of the accepted records are settled.
     Synced,
-    /// Lets the call of this kind and number, counted from now on, fail.
+    /// Sets a call of this kind to fail: the one with this number, counted from now on.
     Fail { call: Call, count: u64 },
     /// Stops the machine and opens the node again.
     Stop(Stopping),
 }
 
-/// The command of a line without its newline, or `None` where it has no command's shape. What stands in a list, and
-/// the transactions of a batch, are read where the command is carried out.
+/// The command of a line without its newline; None where the line has no command's shape. The elements of lists, and the transactions of a
+/// batch, are read when the command is carried out.
 pub fn parse(line: &[u8]) -> Option<Command<'_>> {
     let text = str::from_utf8(line).ok()?;
     if let Some(words) = text.strip_prefix("pack ") {
@@ -194,7 +194,7 @@ fn with_two<'a>(word: &str, first: &'a str, second: &'a str) -> Option<Command<'
     }
 }
 
-// A stop inside the write of a gate, which then holds a byte.
+// A stop inside the write of a gate, which has this byte then.
 fn torn_stopping_of(word: &str, byte: &str) -> Option<Stopping> {
     match word {
         "gate" => Some(Stopping::Gate(hex_byte(byte)?)),
@@ -236,7 +236,7 @@ fn setting_of(name: &str, value: &str) -> Option<Setting> {
     }
 }
 
-// The stakes of four members, parted by commas.
+// The stakes of four members, separated by commas.
 fn stakes_of(value: &str) -> Option<[u64; 4]> {
     let (first, rest) = value.split_once(',')?;
     let (second, rest) = rest.split_once(',')?;

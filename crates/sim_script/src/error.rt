@@ -1,16 +1,16 @@
-//! Why a command doesn't form its message.
+//! Why the message of a command can't be made.
 
 use std::alloc::{AllocError, AllocFailed};
 use wire::WireError;
 
-/// Why a command doesn't form its message.
+/// Why the message of a command can't be made.
 #[derive(Clone, Copy)]
 pub enum FormError {
-    /// A word or a label stands for nothing there, or the label is taken.
+    /// A word or a label isn't valid there, or the label is taken already.
     BadCommand,
-    /// The first fault that reading the message's bytes would meet, never `Memory`.
+    /// The first fault that reading the message's bytes would find, never `Memory`.
     Unread(WireError),
-    /// Memory was refused.
+    /// An allocation failed.
     Memory,
 }
 

@@ -7,7 +7,7 @@ use wire::{
     genesis_digest, header_digest,
 };
 
-/// A header under its label.
+/// A header with a label.
 #[derive(Drop)]
 pub struct Proposed {
     /// The header.
@@ -18,15 +18,14 @@ pub struct Proposed {
     pub certificate: Digest,
 }
 
-/// A batch under its label.
+/// A batch with a label.
 #[derive(Drop)]
 pub struct Packed {
-    /// The batch with its digest; nothing where its transactions pass a limit, which reading its message answers with
-    /// `TooMany`.
+    /// The batch with its digest; None where its transactions exceed a limit, so that reading its message gives `TooMany`.
     pub batch: Option<(Batch, Digest)>,
 }
 
-/// The headers and the batches by their labels, and the first label of each digest.
+/// The headers and the batches by label, and the first label of each digest.
 pub struct Labels {
     alloc: Global,
     headers: BTreeMap<String, Proposed>,
@@ -50,7 +49,7 @@ impl Drop for Labels {
 }
 
 impl Labels {
-    /// No labels but those of the genesis certificates.
+    /// Only the labels of the genesis certificates.
     pub fn new(alloc: Global) -> Labels {
         Labels {
             alloc,
@@ -72,7 +71,7 @@ impl Labels {
         self.batches.get(name)
     }
 
-    /// The certificate of a label: of a genesis certificate, or of a header.
+    /// The certificate with a label: a genesis certificate, or that of a header.
     pub fn parent(&self, name: &str) -> Option<ParentReference> {
         if let Some(author) = genesis_author(name) {
             return Some(ParentReference {
@@ -102,12 +101,12 @@ impl Labels {
         Some(self.batch_names.get(digest)?.as_str())
     }
 
-    // Whether a label is taken, also by a genesis certificate.
+    // Whether a label is taken, possibly by a genesis certificate.
     pub(crate) fn is_taken(&self, name: &str) -> bool {
         genesis_author(name).is_some() || self.header(name).is_some() || self.batch(name).is_some()
     }
 
-    // Defines a label that isn't taken for a header.
+    // Defines a label, which isn't taken, for a header.
     pub(crate) fn define_header(&mut self, name: &str, header: Header) -> Result<(), AllocError> {
         let (digest, certificate) = digests_of(&header);
         add_first(self.alloc, &mut self.header_names, digest, name)?;
@@ -124,7 +123,7 @@ impl Labels {
         Ok(())
     }
 
-    // Defines a label that isn't taken for a batch, or for transactions that pass a limit.
+    // Defines a label, which isn't taken, for a batch, or for transactions that exceed a limit.
     pub(crate) fn define_batch(
         &mut self,
         name: &str,
@@ -140,7 +139,7 @@ impl Labels {
     }
 }
 
-// Keeps the name of a digest that has none yet.
+// Keeps the label of a digest that has none yet.
 fn add_first(
     alloc: Global,
     names: &mut BTreeMap<Digest, String>,

@@ -1,5 +1,5 @@
-//! The language of scripts: its commands, the labels that they define, the messages that these stand for, signed by
-//! the test pair, and the committee that scripts play in.
+//! The language of scripts: its commands, the labels that they define, the messages that the labels stand for, signed by the test pair, and
+//! the committee in which scripts play.
 #![tactic(auto)]
 
 mod command;

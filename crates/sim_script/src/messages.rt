@@ -8,11 +8,11 @@ use crate::signing::{certificate, vote};
 use std::alloc::Global;
 use wire::{Author, BatchAck, Coin, Message, Wave, WireError};
 
-/// The member as from whom certificates are submitted.
+/// The member that sends certificates.
 const CERTIFIER: Author = Author(1);
 
-/// The sender and the message of a command that submits one; of another command, that it is bad. Coins are sent by `OWN`,
-/// certificates by member 1.
+/// The sender and the message of a command that submits one; an error for any other command. Coins are sent by `OWN`, certificates by
+/// member 1.
 pub fn message_of(
     alloc: Global,
     labels: &Labels,
@@ -35,7 +35,7 @@ fn batch_of(labels: &Labels, label: &str) -> Result<(Author, Message), FormError
     };
     match &packed.batch {
         Some((batch, _)) => Ok((batch.author(), Message::Batch(batch.share()?))),
-        // Its transactions pass a limit.
+        // The transactions of the batch exceed a limit.
         None => Err(FormError::Unread(WireError::TooMany)),
     }
 }

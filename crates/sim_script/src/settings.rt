@@ -14,10 +14,10 @@ pub const DEPTH: u64 = 50;
 /// The number of batches where a script sets none.
 pub const BATCHES: u64 = 1_048_576;
 
-/// Members of the committee where a script says nothing else.
+/// The number of members in the committee of a script.
 const MEMBERS: u16 = 4;
 
-/// The line of a committee's file that lists so many members.
+/// The line of a committee file that lists so many members.
 pub fn member_list(alloc: Global, members: u16) -> Result<String, AllocError> {
     let mut file = String::from_str(alloc, "members = [")?;
     for member in 0..members {
@@ -31,7 +31,7 @@ pub fn member_list(alloc: Global, members: u16) -> Result<String, AllocError> {
     Ok(file)
 }
 
-/// The file of a committee of four. Its limits may be out of their ranges; nothing else in it is unsound.
+/// The file of a committee of four. Only its limits may be out of their ranges.
 pub fn committee_file(alloc: Global, depth: u64, batches: u64) -> Result<String, AllocError> {
     let mut file = member_list(alloc, MEMBERS)?;
     write!(file, "depth = {depth}\nworkers = 1\nbatches = {batches}\n")?;

@@ -9,7 +9,7 @@ use sigface::{HashSign, Sign};
 use std::alloc::{AllocError, Global};
 use wire::{Author, Certificate, Key, MAX_VOTES, Vote, VoteEntries, VoteEntry, WireError};
 
-/// The signer of a member, or of another number that a script names: its key is its number plus 1, 32 times.
+/// The signer of a member, or of any other number in a script: its key is the byte of that number plus 1, 32 times.
 pub fn signer(author: Author) -> HashSign {
     let [_, low] = author.0.to_be_bytes();
     HashSign::new(Key([low.wrapping_add(1); 32]))
@@ -26,7 +26,7 @@ pub fn vote(proposed: &Proposed, voter: Author) -> Vote {
     }
 }
 
-/// The certificate of a header with the votes of the members of a list, as it is written.
+/// The certificate of a header, with the votes of the members in a list of a script.
 pub fn certificate(
     alloc: Global,
     proposed: &Proposed,
@@ -40,7 +40,7 @@ pub fn certificate(
     })
 }
 
-// The members of a list, as they are written.
+// The members in a list of a script.
 fn voters_of(alloc: Global, text: &str) -> Result<Vec<Author>, FormError> {
     let mut voters = Vec::new(alloc);
     if text == "-" {
@@ -55,7 +55,7 @@ fn voters_of(alloc: Global, text: &str) -> Result<Vec<Author>, FormError> {
     Ok(voters)
 }
 
-// The votes, which are at most so many and rise.
+// The votes, which are few enough and in ascending order.
 fn votes_of(
     alloc: Global,
     proposed: &Proposed,

@@ -4,13 +4,13 @@ use hex::{FromHexError, decode, decode_to_slice};
 use std::alloc::{AllocError, Global};
 use wire::Author;
 
-/// The greatest number of a member or a worker that a script may name.
+/// The greatest number of a member or a worker in a script.
 const MAX_MEMBER: u64 = 254;
 
-/// Bytes of a label after its first.
+/// The greatest length of a label without its first character.
 const LABEL_REST: usize = 15;
 
-// A small letter and then small letters or digits.
+// A lower-case letter, and then lower-case letters or digits.
 pub fn label(word: &str) -> Option<&str> {
     match word.as_bytes() {
         [b'a'..=b'z', rest @ ..] if rest.len() <= LABEL_REST && rest.iter().all(is_label_byte) => {
@@ -44,7 +44,7 @@ pub fn member(word: &str) -> Option<Author> {
     Some(Author(worker(word)?))
 }
 
-// One pair of the digits 0-9, a-f.
+// One pair of hexadecimal digits, 0-9 and a-f.
 pub fn hex_byte(word: &str) -> Option<u8> {
     let mut byte = [0];
     if has_capitals(word) {
@@ -68,7 +68,7 @@ pub fn hex_bytes(alloc: Global, word: &str) -> Result<Option<Vec<u8>>, AllocErro
     }
 }
 
-// Scripts have the small digits alone.
+// Whether there are upper-case digits, which scripts may not have.
 fn has_capitals(word: &str) -> bool {
     word.as_bytes().iter().any(|byte| byte.is_ascii_uppercase())
 }

@@ -1,5 +1,4 @@
--- What the honest members of a committee have settled, and that its certificates and orders agree; of their disks and runs
--- nothing is said.
+-- What the honest members of a committee have settled, and why their certificates and orders agree. Disks and runs play no part here.
 use Rattle.std.specs.Prelude.{◌≡◌, ◌≢◌, ◌<◌, ◌≤◌, ◌⊎◌, ℕ, ◌+◌, ◌==◌, Bool, not, true, List, [], ◌∷◌, ◌++◌, map, Some, None, Contains}
 use Rattle.std.specs.Int.{w16, w64, to_be_bytes}
 use Rattle.sha2.specs.Sha256.{sha256}
@@ -16,8 +15,8 @@ use Rattle.wire.specs.Spelling.{header_body}
 use Rattle.wire.specs.declared.message.Message.TheVariants as message
 use Rattle.spec_accord.specs.Accord.{Agree, HaveOneHeader}
 
--- the committee, the verifier that all use, who is honest, and of each honest member what it is as a node and what it has
--- settled
+-- the committee, the verifier that all use, who is honest, and of each honest member its description as a node and the history that it
+-- has settled
 pub record Party : Type 0 where
   pub charter : Charter
   pub accepts : Accepts
@@ -27,25 +26,25 @@ pub record Party : Type 0 where
 
 -- ---- digests
 
--- the headers of which a history tells, by themselves or in certificates
+-- the headers in a history, by themselves or in certificates
 abbrev pub bodies_in : History → List HeaderBody
 bodies_in history = map (λ header. header.body) (headers history)
     ++ map (λ certificate. certificate.header) (received history)
 
--- the two texts that are hashed of a header: its own after the letter H, and its certificate's after the letter C
+-- the two texts of a header that are hashed: its own, after the letter H, and its certificate's, after the letter C
 abbrev pub header_text : HeaderBody → List ℕ
 header_text body = 72 ∷ header_body body
 
 abbrev pub certificate_text : HeaderBody → List ℕ
 certificate_text body = 67 ∷ header_digest_of body ++ to_be_bytes w64 body.round ++ to_be_bytes w16 body.author.0
 
--- a header is one of which an honest member's settled history tells
+-- a header is in an honest member's settled history, by itself or in a certificate
 pub record IsTold (party : Party) (body : HeaderBody) : Type 0 where
   pub member : ℕ
   pub honest : party.honest member ≡ true
   pub told : Contains (bodies_in (party.settled member)) body
 
--- no two different texts of such headers share a digest: not two headers' own, not two certificates', and not one of each
+-- no two different texts of these headers share a digest: neither those of two headers, nor those of two certificates, nor one of each
 pub record HaveNoClash (Told : HeaderBody → Type 0) : Type 0 where
   pub headers : (one other : HeaderBody) → Told one → Told other
       → sha256 (header_text one) ≡ sha256 (header_text other) → header_text one ≡ header_text other
@@ -54,19 +53,19 @@ pub record HaveNoClash (Told : HeaderBody → Type 0) : Type 0 where
   pub both : (one other : HeaderBody) → Told one → Told other
       → sha256 (header_text one) ≡ sha256 (certificate_text other) → header_text one ≡ certificate_text other
 
--- of the headers of which honest members' settled histories tell
+-- no clash among the headers in honest members' settled histories
 abbrev pub NoClash : Party → Type 0
 NoClash party = HaveNoClash (IsTold party)
 
 -- ---- signatures
 
--- a vote's signature as it stands in a message: whose it is said to be, and of which digest
+-- a vote's signature as a message carries it: the digest that is signed, and the member who is said to have signed it
 pub record Signed : Type 0 where
   pub signer : Author
   pub digest : Digest
   pub signature : Signature
 
--- the votes in a message; a header's own signature isn't among them
+-- the votes' signatures in a message; a header's own signature isn't among them
 abbrev pub signed_in : Message → List Signed
 signed_in (message.Vote vote) =
     record {
@@ -81,12 +80,12 @@ signed_in (message.Certificate certificate) = map (λ vote. record {
 }) certificate.votes
 signed_in _ = []
 
--- a header has a member's vote for good: what the member has settled for its author and round has its digest
+-- a member has settled its vote for this header: the header that it voted for in this slot has this digest
 abbrev pub HasVote : Party → ℕ → HeaderBody → Type 0
 HasVote party member body = voted_digest (party.settled member) body.round body.author.0 ≡ Some (header_digest body)
 
--- of what a digest is that a member signed in what it gave out: of a header of which its settled history tells, whoever
--- made it, or of the certificate of one with its vote
+-- a digest that a member signed in what it gave out is that of a header in its settled history, whoever made it, or that of the
+-- certificate of a header that it voted for
 pub record WasSigned (party : Party) (member : ℕ) (digest : Digest) : Type 0 where
   pub body : HeaderBody
   pub told : Contains (bodies_in (party.settled member)) body
@@ -94,7 +93,7 @@ pub record WasSigned (party : Party) (member : ℕ) (digest : Digest) : Type 0 w
 
 -- ---- agreement
 
--- what is given of a party, with a bound on which digests each member has signed in what it gave out
+-- what is assumed of a party, where `signed` says which digests each member has signed in what it gave out
 pub record IsParty (party : Party) (signed : ℕ → Digest → Bool) : Type 0 where
   -- the committee is within its limits, and those who aren't honest weigh together no more than is tolerated
   pub sound : IsCharter party.charter
@@ -103,21 +102,21 @@ pub record IsParty (party : Party) (signed : ℕ → Digest → Bool) : Type 0 w
   pub charter : (member : ℕ) → party.honest member ≡ true → (party.node member).charter ≡ party.charter
   pub number : (member : ℕ) → party.honest member ≡ true → (party.node member).own.0 ≡ member
   pub legal : (member : ℕ) → party.honest member ≡ true → IsLegal (party.node member) (party.settled member)
-  -- what it has settled passed the checks, with its signatures
+  -- each event that it has settled passed the checks, with its signatures
   pub passed : (member : ℕ) → party.honest member ≡ true → (event : Event) → Contains (party.settled member) event
       → fault_of party.charter party.accepts event ≡ None
-  -- and no honest member's vote in it is forged: of a good one the voter has signed the digest in what it gave out
+  -- no honest member's vote in it is forged: where such a vote's signature is good, the voter has signed the digest in what it gave out
   pub unforged : (member : ℕ) → party.honest member ≡ true → (event : Event) → Contains (party.settled member) event
       → (vote : Signed) → Contains (signed_in event.message) vote → party.honest vote.signer.0 ≡ true
       → is_signed party.charter party.accepts vote.signer vote.digest vote.signature ≡ true
       → signed vote.signer.0 vote.digest ≡ true
-  -- an honest member signed nothing else in what it gave out than a header that it tells of, or its vote for one
+  -- an honest member signed nothing in what it gave out but headers in its settled history and its votes
   pub given : (member : ℕ) → party.honest member ≡ true → (digest : Digest) → signed member digest ≡ true
       → WasSigned party member digest
-  -- and no two different texts of headers that they tell of share a digest
+  -- no two different texts of headers in the settled histories share a digest
   pub clash : NoClash party
 
--- then their certificates of one author and round have one header
+-- under these premises the certificates of one author and round that honest members hold have the same header
 abbrev pub HeadersAgree : Type 0
 HeadersAgree = (party : Party) (signed : ℕ → Digest → Bool) → IsParty party signed
     → (one other : ℕ) → party.honest one ≡ true → party.honest other ≡ true
@@ -128,16 +127,16 @@ pub record HasCoins (party : Party) (value : ℕ → ℕ) : Type 0 where
   pub each : (member : ℕ) → party.honest member ≡ true → (event : Event) → Contains (party.settled member) event
       → (coin : Coin) → event.message ≡ message.Coin coin → coin.value ≡ value coin.wave
 
--- and of their orders one begins the other
+-- under these premises of any two honest members' orders one is a prefix of the other
 abbrev pub MembersAgree : Type 0
 MembersAgree = (party : Party) (signed : ℕ → Digest → Bool) (value : ℕ → ℕ) → IsParty party signed
     → HasCoins party value → (one other : ℕ) → party.honest one ≡ true → party.honest other ≡ true
     → Agree (order (party.node one) (party.settled one)) (order (party.node other) (party.settled other))
 
--- ---- at any moment
+-- ---- at any moment, settled or not
 
--- a member stood at a history at some moment, settled or not: it is legal, what it has passed the checks, and no honest member's vote in it
--- is forged
+-- a history at which a member was at some moment, settled or not: it is legal, its events passed the checks, and no honest member's vote
+-- in it is forged
 pub record IsMoment (party : Party) (signed : ℕ → Digest → Bool) (member : ℕ) (history : History) : Type 0 where
   pub honest : party.honest member ≡ true
   pub legal : IsLegal (party.node member) history
@@ -147,33 +146,33 @@ pub record IsMoment (party : Party) (signed : ℕ → Digest → Bool) (member :
       → is_signed party.charter party.accepts vote.signer vote.digest vote.signature ≡ true
       → signed vote.signer.0 vote.digest ≡ true
 
--- of what a digest is that a member signed in what it gave out, with its vote: of a header, or of the certificate of one
+-- a digest that a member signed in what it gave out is that of a header that it voted for, or that of such a header's certificate
 pub record WasVoted (party : Party) (member : ℕ) (digest : Digest) : Type 0 where
   pub body : HeaderBody
   pub told : Contains (bodies_in (party.settled member)) body
   pub voted : HasVote party member body
   pub is : (digest ≡ header_digest body) ⊎ (digest ≡ certificate_digest body)
 
--- what is given of headers beside
+-- what is further assumed of headers
 pub record HasHeaders (party : Party) (signed : ℕ → Digest → Bool) : Type 0 where
-  -- an honest member and those who aren't honest are less than a quorum, as where stakes are equal
+  -- an honest member together with those who aren't honest weighs less than a quorum, as it is where stakes are equal
   pub others : (member : ℕ) → party.honest member ≡ true
       → weight party.charter (λ m. m == member) + tolerated_of party.charter < quorum_of party.charter
-  -- no honest member's header is forged: of a good one in what another has settled the author has signed the digest in what it gave out
+  -- no honest member's header is forged: where its signature is good, its author has signed the digest in what it gave out
   pub unforged : (member : ℕ) → party.honest member ≡ true → (event : Event) → Contains (party.settled member) event
       → (header : Header) → event.message ≡ message.Header header → party.honest header.body.author.0 ≡ true
       → header.body.author.0 ≢ member
       → is_signed party.charter party.accepts header.body.author (header_signed header.body) header.signature ≡ true
       → signed header.body.author.0 (header_signed header.body) ≡ true
-  -- an honest member signed nothing in what it gave out but what it voted for
+  -- an honest member signed nothing in what it gave out but for headers that it voted for
   pub given : (member : ℕ) → party.honest member ≡ true → (digest : Digest) → signed member digest ≡ true
       → WasVoted party member digest
 
--- a header is told of in what was settled, or at one of two moments
+-- a header is in what was settled, or in one of two histories at some moment
 abbrev pub IsToldAt : Party → History → History → HeaderBody → Type 0
 IsToldAt party history also body = IsTold party body ⊎ Contains (bodies_in history) body ⊎ Contains (bodies_in also) body
 
--- then all certificates of one author and round that they ever held have one header, settled or not
+-- under these premises all certificates of one author and round that honest members ever held, settled or not, have the same header
 abbrev pub HeadersAgreeEver : Type 0
 HeadersAgreeEver = (party : Party) (signed : ℕ → Digest → Bool) → IsParty party signed → HasHeaders party signed
     → (one other : ℕ) (history also : History) → IsMoment party signed one history → IsMoment party signed other also

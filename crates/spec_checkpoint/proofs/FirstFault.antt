@@ -42,7 +42,8 @@ first_one [] rest x count h = absurd (cc)
 first_one (y ∷ left) rest x count h = (left, ap (λ z. z ∷ left) cc, cc)
 
 -- where a record is read, none of the lists that begin with it and the others is
-none_after : (node : Node) (start : ℕ) (so_far next : Checkpoint) (row : List ℕ) (rest : List (List ℕ)) (count : ℕ) → is_cut_short so_far (kind_of row) ≡ false → with_record node so_far row ≡ Some next
+none_after : (node : Node) (start : ℕ) (so_far next : Checkpoint) (row : List ℕ) (rest : List (List ℕ)) (count : ℕ) → is_cut_short so_far (kind_of row) ≡ false
+    → with_record node so_far row ≡ Some next
     → IsNoneRead (read_from node (start + 1) next) rest count → IsNoneRead (read_from node start so_far) (row ∷ rest) (count + 1)
 none_after node start so_far next row rest count uncut some none = record {
   none = λ others checkpoint begin reads.

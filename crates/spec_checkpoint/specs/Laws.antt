@@ -1,4 +1,4 @@
--- What holds of checkpoints.
+-- Laws of checkpoints.
 use Rattle.std.specs.Prelude.{◌≡◌, ◌⊎◌, ◌↔◌, ℕ, ◌+◌, ◌<◌, List, [], length, take, get_or, All, Result, Ok, Err, None, true, false}
 use Rattle.spec_machine.specs.Machine.{fresh}
 use Rattle.spec_machine.specs.Sound.{IsSound}
@@ -14,7 +14,7 @@ use Rattle.spec_checkpoint.specs.Meaning.{state_in}
 use Rattle.spec_checkpoint.specs.Reading.{is_cut_short, kind_of, checkpoint_read}
 use Rattle.spec_checkpoint.specs.Records.{state_records}
 
--- the checkpoint of a node that has taken nothing is the fresh state
+-- a blank checkpoint is the fresh state
 abbrev pub BlankIsFresh : Type 0
 BlankIsFresh = (node : Node) → state_in node blank ≡ fresh node
 
@@ -23,40 +23,40 @@ abbrev pub NoFaultIsSound : Type 0
 NoFaultIsSound = (node : Node) (checkpoint : Checkpoint) → IsNode node → IsCanonical node checkpoint → has_no_fault node checkpoint ≡ true
     → IsSound node (state_in node checkpoint)
 
--- and one that a node writes of a sound state has no fault
+-- a checkpoint that a node writes of a sound state has no fault
 abbrev pub SoundHasNoFault : Type 0
 SoundHasNoFault = (node : Node) (checkpoint : Checkpoint) → IsWritten node checkpoint → IsSound node (state_in node checkpoint) → has_no_fault node checkpoint ≡ true
 
--- so what is kept of a legal history has none, where a checkpoint is that
+-- a checkpoint of the state kept of a legal history has no fault
 abbrev pub KeptHasNoFault : Type 0
 KeptHasNoFault = (node : Node) (checkpoint : Checkpoint) (history : History) → IsWritten node checkpoint → IsLegal node history → state_in node checkpoint ≡ kept node history
     → has_no_fault node checkpoint ≡ true
 
--- records are read as a checkpoint exactly where it is canonical and they are its records
+-- records are read as this checkpoint exactly where it is canonical and they are its records
 abbrev pub ReadAsWritten : Type 0
 ReadAsWritten = (node : Node) (records : List (List ℕ)) (checkpoint : Checkpoint) → All AreBytes records
     → (checkpoint_read node records ≡ Ok checkpoint) ↔ (IsCanonical node checkpoint × (records ≡ state_records checkpoint))
 
--- so records are one checkpoint's only: canonical checkpoints with the same records are one
+-- no two canonical checkpoints have the same records
 abbrev pub OneCheckpoint : Type 0
 OneCheckpoint = (node : Node) (one other : Checkpoint) → IsCanonical node one → IsCanonical node other → state_records one ≡ state_records other → one ≡ other
 
--- records have no fault exactly where a node writes them of a sound state
+-- loading finds no fault in records exactly where they are those that a node writes of some sound state
 abbrev pub LoadsTheSound : Type 0
 LoadsTheSound = (node : Node) (records : List (List ℕ)) → IsNode node → All AreBytes records
     → (load_fault node records ≡ None) ↔ ((checkpoint : Checkpoint) × AreLoadable node records checkpoint)
 
 -- ---- the first record that doesn't follow the format
 
--- how records are read, wherever they stand and after whatever others
+-- a function that reads records, so that the definitions below apply to it wherever the records stand
 abbrev pub Reader : Type 0
 Reader = List (List ℕ) → Result Checkpoint ℕ
 
--- no list that begins with the first so many of these records is read
+-- no list whose first `count` records are these can be read
 pub record IsNoneRead (read : Reader) (records : List (List ℕ)) (count : ℕ) : Type 0 where
   pub none : (others : List (List ℕ)) (checkpoint : Checkpoint) → take count others ≡ take count records → read others ≡ Ok checkpoint → ⊥
 
--- a record is read, as a piece that isn't full, and the next one is one more piece
+-- the records up to this place can be read, and end with a piece that isn't full; the next record is one more piece of the same kind
 pub record IsCutShortBy (read : Reader) (records : List (List ℕ)) (place : ℕ) : Type 0 where
   pub checkpoint : Checkpoint
   pub within : place + 1 < length records
@@ -64,7 +64,7 @@ pub record IsCutShortBy (read : Reader) (records : List (List ℕ)) (place : ℕ
   pub cut : is_cut_short checkpoint (kind_of (get_or records (place + 1) [])) ≡ true
   pub none : IsNoneRead read records (place + 2)
 
--- The record at a place is the first that doesn't follow the format. It is no piece that is at fault by the one before.
+-- The record at this place is the first that doesn't follow the format, and the fault isn't that the piece before it is too short.
 pub record IsFirstUnread (read : Reader) (records : List (List ℕ)) (place : ℕ) : Type 0 where
   pub within : place < length records
   pub so_far : Checkpoint
@@ -72,8 +72,8 @@ pub record IsFirstUnread (read : Reader) (records : List (List ℕ)) (place : �
   pub uncut : is_cut_short so_far (kind_of (get_or records place [])) ≡ false
   pub here : IsNoneRead read records (place + 1) ⊎ IsCutShortBy read records place
 
--- Where records aren't read, and there alone, one of them is the first that doesn't follow the format, and its place is told. Those before it
--- can be read, and no list that begins with them and it; a piece that isn't full is at fault by the next piece alone: no list that begins
--- with both can be read.
+-- Reading fails at a place exactly where the record there is the first that doesn't follow the format: those before it can be read, and no
+-- list that continues with this record can. A piece that isn't full is at fault only because another piece follows: no list that has both
+-- can be read.
 abbrev pub FailsAtFirst : Type 0
 FailsAtFirst = (node : Node) (records : List (List ℕ)) (place : ℕ) → (checkpoint_read node records ≡ Err place) ↔ IsFirstUnread (checkpoint_read node) records place

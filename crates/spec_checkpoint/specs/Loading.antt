@@ -1,4 +1,4 @@
--- Whether the records of a journal's beginning can be loaded: the configuration, and after it the records of a state.
+-- Whether the first records of a journal can be loaded: the configuration, and after it the records of a state.
 use Rattle.std.specs.Prelude.{◌≡◌, ℕ, ◌+◌, ◌==◌, ◌&&◌, ◌||◌, not, Bool, List, [], ◌∷◌, Result, Ok, Err, Option, Some, None, option_map, if◌then◌else◌}
 use Rattle.std.specs.List.{list_all, position_from}
 use Rattle.std.specs.Option.{option_or}
@@ -14,33 +14,33 @@ use Rattle.spec_checkpoint.specs.Meaning.{state_in}
 use Rattle.spec_checkpoint.specs.Reading.{checkpoint_read}
 use Rattle.spec_checkpoint.specs.Records.{state_records}
 
--- what records are at fault: the one at this place is the first, or each by itself is sound and the whole isn't
+-- which records are at fault: the one at this place is the first; or each is sound by itself and the whole isn't
 pub data LoadFault : Type 0 where
   at_record : ℕ → LoadFault
   of_whole : LoadFault
 
--- A record is the node's configuration, in a version that can tell it: the second one can, and the first one where each stake is 1.
+-- A record is the node's configuration, in a version that can express it: the second one always can, the first where each stake is 1.
 abbrev pub is_configuration : Node → List ℕ → Bool
 is_configuration node bytes =
     bytes_eq bytes (configuration_of Second node.charter node.own)
     || (list_all (λ stake. stake == 1) node.charter.stakes && bytes_eq bytes (configuration_of First node.charter node.own))
 
--- The fault of a checkpoint, after the configuration at place 0: the first record that is at fault, and then the whole.
+-- the first fault of a checkpoint whose records follow the configuration at place 0: the first record at fault, or else the whole
 abbrev pub unsound : Node → Checkpoint → Option LoadFault
 unsound node checkpoint =
     option_or (option_map at_record (position_from not 1 (record_tests node checkpoint))) (if is_whole_sound node checkpoint then None else Some of_whole)
 
--- the fault of records that were read: the first that doesn't follow the format, or else that of what they are
+-- the fault of records: the first one that doesn't follow the format, or else the fault of the checkpoint that they are read as
 abbrev pub fault_of_read : Node → Result Checkpoint ℕ → Option LoadFault
 fault_of_read node (Ok checkpoint) = unsound node checkpoint
 fault_of_read node (Err place) = Some (at_record (place + 1))
 
--- Format comes before soundness, and the configuration before all.
+-- The configuration is tested first, then the format of all records, and then whether the checkpoint is sound.
 unfoldable pub load_fault : Node → List (List ℕ) → Option LoadFault
 load_fault node [] = Some (at_record 0)
 load_fault node (first ∷ records) = if is_configuration node first then fault_of_read node (checkpoint_read node records) else Some (at_record 0)
 
--- These are the records that a node writes of a sound state, with its configuration before them.
+-- These records are the node's configuration and then those that a node writes of a sound state.
 pub record AreLoadable (node : Node) (records : List (List ℕ)) (checkpoint : Checkpoint) : Type 0 where
   pub version : Version
   pub can_tell : CanTell version node.charter

@@ -1,4 +1,4 @@
--- The state that a checkpoint is.
+-- The state that a checkpoint stands for.
 use Rattle.std.specs.Prelude.{ℕ, ◌==◌, ◌&&◌, false, map, find, Option, Some, None, option_map, option_and_then, if◌then◌else◌}
 use Rattle.std.specs.List.{list_any}
 use Rattle.std.specs.Option.{option_map_or}
@@ -23,21 +23,21 @@ abbrev pub vote_of : Header → VoteEntry → Vote
 vote_of header entry =
     record { header = header_digest header.body; round = header.body.round; author = header.body.author; voter = entry.voter; signature = entry.signature }
 
--- the vote of a member on an own header: the node's own, which it gives again, or that of its entry
+-- a member's vote on an own header: the node's own, which isn't stored but signed again, or the one of the member's entry
 abbrev pub kept_vote : Node → KeptHeader → ℕ → Option Vote
 kept_vote node kept voter =
     if voter == node.own.0 then Some (own_vote node kept.header.body)
     else option_map (vote_of kept.header) (find (λ entry. entry.voter.0 == voter) kept.votes)
 
--- the slots of its certificates, and the floor that these and its coins have. No leader and none that supports one is of the genesis, so
--- the floor is that with the genesis too
+-- the slots of its certificates, and the floor that these and its coins determine. Leaders and their supporters are never of the
+-- genesis, so the floor is the same with the genesis certificates
 abbrev pub listed : Checkpoint → Slots
 listed checkpoint = slots_of checkpoint.certificates
 
 abbrev pub listed_floor : Node → Checkpoint → ℕ
 listed_floor node checkpoint = floor_by (ledger_of node (listed checkpoint) checkpoint.coins)
 
--- The state: the own votes are those of the own headers, and the certificates of the genesis are there where the floor is 0.
+-- The state: the votes for the node itself come from its own headers, and the genesis certificates are there where the floor is 0.
 abbrev pub state_in : Node → Checkpoint → State
 state_in node checkpoint = record {
   batches = map (λ kept. kept.batch) checkpoint.batches;

@@ -1,4 +1,4 @@
--- What is said of histories, mostly of legal ones.
+-- Laws of histories, mostly of legal ones.
 use Rattle.std.specs.Prelude.{◌≡◌, ℕ, ◌+◌, ◌-◌, ◌*◌, Option, Some, None, ◌≤◌, true, List, [], ◌∷◌, ◌++◌, map, All, Contains, find, slice_get, option_and_then, ⊤}
 use Rattle.std.specs.Option.{option_or, option_to_list}
 use Rattle.wire.specs.declared.message.Message.TheVariants as message
@@ -16,30 +16,30 @@ use Rattle.header.specs.declared.admission.Admission.{Admission}
 use Rattle.header.specs.declared.admission.Admission.TheVariants.{New, Known, Refused}
 use Rattle.spec_model.specs.Words.{Author, Certificate, Digest, Event, Header, HeaderBody, Message, Output}
 
--- a legal history has one vote an author and round
+-- a legal history has at most one header in each slot, so the node votes there at most once
 abbrev pub OneVote : Type 0
 OneVote = (node : Node) (history : History) (one other : Header) → IsLegal node history
     → Contains (headers history) one → Contains (headers history) other
     → one.body.author ≡ other.body.author → one.body.round ≡ other.body.round → one ≡ other
 
--- a legal history has one certificate a slot
+-- a legal history has at most one certificate in each slot
 abbrev pub OneCertificate : Type 0
 OneCertificate = (node : Node) (history : History) (one other : Certificate) → IsLegal node history
     → Contains (certificates node history) one → Contains (certificates node history) other
     → one.header.author ≡ other.header.author → one.header.round ≡ other.header.round → one ≡ other
 
--- a history tells of a coin: that of a wave, with its value
+-- a history contains the coin of a wave, with this value
 pub record TellsCoin (history : History) (wave value : ℕ) : Type 0 where
   pub sender : Author
   pub told : Contains history (record { sender = sender; message = message.Coin (record { wave = wave; value = value }) })
 
--- the coins of a legal history are those of its waves in turn: at each place stands the coin of the wave one above the place
+-- the coins of a legal history came in wave by wave: the one at each place is that of the wave one above the place
 abbrev pub CoinsInTurn : Type 0
 CoinsInTurn = (node : Node) (history : History) (place value : ℕ) → IsLegal node history → slice_get (coins history) place ≡ Some value
     → TellsCoin history (place + 1) value
 
--- of each kind a history with one more event has what it had, and what the event is; a look-up finds what it found,
--- and what the event is where it found nothing
+-- with one more event a history has, of each kind, what it had and then what the event is. A look-up finds what it found before,
+-- and the event where it found nothing
 pub record IsOneMore (history : History) (event : Event) : Type 0 where
   pub of_batches : batches (history ++ event ∷ []) ≡ batches history ++ option_to_list (as_batch event.message)
   pub of_acks : acks (history ++ event ∷ []) ≡ acks history ++ option_to_list (as_ack event.message)
@@ -66,28 +66,28 @@ added node history event = on event.message
     on (message.Vote vote) = option_and_then (completed node (history ++ event ∷ [])) (voted_header history vote.round node.own.0)
     on _ = None
 
--- a legal history with one more event has the slots that it had, and in a slot that held nothing what the event adds
+-- one more event of a legal history leaves each filled slot as it is, and fills an empty one only with the certificate that it adds
 abbrev pub SlotsGrow : Type 0
 SlotsGrow = (node : Node) (history : History) (event : Event) → IsLegal node (history ++ event ∷ []) → (round author : ℕ)
     → slots node (history ++ event ∷ []) round author
     ≡ option_or (slots node history round author) (slots_of (option_to_list (added node history event)) round author)
 
--- what an answer puts out may be given out: at the history with the event where it is new, and else at the history
+-- the outputs of an answer may be given out: after the event where it is new, and otherwise at the history as it is
 abbrev pub PutsOutGiven : Node → History → Event → Admission → Type 0
 PutsOutGiven node history event (New outputs) = All (MayGive node (history ++ event ∷ [])) outputs
 PutsOutGiven node history event (Known outputs) = All (MayGive node history) outputs
 PutsOutGiven node history event (Refused refusal) = ⊤
 
--- what each answer puts out may be given out, at legal histories or not
+-- the outputs of every answer may be given out, whether or not the history is legal
 abbrev pub OutputsGiven : Type 0
 OutputsGiven = (node : Node) (history : History) (event : Event) → PutsOutGiven node history event (admit node history event)
 
--- the order of a legal history begins that of each history that it begins
+-- the order of a legal history has the order of each prefix of the history as a prefix
 abbrev pub OrderGrows : Type 0
 OrderGrows = (node : Node) (history more : History) → IsLegal node (history ++ more)
     → Begins (order node history) (order node (history ++ more))
 
--- the last of a list, if it has any, or what there was before it
+-- the last element of a list, or `before` where the list is empty
 abbrev pub last_or : {X : Type 0} → Option X → List X → Option X
 last_or before [] = before
 last_or before (x ∷ rest) = last_or (Some x) rest
@@ -96,65 +96,65 @@ last_or before (x ∷ rest) = last_or (Some x) rest
 abbrev pub committed_at : Node → History → List Certificate
 committed_at node history = committed (ledger_at node history)
 
--- slots that hold from a round on what others hold, each a certificate of its round and author
+-- `held` agrees with `all` from round `low` on, and each certificate in it is in the slot of its round and author
 pub record HoldsFrom (low : ℕ) (held all : Slots) : Type 0 where
   pub placed : (round author : ℕ) (c : Certificate) → held round author ≡ Some c → is_of_slot round author c.header ≡ true
   pub same : (round author : ℕ) → low ≤ round → held round author ≡ all round author
 
--- the leaders of a later history that are newer than those from before, by what slots hold
+-- the leaders that a later history commits and the earlier one didn't, computed from these slots
 abbrev pub newer_at_later : Node → History → History → Slots → List Certificate
 newer_at_later node before later held = newer (ledger_of node held (coins later)) (last_wave (ledger_at node before))
 
--- at a later history the leaders are those from before and then the newer ones, and the order is that from before and then
--- what the newer ones order
+-- a later history commits the earlier leaders and then the newer ones, and its order is the earlier order followed by
+-- what the newer leaders order
 pub record Lengthens (node : Node) (before later : History) (held : Slots) : Type 0 where
   pub chain : committed_at node later ≡ committed_at node before ++ newer_at_later node before later held
   pub order : order node later ≡ order node before
       ++ map (λ c. certificate_digest c.header) (segments (ledger_of node held (coins later)) (last_or None (committed_at node before)) (newer_at_later node before later held))
 
--- to find the newer leaders and what they order it is enough to hold what lies at or above the floor from before
+-- to find the newer leaders and what they order, the certificates from the earlier floor up are enough
 abbrev pub OrderLengthens : Type 0
 OrderLengthens = (node : Node) (history more : History) (held : Slots) → IsLegal node (history ++ more)
     → HoldsFrom (floor node history) held (slots node (history ++ more)) → Lengthens node history (history ++ more) held
 
--- slots that hold only a part of what others hold say the same with these coins
+-- slots with only a part of the certificates give the same results as all of them, from a round on
 pub record SayTheSame (node : Node) (low : ℕ) (before : Ledger) (coins : List ℕ) (held all : Slots) : Type 0 where
-  -- from a round on: which certificate leads a wave, which has support, which wave is committed by itself, and which round is full
+  -- for waves and rounds from `low` on: the leader, its support, whether a wave is directly committed, and whether a round is full
   pub same_leader : (wave : ℕ) → low ≤ 2 * wave - 1 → leader (ledger_of node held coins) wave ≡ leader (ledger_of node all coins) wave
   pub same_support : (c : Certificate) → low ≤ c.header.round + 1 → has_support (ledger_of node held coins) c ≡ has_support (ledger_of node all coins) c
   pub same_committed : (wave : ℕ) → low ≤ 2 * wave - 1
       → is_directly_committed (ledger_of node held coins) wave ≡ is_directly_committed (ledger_of node all coins) wave
   pub same_full : (round : ℕ) → low ≤ round → is_full node held round ≡ is_full node all round
-  -- which headers have their parents
+  -- whether a header's parents are held
   pub same_parents : (header : HeaderBody) → all_held held (floor_by (ledger_of node all coins)) header ≡ all_held all (floor_by (ledger_of node all coins)) header
-  -- the greatest committed wave, and with it the floor
+  -- the last committed wave, and so the floor
   pub same_top : top (ledger_of node held coins) ≡ top (ledger_of node all coins)
   pub same_last_wave : last_wave (ledger_of node held coins) ≡ last_wave (ledger_of node all coins)
   pub same_floor : floor_by (ledger_of node held coins) ≡ floor_by (ledger_of node all coins)
-  -- the last leader from before, and the newer ones
+  -- the last leader that was committed before, and the newer ones
   pub same_last : leader (ledger_of node held coins) (last_wave before) ≡ last_or None (committed before)
   pub same_newer : newer (ledger_of node held coins) (last_wave before) ≡ newer (ledger_of node all coins) (last_wave before)
-  -- what each of these orders, whichever leader comes before it, and what all of them do
+  -- what each newer leader orders, whichever leader precedes it, and what they order together
   pub same_segment : (previous : Option Certificate) (last : Certificate) → Contains (newer (ledger_of node held coins) (last_wave before)) last
       → segment (ledger_of node held coins) previous last ≡ segment (ledger_of node all coins) previous last
   pub same_segments : (previous : Option Certificate) → segments (ledger_of node held coins) previous (newer (ledger_of node held coins) (last_wave before))
       ≡ segments (ledger_of node all coins) previous (newer (ledger_of node all coins) (last_wave before))
 
--- what the leaders newer than a wave order after that wave's leader
+-- what the leaders of later waves order after the leader of this wave
 abbrev pub ordered_since : Ledger → ℕ → List Digest
 ordered_since ledger wave = map (λ c. certificate_digest c.header) (segments ledger (leader ledger wave) (newer ledger wave))
 
--- slots say the same as a later history, and what they order since the last committed wave from before lengthens the order
+-- slots give the same results as all of a later history's, and what they order since the last committed wave extends the order
 pub record IsEnough (node : Node) (before later : History) (low : ℕ) (held : Slots) : Type 0 where
   pub same : SayTheSame node low (ledger_at node before) (coins later) held (slots node later)
   pub order : order node later ≡ order node before ++ ordered_since (ledger_of node held (coins later)) (last_wave (ledger_at node before))
 
--- so do slots that hold what a legal history holds from a round on that is no higher than the floor of one that begins it
+-- slots are enough in that sense if they hold what a legal history holds from a round on that is not above the floor of a prefix of it
 abbrev pub HeldIsEnough : Type 0
 HeldIsEnough = (node : Node) (before more : History) (low : ℕ) (held : Slots) → IsLegal node (before ++ more) → low ≤ floor node before
     → HoldsFrom low held (slots node (before ++ more)) → IsEnough node before (before ++ more) low held
 
--- what may be given out at a legal history may be given out at each that it begins
+-- what may be given out at a legal history may be given out at each legal extension of it
 abbrev pub GivenGrows : Type 0
 GivenGrows = (node : Node) (history more : History) (output : Output) → IsLegal node (history ++ more)
     → MayGive node history output → MayGive node (history ++ more) output
@@ -163,26 +163,26 @@ GivenGrows = (node : Node) (history more : History) (output : Output) → IsLega
 abbrev pub own_event : Node → Header → Event
 own_event node header = record { sender = node.own; message = message.Header header }
 
--- what is proposed at a legal history passes the checks, whatever its signature, and is new there
+-- the header that is proposed at a legal history passes the checks, whatever its signature, and is new there
 abbrev pub ProposalsAreNew : Type 0
 ProposalsAreNew = (node : Node) (history : History) (header : Header) → IsLegal node history → propose node history ≡ Some header
     → (fault_of node.charter accepts_all (own_event node header) ≡ None) × (admit node history (own_event node header) ≡ New (header_outputs node header))
 
--- and the history with it is legal: what is proposed keeps all limits too
+-- the history is still legal with the proposed header: it keeps all limits too
 abbrev pub ProposalsAreLegal : Type 0
 ProposalsAreLegal = (node : Node) (history : History) (header : Header) → IsLegal node history → propose node history ≡ Some header
     → IsLegal node (history ++ own_event node header ∷ [])
 
--- what is proposed at a legal history passes the checks with its signature too, where the node's signer belongs to the verifier
+-- where the node's signer belongs to the verifier, the proposed header passes the checks with its signature too
 abbrev pub ProposalsPass : Type 0
 ProposalsPass = (node : Node) (history : History) (header : Header) (accepts : Accepts) → IsLegal node history → AreTied node accepts
     → propose node history ≡ Some header → fault_of node.charter accepts (own_event node header) ≡ None
 
--- the vote that a node gives a header that it took, as it comes to another node
+-- the node's vote for a header that it took, as the event that reaches another node
 abbrev pub vote_event : Node → HeaderBody → Event
 vote_event node header = record { sender = node.own; message = message.Vote (own_vote node header) }
 
--- the node's vote for a header that it took passes the checks with its signature, where its signer belongs to the verifier
+-- where the node's signer belongs to the verifier, its vote for a header that it took passes the checks with its signature
 abbrev pub OwnVotesPass : Type 0
 OwnVotesPass = (node : Node) (sender : Author) (header : Header) (accepts : Accepts) → IsNode node → AreTied node accepts
     → IsTaken node (record { sender = sender; message = message.Header header }) → fault_of node.charter accepts (vote_event node header.body) ≡ None

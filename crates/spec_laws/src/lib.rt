@@ -1,80 +1,77 @@
-//! Laws of legal histories, proved of the definitions: each is what a function without a body ensures.
+//! Laws of legal histories, proved from the definitions. Each law is what a function without a body ensures.
 #![tactic(auto)]
 
 ghost use Rattle.spec_laws.specs.Laws.{OneVote, OneCertificate, CoinsInTurn, OneMore, SlotsGrow, OutputsGiven, OrderGrows, OrderLengthens, HeldIsEnough, GivenGrows, ProposalsAreNew, ProposalsAreLegal, ProposalsPass, OwnVotesPass};
 
-/// A legal history has one vote an author and round.
+/// A legal history has at most one header in each slot, so the node votes there at most once.
 pub fn one_vote()
     ensures { OneVote }
 {}
 
-/// A legal history has one certificate a slot.
+/// A legal history has at most one certificate in each slot.
 pub fn one_certificate()
     ensures { OneCertificate }
 {}
 
-/// The coins of a legal history are those of its waves in turn: at each place stands the coin of the wave one above the place.
+/// The coins of a legal history came in wave by wave: the one at each place is that of the wave one above the place.
 pub fn coins_in_turn()
     ensures { CoinsInTurn }
 {}
 
-/// A history with one more event has of each kind what it had, and what the event is.
+/// With one more event a history has, of each kind, what it had and then what the event is.
 pub fn one_more()
     ensures { OneMore }
 {}
 
-/// A legal history with one more event has the slots that it had, and in a slot that held nothing the
-/// certificate that the event adds.
+/// One more event of a legal history leaves each filled slot as it is, and fills an empty one only with the certificate that it adds.
 pub fn slots_grow()
     ensures { SlotsGrow }
 {}
 
-/// What a new event puts out may be given out at the history with it, and what a known one puts out at the history.
+/// The outputs of a new event may be given out at the history with the event; the outputs of a known one at the history as it is.
 pub fn outputs_given()
     ensures { OutputsGiven }
 {}
 
-/// The order of a legal history begins that of each history that it begins.
+/// The order of a legal history has the order of each prefix of the history as a prefix.
 pub fn order_grows()
     ensures { OrderGrows }
 {}
 
-/// The leaders of a longer legal history are those from before and then newer ones, and its order is that from before
-/// and then what the newer ones order; to find these it is enough to hold what lies at or above the floor from before.
+/// A longer legal history commits the earlier leaders and then newer ones, and its order is the earlier order followed by what the newer
+/// leaders order. To find these, the certificates from the earlier floor up are enough.
 pub fn order_lengthens()
     ensures { OrderLengthens }
 {}
 
-/// Slots that hold a longer legal history's certificates from a round on, which is no higher than the floor from before, say
-/// the same as all of them: who leads a wave there, which waves are committed, the floor, the newer leaders, and what each of
-/// these orders.
+/// Slots with a longer legal history's certificates from a round on, which is not above the earlier floor, give the same results as all of
+/// them: the leaders there, which waves are committed, the floor, the newer leaders, and what each of these orders.
 pub fn held_is_enough()
     ensures { HeldIsEnough }
 {}
 
-/// What may be given out at a legal history may be given out at each that it begins.
+/// What may be given out at a legal history may be given out at each legal extension of it.
 pub fn given_grows()
     ensures { GivenGrows }
 {}
 
-/// What is proposed at a legal history passes the checks, whatever its signature, and is new there.
+/// The header that is proposed at a legal history passes the checks, whatever its signature, and is new there.
 pub fn proposals_are_new()
     ensures { ProposalsAreNew }
 {}
 
-/// A legal history with what is proposed at it is legal: the proposal keeps all limits, passes the checks and is new.
+/// A legal history is still legal with the proposed header: it keeps all limits, passes the checks and is new.
 pub fn proposals_are_legal()
     ensures { ProposalsAreLegal }
 {}
 
-/// What is proposed at a legal history passes the checks with its signature too, where the node's signer belongs to
-/// the verifier.
+/// Where the node's signer belongs to the verifier, the header that is proposed at a legal history passes the checks with its signature
+/// too.
 pub fn proposals_pass()
     ensures { ProposalsPass }
 {}
 
-/// The node's vote for a header that it took passes the checks with its signature, where its signer belongs to the
-/// verifier.
+/// Where the node's signer belongs to the verifier, its vote for a header that it took passes the checks with its signature.
 pub fn own_votes_pass()
     ensures { OwnVotesPass }
 {}

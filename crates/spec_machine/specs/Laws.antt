@@ -32,7 +32,7 @@ abbrev pub StateAnswers : Type 0
 StateAnswers = (node : Node) (history : History) (event : Event) → IsLegal node history → IsTaken node event
     → admit node history event ≡ answered node (kept node history) event
 
--- so it says whether an event would lack parents
+-- the state kept of a legal history says whether an event would lack parents
 abbrev pub StateIsReady : Type 0
 StateIsReady = (node : Node) (history : History) (event : Event) → IsLegal node history → IsTaken node event
     → is_ready node (kept node history) event ≡ not (is_missing_parents (admit node history event))
@@ -73,12 +73,12 @@ abbrev pub KeptDecides : Type 0
 KeptDecides = (node : Node) (one other : History) (event : Event) → IsLegal node one → IsLegal node other → IsTaken node event
     → KeepSame node one other → admit node one event ≡ admit node other event
 
--- two legal histories that keep the same keep the same again after an event that is new at both
+-- two legal histories that keep the same still do so after an event that is new at both
 abbrev pub KeptFollows : Type 0
 KeptFollows = (node : Node) (one other : History) (event : Event) → IsLegal node (one ++ event ∷ []) → IsLegal node (other ++ event ∷ [])
     → KeepSame node one other → KeepSame node (one ++ event ∷ []) (other ++ event ∷ [])
 
--- two legal histories that keep the same have one round, and propose the same
+-- two legal histories that keep the same are at the same round and propose the same header
 abbrev pub KeptProposes : Type 0
 KeptProposes = (node : Node) (one other : History) → IsLegal node one → IsLegal node other → KeepSame node one other
     → (round node one ≡ round node other) × (propose node one ≡ propose node other)
@@ -90,32 +90,31 @@ abbrev pub is_order : Output → Bool
 is_order (output.Order start digests) = true
 is_order _ = false
 
--- the digests of an output, if it is a piece of the order
+-- the digests of an output that is a piece of the order; none of any other output
 abbrev pub digests_in : Output → List Digest
 digests_in (output.Order start digests) = digests
 digests_in _ = []
 
--- pieces stand in turn from a place on, each of them full but the last
+-- these pieces of the order follow one another without a gap from a place on, and each but the last is full
 abbrev pub StandInTurn : ℕ → List Output → Type 0
 StandInTurn place [] = ⊤
 StandInTurn place (output.Order start digests ∷ []) = (start ≡ place) × (length digests ≤ MAX_ORDER_DIGESTS)
 StandInTurn place (output.Order start digests ∷ next ∷ rest) = (start ≡ place) × (length digests ≡ MAX_ORDER_DIGESTS) × StandInTurn (place + length digests) (next ∷ rest)
 StandInTurn place (other ∷ rest) = ⊥
 
--- what is put out of the order is all that the state after the event has more, in pieces that stand in turn
+-- the pieces of the order that are put out have exactly what the order gains by the event, and follow one another without a gap
 pub record IsPutOut (node : Node) (state : State) (event : Event) (outputs : List Output) : Type 0 where
   pub pieces : filter is_order outputs ≡ order_outputs state (after node state event)
   pub joined : flat_map digests_in outputs ≡ drop (length state.order) (after node state event).order
   pub in_turn : StandInTurn (length state.order) (filter is_order outputs)
 
--- so it is of each new event
+-- the outputs of each new event include exactly the pieces of the order that it added
 abbrev pub OrderIsPutOut : Type 0
 OrderIsPutOut = (node : Node) (state : State) (event : Event) (outputs : List Output) → answered node state event ≡ New outputs
     → IsPutOut node state event outputs
 
--- after an event nothing is taken back: the floor doesn't go down, batches, coins and order begin with those from before, who
--- acknowledged and what was named stays so; a vote, an own header and a vote on one stays or its round is low, and a certificate
--- stays or lies below the floor
+-- an event takes nothing back. The floor doesn't fall; batches, coins and order only grow at their ends; acknowledgements and marks
+-- stay. A vote, an own header or a vote on one stays unless its round is low, and a certificate unless it is below the floor
 pub record IsKeptAfter (node : Node) (state : State) (event : Event) : Type 0 where
   pub floor : floor_in node state ≤ floor_in node (after node state event)
   pub batches : Begins state.batches (after node state event).batches
@@ -142,7 +141,7 @@ StateStands = (node : Node) (state : State) (event : Event) → IsNode node → 
 abbrev pub FreshIsSound : Type 0
 FreshIsSound = (node : Node) → IsNode node → IsSound node (fresh node)
 
--- so is the state after an event that is new at a sound one
+-- the state after an event that is new at a sound state is sound too
 abbrev pub SoundStays : Type 0
 SoundStays = (node : Node) (state : State) (event : Event) → IsNode node → IsSound node state → IsTaken node event
     → IsTrue (is_new (answered node state event)) → IsSound node (after node state event)
@@ -151,33 +150,33 @@ SoundStays = (node : Node) (state : State) (event : Event) → IsNode node → I
 abbrev pub KeptIsSound : Type 0
 KeptIsSound = (node : Node) (history : History) → IsLegal node history → IsSound node (kept node history)
 
--- what a sound state proposes is taken, and new there
+-- what is proposed at a sound state can be taken, and is new there
 abbrev pub SoundProposes : Type 0
 SoundProposes = (node : Node) (state : State) (header : Header) → IsNode node → IsSound node state → proposed node state ≡ Some header
     → IsTaken node (own_event node header) × (answered node state (own_event node header) ≡ New (header_outputs node header))
 
 -- ---- after a new event
 
--- an event that a node takes is new at a sound state
+-- a node can take this event, which is new at a sound state
 pub record Comes (node : Node) (state : State) (event : Event) : Type 0 where
   pub node_is : IsNode node
   pub sound : IsSound node state
   pub taken : IsTaken node event
   pub new : IsTrue (is_new (answered node state event))
 
--- the state after it has the floor of the one with all that it adds
+-- the floor of the state after the event is the same as before anything below it was dropped
 abbrev pub FloorsAgree : Type 0
 FloorsAgree = (node : Node) (state : State) (event : Event) → Comes node state event
     → floor_in node (grown node state event.message) ≡ floor_in node (after node state event)
 
--- a round is low where it is no higher than the floor
+-- a round is low exactly where it is at or below the floor
 abbrev pub LowIsToTheFloor : Type 0
 LowIsToTheFloor = (floor round : ℕ) → is_low floor round ≡ nat_le round floor
 
 -- ---- a part of a sound state
 
--- slots that hold from a round on what others hold do so with one certificate more in both, and without what lies below a higher
--- round
+-- slots that agree from a round on with others still do so when one certificate is added to both, and when what is below a higher
+-- round is dropped
 pub record HoldsOn (low : ℕ) (held all : Slots) : Type 0 where
   pub grows : (certificate : Option Certificate) → HoldsFrom low (slots_with held certificate) (slots_with all certificate)
   pub drops : (high : ℕ) → low ≤ high → HoldsFrom high (λ round author. if nat_lt round high then None else held round author) all
@@ -185,21 +184,21 @@ pub record HoldsOn (low : ℕ) (held all : Slots) : Type 0 where
 abbrev pub HeldGoesOn : Type 0
 HeldGoesOn = (low : ℕ) (held all : Slots) → HoldsFrom low held all → HoldsOn low held all
 
--- slots that hold what a sound state holds, from a round on that is no higher than its floor, say the same as the state
+-- slots give the same results as a sound state's, if they hold what it holds from a round on that is not above its floor
 abbrev pub HeldIsEnoughNow : Type 0
 HeldIsEnoughNow = (node : Node) (state : State) (low : ℕ) (held : Slots) → IsNode node → IsSound node state → low ≤ floor_in node state
     → HoldsFrom low held state.slots → SayTheSame node low (ledger_in node state) state.coins held state.slots
 
--- slots say the same as a state with all that an event adds, what they order since the state's last committed wave lengthens its
--- order, and after the event they hold what the state holds from its floor on
+-- slots give the same results as a state's with what an event adds; what they order since its last committed wave extends its order;
+-- and they hold what the state after the event holds from its floor on
 pub record IsEnoughAfter (node : Node) (state : State) (event : Event) (low : ℕ) (held : Slots) : Type 0 where
   pub same : SayTheSame node low (ledger_in node state) (grown node state event.message).coins held (grown node state event.message).slots
   pub order : (after node state event).order
       ≡ state.order ++ ordered_since (ledger_of node held (grown node state event.message).coins) (last_wave (ledger_in node state))
   pub afterwards : HoldsFrom (floor_in node (after node state event)) held (after node state event).slots
 
--- so do slots that hold, from a round on that is no higher than the floor of a sound state, what it holds with the certificate of
--- an event that is new there
+-- slots are enough in that sense if they hold what a sound state, with the certificate that a new event adds, holds from a round on
+-- that is not above its floor
 abbrev pub HeldIsEnoughAfter : Type 0
 HeldIsEnoughAfter = (node : Node) (state : State) (event : Event) (low : ℕ) (held : Slots) → IsNode node → IsSound node state → IsTaken node event
     → IsTrue (is_new (answered node state event)) → low ≤ floor_in node state → HoldsFrom low held (grown node state event.message).slots

@@ -1,4 +1,4 @@
--- What a node keeps, as a machine: what it answers an event, and what it keeps after a new one.
+-- The state of a node as a state machine: what it answers to an event, and the state after a new event.
 use Rattle.std.specs.Prelude.{ℕ, zero, suc, ◌+◌, ◌==◌, ◌&&◌, ◌||◌, max, not, Bool, true, false, List, [], ◌++◌, map, Option, Some, None, option_map, option_and_then, if◌then◌else◌}
 use Rattle.std.specs.List.{list_any}
 use Rattle.std.specs.Option.{option_map_or, option_or, option_to_list}
@@ -20,12 +20,12 @@ use Rattle.header.specs.declared.refusal.Refusal.TheVariants.{MissingParents}
 
 -- ---- what an event is for a slot, a batch or a header
 
--- the header that a message is, if it is one of a round and author
+-- the header in a message, if the message is a header of this slot
 abbrev pub header_at : Message → ℕ → ℕ → Option Header
 header_at (message.Header header) round author = if is_of_slot round author header.body then Some header else None
 header_at _ round author = None
 
--- the vote that a new message counts on the own header of a round by a member: that which it is, or the node's own on its new header
+-- the vote that a new message adds on the own header of a round: the vote that it is, or, of an own header, the node's own vote
 abbrev pub vote_at : Node → Message → ℕ → ℕ → Option Vote
 vote_at node (message.Vote vote) round voter = if (vote.round == round) && (vote.voter.0 == voter) then Some vote else None
 vote_at node (message.Header header) round voter =
@@ -48,18 +48,18 @@ names node message digest =
 abbrev pub counted_with : Node → State → Message → ℕ → ℕ → Option Vote
 counted_with node state message round voter = option_or (state.counted round voter) (vote_at node message round voter)
 
--- the certificate that a new message adds: the one that it is, or that of the own header that a vote completes
+-- the certificate that a new message adds: the one that it is, or the one that it completes as a vote
 abbrev pub certificate_of : Node → State → Message → Option Certificate
 certificate_of node state (message.Certificate certificate) = Some certificate
 certificate_of node state (message.Vote vote) =
     option_and_then (certificate_by node (counted_with node state (message.Vote vote) vote.round)) (state.own_headers vote.round)
 certificate_of node state _ = None
 
--- the slots with one certificate more, in a slot that held nothing
+-- the slots with one more certificate; a slot that is filled already stays as it is
 abbrev pub slots_with : Slots → Option Certificate → Slots
 slots_with slots certificate round author = option_or (slots round author) (slots_of (option_to_list certificate) round author)
 
--- the greatest round with that of one certificate more
+-- the greatest round of a certificate, with one certificate more
 abbrev pub highest_with : ℕ → Option Certificate → ℕ
 highest_with highest certificate = option_map_or (λ c. max highest c.header.round) certificate highest
 
@@ -67,7 +67,7 @@ highest_with highest certificate = option_map_or (λ c. max highest c.header.rou
 abbrev pub last_leader : Ledger → Option Certificate
 last_leader ledger = option_and_then (leader ledger) (top ledger)
 
--- what the leaders after the last one from before order
+-- what the leaders order that are newer than the last one committed before
 abbrev pub newly_ordered : Ledger → Ledger → List Digest
 newly_ordered before later =
     map (λ c. certificate_digest c.header) (segments later (last_leader before) (newer later (last_wave before)))
@@ -88,15 +88,15 @@ grown node state message = record {
       (ledger_of node (slots_with state.slots (certificate_of node state message)) (state.coins ++ option_to_list (as_coin message)));
 }
 
--- the state after a new event: what it adds, and then what lies below the new floor taken out
+-- the state after a new event: all that the event adds, and then without what falls below the new floor
 abbrev pub after : Node → State → Event → State
 after node state event = collected node (grown node state event.message)
 
--- what a state answers an event
+-- the answer to an event at a state
 abbrev pub answered : Node → State → Event → Admission
 answered node state event = answer node state (grown node state event.message) event
 
--- the state of a node that has taken nothing: it holds the genesis
+-- the state of a node that has taken no event: it holds the genesis certificates only
 abbrev pub fresh : Node → State
 fresh node = record {
   batches = [];
@@ -126,11 +126,11 @@ round_in node state = 1 + full_to node state.slots state.highest
 abbrev pub proposed : Node → State → Option Header
 proposed node state = propose_of node state (round_in node state)
 
--- an answer is that parents are missing
+-- an answer says that parents are missing
 abbrev pub is_missing_parents : Admission → Bool
 is_missing_parents (Refused MissingParents) = true
 is_missing_parents _ = false
 
--- a message is ready: its answer isn't that parents are missing
+-- an event is ready to be taken: its answer isn't that parents are missing
 abbrev pub is_ready : Node → State → Event → Bool
 is_ready node state event = not (is_missing_parents (answered node state event))

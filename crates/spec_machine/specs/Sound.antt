@@ -1,4 +1,4 @@
--- When a state is one that a node can go on from, whoever wrote it down.
+-- When a node can go on from a state, whoever wrote it down.
 use Rattle.std.specs.Prelude.{◌≡◌, ◌≢◌, ◌<◌, ◌≤◌, ◌↔◌, ◌⊎◌, ◌^◌, ℕ, ◌==◌, ◌&&◌, not, Bool, true, false, [], length, All, AllPairs, Some, None, is_some, option_map}
 use Rattle.wire.specs.Fields.{IsDigest, IsRound, IsSignature}
 use Rattle.wire.specs.declared.message.Message.TheVariants as message
@@ -11,8 +11,8 @@ use Rattle.spec_model.specs.Slots.{same_digest, header_digest, is_of_slot}
 use Rattle.spec_model.specs.States.{State, has_own_batch, ledger_in, floor_in}
 use Rattle.spec_model.specs.Words.{Certificate, Digest, Header, Vote}
 
--- the batches pass the checks as from their authors, no digest stands there twice, and there are no more than the committee
--- allows; only own ones were acknowledged, by other members, or named
+-- each batch passes the checks as one from its author, no digest occurs twice, and there are no more batches than the committee
+-- allows; only own batches have acknowledgements, which are of other members, or are named
 pub record AreBatches (node : Node) (state : State) : Type 0 where
   pub passed : All (λ batch. IsTaken node (record { sender = batch.author; message = message.Batch batch })) state.batches
   pub distinct : AllPairs (λ one other. same_digest (batch_digest one) (batch_digest other) ≡ false) state.batches
@@ -41,8 +41,8 @@ pub record IsCounted (node : Node) (state : State) (round voter : ℕ) (vote : V
 abbrev pub counts : State → ℕ → ℕ → Bool
 counts state round voter = is_some (state.counted round voter)
 
--- the votes on the own header of a round were completed by one of them: the round's own slot holds the header's certificate, and
--- without that vote they aren't a quorum
+-- the votes on a round's own header were completed by one of them: the round's own slot holds the header's certificate, and without
+-- that vote they weigh less than a quorum
 pub record IsCompleted (node : Node) (state : State) (round : ℕ) (header : Header) : Type 0 where
   pub certificate : Certificate
   pub held : state.slots round node.own.0 ≡ Some certificate
@@ -52,8 +52,8 @@ pub record IsCompleted (node : Node) (state : State) (round : ℕ) (header : Hea
   pub counted : counts state round last ≡ true
   pub short : weight node.charter (λ voter. counts state round voter && not (voter == last)) < quorum node
 
--- the votes are of rounds that aren't low and for members, that for the node itself is for its own header; own headers and the
--- votes on them are such, and who voted on one are a quorum only where they completed it
+-- votes are for members, in rounds that aren't low; the one for the node itself is for its own header. Own headers and the votes on
+-- them are well formed, and these votes weigh a quorum only where one of them completed a certificate
 pub record AreVotes (node : Node) (state : State) : Type 0 where
   pub high : (round author : ℕ) (digest : Digest) → state.votes round author ≡ Some digest → is_low (floor_in node state) round ≡ false
   pub for_members : (round author : ℕ) (digest : Digest) → state.votes round author ≡ Some digest → author < size_of node
@@ -71,8 +71,8 @@ pub record IsReceived (node : Node) (state : State) (certificate : Certificate) 
   pub passed : IsTaken node (record { sender = node.own; message = message.Certificate certificate })
   pub held : all_held state.slots (floor_in node state) certificate.header ≡ true
 
--- the certificates are of their slots, at or above the floor, above the genesis such as pass, and at a floor of 0 the genesis
--- is there; the greatest round is that of one
+-- each certificate is in its slot, at or above the floor; above the genesis it passes the checks. At floor 0 all genesis certificates
+-- are there, and the greatest round is one of a certificate
 pub record AreCertificates (node : Node) (state : State) : Type 0 where
   pub placed : (round author : ℕ) (c : Certificate) → state.slots round author ≡ Some c → is_of_slot round author c.header ≡ true
   pub above : (round author : ℕ) (c : Certificate) → state.slots round author ≡ Some c → floor_in node state ≤ round
@@ -82,7 +82,7 @@ pub record AreCertificates (node : Node) (state : State) : Type 0 where
   pub highest : (round author : ℕ) (c : Certificate) → state.slots round author ≡ Some c → round ≤ state.highest
   pub reached : (author : ℕ) × (c : Certificate) × (state.slots state.highest author ≡ Some c)
 
--- all of it; coins are within 64 bits, the order has digests, and is empty exactly where no leader is committed
+-- a sound state: all of the above; coins fit 64 bits, the order has digests only, and is empty exactly where no leader is committed
 pub record IsSound (node : Node) (state : State) : Type 0 where
   pub batches : AreBatches node state
   pub votes : AreVotes node state

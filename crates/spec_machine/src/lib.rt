@@ -1,5 +1,5 @@
-//! What a node keeps, as a machine: what it answers an event and what it keeps after a new one, with the laws
-//! that tie it to histories. Each law is what a function without a body ensures.
+//! The state of a node as a state machine: what it answers to an event, and the state after a new event, with the laws that tie it to
+//! histories. Each law is what a function without a body ensures.
 #![tactic(auto)]
 
 ghost use Rattle.spec_machine.specs.After.{StatesAreHistories, OrderGrowsAfter, AfterJoins, PutOutMayBeGiven};
@@ -20,12 +20,12 @@ pub fn state_answers()
     ensures { StateAnswers }
 {}
 
-/// What is kept of a legal history tells which events would lack parents.
+/// The state kept of a legal history shows which events would lack parents.
 pub fn state_is_ready()
     ensures { StateIsReady }
 {}
 
-/// What is kept of a legal history has its floor and round, and proposes what is proposed at it.
+/// The state kept of a legal history has the history's floor and round, and proposes the same header.
 pub fn state_proposes()
     ensures { StateProposes }
 {}
@@ -36,28 +36,28 @@ pub fn answers_alike()
     ensures { AnswersAlike }
 {}
 
-/// What is kept of a legal history decides what each event is answered: two with the same kept answer alike.
+/// The state kept of a legal history determines the answer to each event: two histories that keep the same answer alike.
 pub fn kept_decides()
     ensures { KeptDecides }
 {}
 
-/// What is kept of a legal history decides what is kept after each new event, and with it all answers to come.
+/// The state kept of a legal history determines the state kept after each new event, and so all later answers.
 pub fn kept_follows()
     ensures { KeptFollows }
 {}
 
-/// What is kept of a legal history decides the node's round, and what it proposes.
+/// The state kept of a legal history determines the node's round, and what it proposes.
 pub fn kept_proposes()
     ensures { KeptProposes }
 {}
 
-/// A new event puts out all that it adds to the order of a state, in pieces that stand in turn.
+/// A new event puts out all that it adds to the order, in pieces that follow one another without a gap.
 pub fn order_is_put_out()
     ensures { OrderIsPutOut }
 {}
 
-/// After an event that is new at a sound state nothing is taken back: its order begins with that from before, a vote
-/// stays or its round is low, and a certificate stays or lies below the floor, which never goes down.
+/// An event that is new at a sound state takes nothing back: the earlier order is a prefix of the later one; a vote stays unless its round
+/// is low; a certificate stays unless it is below the floor, which never falls.
 pub fn state_stands()
     ensures { StateStands }
 {}
@@ -67,7 +67,7 @@ pub fn fresh_is_sound()
     ensures { FreshIsSound }
 {}
 
-/// The state after an event that is new at a sound one is sound.
+/// The state after an event that is new at a sound state is sound.
 pub fn sound_stays()
     ensures { SoundStays }
 {}
@@ -77,57 +77,57 @@ pub fn kept_is_sound()
     ensures { KeptIsSound }
 {}
 
-/// What a sound state proposes is taken, and new there.
+/// What is proposed at a sound state can be taken, and is new there.
 pub fn sound_proposes()
     ensures { SoundProposes }
 {}
 
-/// The state after an event that is new at a sound one has the floor of the state with all that the event adds.
+/// Where an event is new at a sound state, the state after it has the same floor as before anything below that was dropped.
 pub fn floors_agree()
     ensures { FloorsAgree }
 {}
 
-/// A round is low where it is no higher than the floor.
+/// A round is low exactly where it is at or below the floor.
 pub fn low_is_to_the_floor()
     ensures { LowIsToTheFloor }
 {}
 
-/// Slots that hold from a round on what others hold do so with one certificate more in both, and without what lies below a
-/// higher round.
+/// Slots that agree from a round on with others still do so when one certificate is added to both, and when what is below a higher round is
+/// dropped.
 pub fn held_goes_on()
     ensures { HeldGoesOn }
 {}
 
-/// Slots that hold a sound state's certificates from a round on, which is no higher than its floor, say the same as the
-/// state: who leads a wave there, which waves are committed, the floor, the newer leaders, and what each of these orders.
+/// Slots with a sound state's certificates from a round on, which is not above its floor, give the same results as the state: the leaders
+/// there, which waves are committed, the floor, the newer leaders, and what each of these orders.
 pub fn held_is_enough_now()
     ensures { HeldIsEnoughNow }
 {}
 
-/// So they do with the certificate of an event that is new there; its order grows by what they say, and after the event
-/// they hold the state's certificates from its floor on.
+/// Slots with a sound state's certificates from a round on, and with the certificate that a new event adds, give the same results as all of
+/// these. What they order extends the state's order, and after the event they hold the new state's certificates from its floor on.
 pub fn held_is_enough_after()
     ensures { HeldIsEnoughAfter }
 {}
 
-/// The events after what is kept of a legal history lead to what is kept of the history with them, and are legal after
-/// it exactly where that history is legal.
+/// Events after the state kept of a legal history lead to the state kept of the history with them, and are legal after it exactly where
+/// that history is legal.
 pub fn states_are_histories()
     ensures { StatesAreHistories }
 {}
 
-/// The state after events that are legal after a sound one is sound, and its order begins with that of the sound one.
+/// The state after events that are legal after a sound state is sound, and the earlier order is a prefix of its order.
 pub fn order_grows_after()
     ensures { OrderGrowsAfter }
 {}
 
-/// Events after a state, and more after these, are all of them after the state.
+/// Two lists of events lead where the first and then the second lead.
 pub fn after_joins()
     ensures { AfterJoins }
 {}
 
-/// What was put out after events from a sound state on may be given out at each legal history that keeps the state,
-/// with these events.
+/// An output that was put out after events from a sound state on may be given out at each legal history that keeps the state, followed by
+/// these events.
 pub fn put_out_may_be_given()
     ensures { PutOutMayBeGiven }
 {}

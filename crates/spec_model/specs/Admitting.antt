@@ -1,5 +1,5 @@
--- Admission: what a node answers an event, and what it gives out for it. Of the tests the first that applies decides.
--- It reads what the node holds now, and of a new event what the node then holds.
+-- Admission: what a node answers to an event, and which outputs the event makes. The first test that applies decides.
+-- An answer depends on the node's state before the event and, where the event is new, on the state with it.
 use Rattle.std.specs.Prelude.{◌≡◌, ℕ, ◌+◌, ◌-◌, ◌*◌, ◌==◌, ◌&&◌, ◌||◌, not, nat_le, Bool, true, false, List, [], ◌∷◌, ◌++◌, map, length, drop}
 use Rattle.std.specs.Prelude.{Option, Some, None, is_some, option_map, slice_get, All, IsTrue, if◌then◌else◌}
 use Rattle.std.specs.List.{list_all}
@@ -29,30 +29,30 @@ is_own node author = author.0 == node.own.0
 
 -- ---- what is given out
 
--- an own batch goes to all, and of another one its author learns that it is held
+-- an own batch goes to all members; for another member's batch an acknowledgement goes to its author
 abbrev pub batch_outputs : Node → BatchView → List Output
 batch_outputs node batch =
     (if is_own node batch.author then output.Batch batch
     else output.Ack batch.author (record { author = node.own; batch = batch_digest batch })) ∷ []
 
--- an own header goes to all, and the author of another one gets the vote for it
+-- an own header goes to all members; for another member's header the node's vote goes to its author
 abbrev pub header_outputs : Node → Header → List Output
 header_outputs node header =
     (if is_own node header.body.author then output.Header header else output.Vote (own_vote node header.body)) ∷ []
 
--- what is added to the order
+-- the pieces of what the order has gained from one state to a later one
 abbrev pub order_outputs : State → State → List Output
 order_outputs now later = pieces (length now.order) (drop (length now.order) later.order)
 
 -- ---- the answers
 
--- a case of a table: where a look-up gives something, that decides, and else the cases after it
+-- one case of a table: if the look-up finds something, that decides the answer; otherwise the cases after it do
 infixr 5 when◌gives◌else◌
 abbrev pub when◌gives◌else◌ : {X : Type 0} → Option X → (X → Admission) → Admission → Admission
 when Some held gives answer else others = answer held
 when None gives answer else others = others
 
--- where this batch has the digest already
+-- the answer to a batch where a batch of its digest is held already
 abbrev pub held_batch_answer : Node → BatchView → BatchView → Admission
 held_batch_answer node held batch =
     if bytes_eq (batch_body held) (batch_body batch) then Known (batch_outputs node held) else Refused DigestClash
@@ -75,18 +75,18 @@ may_name node now header named =
     option_map_or (λ batch. batch.worker == named.worker) (batch_in now named.digest) false
     && (not (is_own node header.body.author) || is_available node now named.digest)
 
--- for an own header, where the round has this one already
+-- the answer to an own header where its round has an own header already
 abbrev pub held_header_answer : Node → Header → Header → Admission
 held_header_answer node held header =
     if same_digest (header_digest held.body) (header_digest header.body) then Known (header_outputs node held)
     else Refused AlreadyProposed
 
--- for another header, where its author and round have the vote for this digest already
+-- the answer to another member's header where the node has already voted in its slot, for this digest
 abbrev pub voted_answer : Node → Digest → Header → Admission
 voted_answer node voted header =
     if same_digest voted (header_digest header.body) then Known (header_outputs node header) else Refused Equivocation
 
--- what decides of a header that is held or voted for already
+-- the answer to a header whose slot has an own header or the node's vote already; None where it has neither
 abbrev pub known_header_answer : Node → State → Header → Option Admission
 known_header_answer node now header =
     if is_own node header.body.author then option_map (λ held. held_header_answer node held header) (now.own_headers header.body.round)
@@ -100,17 +100,17 @@ header_answer node now header =
     else if not (list_all (may_name node now header) header.body.batches) then Refused MissingBatch
     else New (header_outputs node header)
 
--- what a new vote on the own header of a round gives out: the certificate, if it completes one, and what that adds to the order
+-- the outputs of a new vote on the own header of a round: the certificate that it completes, if any, and what that adds to the order
 abbrev pub vote_outputs : Node → State → State → ℕ → List Output
 vote_outputs node now later round =
     map output.Certificate (option_to_list (completed_at node later round)) ++ order_outputs now later
 
--- for a vote, where this own certificate of its round is held
+-- the answer to a vote where an own certificate of its round is held
 abbrev pub held_answer : Certificate → Vote → Admission
 held_answer held vote =
     if same_digest (header_digest held.header) vote.header then Known (output.Certificate held ∷ []) else Refused CertConflict
 
--- for a vote, where this own header of its round is held
+-- the answer to a vote where there is an own header of its round
 abbrev pub own_header_answer : Node → State → State → Header → Vote → Admission
 own_header_answer node now later header vote =
     if not (same_digest (header_digest header.body) vote.header) then Refused NotOurs
@@ -138,7 +138,7 @@ same_header one other =
     ((one.author.0 == other.author.0) && (one.round == other.round))
     && (pointwise same_batch one.batches other.batches && pointwise same_parent one.parents other.parents)
 
--- where the certificate's slot holds this one already
+-- the answer to a certificate where its slot holds one already
 abbrev pub held_certificate_answer : Certificate → Certificate → Admission
 held_certificate_answer held certificate =
     if not (same_digest (certificate_digest held.header) (certificate_digest certificate.header)) then Refused CertConflict
@@ -160,7 +160,7 @@ coin_answer node now later sender coin =
     else if not (is_full node now.slots (2 * coin.wave + 1)) then Refused CoinEarly
     else New (order_outputs now later)
 
--- what an event is answered by what the node holds now, and what it holds with the event
+-- the answer to an event, from the state before it and the state with it
 abbrev pub answer : Node → State → State → Event → Admission
 answer node now later event = on event.message
   where
@@ -172,32 +172,32 @@ answer node now later event = on event.message
     on (message.Certificate certificate) = certificate_answer node now later certificate
     on (message.Coin coin) = coin_answer node now later event.sender coin
 
--- what an event is answered at the history after which it comes
+-- the answer to an event that comes after this history
 abbrev pub admit : Node → History → Event → Admission
 admit node history event = answer node (whole node history) (whole node (history ++ event ∷ [])) event
 
 -- ---- runs
 
--- the history after an event: a new one is added, and no other
+-- the history after an event: a new event is appended, any other changes nothing
 abbrev pub history_after : Node → History → Event → History
 history_after node history event = if is_new (admit node history event) then history ++ event ∷ [] else history
 
--- the answers to events one after the other
+-- the answers to events that come one after the other
 abbrev pub answers : Node → History → List Event → List Admission
 answers node history [] = []
 answers node history (event ∷ events) = admit node history event ∷ answers node (history_after node history event) events
 
--- events are each new, one after the other, after a history
+-- each of these events is new after the history and the events before it
 abbrev pub each_new : Node → History → List Event → Bool
 each_new node history [] = true
 each_new node history (event ∷ events) = is_new (admit node history event) && each_new node (history ++ event ∷ []) events
 
--- an event as the node takes it: a message within all limits that passed the checks, whatever its signatures
+-- an event that a node can take: a message within all limits that passes the checks, whatever its signatures
 pub record IsTaken (node : Node) (event : Event) : Type 0 where
   pub message : IsMessage event.message
   pub passed : fault_of node.charter accepts_all event ≡ None
 
--- a history is legal: the node took each event, and it was new at those before it
+-- a history is legal: each event could be taken, and was new after the events before it
 pub record IsLegal (node : Node) (history : History) : Type 0 where
   pub sound : IsNode node
   pub taken : All (IsTaken node) history

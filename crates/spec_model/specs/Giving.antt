@@ -17,32 +17,32 @@ is_given node history certificate =
     is_own node certificate.header.author
     && option_map_or (same_digest (header_digest certificate.header)) (voted_digest history certificate.header.round node.own.0) false
 
--- what each batch and each header puts out, and the own certificates of headers that have the node's vote
+-- all outputs but the order: those of each batch and each header, and the own certificates of headers that the node voted for
 abbrev pub given : Node → History → List Output
 given node history =
     flat_map (batch_outputs node) (batches history)
     ++ flat_map (header_outputs node) (headers history)
     ++ map output.Certificate (filter (is_given node history) (certificates node history))
 
--- digests are a piece of an order: one or more, as many as an output may have, that stand there from a place on
+-- digests are a piece of an order: at least one, at most as many as an output may have, and the ones that the order has from `start` on
 pub record IsPiece (order : List Digest) (start : ℕ) (digests : List Digest) : Type 0 where
   pub some : 0 < length digests
   pub few : length digests ≤ MAX_ORDER_DIGESTS
   pub stands : digests ≡ take (length digests) (drop start order)
 
--- what may be given out: what is given, and each piece of the order
+-- what may be given out at a history: these outputs, and each piece of the order
 abbrev pub MayGive : Node → History → Output → Type 0
 MayGive node history (output.Order start digests) = IsPiece (order node history) start digests
 MayGive node history other = Contains (given node history) other
 
 -- ---- what is kept
 
--- what is found for a round that isn't low
+-- what a look-up found, or nothing where its round is low
 abbrev pub unless_low : {X : Type 0} → ℕ → ℕ → Option X → Option X
 unless_low floor round found = if is_low floor round then None else found
 
--- what is kept: of the votes, the own headers and the votes on them the rounds that aren't low, and of the certificates those at or
--- above the floor
+-- what a node keeps of a state: votes, own headers and the votes on them only of rounds that aren't low, and certificates only
+-- from the floor up
 abbrev pub collected : Node → State → State
 collected node state = record state {
   votes = λ round author. unless_low (floor_in node state) round (state.votes round author);
@@ -51,6 +51,6 @@ collected node state = record state {
   slots = λ round author. if nat_lt round (floor_in node state) then None else state.slots round author;
 }
 
--- what is kept of a history
+-- the state that is kept of a history
 abbrev pub kept : Node → History → State
 kept node history = collected node (whole node history)

@@ -6,7 +6,7 @@ use Rattle.spec_model.specs.Words.{BatchAck, Certificate, BatchView, Event, Head
 abbrev pub History : Type 0
 History = List Event
 
--- what a message is, if it is of the kind
+-- the message as a value of this kind, or None where it is of another kind
 abbrev pub as_batch : Message → Option BatchView
 as_batch (message.Batch batch) = Some batch
 as_batch _ = None

@@ -31,15 +31,15 @@ was_named node history digest =
 
 -- ---- votes
 
--- the header that has the vote for an author and round: each header that is taken is voted for, so the one that is held
+-- the header that the node voted for in a slot: each header that is taken is voted for, so it is the one that is held
 abbrev pub voted_header : History → ℕ → ℕ → Option Header
 voted_header history round author = find (λ header. is_of_slot round author header.body) (headers history)
 
--- the digest that has the vote for an author and round
+-- the digest that the node voted for in a slot
 abbrev pub voted_digest : History → ℕ → ℕ → Option Digest
 voted_digest history round author = option_map (λ header. header_digest header.body) (voted_header history round author)
 
--- a vote is one on this header by this member
+-- a vote is one on this header, by this member
 abbrev pub is_vote_on : HeaderBody → ℕ → Vote → Bool
 is_vote_on header voter vote =
     is_of_slot vote.round vote.author.0 header && ((vote.voter.0 == voter) && same_digest vote.header (header_digest header))
@@ -54,7 +54,7 @@ own_vote node header = record {
   signature = node.sign (certificate_digest header);
 }
 
--- a member's counted vote on an own header: the first that came in, and the node's own from the beginning
+-- a member's counted vote on an own header: its first one that came in. The node's own vote counts from the beginning
 abbrev pub counted_vote : Node → History → HeaderBody → ℕ → Option Vote
 counted_vote node history header voter = if voter == node.own.0 then Some (own_vote node header) else find (is_vote_on header voter) (votes history)
 
@@ -62,15 +62,15 @@ counted_vote node history header voter = if voter == node.own.0 then Some (own_v
 abbrev pub counted_at : Node → History → ℕ → ℕ → Option Vote
 counted_at node history round voter = option_and_then (λ header. counted_vote node history header.body voter) (voted_header history round node.own.0)
 
--- a vote as a certificate has it
+-- a vote as an entry of a certificate
 abbrev pub entry_of : Vote → VoteEntry
 entry_of vote = record { voter = vote.voter; signature = vote.signature }
 
--- a member's counted vote on an own header, as a certificate has it
+-- a member's counted vote on an own header, as an entry of a certificate
 abbrev pub entry_on : Node → History → HeaderBody → ℕ → Option VoteEntry
 entry_on node history header voter = option_map entry_of (counted_vote node history header voter)
 
--- the votes of members as a certificate has them, rising by voter
+-- the counted votes of the members as entries of a certificate, sorted by voter
 abbrev pub votes_by : Node → (ℕ → Option Vote) → List VoteEntry
 votes_by node counted = filter_map (λ voter. option_map entry_of (counted voter)) (numbers (size_of node))
 
@@ -84,17 +84,17 @@ votes_on node history header = votes_by node (counted_vote node history header)
 abbrev pub genesis : ℕ → Certificate
 genesis author = record { header = record { author = record { 0 = author }; round = 0; batches = []; parents = [] }; votes = [] }
 
--- a member's vote on an own header counts
+-- a member has a counted vote on an own header
 abbrev pub has_voted : Node → History → HeaderBody → ℕ → Bool
 has_voted node history header voter = is_some (counted_vote node history header voter)
 
--- the certificate of an own header with these votes of members, if they are a quorum
+-- the certificate of an own header with these counted votes, if they weigh a quorum
 abbrev pub certificate_by : Node → (ℕ → Option Vote) → Header → Option Certificate
 certificate_by node counted header =
     if (header.body.author.0 == node.own.0) && nat_le (quorum node) (weight node.charter (λ voter. is_some (counted voter)))
     then Some (record { header = header.body; votes = votes_by node counted }) else None
 
--- the certificate of an own header, if those who voted for it are a quorum
+-- the certificate of an own header, if the votes on it weigh a quorum
 abbrev pub completed : Node → History → Header → Option Certificate
 completed node history header = certificate_by node (counted_vote node history header.body) header
 
@@ -121,8 +121,8 @@ order node history = order_by (ledger_at node history)
 abbrev pub floor : Node → History → ℕ
 floor node history = floor_by (ledger_at node history)
 
--- a round is low, and nothing of it is taken any more: the genesis, or one at or below a floor above 0. The floor's own round
--- is the deepest that the last committed leader orders, so its certificates are kept; each leader to come orders less deep
+-- a round is low, so nothing of it is taken any more: round 0, or one at or below a floor above 0. The floor's own round
+-- is the lowest that the last committed leader orders, so its certificates are kept; every later leader orders only higher rounds
 abbrev pub is_low : ℕ → ℕ → Bool
 is_low floor round = (round == 0) || (nat_lt 0 floor && nat_le round floor)
 
@@ -130,14 +130,14 @@ is_low floor round = (round == 0) || (nat_lt 0 floor && nat_le round floor)
 abbrev pub is_full : Node → Slots → ℕ → Bool
 is_full node slots round = nat_le (quorum node) (weight node.charter (λ author. is_some (slots round author)))
 
--- 1 plus the greatest round of which a quorum of authors has certificates
+-- 1 plus the greatest round in which a quorum of authors has certificates
 abbrev pub round_by : Node → List Certificate → ℕ
 round_by node certificates = 1 + fold max 0 (filter (is_full node (slots_of certificates)) (map (λ c. c.header.round) certificates))
 
 abbrev pub round : Node → History → ℕ
 round node history = round_by node (certificates node history)
 
--- a parent of a header of this round is held: its certificate is there, or it lies at or below a floor above 0, and isn't asked for
+-- a parent of a header of this round is held: its certificate is there, or lies at or below a floor above 0 and isn't looked up
 abbrev pub is_held : Slots → ℕ → ℕ → ParentReference → Bool
 is_held slots floor round parent =
     option_map_or (λ c. same_digest (certificate_digest c.header) parent.certificate) (slots (round - 1) parent.author.0) false

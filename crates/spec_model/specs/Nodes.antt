@@ -16,7 +16,7 @@ pub record Node : Type 0 where
   pub key : Key
   pub sign : Digest → Signature
 
--- what holds of each node: it is a member of its committee with its signer's key, and signatures are as long as they have to be
+-- what holds of every node: it is a member of its committee, which has its signer's key, and its signatures have the required length
 pub record IsNode (node : Node) : Type 0 where
   pub charter : IsCharter node.charter
   pub member : node.own.0 < length node.charter.keys
@@ -27,11 +27,11 @@ pub record IsNode (node : Node) : Type 0 where
 abbrev pub size_of : Node → ℕ
 size_of node = length node.charter.keys
 
--- what members of its committee who are a quorum weigh at least
+-- the least weight of a quorum of the node's committee
 abbrev pub quorum : Node → ℕ
 quorum node = quorum_of node.charter
 
--- what a contract sees of a value of the type `Node`, with its signer's key and the signatures that it gives
+-- what contracts see of a value of the type `Node`, together with its signer's key and signatures
 abbrev pub node_view : {S : Type 0} → Scheme S → declared.Node S → Node
 node_view scheme node = record {
   own = node.own;
@@ -40,6 +40,6 @@ node_view scheme node = record {
   sign = scheme.signature_of node.signer;
 }
 
--- a node's signer and a verifier belong together: what the node signs is accepted for its key
+-- a signer and a verifier belong together: the verifier accepts what the node signs, for the node's key
 abbrev pub AreTied : Node → Accepts → Type 0
 AreTied node accepts = AreAccepted accepts node.key node.sign

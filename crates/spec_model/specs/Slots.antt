@@ -20,36 +20,36 @@ header_digest header = record { 0 = header_digest_of header }
 abbrev pub certificate_digest : HeaderBody → Digest
 certificate_digest header = record { 0 = certificate_digest_of (header_digest_of header) header.round header.author.0 }
 
--- a header is that of a slot
+-- a header is of this slot
 abbrev pub is_of_slot : ℕ → ℕ → HeaderBody → Bool
 is_of_slot round author header = (header.round == round) && (header.author.0 == author)
 
--- the slots of a list of certificates
+-- the slots that a list of certificates fills
 abbrev pub slots_of : List Certificate → Slots
 slots_of certificates round author = find (λ c. is_of_slot round author c.header) certificates
 
--- the certificates of a round, by author, of so many members
+-- the certificates of a round, by author, in a committee of `size` members
 abbrev pub round_of : ℕ → Slots → ℕ → List Certificate
 round_of size slots round = filter_map (slots round) (numbers size)
 
--- the certificate is what a header names as a parent: it has the author and the digest
+-- a parent reference names this certificate: it has the same author and digest
 abbrev pub is_named : Certificate → ParentReference → Bool
 is_named certificate parent =
     (parent.author.0 == certificate.header.author.0)
     && same_digest parent.certificate (certificate_digest certificate.header)
 
--- the first certificate is a parent of the second one: it is of the round below, and named there
+-- the first certificate is a parent of the second: it is of the round below, and the second one names it
 abbrev pub is_parent : Certificate → Certificate → Bool
 is_parent parent child =
     (parent.header.round + 1 == child.header.round) && list_any (is_named parent) child.header.parents
 
--- a path of so many steps, each to a parent, leads from one certificate to another; without steps they are of one slot
+-- a path of so many steps leads from `start` to `end`, each step to a parent; with no step left they have to be of one slot
 abbrev pub has_path : ℕ → Slots → ℕ → Certificate → Certificate → Bool
 has_path size slots zero start end = is_of_slot start.header.round start.header.author.0 end.header
 has_path size slots (suc steps) start end =
     list_any (λ child. has_path size slots steps start child && is_parent end child) (round_of size slots (end.header.round + 1))
 
--- one certificate reaches another: each step of a path goes down one round
+-- one certificate reaches another by parents; each step of the path goes down one round
 abbrev pub reaches : ℕ → Slots → Certificate → Certificate → Bool
 reaches size slots start end =
     nat_le end.header.round start.header.round

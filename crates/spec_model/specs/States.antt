@@ -1,4 +1,4 @@
--- What a node holds: all of a history, or what it keeps of one.
+-- The state of a node: everything in a history, or what the node keeps of it.
 use Rattle.std.specs.Prelude.{ℕ, ◌==◌, ◌&&◌, ◌||◌, nat_le, max, Bool, false, List, map, fold, find, Option, option_and_then}
 use Rattle.std.specs.Option.{option_map_or}
 use Rattle.committee.specs.Charter.{weight}
@@ -14,11 +14,11 @@ pub record State : Type 0 where
   pub batches : List BatchView
   pub acked : Digest → ℕ → Bool
   pub named : Digest → Bool
-  -- the digests that have the votes for a round and author, the own headers by round, and the votes that count on them by round and voter
+  -- the digest voted for in each slot, the own headers by round, and the counted votes on them by round and voter
   pub votes : ℕ → ℕ → Option Digest
   pub own_headers : ℕ → Option Header
   pub counted : ℕ → ℕ → Option Vote
-  -- the certificates, and the greatest round of which there was one
+  -- the certificates by slot, and the greatest round of any certificate so far
   pub slots : Slots
   pub highest : ℕ
   pub coins : List ℕ
@@ -28,7 +28,7 @@ pub record State : Type 0 where
 abbrev pub highest_of : List Certificate → ℕ
 highest_of certificates = fold max 0 (map (λ c. c.header.round) certificates)
 
--- all that there is of a history
+-- the state that has everything in a history
 abbrev pub whole : Node → History → State
 whole node history = record {
   batches = batches history;
@@ -53,18 +53,18 @@ batch_in state digest = find (λ batch. same_digest (batch_digest batch) digest)
 abbrev pub has_own_batch : Node → State → Digest → Bool
 has_own_batch node state digest = option_map_or (λ batch. batch.author.0 == node.own.0) (batch_in state digest) false
 
--- a member holds an own batch: the node itself, and who has acknowledged it
+-- a member holds an own batch: the node itself does, and so does whoever acknowledged it
 abbrev pub holds : Node → State → Digest → ℕ → Bool
 holds node state digest member = (member == node.own.0) || state.acked digest member
 
--- an own batch is available: the members who hold it are a quorum
+-- an own batch is available: the members who hold it weigh a quorum
 abbrev pub is_available : Node → State → Digest → Bool
 is_available node state digest =
     has_own_batch node state digest && nat_le (quorum node) (weight node.charter (holds node state digest))
 
 -- ---- certificates and the order
 
--- the certificate of the own header of a round, if those whose votes count are a quorum
+-- the certificate of a round's own header, if the counted votes on it weigh a quorum
 abbrev pub completed_at : Node → State → ℕ → Option Certificate
 completed_at node state round = option_and_then (certificate_by node (state.counted round)) (state.own_headers round)
 

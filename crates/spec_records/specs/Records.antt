@@ -1,4 +1,4 @@
--- The records of the journal: the bytes that an event has there, and those that a node's configuration has.
+-- The records of the journal: how an event and a node's configuration are written.
 use Rattle.std.specs.Prelude.{◌≡◌, ◌≢◌, ⊤, ℕ, ◌<◌, ◌^◌, List, [], ◌∷◌, ◌++◌, length, None, All}
 use Rattle.std.specs.List.{flat_map}
 use Rattle.std.specs.Int.{w16, w32, to_be_bytes}
@@ -19,24 +19,24 @@ record_of event = 1 ∷ to_be_bytes w16 event.sender.0 ++ spelling event.message
 
 -- ---- a node's configuration
 
--- the stakes of a record: from the second version on it has them
+-- the stakes in a record: from the second version on they are written
 abbrev pub stakes_of : Version → List ℕ → List ℕ
 stakes_of First stakes = []
 stakes_of Second stakes = flat_map (to_be_bytes w32) stakes
 
--- the record of a node's configuration: its kind, the version, the own number, the depth, how many workers a member has, how many
--- batches a member holds, how many members there are, their keys, and their stakes where the version has them
+-- the record of a node's configuration: kind, version, own number, depth, workers of a member, batches of a member, number of
+-- members, their keys, and from the second version on their stakes
 abbrev pub configuration_of : Version → Charter → Author → List ℕ
 configuration_of version charter own =
     0 ∷ number_of version ∷ to_be_bytes w16 own.0 ++ to_be_bytes w16 charter.depth ++ to_be_bytes w16 charter.workers ++ to_be_bytes w32 charter.batches
     ++ to_be_bytes w16 (length charter.keys) ++ flat_map (λ key. key.0) charter.keys ++ stakes_of version charter.stakes
 
--- a version can tell a committee: the first has no stakes, so each is 1
+-- a version can express a committee: the first one has no stakes, so there each stake is 1
 abbrev pub CanTell : Version → Charter → Type 0
 CanTell First charter = All (λ stake. stake ≡ 1) charter.stakes
 CanTell Second charter = ⊤
 
--- a sound committee whose keys have 32 bytes each, with a number of two bytes
+-- a sound committee whose keys have 32 bytes each, and an own number that fits two bytes
 pub record IsConfiguration (charter : Charter) (own : Author) : Type 0 where
   pub sound : IsCharter charter
   pub keys : All (λ key. HasBytes 32 key.0) charter.keys
@@ -50,7 +50,7 @@ pub record IsChecked (charter : Charter) (event : Event) : Type 0 where
   pub message : IsMessage event.message
   pub passed : fault_of charter accepts_all event ≡ None
 
--- a record is that of one event only
+-- no two events that can be taken have the same record
 abbrev pub OneRecord : Type 0
 OneRecord = (charter : Charter) (one other : Event) → IsCharter charter → IsChecked charter one → IsChecked charter other
     → record_of one ≡ record_of other → one ≡ other
@@ -59,7 +59,7 @@ OneRecord = (charter : Charter) (one other : Event) → IsCharter charter → Is
 abbrev pub NoConfiguration : Type 0
 NoConfiguration = (event : Event) (version : Version) (charter : Charter) (own : Author) → record_of event ≢ configuration_of version charter own
 
--- and a record is that of one configuration only, of those that its version can tell
+-- no two configurations that their versions can express have the same record
 abbrev pub OneConfiguration : Type 0
 OneConfiguration = (version other : Version) (charter also : Charter) (own number : Author) → IsConfiguration charter own → IsConfiguration also number
     → CanTell version charter → CanTell other also → configuration_of version charter own ≡ configuration_of other also number

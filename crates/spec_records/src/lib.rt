@@ -1,10 +1,10 @@
-//! The records of the journal, and that each is one event's or one configuration's only. Each law is what a function
-//! without a body ensures.
+//! The records of the journal. Each is the record of one event or one configuration only. Each law is what a function without a body
+//! ensures.
 #![tactic(auto)]
 
 ghost use Rattle.spec_records.specs.Records.{OneRecord, NoConfiguration, OneConfiguration};
 
-/// A record is that of one event only, of those that passed the checks of one committee.
+/// No two events that passed the checks of one committee have the same record.
 pub fn one_record()
     ensures { OneRecord }
 {}
@@ -14,8 +14,8 @@ pub fn no_configuration()
     ensures { NoConfiguration }
 {}
 
-/// A record of the second version is that of one configuration only: it tells the own number, the keys, the stakes and
-/// each limit. So does one of the first version, of committees whose stakes are all 1.
+/// No two configurations have the same record of the second version: it has the own number, the keys, the stakes and each limit. The same
+/// holds for the first version among committees whose stakes are all 1.
 pub fn one_configuration()
     ensures { OneConfiguration }
 {}

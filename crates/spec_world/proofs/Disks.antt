@@ -159,7 +159,8 @@ module _ (file : List ℕ) (ends : EndsClosed file) (group : List (List ℕ)) wh
       let staged = file ++ group_bytes group in
       let within : length file - 1 ≤ length staged = omega (arith, length-append file (group_bytes group)) in
       subst (λ (t : State). CanLeave t t.content) (sym is)
-      (possible_write (all_durable staged) (length file - 1) (1 ∷ []) (possible_durable staged (joined file (group_bytes group) are also)) (one_more 1 [] (omega arith) (All-nil (λ b. b < 256))) within)
+      (possible_write (all_durable staged) (length file - 1) (1 ∷ []) (possible_durable staged (joined file (group_bytes group) are also))
+      (one_more 1 [] (omega arith) (All-nil (λ b. b < 256))) within)
   read_possible whole s are also is =
       subst (λ (t : State). CanLeave t t.content) (sym is) (possible_durable (file_with file group) (longer_bytes file group are also))
 

@@ -240,7 +240,8 @@ pub fresh_disk : (node : Node) (world : World) (at : Stands node world) → worl
 fresh_disk node world at is = subst (λ (p : Phase). IsAt (stage_of p) (state world.bytes_at_start world.calls) at.file (group_in world)) is at.disk
 
 -- a disk that is is_durable and has no call due leaves what it has
-pub leaves_durable : (bytes : List ℕ) (calls : List Call) (next : Option Call) (file found : List ℕ) → next ≡ None → state bytes calls ≡ all_durable file → MayLeave bytes calls next found → found ≡ file
+pub leaves_durable : (bytes : List ℕ) (calls : List Call) (next : Option Call) (file found : List ℕ) → next ≡ None → state bytes calls ≡ all_durable file
+    → MayLeave bytes calls next found → found ≡ file
 leaves_durable bytes calls next file found none is (between outcome) = durable_only file found (subst (λ (s : State). CanLeave s found) is outcome)
 leaves_durable bytes calls next file found none is (inside call due outcome) = absurd (none-some call (sym none ∙ due))
 

@@ -26,15 +26,15 @@ use Rattle.journal.specs.declared.version.Version.TheVariants.{Second}
 
 -- ---- what there is
 
--- the moments of an append between its device calls
+-- where an append is between its device calls
 pub data Phase : Type 0 where
-  -- nothing of the group is written, or there is none
+  -- nothing of the group is written, or there is no group
   not_begun : Phase
-  -- it was written after the file's closed gate
+  -- the group was written after the file's closed gate
   group_written : Phase
-  -- that is synced
+  -- the group is synced
   group_synced : Phase
-  -- the gate was opened: when that is synced, the group is durable, and the append of the next one can begin
+  -- the gate was opened: once that is synced, the group is durable, and the append of the next one can begin
   gate_opened : Phase
 
 -- an output that waits until so many events of this run are settled
@@ -42,18 +42,18 @@ pub record Waiting : Type 0 where
   pub ticket : ℕ
   pub output : Output
 
--- what goes out: an output, or the order as a reader gets it
+-- what goes out: an output, or the order, to a reader
 pub data Outgoing : Type 0 where
   put_out : Output → Outgoing
   read : List Digest → Outgoing
 
--- what was given out, with the history at which it was: the one that its event ended, or the one that was read
+-- one thing that was given out, with the history at which it was: the one that ends with its event, or the one whose order was read
 pub record Given : Type 0 where
   pub outgoing : Outgoing
   pub history : History
 
--- of a node on two disks: the disk that isn't read, with its bytes when this run began, all of them durable, and its calls since; and the
--- side and the generation of the area that is read
+-- the spare disk, which isn't read, of a node on two disks: its bytes when this run began, all of them durable, and its calls since then;
+-- and the side and the generation of the area that is read
 pub record Spare : Type 0 where
   pub bytes_at_start : List ℕ
   pub calls : List Call
@@ -68,18 +68,18 @@ pub record Rewriting : Type 0 where
 pub record World : Type 0 where
   -- the history with which this run began
   pub began : History
-  -- the events that this run accepted, oldest first; of these those that are settled, and after them the groups in flight, oldest first:
-  -- those that were taken and aren't settled. So many of these, from the first on, are durable; the append is at the next one.
-  -- Where a rewriting is in flight the first of the groups has all the events that it settles: they needn't fit a group
+  -- the events that this run accepted, oldest first; those of them that are settled; and the groups in flight, oldest first, which were
+  -- taken and aren't settled. The first `durable` of these groups are durable, and the append is at the next one. During a rewriting the
+  -- first group has all the events that the rewriting settles, which need not fit a group
   pub accepted : History
   pub settled : History
   pub groups : List History
   pub durable : ℕ
-  -- the disk that is read: its bytes when this run began, all of them durable, and its calls since
+  -- the disk that is read: its bytes when this run began, all of them durable, and its calls since then
   pub bytes_at_start : List ℕ
   pub calls : List Call
   pub phase : Phase
-  -- the other disk of two, and what is written to it
+  -- the spare disk, if there are two, and the rewriting of it that is in flight
   pub spare : Option Spare
   pub rewriting : Option Rewriting
   -- the outputs of this run's events, each with its ticket
@@ -87,7 +87,7 @@ pub record World : Type 0 where
   -- all that was given out in all runs, oldest first
   pub given : List Given
 
--- the events of these groups
+-- the events of these groups, one after the other
 abbrev pub events_of : List History → History
 events_of groups = flat_map (λ group. group) groups
 
@@ -95,7 +95,7 @@ events_of groups = flat_map (λ group. group) groups
 abbrev pub taken_in : World → History
 taken_in world = world.settled ++ events_of world.groups
 
--- what is durable of that: what is settled, and the groups in flight that are durable
+-- what of that is durable: what is settled, and the durable groups in flight
 abbrev pub durable_in : World → History
 durable_in world = world.settled ++ events_of (take world.durable world.groups)
 
@@ -103,23 +103,23 @@ durable_in world = world.settled ++ events_of (take world.durable world.groups)
 abbrev pub undurable_in : World → List History
 undurable_in world = drop world.durable world.groups
 
--- the first of these groups; where there is none, no events
+-- the events of the first of these groups, or none where there is no group
 abbrev pub first_of : List History → History
 first_of [] = []
 first_of (group ∷ groups) = group
 
--- ---- what bytes stand for
+-- ---- what bytes are read as
 
--- the bytes of records
+-- the bytes of these records
 abbrev pub bytes_of : List Record → List (List ℕ)
 bytes_of records = map (λ kept. kept.bytes) records
 
--- there are two areas
+-- there are two areas, not one
 abbrev pub IsPair : Areas → Type 0
 IsPair (alone bytes) = ⊥
 IsPair (pair one other) = ⊤
 
--- what is read of a journal: first these records, of which so many are the whole first group, then those of these events
+-- a journal is read as these records in front, `in_first` of which are its whole first group, and then the records of these events
 pub record IsJournal (read : Result (List Record) ℕ) (front : List (List ℕ)) (in_first : ℕ) (events : History) : Type 0 where
   pub records : List Record
   pub stands_for : read ≡ Ok records
@@ -132,16 +132,16 @@ pub record IsJournal (read : Result (List Record) ℕ) (front : List (List ℕ))
 abbrev pub own_configuration : Version → Node → List ℕ
 own_configuration version node = configuration_of version node.charter node.own
 
--- The state with which a node's journal begins, by the records before its events, so many of them in the first group: the fresh state after
--- the node's configuration alone, or, on two disks, that of a checkpoint after the configuration and a head. The version of the
--- configuration can tell the node's committee: the first one can only where each stake is 1.
+-- The state with which a node's journal begins, the records in front of its events, and how many of these are in the first group: either
+-- the fresh state, after the node's configuration alone; or, on two disks, the state of a checkpoint after the configuration and a head.
+-- The configuration's version can express the node's committee: the first one can only where each stake is 1.
 pub data BeginsAs (node : Node) (areas : Areas) (front : List (List ℕ)) (in_first : ℕ) (base : State) : Type 0 where
   as_fresh : (version : Version) → CanTell version node.charter → front ≡ own_configuration version node ∷ [] → in_first ≡ 1 → base ≡ fresh node → BeginsAs node areas front in_first base
   as_checkpoint : (version : Version) (generation : ℕ) (kept : Checkpoint) → IsPair areas → CanTell version node.charter → IsWritten node kept
       → front ≡ own_configuration version node ∷ head_record generation ∷ state_records kept → in_first ≡ 2 → base ≡ checkpoint.state_in node kept
       → BeginsAs node areas front in_first base
 
--- areas are a journal of the node at this state: the state with which they begin is sound, and the events after it are legal and lead to
+-- areas are a journal of the node at this state: their events are legal after the state with which the journal begins, and lead to
 -- this one
 pub record Holds (node : Node) (areas : Areas) (state_held : State) : Type 0 where
   pub front : List (List ℕ)
@@ -153,13 +153,13 @@ pub record Holds (node : Node) (areas : Areas) (state_held : State) : Type 0 whe
   pub legal : IsLegalAfter node base events
   pub leads : after_all node base events ≡ state_held
 
--- areas stand for this state: they are a journal at it, or there is no record yet, and it is the fresh one
+-- areas are read as this state: they are a journal at it, or they have no record yet and it is the fresh state
 pub data StandsFor (node : Node) (areas : Areas) (state_held : State) : Type 0 where
   as_journal : Holds node areas state_held → StandsFor node areas state_held
   as_empty : stands_in areas ≡ Ok [] → state_held ≡ fresh node → StandsFor node areas state_held
 
--- Bytes after an open gate are a checkpoint of this generation at this state: a journal in the second version without events that begins
--- as the checkpoint of the state, and ends with its closed gate.
+-- Bytes after an open gate are a checkpoint of this generation at this state: a journal in the second version that begins with the state's
+-- checkpoint, has no events, and ends with its closed gate.
 pub record IsCheckpointOf (node : Node) (generation : ℕ) (state_kept : State) (bytes : List ℕ) : Type 0 where
   pub kept : Checkpoint
   pub written : IsWritten node kept
@@ -179,34 +179,34 @@ group_in world = map record_of (first_of (undurable_in world))
 abbrev pub content_in : World → List ℕ
 content_in world = (state world.bytes_at_start world.calls).content
 
--- the next device call of an append, by what a read of the disk gives and by the group: the group is written after the file's end; a
--- sync; the gate before the group is opened, in a write of its own; a sync
+-- the next device call of an append, from the disk's content and the group: the group is written at the file's end; a sync; the gate
+-- before the group is opened, in a write of its own; a sync
 abbrev pub call_in : Phase → List ℕ → List (List ℕ) → Option Call
 call_in not_begun content group = Some (Wrote (length content) (group_bytes group))
 call_in group_written content group = Some Synced
 call_in group_synced content group = Some (Wrote (length content - length (group_bytes group) - 1) (OPEN ∷ []))
 call_in gate_opened content group = Some Synced
 
--- no call is due where there is no group to write
+-- the next device call of the appends of these groups; none is due where there is no group
 abbrev pub call_for : List History → Phase → List ℕ → Option Call
 call_for [] phase content = None
 call_for (group ∷ groups) phase content = call_in phase content (map record_of group)
 
--- nor while a rewriting is in flight
+-- the next device call of an append; none is due while a rewriting is in flight
 abbrev pub next_call : World → Option Call
 next_call world = option_map_or (λ rewriting. None) world.rewriting (call_for (undurable_in world) world.phase (content_in world))
 
--- the next device call of a rewriting. So no two calls are due at once
+-- the next device call of a rewriting, which is never in flight together with an append
 abbrev pub next_spare_call : World → Option Call
 next_spare_call world = option_and_then (λ rewriting. slice_get (rewrite_calls rewriting.bytes) rewriting.made) world.rewriting
 
--- What a stop may leave now of a disk with these calls, and this one due: what it may leave after the calls so far, or after the next call
--- too, if the stop came inside that. A call that fails is such a stop: it may have had any part of its effect, and the disk is opened again.
+-- What a stop at this moment may leave of a disk, by its calls so far and the next call that is due: an outcome after the calls so far, or
+-- after the next one too, if the stop came inside it. A failed call counts as such a stop, since it may have had any part of its effect.
 pub data MayLeave (bytes : List ℕ) (calls : List Call) (next : Option Call) (found : List ℕ) : Type 0 where
   between : IsOutcome bytes calls found → MayLeave bytes calls next found
   inside : (call : Call) → next ≡ Some call → IsOutcome bytes (calls ++ call ∷ []) found → MayLeave bytes calls next found
 
--- what a stop may leave now: of each disk one of these
+-- what a stop at this moment may leave of the one disk, or of both
 pub data MayStop (world : World) (areas : Areas) : Type 0 where
   of_one : (found : List ℕ) → world.spare ≡ None → MayLeave world.bytes_at_start world.calls (next_call world) found → areas ≡ alone found → MayStop world areas
   of_pair : (spare : Spare) (live other : List ℕ) → world.spare ≡ Some spare → MayLeave world.bytes_at_start world.calls (next_call world) live
@@ -214,13 +214,13 @@ pub data MayStop (world : World) (areas : Areas) : Type 0 where
 
 -- ---- how a run begins
 
--- the disk that isn't read, as an opening leaves it, with the side and the generation of the area that is
+-- the spare disk as an opening leaves it, with the side and the generation of the area that is read
 pub record OpenedSpare : Type 0 where
   pub bytes : List ℕ
   pub side : Side
   pub generation : ℕ
 
--- what an opening leaves of one disk, or of two
+-- the disks that an opening leaves: one, or two
 pub record Opened : Type 0 where
   pub bytes : List ℕ
   pub spare : Option OpenedSpare
@@ -234,7 +234,7 @@ areas_of opened = option_map_or (λ spare. pair_of spare.side opened.bytes spare
 abbrev pub spare_on : OpenedSpare → Spare
 spare_on spare = record { bytes_at_start = spare.bytes; calls = []; side = spare.side; generation = spare.generation }
 
--- a run that has just begun on disks with these bytes
+-- a run that has just begun, on disks with these bytes
 abbrev pub run_on : Opened → History → List Given → World
 run_on opened began given = record {
   began = began;
@@ -251,13 +251,13 @@ run_on opened began given = record {
   given = given;
 }
 
--- the other disk is at rest, beside an area that is read with these bytes
+-- the spare disk is at rest, beside the area that is read with these bytes
 pub record IsOpenedSpare (bytes : List ℕ) (spare : OpenedSpare) : Type 0 where
   pub told : tells bytes ≡ Some (Some spare.generation)
   pub at_rest : IsAtRest spare.generation spare.bytes
   pub are_bytes : AreBytes spare.bytes
 
--- disks as an opening leaves them, all durable: they are a journal of the node at this state, and the one that is read ends with its closed gate
+-- disks as an opening leaves them, all durable: they are a journal of the node at this state; the one that is read ends with a closed gate
 pub record IsOpened (node : Node) (opened : Opened) (state_held : State) : Type 0 where
   pub holds : Holds node (areas_of opened) state_held
   pub ends_closed : EndsClosed opened.bytes

@@ -1,4 +1,4 @@
-//! The commands of a case, to the journal on two areas.
+//! The commands of a case on the journal on two areas.
 
 use crate::disks::{Areas, Disks};
 use crate::failures::Opening;
@@ -15,10 +15,10 @@ use std::alloc::{AllocError, Global};
 /// The longest record that a case adds by its length, in bytes.
 const MOST_BYTES: u64 = 8_388_608;
 
-/// An area of so many bytes is told by its length alone.
+/// An area of more bytes is shown by its length alone.
 const MANY_BYTES: usize = 2_000;
 
-/// What the commands are put to, new in each case.
+/// The state that the commands of a case work on, new in each case.
 #[derive(Drop)]
 pub struct Cases {
     alloc: Global,
@@ -29,7 +29,7 @@ pub struct Cases {
 }
 
 impl Cases {
-    /// As before the first case.
+    /// The state before the first case.
     pub fn new(alloc: Global) -> Cases {
         Cases {
             alloc,
@@ -44,7 +44,7 @@ impl Cases {
         self.records = Vec::new(self.alloc);
     }
 
-    /// Carries out a command, and adds the lines that it answers.
+    /// Carries out a command, and adds the lines of its answer.
     pub fn obey(&mut self, command: &str, answer: &mut String) -> Told {
         let (name, rest) = parted(command);
         let words = words_of(self.alloc, rest)?;
@@ -83,7 +83,7 @@ impl Cases {
         }
     }
 
-    /// `areas FIRST SECOND` says what both areas have.
+    /// `areas FIRST SECOND` sets the bytes of both areas.
     fn set(&mut self, first: &[u8], second: &[u8]) -> Told {
         self.areas = Areas {
             first: first.to_vec(self.alloc)?,
@@ -92,7 +92,7 @@ impl Cases {
         Ok(())
     }
 
-    /// `records RECORD ..` says what the records of a checkpoint are.
+    /// `records RECORD ..` sets the records of a checkpoint.
     fn take_records(&mut self, words: &[Word], answer: &mut String) -> Told {
         match listed(self.alloc, words)? {
             Some(records) => {
@@ -103,7 +103,7 @@ impl Cases {
         }
     }
 
-    /// `add COUNT LENGTH` adds so many records of zeros, each of this length.
+    /// `add COUNT LENGTH` adds `count` records of zeros, each with this length.
     fn add(&mut self, count: u64, len: u64) -> Told {
         for _ in 0..count {
             let record = vec![in self.alloc; 0; len.min(MOST_BYTES) as usize]?;
@@ -112,19 +112,19 @@ impl Cases {
         Ok(())
     }
 
-    /// `open` opens the journal on both areas, which stay as the opening leaves them.
+    /// `open` opens the journal on both areas, which keep what the opening leaves.
     fn open(&mut self, answer: &mut String) -> Told {
         let disks = reopened(self.alloc, Disks::of(self.alloc, &self.areas)?, answer);
         self.keep(&disks, answer)
     }
 
-    /// `loose` does the same where nothing of both was synced before.
+    /// `loose` does the same where nothing on the disks was synced before.
     fn open_loose(&mut self, answer: &mut String) -> Told {
         let disks = reopened(self.alloc, Disks::loose(self.alloc, &self.areas)?, answer);
         self.keep(&disks, answer)
     }
 
-    // Keeps what the disks have, and says where a stop might leave something else.
+    // Keeps the bytes of the disks, and reports where a stop might leave something else.
     fn keep(&mut self, disks: &Disks, answer: &mut String) -> Told {
         self.areas = Areas::on(self.alloc, disks)?;
         put(
@@ -138,7 +138,7 @@ impl Cases {
         Ok(())
     }
 
-    /// `store` opens the journal on both areas by its other name.
+    /// `store` opens the journal on both areas by `open_store`.
     fn open_both(&mut self, answer: &mut String) -> Told {
         let disks = Disks::of(self.alloc, &self.areas)?;
         let store = Store::Two(disks.first, disks.second);
@@ -161,28 +161,28 @@ impl Cases {
         Ok(())
     }
 
-    /// `gates` opens the journal, and tells how many records it has after each gate.
+    /// `gates` opens the journal, and shows how many records follow each gate.
     fn tell_gates(&self, answer: &mut String) -> Told {
         let _ = put_gates(self.alloc, Disks::of(self.alloc, &self.areas)?, answer);
         put(answer, "\n");
         Ok(())
     }
 
-    /// `tell` tells what both areas have.
+    /// `tell` shows the bytes of both areas.
     fn tell(&self, answer: &mut String) -> Told {
         put_area(answer, &self.areas.first);
         put_area(answer, &self.areas.second);
         Ok(())
     }
 
-    /// `begin CONFIGURATION` adds the first group of all.
+    /// `begin CONFIGURATION` appends the first group of all.
     fn start(&mut self, configuration: &[u8], answer: &mut String) -> Told {
         let disks = Disks::of(self.alloc, &self.areas)?;
         let disks = begun(self.alloc, disks, configuration.to_vec(self.alloc)?, answer)?;
         self.keep(&disks, answer)
     }
 
-    /// `append RECORD ..` adds a group.
+    /// `append RECORD ..` appends a group.
     fn append(&mut self, words: &[Word], answer: &mut String) -> Told {
         let Some(records) = listed(self.alloc, words)? else {
             return told_bad(answer);
@@ -192,7 +192,7 @@ impl Cases {
         self.keep(&disks, answer)
     }
 
-    /// `rewrite` and `draft` rewrite the journal to a checkpoint. The calls of both disks are told.
+    /// `rewrite` and `draft` rewrite the journal to a checkpoint. The calls of both disks are shown.
     fn rewrite(&mut self, made: Made, answer: &mut String) -> Told {
         let mut text = String::new(self.alloc);
         let opened = reopened(self.alloc, Disks::of(self.alloc, &self.areas)?, &mut text);
@@ -210,8 +210,7 @@ impl Cases {
         Ok(())
     }
 
-    /// `alike` tells whether a rewriting leaves the same bytes in both ways of making its checkpoint. The areas stay as
-    /// they are.
+    /// `alike` shows whether a rewriting leaves the same bytes for both ways of making its checkpoint. The areas stay as they are.
     fn compare(&self, answer: &mut String) -> Told {
         let whole = self.rewritten_by(Made::Whole)?;
         let draft = self.rewritten_by(Made::Draft)?;
@@ -247,7 +246,7 @@ impl Cases {
         Trial::new(self.alloc, &self.areas, checkpoint, area == 1)?.tell_stops(answer)
     }
 
-    /// `seconds AREA` does so too, and then stops the opening after it.
+    /// `seconds AREA` does the same, and then stops the opening after that, too.
     fn tell_seconds(&self, area: u64, answer: &mut String) -> Told {
         let checkpoint = self.checkpoint(Made::Whole);
         Trial::new(self.alloc, &self.areas, checkpoint, area == 1)?.tell_seconds(answer)
@@ -260,7 +259,7 @@ impl Cases {
     }
 }
 
-// The length of an area, and its bytes where they aren't too many for a case file.
+// Adds the length of an area, and its bytes unless they are too many for a file of cases.
 fn put_area(answer: &mut String, bytes: &[u8]) {
     put_count(answer, "bytes ", bytes.len() as u64, "");
     if bytes.len() < MANY_BYTES {
@@ -269,7 +268,7 @@ fn put_area(answer: &mut String, bytes: &[u8]) {
     put(answer, "\n");
 }
 
-// The calls of a disk after those of an opening.
+// Adds the calls of a disk that follow those of an opening.
 fn put_calls_after(answer: &mut String, opened: &Disks, disks: &Disks, is_second: bool) {
     put(answer, if is_second { "area 1:" } else { "area 0:" });
     let before = opened.of_area(is_second).calls().len();

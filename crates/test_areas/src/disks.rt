@@ -11,7 +11,7 @@ pub struct Areas {
 }
 
 impl Areas {
-    /// Both without a byte.
+    /// Two areas without a byte.
     pub fn none(alloc: Global) -> Areas {
         Areas {
             first: Vec::new(alloc),
@@ -19,7 +19,7 @@ impl Areas {
         }
     }
 
-    /// Those that both disks give.
+    /// The areas with the bytes of both disks.
     pub fn on(alloc: Global, disks: &Disks) -> Result<Areas, AllocError> {
         Ok(Areas {
             first: disks.first.bytes().to_vec(alloc)?,
@@ -27,14 +27,14 @@ impl Areas {
         })
     }
 
-    /// Whether these are the same bytes as others.
+    /// Whether these areas have the same bytes as others.
     pub fn are(&self, others: &Areas) -> bool {
         self.first.as_slice() == others.first.as_slice()
             && self.second.as_slice() == others.second.as_slice()
     }
 }
 
-/// Both disks, and a switch that counts and fails the calls of both.
+/// Both disks, and a switch that counts their calls and sets them to fail.
 #[derive(Drop)]
 pub struct Disks {
     pub first: MemDisk,
@@ -63,12 +63,12 @@ impl Disks {
         Ok(disks)
     }
 
-    /// Tells the count-th call of this kind from now on to fail, of both disks, none at 0.
+    /// Sets the count-th next call of this kind to fail, counting both disks; 0 sets none.
     pub fn fail(&self, kind: CallKind, count: u64) {
         let _ = self.switch.fail(kind, count);
     }
 
-    /// Whether a stop leaves of both disks what they give, and nothing else.
+    /// Whether a stop leaves exactly what both disks give.
     pub fn are_durable(&self) -> bool {
         is_durable(&self.first) && is_durable(&self.second)
     }
@@ -78,8 +78,7 @@ impl Disks {
         if is_second { &self.second } else { &self.first }
     }
 
-    /// Stops the machine, which leaves these bytes of this area, and of the other one what it gives. Says whether it
-    /// does.
+    /// Stops the machine. It leaves these bytes of this area, and of the other area what a read gives. Gives whether that is possible.
     pub fn stop(&mut self, is_second: bool, bytes: Vec<u8>) -> bool {
         if is_second {
             self.first.stop();
@@ -91,7 +90,7 @@ impl Disks {
     }
 }
 
-// Whether no byte was written since the last sync, and the length is that of the last one.
+// Whether no byte was written since the last sync, and the length hasn't changed since then.
 fn is_durable(disk: &MemDisk) -> bool {
     let len = disk.bytes().len() as u64;
     disk.bytes() == disk.durable() && (0..len).all(|place| !disk.is_written(place))
@@ -115,7 +114,7 @@ pub enum Fill {
     Torn(u8),
 }
 
-/// Each fill that is tried, with its name.
+/// All fills that are tried, with their names.
 pub const FILLS: [(Fill, &str); 6] = [
     (Fill::Keep, "keep"),
     (Fill::Lose, "lose"),
@@ -125,7 +124,7 @@ pub const FILLS: [(Fill, &str); 6] = [
     (Fill::Torn(0xff), "ff"),
 ];
 
-/// The bytes of this length that a stop leaves of a disk, if it may.
+/// The bytes of this length that a stop leaves of a disk with a fill, if that is possible.
 pub fn outcome(
     alloc: Global,
     disk: &MemDisk,
@@ -141,7 +140,7 @@ pub fn outcome(
     Ok(disk.can_leave(&bytes).then_some(bytes))
 }
 
-// Bytes of this length, in which this one stands wherever the disk may have lost what was synced.
+// Bytes of this length, with this byte wherever the disk may have lost what was synced.
 fn torn(alloc: Global, disk: &MemDisk, byte: u8, length: usize) -> Result<Vec<u8>, AllocError> {
     let mut bytes = Vec::new(alloc);
     for place in 0..length {
@@ -150,7 +149,7 @@ fn torn(alloc: Global, disk: &MemDisk, byte: u8, length: usize) -> Result<Vec<u8
     Ok(bytes)
 }
 
-// A byte that has to stay, or this one.
+// The byte at a place if a stop can't change it, and otherwise this byte.
 fn left_at(disk: &MemDisk, byte: u8, place: usize) -> u8 {
     if place >= disk.bytes().len() || disk.is_written(place as u64) {
         return byte;
@@ -163,7 +162,7 @@ pub fn longest(disk: &MemDisk) -> usize {
     disk.bytes().len().max(disk.durable().len())
 }
 
-/// The longest bytes that a stop leaves of a disk with this fill, if it may.
+/// The longest bytes that a stop leaves of a disk with this fill, if any are possible.
 pub fn longest_outcome(
     alloc: Global,
     disk: &MemDisk,

@@ -1,4 +1,4 @@
-//! An opening of both areas of which a device call fails, or that is stopped there, and the openings after it.
+//! Openings of both areas in which a device call fails or the machine stops, and the openings after them.
 
 use crate::disks::{Areas, Disks, FILLS, Fill, longest, outcome};
 use crate::openings::{reopened, told};
@@ -14,10 +14,10 @@ const KINDS: [(CallKind, &str); 4] = [
     (CallKind::Sync, "sync"),
 ];
 
-/// More calls than an opening makes of a kind.
+/// A number of calls of one kind that no opening reaches.
 const MOST_CALLS: u64 = 32;
 
-/// An opening of these areas, and what it answers where no call fails.
+/// An opening of these areas, and its answer where no call fails.
 #[derive(Drop)]
 pub struct Opening<'a> {
     alloc: Global,
@@ -25,7 +25,7 @@ pub struct Opening<'a> {
     answer: String,
 }
 
-/// How many calls failed, and how many openings after it answered the same as without, and another thing.
+/// How many calls failed, and how many of the openings after that had the same answer as without a failure, or another one.
 #[derive(Clone, Copy)]
 struct Count {
     calls: u64,
@@ -33,7 +33,7 @@ struct Count {
     other: u64,
 }
 
-/// A call that fails, by its kind and how many of that kind there are up to it.
+/// A call, by its kind and its number among the calls of that kind.
 type Call = (CallKind, u64);
 
 impl<'a> Opening<'a> {
@@ -47,8 +47,8 @@ impl<'a> Opening<'a> {
         })
     }
 
-    /// For each kind of call how many of them failed in turn, and what openings after that answered. How often the
-    /// files are read is no part of the format, so that reads aren't counted.
+    /// Shows for each kind of call how many of them failed in turn, and what the openings after that answered. Reads aren't counted, since
+    /// how often the files are read is no part of the format.
     pub fn tell(&self, answer: &mut String) -> Told {
         for (kind, name) in KINDS {
             let count = self.counted(kind)?;
@@ -76,7 +76,7 @@ impl<'a> Opening<'a> {
         Ok(count)
     }
 
-    // Opens the areas with this call failing. Says whether it came.
+    // Opens the areas with this call failing. Gives whether the call was made.
     fn fails(&self, call: Call, count: &mut Count) -> Result<bool, AllocError> {
         let mut text = String::new(self.alloc);
         let disks = self.played(call, &mut text)?;
@@ -99,7 +99,7 @@ impl<'a> Opening<'a> {
         Ok(reopened(self.alloc, disks, text))
     }
 
-    // Whether an opening of these disks answers what it does where no call fails.
+    // Whether an opening of these disks has the answer that it has where no call fails.
     fn is_same(&self, disks: Disks) -> Result<bool, AllocError> {
         let mut text = String::new(self.alloc);
         let _ = reopened(self.alloc, disks, &mut text);
@@ -114,7 +114,7 @@ impl<'a> Opening<'a> {
         }
     }
 
-    // Stops the machine at this call, with each outcome of this area.
+    // Stops the machine at this call, once for each outcome of this area.
     fn stop_each(&self, disks: &Disks, call: Call, is_second: bool, count: &mut Count) -> Told {
         for (fill, _) in FILLS {
             self.stop_fill(disks, call, is_second, fill, count)?;

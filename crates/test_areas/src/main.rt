@@ -1,5 +1,5 @@
-//! The tests of the journal on two areas: its openings, its rewritings, and what a stop, a call that fails and an
-//! allocation that fails leave of them. Case files over the public surface of the journal.
+//! The tests of the journal on two areas: its openings, its rewritings, and what a stop, a failing call and a failing allocation leave.
+//! They are files of cases, and use the public functions of the journal only.
 #![tactic(auto)]
 
 mod cases;
@@ -18,7 +18,7 @@ use std::io::{self, BufRead, Write};
 use std::process::ExitCode;
 use test_cases::{Ending, Player, names_of};
 
-/// The argument that asks for the calls of which each allocation can be made to fail.
+/// The argument that asks for the calls in which each allocation can be made to fail.
 const MEMORY: &str = "memory";
 
 fn main(rt: HostRuntime) -> ExitCode {
@@ -28,7 +28,7 @@ fn main(rt: HostRuntime) -> ExitCode {
     }
 }
 
-/// Plays the files that the arguments name; says whether there is one, and each has commands that were answered as
+/// Plays the files that the arguments name; gives whether there is one, and all commands had the expected answers.
 /// expected.
 fn tested(rt: &HostRuntime) -> Result<bool, Ending> {
     let names = names_of(rt, rt.alloc())?;
@@ -50,7 +50,7 @@ fn is_right(rt: &HostRuntime, name: &str) -> Result<bool, Ending> {
     player.end()
 }
 
-/// Makes each call that allocates, again where an allocation failed, and prints whether all came out as they should.
+/// Makes each call that allocates, again where an allocation failed, and prints whether all of them gave the right result.
 fn remembers(rt: &HostRuntime) -> Result<bool, Ending> {
     let is_right = is_steady(rt.alloc())?;
     let told = if is_right {
@@ -71,7 +71,7 @@ where
     play_each(rt, player, &mut cases)
 }
 
-/// Plays each title and command. The loop owns nothing, since what a loop owns costs the proof at each way out of it.
+/// Plays each title and command. The loop owns nothing, since everything that a loop owns makes the proof more expensive at each exit.
 fn play_each<I, W>(
     rt: &HostRuntime,
     player: &mut Player<I, W>,

@@ -1,5 +1,5 @@
-//! The calls that allocate, each made again where an allocation failed. Then nothing has changed, and the second one
-//! comes to what it would have come to at once. An allocation of the test's own that fails ends it, and says nothing.
+//! The calls that allocate, each made again where an allocation failed. After the failure nothing may have changed, and the second call has
+//! to give the result that the first would have given. A failed allocation of the test itself ends it and proves nothing.
 
 use crate::disks::{Areas, Disks};
 use crate::openings::{reopened, reopened_store};
@@ -8,13 +8,13 @@ use diskmodel::MemDisk;
 use journal::Store;
 use std::alloc::{AllocError, Global};
 
-/// Room for what an opening tells, so that telling allocates nothing.
+/// Room for the answer of an opening, so that writing it allocates nothing.
 const TOLD_BYTES: usize = 8_192;
 
 /// The front of a configuration of four members, before their keys.
 const SETTINGS: [u8; 14] = [0, 2, 0, 0, 0, 50, 0, 1, 0, 16, 0, 0, 0, 4];
 
-/// Whether each call comes to what it should, also where an allocation failed.
+/// Whether each call gives the right result, also where an allocation failed.
 pub fn is_steady(alloc: Global) -> Result<bool, AllocError> {
     let records = sample(alloc)?;
     let areas = begun_areas(alloc, &records)?;
@@ -56,7 +56,7 @@ fn begun_areas(alloc: Global, records: &[Vec<u8>]) -> Result<Areas, AllocError> 
     }
 }
 
-/// Whether checkpoints of two records come to the same in both ways. The room of a draft ends within each part of the second
+/// Whether checkpoints of two records are the same in both ways of making them. The room of the draft ends within each part of the second
 /// record in turn, so that each growth of it fails once.
 fn drafts_all(alloc: Global, areas: &Areas) -> Result<bool, AllocError> {
     let mut is_right = true;
@@ -75,7 +75,7 @@ fn drafts_well(alloc: Global, areas: &Areas, length: usize) -> Result<bool, Allo
     Ok(whole.are(&draft))
 }
 
-/// The areas after a rewriting. Where an allocation of a disk failed there are none.
+/// The areas after a rewriting. None where an allocation of a disk failed.
 fn rewritten_areas(
     alloc: Global,
     areas: &Areas,
@@ -93,7 +93,7 @@ fn rewritten_areas(
     }
 }
 
-/// The same with bytes after the closed gate of the first area, which an opening has to cut.
+/// These areas with bytes after the closed gate of the first one, which an opening has to cut.
 fn after_gate(alloc: Global, areas: &Areas) -> Result<Areas, AllocError> {
     Ok(Areas {
         first: vec![in alloc; 0, 9, 9]?,
@@ -112,7 +112,7 @@ fn opens(alloc: Global, areas: &Areas) -> Result<bool, AllocError> {
     Ok(is_left && is_opened && is_same)
 }
 
-/// Opens the journal, again where that fails. Says whether an allocation that failed left the disks as they were.
+/// Opens the journal, and again if that fails. Gives whether a failed allocation left the disks as they were.
 fn opens_pair(alloc: Global, areas: &Areas, text: &mut String) -> Result<bool, AllocError> {
     let disks = reopened(alloc, Disks::of(alloc, areas)?, text);
     if text.as_str().starts_with("opened") {
@@ -156,7 +156,8 @@ fn opens_one(alloc: Global, areas: &Areas) -> Result<bool, AllocError> {
     Ok(is_left && text.as_str().starts_with("opened 0, records 7, "))
 }
 
-/// Whether an allocation failed and the disks are as they were. One of a disk itself is a failure of the device, which
+/// Whether an allocation failed and the disks are as they were. If it was an allocation of a disk itself, that is a failure of the device,
+/// and the disks need not be as before.
 /// leaves what it may.
 fn has_left(areas: &Areas, first: &MemDisk, second: &MemDisk, answer: &str) -> bool {
     let is_same = first.bytes() == areas.first.as_slice()

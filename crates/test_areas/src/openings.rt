@@ -1,4 +1,4 @@
-//! Openings of a journal, and what they tell.
+//! Openings of a journal, and their answers.
 
 use crate::disks::{Areas, Disks};
 use crate::words::{put, put_count, put_error, put_opened};
@@ -6,7 +6,7 @@ use diskmodel::MemDisk;
 use journal::{Journal, Record, Store};
 use std::alloc::{AllocError, Global};
 
-/// Opens the journal on both disks, and gives them back. Puts what the opening answers.
+/// Opens the journal on both disks, and gives the disks back. Adds the answer of the opening.
 pub fn reopened(alloc: Global, disks: Disks, text: &mut String) -> Disks {
     let Disks {
         first,
@@ -34,14 +34,14 @@ fn opened(alloc: Global, first: MemDisk, second: MemDisk, text: &mut String) -> 
     }
 }
 
-/// What an opening answers on disks that have these bytes, all of them synced.
+/// The answer of an opening on disks with these bytes, all of them synced.
 pub fn told(alloc: Global, areas: &Areas) -> Result<String, AllocError> {
     let mut text = String::new(alloc);
     let _ = reopened(alloc, Disks::of(alloc, areas)?, &mut text);
     Ok(text)
 }
 
-/// Opens what is given, one disk or two, and gives it back.
+/// Opens a journal on one disk or on two, and gives the disks back.
 pub fn reopened_store(alloc: Global, store: Store<MemDisk>, text: &mut String) -> Store<MemDisk> {
     let mut records = Vec::new(alloc);
     match Journal::open_store(alloc, store, &mut records) {
@@ -57,7 +57,7 @@ pub fn reopened_store(alloc: Global, store: Store<MemDisk>, text: &mut String) -
     }
 }
 
-/// Opens the journal, and puts how many records it has after each gate.
+/// Opens the journal, and adds how many records follow each gate.
 pub fn put_gates(alloc: Global, disks: Disks, text: &mut String) -> Disks {
     let Disks {
         first,
@@ -82,7 +82,7 @@ pub fn put_gates(alloc: Global, disks: Disks, text: &mut String) -> Disks {
     }
 }
 
-// Records after one gate stand beside each other.
+// Adds how many records follow each gate. Those of one group stand next to each other.
 fn put_each_gate(text: &mut String, records: &[Record]) {
     let mut count = 0u64;
     for (place, record) in records.iter().enumerate() {

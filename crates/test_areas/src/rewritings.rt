@@ -1,4 +1,4 @@
-//! What is written to a journal on two disks: groups, and checkpoints.
+//! Writing to a journal on two disks: groups, and checkpoints.
 
 ghost use Rattle.std.specs.Prelude.{◌≡◌, ◌≤◌, length, IsSome, Some, IfOk, IfSome};
 ghost use Rattle.journal.specs.Areas.{generation_of};
@@ -13,7 +13,7 @@ use journal::{
 };
 use std::alloc::{AllocError, Global};
 
-/// A kind of call, and which of them from now on fails, none at 0.
+/// A kind of call, and which of the next calls of this kind fails; 0 is none.
 #[derive(Clone, Copy)]
 pub struct Fault {
     pub kind: CallKind,
@@ -33,13 +33,13 @@ impl Fault {
 /// How a checkpoint is made.
 #[derive(Clone, Copy)]
 pub enum Made {
-    /// Of all records at once.
+    /// From all records at once.
     Whole,
-    /// A record at a time, each of two parts.
+    /// Record by record, each in two parts.
     Draft,
 }
 
-/// Opens the journal, which has no group yet, and adds its configuration. Puts what that answers.
+/// Opens the journal, which has no group yet, and appends its configuration. Adds the answer.
 pub fn begun(
     alloc: Global,
     disks: Disks,
@@ -72,7 +72,7 @@ pub fn begun(
     }
 }
 
-// Adds a configuration alone.
+// Appends a configuration alone.
 fn begin(
     alloc: Global,
     journal: &mut Journal<MemDisk>,
@@ -105,7 +105,7 @@ fn first_group(alloc: Global, configuration: Vec<u8>) -> Result<Option<Group>, A
     Ok(Some(group))
 }
 
-/// Opens the journal, which has a group already, and adds one of these records. Puts what that answers.
+/// Opens the journal, which has a group already, and appends these records. Adds the answer.
 pub fn appended(
     alloc: Global,
     disks: Disks,
@@ -168,7 +168,7 @@ fn append_group(journal: &mut Journal<MemDisk>, group: Group, text: &mut String)
     put_answer(text, "a group of ", journal.append(group));
 }
 
-// Puts how many records were written, or why none was.
+// Adds how many records were written, or why none was.
 fn put_answer(text: &mut String, what: &str, answer: Result<Synced, JournalError>) {
     match answer {
         Ok(synced) => put_count(text, what, synced.records(), ""),
@@ -176,7 +176,7 @@ fn put_answer(text: &mut String, what: &str, answer: Result<Synced, JournalError
     }
 }
 
-/// Opens the journal, and rewrites it to a checkpoint, in which a call may fail. Puts what that answers.
+/// Opens the journal, and rewrites it to a checkpoint, during which a call may fail. Adds the answer.
 pub fn rewritten(
     alloc: Global,
     disks: Disks,
@@ -249,7 +249,7 @@ fn rewrite_to(journal: &mut Journal<MemDisk>, snapshot: Snapshot, text: &mut Str
     }
 }
 
-/// The records of a checkpoint, of which the first one is a configuration, and how it is made of them.
+/// The records of a checkpoint, the first of which is a configuration, and how the checkpoint is made of them.
 #[derive(Clone, Copy)]
 pub struct Checkpoint<'a> {
     pub records: &'a [Vec<u8>],
@@ -257,7 +257,7 @@ pub struct Checkpoint<'a> {
 }
 
 impl Checkpoint<'_> {
-    /// The checkpoint, or `None` where there is none of these records.
+    /// The checkpoint; None where these records have none.
     pub fn made(&self, alloc: Global) -> Result<Option<Snapshot>, AllocError> {
         match self.made {
             Made::Whole => whole(alloc, self.records),
@@ -272,7 +272,7 @@ fn whole(alloc: Global, records: &[Vec<u8>]) -> Result<Option<Snapshot>, AllocEr
     }
     match Snapshot::new(alloc, records) {
         Ok(snapshot) => Ok(snapshot),
-        // An allocation that failed succeeds the next time.
+        // After a failed allocation the next try succeeds.
         Err(_) => Snapshot::new(alloc, records),
     }
 }
@@ -304,7 +304,7 @@ pub fn draft_of(alloc: Global, configuration: &[u8]) -> Result<Option<SnapshotDr
     }
     match SnapshotDraft::new(alloc, configuration) {
         Ok(draft) => Ok(Some(draft)),
-        // An allocation that failed succeeds the next time.
+        // After a failed allocation the next try succeeds.
         Err(_) => Ok(Some(SnapshotDraft::new(alloc, configuration)?)),
     }
 }
@@ -316,7 +316,7 @@ fn push_all(draft: &mut SnapshotDraft, records: &[Vec<u8>]) -> Result<(), AllocE
     Ok(())
 }
 
-/// Adds a record of two parts. One that is too long for a group isn't added.
+/// Adds a record in two parts. One that is too long for a group isn't added.
 pub fn push(draft: &mut SnapshotDraft, record: &[u8]) -> Result<(), AllocError> {
     if record.len() > MAX_GROUP_BYTES - LENGTH_BYTES {
         return Ok(());
@@ -324,7 +324,7 @@ pub fn push(draft: &mut SnapshotDraft, record: &[u8]) -> Result<(), AllocError> 
     let (left, right) = record.split_at(record.len() / 2);
     match draft.push(&[left, right]) {
         Ok(()) => Ok(()),
-        // The draft is as it was, so that the record is added once.
+        // The failed call has left the draft as it was, so the record is added only once.
         Err(_) => draft.push(&[left, right]),
     }
 }

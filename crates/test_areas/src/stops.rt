@@ -1,4 +1,4 @@
-//! A rewriting that is stopped at each moment, or of which a call fails, and what the openings after it find.
+//! Rewritings that are stopped at each moment, or in which a call fails, and what the openings after them find.
 
 use crate::disks::{Areas, Disks, FILLS, Fill, longest, longest_outcome, outcome};
 use crate::openings::{reopened, told};
@@ -7,7 +7,7 @@ use crate::words::{Told, put, put_count};
 use diskmodel::CallKind;
 use std::alloc::{AllocError, Global};
 
-/// The calls of a rewriting in their order, each by its kind and how many of that kind there are up to it.
+/// The calls of a rewriting in their order, each by its kind and its number among the calls of that kind.
 const CALLS: [(CallKind, u64); 8] = [
     (CallKind::Write, 1),
     (CallKind::Sync, 1),
@@ -19,22 +19,22 @@ const CALLS: [(CallKind, u64); 8] = [
     (CallKind::Sync, 4),
 ];
 
-/// More calls of a kind than an opening makes.
+/// A number of calls of one kind that no opening reaches.
 const MOST_CALLS: u64 = 32;
 
-/// A rewriting of a journal, and what openings before it and after it answer.
+/// A rewriting of a journal, and the answers of openings before it and after it.
 #[derive(Drop)]
 pub struct Trial<'a> {
     alloc: Global,
     areas: &'a Areas,
     checkpoint: Checkpoint<'a>,
-    /// The area that is written is the second one.
+    /// Whether the area that is written is the second one.
     is_second: bool,
     before: String,
     after: String,
 }
 
-/// How many openings found the records of before, those of the checkpoint, and others.
+/// How many openings found the earlier records, those of the checkpoint, and others.
 #[derive(Clone, Copy)]
 struct Found {
     old: u64,
@@ -75,7 +75,7 @@ impl<'a> Trial<'a> {
         })
     }
 
-    /// For each number of calls that were made before a stop, what openings find after it.
+    /// Shows for each number of calls before a stop what openings find after the stop.
     pub fn tell_stops(&self, answer: &mut String) -> Told {
         for done in 0..=CALLS.len() {
             self.tell_moment(done, answer)?;
@@ -94,7 +94,7 @@ impl<'a> Trial<'a> {
         Ok(())
     }
 
-    // What openings find after stops of each length, which leave such bytes.
+    // What openings find after stops with this fill that leave bytes of each length.
     fn found(&self, done: usize, fill: Fill) -> Result<Found, AllocError> {
         let mut found = Found::none();
         let disks = self.stopped(done)?;
@@ -104,7 +104,7 @@ impl<'a> Trial<'a> {
         Ok(found)
     }
 
-    // The disks after so many calls of the rewriting, of which the next one fails.
+    // The disks after so many calls of the rewriting, with the next one failing.
     fn stopped(&self, done: usize) -> Result<Disks, AllocError> {
         let mut text = String::new(self.alloc);
         self.played(done, &mut text)
@@ -122,7 +122,7 @@ impl<'a> Trial<'a> {
         rewritten(self.alloc, disks, self.checkpoint, fault, text)
     }
 
-    // Counts what an opening finds after a stop that leaves bytes of this length, if one may.
+    // Counts what an opening finds after a stop that leaves bytes of this length, if that is possible.
     fn count(
         &self,
         disks: &Disks,
@@ -153,7 +153,7 @@ impl<'a> Trial<'a> {
         }
     }
 
-    /// What each call answers that fails, and what an opening finds after it.
+    /// Shows the answer of each call of a rewriting that fails, and what an opening finds after that.
     pub fn tell_failures(&self, answer: &mut String) -> Told {
         for done in 0..CALLS.len() {
             self.tell_failure(done, answer)?;
@@ -174,8 +174,8 @@ impl<'a> Trial<'a> {
         Ok(())
     }
 
-    /// For each number of calls that were made before a stop, what is found at last where an opening after it is
-    /// stopped too, at each of its calls that change or sync a disk.
+    /// Shows for each number of calls before a stop what is found at last, where an opening after the stop is stopped too, at each of its
+    /// calls that change or sync a disk.
     pub fn tell_seconds(&self, answer: &mut String) -> Told {
         for done in 0..=CALLS.len() {
             self.tell_second(done, answer)?;
@@ -209,7 +209,7 @@ impl<'a> Trial<'a> {
         Ok(())
     }
 
-    // Stops an opening after a stop, at this call. Says whether the call came.
+    // Stops an opening after a stop, at this call. Gives whether the call was made.
     fn stop_opening(
         &self,
         done: usize,
@@ -249,7 +249,7 @@ impl<'a> Trial<'a> {
         Ok(())
     }
 
-    // The disks after a stop, and an opening in which this call fails.
+    // The disks after a stop, and then an opening in which this call fails.
     fn opened(
         &self,
         done: usize,
@@ -267,7 +267,7 @@ impl<'a> Trial<'a> {
     }
 }
 
-// How many openings there were, and which records they found.
+// Adds how many openings there were, and which records they found.
 fn put_kinds(answer: &mut String, found: Found) {
     let count = found.old.saturating_add(found.new);
     put_count(answer, "openings ", count, "");

@@ -1,4 +1,4 @@
-//! The words of a command, and the parts of its answer.
+//! The words of commands, and the parts of answers.
 
 use diskmodel::{Call, MemDisk};
 use journal::{Journal, JournalError, Record};
@@ -6,16 +6,16 @@ use std::alloc::{AllocError, Global};
 pub use test_cases::{Told, bad, put};
 use test_cases::{bytes_of, write_hex};
 
-/// A word after a command's name.
+/// A word that follows a command's name.
 #[derive(Drop)]
 pub enum Word {
     Number(u64),
-    /// `x`, and then digits.
+    /// Bytes: an `x`, and then digits.
     Bytes(Vec<u8>),
     Bad,
 }
 
-/// The texts before and after the first blank; where there is none, the whole one and nothing.
+/// The texts before and after the first blank; the whole text and nothing where there is no blank.
 pub fn parted(text: &str) -> (&str, &str) {
     text.split_once(' ').unwrap_or((text, ""))
 }
@@ -42,7 +42,7 @@ fn word_of(alloc: Global, word: &str) -> Result<Word, AllocError> {
     }
 }
 
-/// The records of these words, or `None` without any, or with a word that is no bytes.
+/// The records in these words; None where there is no word, or one that isn't bytes.
 pub fn listed(alloc: Global, words: &[Word]) -> Result<Option<Vec<Vec<u8>>>, AllocError> {
     let mut records = Vec::new(alloc);
     for word in words {
@@ -54,7 +54,7 @@ pub fn listed(alloc: Global, words: &[Word]) -> Result<Option<Vec<Vec<u8>>>, All
     Ok(is_whole.then_some(records))
 }
 
-/// Answers a command that is none.
+/// Adds the answer to a line that is no command.
 pub fn told_bad(answer: &mut String) -> Told {
     bad(answer);
     Ok(())
@@ -71,7 +71,7 @@ pub fn put_bytes(text: &mut String, bytes: &[u8]) {
     let _ = write_hex(text, bytes);
 }
 
-/// Puts an error, and where damage is.
+/// Adds an error, and the place of damage.
 pub fn put_error(text: &mut String, error: JournalError) {
     let _ = write!(text, "{error}");
     if let JournalError::Damaged(place) = error {
@@ -79,7 +79,7 @@ pub fn put_error(text: &mut String, error: JournalError) {
     }
 }
 
-/// Puts that a journal was opened, its generation, how many records it gave, and each after the place of its gate.
+/// Adds that a journal was opened, its generation, the number of its records, and each record after the place of its gate.
 pub fn put_opened(text: &mut String, journal: &Journal<MemDisk>, records: &[Record]) {
     put_count(text, "opened ", journal.generation(), "");
     put_count(text, ", records ", records.len() as u64, "");
@@ -89,7 +89,7 @@ pub fn put_opened(text: &mut String, journal: &Journal<MemDisk>, records: &[Reco
     }
 }
 
-/// Puts these calls of a disk, the bytes of a write where it is of one, and else how many they are.
+/// Adds these calls of a disk, separated by commas: of a write its bytes, if it has only one, and otherwise how many it has.
 pub fn put_calls(text: &mut String, calls: &[Call]) {
     if calls.is_empty() {
         put(text, " none");

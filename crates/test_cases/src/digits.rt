@@ -3,7 +3,7 @@
 use hex::{FromHexError, decode};
 use std::alloc::{AllocError, Global};
 
-/// The bytes of pairs of the digits 0-9, a-f; nothing where another character stands there, or a digit is left over.
+/// The bytes of pairs of the digits 0-9 and a-f; None where there is another character, or a digit is left over.
 pub fn bytes_of(alloc: Global, word: &str) -> Result<Option<Vec<u8>>, AllocError> {
     if word.as_bytes().iter().any(|byte| byte.is_ascii_uppercase()) {
         return Ok(None);

@@ -1,5 +1,4 @@
-//! Case files of the tests: commands, the answers that are expected of them, and a report of those that came out
-//! otherwise.
+//! Files of cases for tests: commands, the answers that are expected, and a report of the answers that differ.
 #![tactic(auto)]
 
 mod digits;

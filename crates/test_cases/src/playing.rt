@@ -1,13 +1,13 @@
-//! A case file, line by line. A line `== TITLE` begins a case, a line `> TEXT` is an expected line of the answer of the command
-//! above it, a line that begins with `#` and an empty one are passed over, and any other line is a command.
+//! Playing a file of cases, line by line. A line `== TITLE` begins a case; a line `> TEXT` is an expected line of the answer to the command
+//! above it; empty lines, and lines that begin with `#`, are skipped; any other line is a command.
 
 use std::alloc::{AllocError, AllocFailed, Global};
 use std::io::{self, BufRead, Write};
 
-/// Why a case file wasn't played to its end.
+/// Why a file of cases wasn't played to its end.
 #[derive(Drop)]
 pub enum Ending {
-    /// Memory was refused.
+    /// An allocation failed.
     Memory,
     /// A read of the file or a write of the report failed.
     InputOutput,
@@ -31,20 +31,20 @@ impl From<io::Error> for Ending {
     }
 }
 
-/// How far a case file was played.
+/// How far a file of cases was played.
 #[derive(Drop)]
 struct Score {
-    /// What the last command answered.
+    /// The answer to the last command.
     answer: String,
-    /// What was expected of it.
+    /// The expected answer to the last command.
     expected: String,
-    /// The line of the last command.
+    /// The number of the last command's line.
     last: u64,
     commands: u64,
     wrong: u64,
 }
 
-/// Compares the answer of the last command with what was expected of it.
+/// Compares the answer to the last command with the expected one.
 fn close<W: Write>(name: &str, writer: &mut W, score: &mut Score) -> Result<(), Ending> {
     let (answer, expected, last) = (score.answer.as_str(), score.expected.as_str(), score.last);
     if answer != expected {
@@ -59,7 +59,7 @@ fn close<W: Write>(name: &str, writer: &mut W, score: &mut Score) -> Result<(), 
     Ok(())
 }
 
-/// A case file that is played, and the report of the answers that came out otherwise than expected.
+/// A file of cases that is being played, and the report of the answers that differ from the expected ones.
 pub struct Player<'a, R: BufRead + Drop, W: Write + Drop> {
     name: &'a str,
     reader: R,
@@ -83,7 +83,7 @@ impl<'a, R: BufRead + Drop, W: Write + Drop> Drop for Player<'a, R, W> {
 }
 
 impl<'a, R: BufRead + Drop, W: Write + Drop> Player<'a, R, W> {
-    /// Before the first line of the file of this name.
+    /// A player before the first line of the file with this name.
     pub fn new(alloc: Global, name: &'a str, reader: R, writer: W) -> Player<'a, R, W> {
         Player {
             name,
@@ -101,7 +101,7 @@ impl<'a, R: BufRead + Drop, W: Write + Drop> Player<'a, R, W> {
         }
     }
 
-    /// Goes on to the next title or command, if there is one, and compares the answer of the command before it.
+    /// Moves on to the next title or command, if there is one, and compares the answer to the command before it.
     pub fn advance(&mut self) -> Result<bool, Ending> {
         for _ in 1..u64::MAX {
             self.line.clear();
@@ -136,7 +136,7 @@ impl<'a, R: BufRead + Drop, W: Write + Drop> Player<'a, R, W> {
         Ok(true)
     }
 
-    /// Whether a case begins, and not a command.
+    /// Whether the line begins a case; otherwise it is a command.
     pub fn is_title(&self) -> bool {
         self.line.starts_with("== ")
     }
@@ -146,13 +146,13 @@ impl<'a, R: BufRead + Drop, W: Write + Drop> Player<'a, R, W> {
         self.line.trim_end_matches('\n')
     }
 
-    /// Takes the lines that the command answers.
+    /// Takes the answer to the command.
     pub fn answered(&mut self, answer: &str) -> Result<(), Ending> {
         self.score.answer.push_str(answer)?;
         Ok(())
     }
 
-    /// Prints how many commands the file had; says whether there was one, and all was as expected.
+    /// Prints how many commands the file had; gives whether there was one, and all answers were as expected.
     pub fn end(mut self) -> Result<bool, Ending> {
         let (name, commands, wrong) = (self.name, self.score.commands, self.score.wrong);
         writeln!(

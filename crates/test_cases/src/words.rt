@@ -1,8 +1,8 @@
-//! What the commands of all cases have in common. An answer is cut short where memory is refused, and then isn't as expected.
+//! What the commands of all files have in common. If an allocation fails an answer is cut short, and then isn't as expected.
 
 use std::alloc::AllocError;
 
-/// That a command was carried out, unless memory was refused.
+/// The result of carrying out a command: an error if an allocation failed.
 pub type Told = Result<(), AllocError>;
 
 /// Adds a part.
@@ -10,7 +10,7 @@ pub fn put(answer: &mut String, part: &str) {
     let _ = answer.push_str(part);
 }
 
-/// Says that a command is none.
+/// Adds the answer to a line that is no command.
 pub fn bad(answer: &mut String) {
     put(answer, "bad case\n");
 }

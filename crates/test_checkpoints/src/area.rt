@@ -12,11 +12,11 @@ use std::alloc::{AllocError, Global};
 use test_cases::{Told, write_hex};
 use validator::Validator;
 
-/// Adds the bytes of an area that was rewritten to a validator's checkpoint: the second one of a journal in memory, whose
-/// first one has the record of its configuration alone.
+/// Adds the bytes of an area that was rewritten to a validator's checkpoint: the second area of a journal in memory, whose first one has
+/// the record of its configuration alone.
 ///
 /// # Errors
-/// When memory runs out, and where the journal isn't written.
+/// An allocation failed, or the journal couldn't be written.
 pub fn tell_area(alloc: Global, validator: &Validator<'_, HashSign>, answer: &mut String) -> Told {
     let first = MemDisk::new(alloc, Vec::new(alloc))?;
     let second = MemDisk::new(alloc, Vec::new(alloc))?;
@@ -30,7 +30,7 @@ pub fn tell_area(alloc: Global, validator: &Validator<'_, HashSign>, answer: &mu
     answer.push_str("\n")
 }
 
-/// Writes the configuration to the one area, and the checkpoint to the other.
+/// Writes the configuration to the first area, and the checkpoint to the second.
 fn write(alloc: Global, journal: &mut Journal<MemDisk>, validator: &Validator<'_, HashSign>) -> Told
     requires alive { IsAlive ⟦<MemDisk as Disk>⟧.device journal.old }
     requires pair { IsSome (spare_of journal.old) }
@@ -45,7 +45,7 @@ fn write(alloc: Global, journal: &mut Journal<MemDisk>, validator: &Validator<'_
     }
 }
 
-/// Adds the group of a configuration alone. Says whether no call failed.
+/// Appends the group of a configuration alone. Gives whether no call failed.
 fn add_first(
     alloc: Global,
     journal: &mut Journal<MemDisk>,
@@ -80,7 +80,7 @@ fn first_group(alloc: Global, configuration: Vec<u8>) -> Result<Option<Group>, A
     Ok(Some(group))
 }
 
-/// Rewrites the other area to the validator's checkpoint.
+/// Rewrites the spare area to the validator's checkpoint.
 fn rewrite(journal: &mut Journal<MemDisk>, validator: &Validator<'_, HashSign>) -> Told
     requires alive { IsAlive ⟦<MemDisk as Disk>⟧.device journal.old }
     requires pair { IsSome (spare_of journal.old) }

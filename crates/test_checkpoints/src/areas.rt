@@ -4,16 +4,16 @@ use diskmodel::MemDisk;
 use std::alloc::{AllocError, Global};
 use test_cases::Told;
 
-/// The value of a gate that is written to open it, and of one that is closed.
+/// The values of a gate that was opened, and of a closed one.
 const OPEN: u8 = 1;
 
 const CLOSED: u8 = 0;
 
-/// A batch of member 2 and worker 0, with one transaction of four bytes, has these bytes before them in a group: the length of its record, the
-/// kind of an event, the sender, and the message.
+/// The first bytes in a group of a batch of member 2 and worker 0 with one transaction of four bytes: the length of its record, the kind of
+/// an event, the sender, and the message without the transaction.
 const BATCH: [u8; 20] = [0, 0, 0, 20, 1, 0, 2, 1, 0, 2, 0, 0, 0, 0, 0, 1, 0, 0, 0, 4];
 
-/// How many bytes such a batch has in a group.
+/// How many bytes such a batch takes in a group.
 const BATCH_BYTES: u32 = 24;
 
 /// The bytes of both areas.
@@ -24,7 +24,7 @@ pub struct Areas {
 }
 
 impl Areas {
-    /// Both without a byte.
+    /// Two areas without a byte.
     pub fn none(alloc: Global) -> Areas {
         Areas {
             first: Vec::new(alloc),
@@ -37,7 +37,7 @@ impl Areas {
         if is_second { &self.second } else { &self.first }
     }
 
-    /// These areas, of which one is cut to a length.
+    /// These areas, with one of them cut to a length.
     pub fn cut(&self, alloc: Global, is_second: bool, length: usize) -> Result<Areas, AllocError> {
         let mut areas = self.copied(alloc)?;
         if is_second {
@@ -48,7 +48,7 @@ impl Areas {
         Ok(areas)
     }
 
-    /// These areas, of which one has so much more in the byte at a place.
+    /// These areas, with this number added to one byte of one of them.
     pub fn changed(
         &self,
         alloc: Global,
@@ -79,7 +79,7 @@ fn change(bytes: &mut [u8], place: usize, more: u8) {
     }
 }
 
-/// Whether two disks have the same bytes, but for the value of a first gate that is open on both.
+/// Whether two disks have the same bytes, except for the value of a first gate that is open on both.
 pub fn are_alike(left: &MemDisk, right: &MemDisk) -> bool {
     match (left.bytes().split_first(), right.bytes().split_first()) {
         (Some((gate, rest)), Some((other, others))) => {
@@ -90,7 +90,7 @@ pub fn are_alike(left: &MemDisk, right: &MemDisk) -> bool {
     }
 }
 
-/// Adds a group of so many batches of member 2, each with its number from this one on, and opens the gate before it.
+/// Appends a group of so many batches of member 2, numbered from this one on, and opens the gate before it.
 pub fn add_batches(area: &mut Vec<u8>, from: u32, count: u32) -> Told {
     if let Some(gate) = area.last_mut() {
         *gate = OPEN;

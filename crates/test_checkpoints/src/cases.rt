@@ -7,10 +7,10 @@ use std::alloc::Global;
 use std::io::{BufRead, Write};
 use test_cases::{Ending, Player, Told};
 
-/// The command after which the events of a history stand, up to the next title.
+/// The command that precedes the events of a history; these end at the next title.
 const EVENTS: &str = "tell outputs";
 
-/// What the cases are put to.
+/// The state that the commands of a case work on.
 #[derive(Drop)]
 pub struct Cases {
     lists: Lists,
@@ -19,7 +19,7 @@ pub struct Cases {
 }
 
 impl Cases {
-    /// As before the first case.
+    /// The state before the first case.
     pub fn new(alloc: Global) -> Cases {
         Cases {
             lists: Lists::new(alloc),
@@ -28,7 +28,7 @@ impl Cases {
         }
     }
 
-    /// How many lists with records of a state were read, and written again as they were.
+    /// How many lists with records of a state were read and then written again with the same bytes.
     pub fn written_alike(&self) -> u64 {
         self.lists.written_alike()
     }
@@ -39,7 +39,7 @@ impl Cases {
         self.setup.begin()
     }
 
-    /// Carries out a command, and adds the lines that it answers.
+    /// Carries out a command, and adds the lines of its answer.
     pub fn obey(&mut self, command: &str, answer: &mut String) -> Told {
         let (name, _) = command.split_once(' ').unwrap_or((command, ""));
         match name {
@@ -80,7 +80,7 @@ impl Cases {
     }
 }
 
-/// Plays each command up to the next title. The loop owns nothing, as in `main.rt`.
+/// Plays each command up to the next title. The loop owns nothing, for the reason given in `main.rt`.
 fn play_each<I, W>(
     rt: &HostRuntime,
     player: &mut Player<I, W>,

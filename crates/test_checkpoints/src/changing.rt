@@ -1,4 +1,4 @@
-//! Lists in which one byte is changed, and what loading each of them is answered.
+//! Lists in which one byte is changed, and the results of loading them.
 
 use crate::loading::{copied, load, told_load};
 use crate::nodes::Member;
@@ -7,15 +7,15 @@ use std::alloc::Global;
 use test_cases::Told;
 use validator::LoadError;
 
-/// Places of records that are counted one by one.
+/// For how many places of records faults are counted one by one.
 const PLACES: usize = 16;
 
-/// To what a byte is changed.
+/// Which changes of a byte are tried.
 #[derive(Clone, Copy)]
 pub enum Change {
-    /// To each other value.
+    /// Every other value.
     Values,
-    /// To each value that differs in one bit.
+    /// Every value that differs in one bit.
     Bits,
 }
 
@@ -28,14 +28,14 @@ impl Change {
     }
 }
 
-/// How often loading was answered what.
+/// How often loading had which result.
 #[derive(Clone, Copy)]
 struct Counts {
     lists: u64,
     loaded: u64,
     unsound: [u64; PLACES],
     unsound_whole: u64,
-    /// How often the plain program answered otherwise, or the place is none of those that are counted.
+    /// How often the reference implementation had another result, or the place isn't among those that are counted.
     others: u64,
 }
 
@@ -91,7 +91,7 @@ impl Counts {
     }
 }
 
-/// Adds how often something was answered, where it was.
+/// Adds how often a result occurred, if it did.
 fn tell_count(name: &str, count: u64, answer: &mut String) -> Told {
     if count == 0 {
         return Ok(());
@@ -99,7 +99,7 @@ fn tell_count(name: &str, count: u64, answer: &mut String) -> Told {
     writeln!(answer, "{name}: {count}")
 }
 
-/// A list of which one byte after the other is changed, for a validator and the plain program.
+/// A list in which one byte after the other is changed, for a validator and the reference implementation.
 #[derive(Drop)]
 struct Changing<'m> {
     alloc: Global,
@@ -109,7 +109,7 @@ struct Changing<'m> {
     counts: Counts,
 }
 
-/// Changes each byte of a list, and tells how often which answer came.
+/// Changes each byte of a list, and shows how often which result occurred.
 pub fn change_bytes(
     alloc: Global,
     member: &Member,
@@ -167,7 +167,7 @@ impl Changing<'_> {
         }
     }
 
-    /// Loads the list with this byte in both ways, and counts what that is answered.
+    /// Loads the list with this byte in both ways, and counts the result.
     fn try_value(&mut self, place: usize, at: usize, value: u8) -> Told {
         self.set_byte(place, at, value);
         let plain = load_answer(self.alloc, &self.member.node, &self.records)?;

@@ -1,4 +1,4 @@
-//! Openings of a node on two areas of which one byte is changed, and how often each answer came.
+//! Openings of a node on two areas in which one byte is changed, and how often each result occurred.
 
 use crate::areas::Areas;
 use crate::disks::Disks;
@@ -7,14 +7,14 @@ use crate::nodes::Member;
 use std::alloc::{AllocError, Global};
 use test_cases::Told;
 
-/// An answer without a node, and how often it came.
+/// A result without a node, and how often it occurred.
 #[derive(Drop)]
 struct Refused {
     text: String,
     times: u64,
 }
 
-/// Areas of which one byte after the other is changed, and how often their openings were answered what.
+/// Areas in which one byte after the other is changed, and how often their openings had which result.
 #[derive(Drop)]
 pub struct Damages<'a> {
     alloc: Global,
@@ -24,14 +24,14 @@ pub struct Damages<'a> {
     /// What is found without a change, and how often the same was found with one.
     unchanged: String,
     same: u64,
-    /// How often another node was found, and the sum over what was told of them.
+    /// How often another node was found, and a sum over what was shown of those nodes.
     other: u64,
     sum: u64,
     refused: Vec<Refused>,
 }
 
 impl<'a> Damages<'a> {
-    /// Those of one of these areas.
+    /// The changes of one of these areas.
     pub fn new(
         alloc: Global,
         member: &'a Member,
@@ -52,7 +52,7 @@ impl<'a> Damages<'a> {
         })
     }
 
-    /// Changes each byte of the area to each other value, and tells how often each answer came.
+    /// Changes each byte of the area to each other value, and shows how often each result occurred.
     pub fn tell_all(&mut self, answer: &mut String) -> Told {
         for place in 0..self.areas.of_area(self.is_second).len() {
             self.change(place)?;

@@ -5,7 +5,7 @@ use diskmodel::{Call, CallKind, Disk, MemDisk, StopDisk, Switch};
 use std::alloc::{AllocError, Global};
 use test_cases::Told;
 
-/// Both disks.
+/// The two disks of a journal.
 #[derive(Drop)]
 pub struct Disks {
     pub first: MemDisk,
@@ -21,7 +21,7 @@ impl Disks {
         })
     }
 
-    /// The same, of which the call with this number of its kind fails. Those of both disks are counted.
+    /// Disks that have these bytes, with the call of this number and kind set to fail, counting the calls of both.
     pub fn failing(
         alloc: Global,
         areas: &Areas,
@@ -35,7 +35,7 @@ impl Disks {
         Ok(Disks { first, second })
     }
 
-    /// The same disks once more, which had these bytes at first.
+    /// A copy of the disks, which had these bytes at first.
     pub fn again(&self, alloc: Global, areas: &Areas) -> Result<Disks, AllocError> {
         let mut disks = Disks::of(alloc, areas)?;
         repeat(&mut disks.first, self.first.calls());
@@ -48,7 +48,7 @@ impl Disks {
         if is_second { &self.second } else { &self.first }
     }
 
-    /// Stops the machine, which leaves these bytes of an area, and of the other one what a read gives. Says whether it may.
+    /// Stops the machine. It leaves these bytes of one area, and of the other area what a read gives. Gives whether that is possible.
     pub fn stop(&mut self, is_second: bool, bytes: Vec<u8>) -> bool {
         if is_second {
             self.first.stop();
@@ -60,7 +60,7 @@ impl Disks {
     }
 }
 
-/// Makes calls of a disk that had the same bytes.
+/// Repeats calls on a disk that had the same bytes at first.
 fn repeat(disk: &mut MemDisk, calls: &[Call]) {
     for call in calls {
         make(disk, call);
@@ -139,7 +139,7 @@ fn is_durable(disk: &MemDisk) -> bool {
     disk.bytes() == disk.durable() && (0..length).all(|place| !disk.is_written(place))
 }
 
-/// Adds what may be left of each length that is tried, in which this byte stands wherever what was synced may be lost.
+/// Adds what may be left for each length that is tried, with this byte wherever the disk may have lost what was synced.
 fn add_torn(alloc: Global, disk: &MemDisk, byte: u8, outcomes: &mut Vec<Vec<u8>>) -> Told {
     for length in lengths(alloc, disk)? {
         let left = torn(alloc, disk, byte, length)?;
@@ -150,7 +150,7 @@ fn add_torn(alloc: Global, disk: &MemDisk, byte: u8, outcomes: &mut Vec<Vec<u8>>
     Ok(())
 }
 
-/// The lengths that are tried of what is left of a disk: that of the last sync, the one that a read gives, and half of the greater one.
+/// The lengths of what is left of a disk that are tried: that of the last sync, the current one, and half of the greater one.
 fn lengths(alloc: Global, disk: &MemDisk) -> Result<Vec<usize>, AllocError> {
     let (synced, read) = (disk.durable().len(), disk.bytes().len());
     let mut lengths = Vec::new(alloc);
@@ -167,7 +167,7 @@ fn add_once(lengths: &mut Vec<usize>, length: usize) -> Told {
     Ok(())
 }
 
-/// Bytes of this length, in which this one stands wherever the disk may have lost what was synced.
+/// Bytes of this length, with this byte wherever the disk may have lost what was synced.
 fn torn(alloc: Global, disk: &MemDisk, byte: u8, length: usize) -> Result<Vec<u8>, AllocError> {
     let mut bytes = Vec::new(alloc);
     for place in 0..length {
@@ -176,7 +176,7 @@ fn torn(alloc: Global, disk: &MemDisk, byte: u8, length: usize) -> Result<Vec<u8
     Ok(bytes)
 }
 
-/// A byte that has to stay, or this one.
+/// The byte at a place if a stop can't change it, and otherwise this byte.
 fn left_at(disk: &MemDisk, byte: u8, place: usize) -> u8 {
     if place >= disk.bytes().len() || disk.is_written(place as u64) {
         return byte;

@@ -1,5 +1,5 @@
-//! Histories of events. A validator takes them; on the way more of them are loaded from its records, and have to answer the
-//! next events as it does.
+//! Histories of events. A validator takes them; in between more validators are loaded from its records, and have to answer the next events
+//! as it does.
 
 mod answers;
 mod counts;

@@ -1,5 +1,5 @@
-//! A list of records: what the plain program and a validator answer of it, and what a validator that is loaded from it then
-//! does.
+//! A list of records: the answers of the reference implementation and of a validator to it, and what a validator that is loaded from it
+//! then does.
 
 use crate::changing::{Change, change_bytes};
 use crate::loading::compare_loads;
@@ -12,7 +12,7 @@ use sim_script::FormError;
 use std::alloc::{AllocError, Global};
 use test_cases::{Told, bad};
 
-/// A list of records, with the node of its case and the events that come after it.
+/// A list of records, with the node of its case and the events that follow it.
 #[derive(Clone, Copy)]
 pub struct List<'l> {
     pub alloc: Global,
@@ -22,7 +22,7 @@ pub struct List<'l> {
 }
 
 impl List<'_> {
-    /// Answers the command that ends the list. Says whether records of a state were written again as they were.
+    /// Answers the command that ends the list. Gives whether records of a state were written again with the same bytes.
     pub fn obey(&self, name: &str, words: &str, answer: &mut String) -> Result<bool, AllocError> {
         match name {
             "load" | "load-all" | "load-none" => self.load(answer),
@@ -37,7 +37,7 @@ impl List<'_> {
         }
     }
 
-    /// Answers what loading the list is answered, by the plain program and by validators.
+    /// Adds the result of loading the list, by the reference implementation and by validators.
     fn load(&self, answer: &mut String) -> Result<bool, AllocError> {
         let plain = load_answer(self.alloc, &self.member.node, self.records)?;
         writeln!(answer, "{plain}")?;
@@ -51,7 +51,7 @@ impl List<'_> {
         is_written_alike(self.alloc, &self.member.node, self.records, answer)
     }
 
-    /// Gives the events to a validator that is loaded from the list, or has taken nothing.
+    /// Gives the events to a validator that is loaded from the list, or to a fresh one.
     fn play(&self, name: &str, looks: &str, answer: &mut String) -> Result<(), FormError> {
         let play = Play {
             events: self.events,
@@ -63,7 +63,7 @@ impl List<'_> {
         }
     }
 
-    /// Answers how often which answer comes where one byte of the list is changed.
+    /// Adds how often which result occurs when one byte of the list is changed.
     fn change(&self, name: &str, answer: &mut String) -> Told {
         let change = match name {
             "change-values" => Change::Values,
@@ -74,8 +74,8 @@ impl List<'_> {
     }
 }
 
-/// Whether there are records after the configuration, which are read, and written again as they were. What is read has
-/// one spelling, so the answer has a line more where it is written otherwise, and is then not as expected.
+/// Whether there are records after the configuration that can be read, and that are written again with the same bytes. Each state has only
+/// one encoding; if it is written otherwise, the answer gets an extra line, and then isn't as expected.
 fn is_written_alike(
     alloc: Global,
     node: &Node<HashSign>,
@@ -97,7 +97,7 @@ fn is_written_alike(
     Ok(true)
 }
 
-/// That something was played, unless memory was refused.
+/// The result of playing a case: an error if an allocation failed.
 pub fn told(played: Result<(), FormError>, answer: &mut String) -> Told {
     match played {
         Ok(()) => Ok(()),

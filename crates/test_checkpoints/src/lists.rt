@@ -1,4 +1,4 @@
-//! The commands of a case, which spell lists of records.
+//! The commands of a case, which write down lists of records.
 
 use crate::list::List;
 use crate::nodes::{Member, member_of};
@@ -9,7 +9,7 @@ use sigface::HashSign;
 use std::alloc::Global;
 use test_cases::{Told, bad, write_hex};
 
-/// The node of a case, the list that its commands are spelling, and the events that come after it.
+/// The node of a case, the list that its commands are writing down, and the events that follow it.
 #[derive(Drop)]
 pub struct Lists {
     alloc: Global,
@@ -18,12 +18,12 @@ pub struct Lists {
     events: Vec<String>,
     /// The areas of a journal on two disks.
     pair: Pair,
-    /// How many lists with records of a state were read, and written again as they were, over all cases.
+    /// How many lists with records of a state were read and then written again with the same bytes, over all cases.
     written_alike: u64,
 }
 
 impl Lists {
-    /// As before the first case.
+    /// The state before the first case.
     pub fn new(alloc: Global) -> Lists {
         Lists {
             alloc,
@@ -35,7 +35,7 @@ impl Lists {
         }
     }
 
-    /// How many lists with records of a state were read, and written again as they were, over all cases.
+    /// How many lists with records of a state were read and then written again with the same bytes, over all cases.
     pub fn written_alike(&self) -> u64 {
         self.written_alike
     }
@@ -52,7 +52,7 @@ impl Lists {
         self.events.clear();
     }
 
-    /// Carries out a command, and adds the lines that it answers.
+    /// Carries out a command, and adds the lines of its answer.
     pub fn obey(&mut self, command: &str, answer: &mut String) -> Told {
         let (name, words) = command.split_once(' ').unwrap_or((command, ""));
         match name {
@@ -74,7 +74,7 @@ impl Lists {
         Ok(())
     }
 
-    /// One more record of the list, after its colon.
+    /// Adds one more record to the list: the bytes after the colon.
     fn add_record(&mut self, words: &str, answer: &mut String) -> Told {
         let digits = words.strip_prefix(":").unwrap_or(words);
         match bytes_in(self.alloc, digits)? {
@@ -84,7 +84,7 @@ impl Lists {
         Ok(())
     }
 
-    /// Ends the list by this command, and begins the next one.
+    /// Ends the list with this command, and begins the next one.
     fn end(&mut self, name: &str, words: &str, answer: &mut String) -> Told {
         match &self.member {
             None => bad(answer),
@@ -104,7 +104,7 @@ impl Lists {
         Ok(())
     }
 
-    /// Answers the bytes of a record that no list spells.
+    /// Adds the bytes of a record that no list writes down.
     fn spell(&self, name: &str, words: &str, answer: &mut String) -> Told {
         match (name, &self.member) {
             ("record-of-configuration", Some(member)) => {
@@ -116,7 +116,7 @@ impl Lists {
     }
 }
 
-/// Makes the list whole for the command that ends it. Only `load-all` has the configuration, the first record.
+/// Completes the list for the command that ends it. Only for `load-all` does the list have the configuration, its first record, itself.
 fn complete(alloc: Global, node: &Node<HashSign>, name: &str, records: &mut Vec<Vec<u8>>) -> Told {
     match name {
         "load-all" => {}

@@ -1,4 +1,4 @@
-//! Validators that are loaded from lists of records, beside what the plain program answers of the list.
+//! Loading validators from lists of records, compared with the reference implementation.
 
 use crate::nodes::Member;
 use crate::records::configuration_record;
@@ -7,7 +7,7 @@ use std::alloc::{AllocError, Global};
 use test_cases::Told;
 use validator::{Config, LoadError, Loading, Validator};
 
-/// A list of records once more.
+/// A copy of a list of records.
 pub fn copied(alloc: Global, records: &[Vec<u8>]) -> Result<Vec<Vec<u8>>, AllocError> {
     let mut again = Vec::new(alloc);
     for record in records {
@@ -16,7 +16,7 @@ pub fn copied(alloc: Global, records: &[Vec<u8>]) -> Result<Vec<Vec<u8>>, AllocE
     Ok(again)
 }
 
-/// Why records are not loaded, as case files have it.
+/// Adds why records can't be loaded, as files of cases have it.
 pub fn tell_error(error: LoadError, text: &mut String) -> Told {
     match error {
         LoadError::Unsound(place) => write!(text, "{error} {place}"),
@@ -24,7 +24,7 @@ pub fn tell_error(error: LoadError, text: &mut String) -> Told {
     }
 }
 
-/// What loading is answered, as case files have it. An allocation that failed is no answer.
+/// The result of loading, as files of cases have it. A failed allocation is no result.
 pub fn told_load(alloc: Global, answer: Result<(), LoadError>) -> Result<String, AllocError> {
     let mut text = String::new(alloc);
     match answer {
@@ -35,7 +35,7 @@ pub fn told_load(alloc: Global, answer: Result<(), LoadError>) -> Result<String,
     Ok(text)
 }
 
-/// What loading a validator from all records of a list is answered.
+/// The result of loading a validator from all records of a list.
 pub fn load(
     alloc: Global,
     config: &Config<HashSign>,
@@ -45,7 +45,7 @@ pub fn load(
     Ok(())
 }
 
-/// The validator that is loaded from a list, again where an allocation failed.
+/// The validator that is loaded from a list; loading is tried again where an allocation failed.
 pub fn loaded<'c>(
     alloc: Global,
     config: &'c Config<HashSign>,
@@ -58,7 +58,7 @@ pub fn loaded<'c>(
     }
 }
 
-/// The records of a validator's checkpoint, taken again where an allocation failed.
+/// The records of a validator's checkpoint; this is tried again where an allocation failed.
 pub fn kept_records(validator: &Validator<'_, HashSign>) -> Result<Vec<Vec<u8>>, AllocError> {
     match validator.kept_records() {
         Ok(records) => Ok(records),
@@ -66,8 +66,8 @@ pub fn kept_records(validator: &Validator<'_, HashSign>) -> Result<Vec<Vec<u8>>,
     }
 }
 
-/// Adds a line where loading a validator from a list is answered otherwise than this, all at once or record by record, and
-/// where the loaded validator keeps other records.
+/// Adds a line if loading a validator from a list, at once or record by record, has another result than this, or the loaded validator has
+/// other records.
 pub fn compare_loads(
     alloc: Global,
     member: &Member,
@@ -92,7 +92,7 @@ fn compare(way: &str, found: &str, plain: &str, answer: &mut String) -> Told {
     writeln!(answer, "loaded {way}: {found}")
 }
 
-/// What loading record by record is answered.
+/// The result of loading record by record.
 fn load_one_by_one(
     alloc: Global,
     config: &Config<HashSign>,
@@ -106,7 +106,7 @@ fn load_one_by_one(
     Ok(())
 }
 
-/// Puts a record. Where it isn't taken it is put a second time, which has to be answered alike.
+/// Puts a record. If that fails it is put a second time, which has to fail in the same way.
 fn put_again(loading: &mut Loading<'_, HashSign>, record: &[u8]) -> Result<(), LoadError> {
     match loading.put(record) {
         Err(LoadError::Unsound(_)) => loading.put(record),
@@ -114,8 +114,7 @@ fn put_again(loading: &mut Loading<'_, HashSign>, record: &[u8]) -> Result<(), L
     }
 }
 
-/// Whether the validator that is loaded from a list keeps these records: the configuration in version 2, and the others of
-/// the list.
+/// Whether the validator that is loaded from a list has these records: the configuration in version 2, and the other ones of the list.
 fn is_kept_alike(alloc: Global, member: &Member, records: &[Vec<u8>]) -> Result<bool, AllocError> {
     match loaded(alloc, &member.config, records) {
         Err(LoadError::Memory) => Err(AllocError),

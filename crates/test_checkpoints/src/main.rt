@@ -1,5 +1,5 @@
-//! The tests of what loading a checkpoint's records is answered: case files over the plain program of these records, and over
-//! validators that are loaded from them.
+//! The tests of loading the records of a checkpoint: files of cases for the reference implementation of these records, and for validators
+//! that are loaded from them.
 #![tactic(auto)]
 
 mod area;
@@ -33,7 +33,7 @@ fn main(rt: HostRuntime) -> ExitCode {
     }
 }
 
-/// Plays the files that the arguments name. Says whether there is one, and each has commands, with the answers expected.
+/// Plays the files that the arguments name. Gives whether there is one, and all commands had the expected answers.
 fn tested(rt: &HostRuntime) -> Result<bool, Ending> {
     let names = names_of(rt, rt.alloc())?;
     let mut right = !names.is_empty();
@@ -54,7 +54,7 @@ fn is_right(rt: &HostRuntime, name: &str) -> Result<bool, Ending> {
     Ok(right)
 }
 
-/// Tells of how many lists the records were written again, if of any.
+/// Prints for how many lists the records were written again, if for any.
 fn tell_same(rt: &HostRuntime, name: &str, same: u64) -> Result<(), Ending> {
     if same > 0 {
         writeln!(
@@ -65,7 +65,7 @@ fn tell_same(rt: &HostRuntime, name: &str, same: u64) -> Result<(), Ending> {
     Ok(())
 }
 
-/// Plays each title and command. The loop owns nothing, since what a loop owns costs the proof at each way out of it.
+/// Plays each title and command. The loop owns nothing, since everything that a loop owns makes the proof more expensive at each exit.
 fn play_each<I, W>(
     rt: &HostRuntime,
     player: &mut Player<I, W>,

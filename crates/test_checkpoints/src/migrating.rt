@@ -1,4 +1,4 @@
-//! Openings of a node on two areas: one in the first version is rewritten as a checkpoint.
+//! Openings of a node on two areas, by which a journal in the first version is rewritten as a checkpoint.
 
 ghost use Rattle.std.specs.Prelude.{IsSome, IfOk};
 ghost use Rattle.journal.specs.Journal.{spare_of};
@@ -15,20 +15,20 @@ use test_cases::{Told, write_hex};
 use validator::Validator;
 use wire::{Author, Round};
 
-/// The peer and the round whose vote is told.
+/// The peer and the round whose vote is shown.
 const PEER: u16 = 1;
 
 const ROUND: u64 = 1;
 
-/// Of an area of more bytes a sum is told.
+/// Of an area with more bytes than this a sum is shown.
 const MANY_BYTES: usize = 1_000;
 
-/// What an opening answers where a disk or the memory failed.
+/// The answer of an opening where a disk or an allocation of a disk failed.
 pub const DEVICE: &str = "2 Device";
 
 const MEMORY: &str = "1 Memory";
 
-/// What an opening answers, and both disks after it.
+/// The answer of an opening, and both disks after it.
 #[derive(Drop)]
 pub struct Opened {
     pub text: String,
@@ -79,7 +79,7 @@ fn tell_found(validator: &Validator<'_, HashSign>, generation: u64, text: &mut S
     write!(text, ", round {round}, order {ordered}")
 }
 
-/// Whether an opening that is told so has found a node.
+/// Whether the answer of an opening shows a node.
 pub fn is_node(text: &str) -> bool {
     text.starts_with("generation ")
 }
@@ -94,7 +94,7 @@ fn tell_vote(validator: &Validator<'_, HashSign>, text: &mut String) -> Told {
     }
 }
 
-/// Opens both areas, and tells what is found and the bytes that both areas then have.
+/// Opens both areas, and shows what is found and the bytes of both areas after that.
 pub fn tell_opened(alloc: Global, member: &Member, areas: &Areas, answer: &mut String) -> Told {
     let opened = opened_again(alloc, member, Disks::of(alloc, areas)?)?;
     writeln!(answer, "{}", opened.text)?;
@@ -102,8 +102,8 @@ pub fn tell_opened(alloc: Global, member: &Member, areas: &Areas, answer: &mut S
     tell_area("second", opened.disks.second.bytes(), answer)
 }
 
-/// Opens both disks, and once more where memory was refused, to the opening or to a disk. The second opening has to come to what the first one
-/// would have come to.
+/// Opens both disks, and once more if an allocation failed, of the opening or of a disk. The second opening has to give the result that the
+/// first one would have given.
 fn opened_again(alloc: Global, member: &Member, disks: Disks) -> Result<Opened, AllocError> {
     let first = reopened(alloc, member, disks)?;
     if first.text.as_str() != MEMORY && first.text.as_str() != DEVICE {
@@ -112,7 +112,7 @@ fn opened_again(alloc: Global, member: &Member, disks: Disks) -> Result<Opened, 
     reopened(alloc, member, first.disks)
 }
 
-/// Opens a disk with these bytes alone, and tells what is found and the bytes that it then has.
+/// Opens one disk with these bytes, and shows what is found and its bytes after that.
 pub fn tell_opened_alone(
     alloc: Global,
     member: &Member,
@@ -124,7 +124,7 @@ pub fn tell_opened_alone(
     tell_area("alone", disk.bytes(), answer)
 }
 
-/// The same as for both disks.
+/// Opens one disk, and once more if an allocation or the disk failed.
 fn opened_alone_again(
     alloc: Global,
     member: &Member,
@@ -138,7 +138,7 @@ fn opened_alone_again(
     reopened_alone(alloc, member, disk)
 }
 
-/// Opens a disk alone: the answer, and the disk after it.
+/// Opens one disk: the answer, and the disk after it.
 fn reopened_alone(
     alloc: Global,
     member: &Member,
@@ -166,14 +166,14 @@ fn tell_area(name: &str, bytes: &[u8], answer: &mut String) -> Told {
     answer.push_str("\n")
 }
 
-/// FNV-1a of 64 bits over nothing.
+/// FNV-1a of 64 bits over no bytes.
 pub const NO_SUM: u64 = 14_695_981_039_346_656_037;
 
 fn sum(bytes: &[u8]) -> u64 {
     sum_after(NO_SUM, bytes)
 }
 
-/// The sum over these bytes after those of a sum.
+/// The sum with these bytes added.
 pub fn sum_after(before: u64, bytes: &[u8]) -> u64 {
     let mut sum = before;
     for byte in bytes {
@@ -182,7 +182,7 @@ pub fn sum_after(before: u64, bytes: &[u8]) -> u64 {
     sum
 }
 
-/// Opens both areas with one of them cut to each length, and tells from which length on what is answered.
+/// Opens both areas with one of them cut to each length, and shows from which length on which answer is given.
 pub fn tell_lengths(
     alloc: Global,
     member: &Member,
@@ -199,7 +199,7 @@ pub fn tell_lengths(
     Ok(())
 }
 
-/// Tells what an opening answers, and how long both areas are then, if it is another thing than the last one.
+/// Shows the answer of an opening, and how long both areas are then, if it differs from the last one.
 fn tell_change(length: usize, opened: &Opened, last: &mut String, answer: &mut String) -> Told {
     let mut text = opened.text.clone()?;
     if is_node(text.as_str()) {

@@ -8,15 +8,15 @@ use std::alloc::{AllocError, Global};
 use validator::Config;
 use wire::Author;
 
-/// The node of a case, and what its validators are set up with.
+/// The node of a case, and the configuration of its validators.
 #[derive(Drop)]
 pub struct Member {
     pub node: Node<HashSign>,
     pub config: Config<HashSign>,
 }
 
-/// The node of these words, if they are one's: its own number, the depth, how many batches it holds at most, and the
-/// stakes of all members, parted by commas.
+/// The node in these words, if they are right: its own number, the depth, the greatest number of batches that it holds, and the stakes of
+/// all members, separated by commas.
 pub fn member_of(alloc: Global, words: &str) -> Result<Option<Member>, AllocError> {
     let words: Vec<&str> = words.split(' ').collect(alloc)?;
     let [own, depth, batches, stakes] = words.as_slice() else {
@@ -33,7 +33,7 @@ pub fn member_of(alloc: Global, words: &str) -> Result<Option<Member>, AllocErro
     }
 }
 
-/// The member of this number, if the committee has it. The committee is given twice, since it isn't copied.
+/// The member with this number, if the committee has it. The committee is given twice, since it can't be copied.
 fn member_in(own: Author, committee: Committee, again: Committee) -> Option<Member> {
     let config = Config::new(again, own, signer(own))?;
     let signer = signer(own);
@@ -66,7 +66,7 @@ fn committee_of(
     }
 }
 
-/// How many words stand between commas.
+/// How many words are separated by commas.
 fn count_of(words: &str) -> u16 {
     let mut count = 1u16;
     for byte in words.as_bytes() {

@@ -1,4 +1,4 @@
-//! The commands that say what both areas of a journal have, and those that open them.
+//! The commands that set the bytes of both areas of a journal, and those that open them.
 
 use crate::areas::{Areas, add_batches};
 use crate::damaging::Damages;
@@ -17,7 +17,7 @@ pub struct Pair {
 }
 
 impl Pair {
-    /// As before the first case.
+    /// The state before the first case.
     pub fn new(alloc: Global) -> Pair {
         Pair {
             alloc,
@@ -40,7 +40,7 @@ impl Pair {
         }
     }
 
-    /// Carries out a command for this node, and adds the lines that it answers.
+    /// Carries out a command for this node, and adds the lines of its answer.
     pub fn obey(
         &mut self,
         member: &Option<Member>,
@@ -56,7 +56,7 @@ impl Pair {
         }
     }
 
-    /// The bytes of an area, after a colon.
+    /// Sets the bytes of an area: those after the colon.
     fn set(&mut self, name: &str, words: &str, answer: &mut String) -> Told {
         let digits = words.strip_prefix(":").unwrap_or(words);
         match (name, bytes_in(self.alloc, digits)?) {
@@ -67,7 +67,7 @@ impl Pair {
         Ok(())
     }
 
-    /// Adds a group to an area: its name, the number of the first batch, and how many they are.
+    /// Appends a group to an area, given the area's name, the number of the first batch, and how many batches there are.
     fn add(&mut self, words: &str, answer: &mut String) -> Told {
         let words: Vec<&str> = words.split(' ').collect(self.alloc)?;
         let [name, from, count] = words.as_slice() else {
@@ -80,7 +80,8 @@ impl Pair {
         }
     }
 
-    /// Opens both areas: with no call failing, with each in turn, with stops, or with an area cut to each length or changed in each byte.
+    /// Opens both areas: with no call failing, with each call failing in turn, with stops, or with an area cut to each length or changed in
+    /// each byte.
     fn open(&self, member: &Member, name: &str, words: &str, answer: &mut String) -> Told {
         let (alloc, areas) = (self.alloc, &self.areas);
         match (name, words) {

@@ -1,4 +1,4 @@
-//! Events that a validator takes after it was loaded from a list, or set up anew.
+//! Events for a validator that was loaded from a list, or is fresh.
 
 ghost use Rattle.std.specs.Prelude.{◌≡◌, None};
 ghost use Rattle.header.specs.Checks.{fault_of, accepts_all};
@@ -14,7 +14,7 @@ use std::alloc::Global;
 use validator::{LoadError, Refusal, Step, Validator};
 use wire::{Author, Message};
 
-/// What a case plays: the events, which may form headers and batches first, and what is told after them.
+/// What a case plays: the events, among which headers and batches may be formed, and what is shown after them.
 #[derive(Clone, Copy)]
 pub struct Play<'p> {
     pub events: &'p [String],
@@ -22,7 +22,7 @@ pub struct Play<'p> {
     pub looks: &'p str,
 }
 
-/// Gives the events to a validator that has taken nothing.
+/// Gives the events to a fresh validator.
 pub fn play_new(
     alloc: Global,
     member: &Member,
@@ -68,7 +68,7 @@ fn play_on(
     playing.look(play.looks, answer)
 }
 
-/// A validator, and what its events are spelled with.
+/// A validator, and the labels by which its events are written.
 #[derive(Drop)]
 struct Playing<'c> {
     alloc: Global,
@@ -77,7 +77,7 @@ struct Playing<'c> {
 }
 
 impl Playing<'_> {
-    /// A line that forms something, or an event.
+    /// Carries out a line, which forms something or is an event.
     fn run(&mut self, line: &str, answer: &mut String) -> Result<(), FormError> {
         match parse(line.as_bytes()) {
             Some(Command::Pack(pack)) => define_batch(self.alloc, &mut self.labels, &pack),
@@ -110,7 +110,7 @@ impl Playing<'_> {
         tell_step(&step, answer)
     }
 
-    /// Tells the records of a checkpoint, and an area that was rewritten to it, where these are asked for.
+    /// Shows the records of a checkpoint, and an area that was rewritten to it, if these are asked for.
     fn look(&self, looks: &str, answer: &mut String) -> Result<(), FormError> {
         if looks.contains("records") {
             tell_records(&kept_records(&self.validator)?, answer)?;
@@ -122,7 +122,7 @@ impl Playing<'_> {
     }
 }
 
-/// Adds what an event is answered, and what is put out.
+/// Adds the answer to an event, and its outputs.
 fn tell_step(step: &Result<Step, Refusal>, answer: &mut String) -> Result<(), FormError> {
     match step {
         Ok(Step::New(outputs)) => {

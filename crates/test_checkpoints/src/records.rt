@@ -1,5 +1,5 @@
-//! Records as case files spell them, and the two that are written here by the format alone: the plain program hands
-//! out neither a configuration nor a head.
+//! Records as files of cases write them. A configuration and a head are made here, from the format alone, since the reference
+//! implementation gives neither.
 
 use committee::Committee;
 use header::Node;
@@ -8,13 +8,13 @@ use std::alloc::{AllocError, Global};
 use test_cases::{Told, bytes_of};
 use wire::Author;
 
-/// The kind of a configuration, and the version of those that have stakes.
+/// The kind of a configuration, and the version with stakes.
 const CONFIGURATION: [u8; 2] = [0, 2];
 
 /// The kind of a head.
 const HEAD: u8 = 2;
 
-/// The bytes of these words, one after the other, if each word has some.
+/// The bytes of these words, one after the other, if each word is bytes.
 pub fn bytes_in(alloc: Global, words: &str) -> Result<Option<Vec<u8>>, AllocError> {
     let mut bytes = Vec::new(alloc);
     for word in words.split_whitespace() {
@@ -25,7 +25,7 @@ pub fn bytes_in(alloc: Global, words: &str) -> Result<Option<Vec<u8>>, AllocErro
     Ok(Some(bytes))
 }
 
-/// Adds the bytes of a word, in which a star is before how often its digits stand. Says whether it has such digits.
+/// Adds the bytes of a word, in which a star is followed by how often its digits occur. Gives whether it has such digits.
 fn add_word(alloc: Global, word: &str, bytes: &mut Vec<u8>) -> Result<bool, AllocError> {
     let (digits, times) = word.split_once('*').unwrap_or((word, "1"));
     let Ok(times) = times.parse::<u32>() else {
@@ -45,8 +45,8 @@ fn add_times(part: &[u8], times: u32, bytes: &mut Vec<u8>) -> Told {
     Ok(())
 }
 
-/// The record of a node's configuration in version 2: the kind and the version, the own number, the depth, how many
-/// workers a member has, how many batches it holds at most, how many members there are, their keys, and their stakes.
+/// The record of a node's configuration in version 2: kind, version, own number, depth, workers of a member, batches of a member, number of
+/// members, their keys, and their stakes.
 pub fn configuration_record(alloc: Global, node: &Node<HashSign>) -> Result<Vec<u8>, AllocError> {
     let committee = &node.committee;
     let mut record = Vec::new(alloc);
@@ -79,7 +79,7 @@ fn add_stakes(committee: &Committee, record: &mut Vec<u8>) -> Told {
     Ok(())
 }
 
-/// The record of the head that has the generation of this word, 0 where it is no number.
+/// The record of the head with the generation in this word, or 0 where the word is no number.
 pub fn head_record(alloc: Global, generation: &str) -> Result<Vec<u8>, AllocError> {
     let generation = generation.parse::<u64>().unwrap_or(0);
     let mut record = Vec::new(alloc);

@@ -1,4 +1,4 @@
-//! Openings of a node on two areas of which a call fails, or that a stop of the machine ends, and the openings after them.
+//! Openings of a node on two areas in which a call fails, or which a stop of the machine ends, and the openings after them.
 
 use crate::areas::{Areas, are_alike};
 use crate::disks::{Disks, FILL_COUNT, FILLS, Fill, outcomes};
@@ -15,10 +15,10 @@ const KINDS: [(CallKind, &str); 3] = [
     (CallKind::Sync, "sync"),
 ];
 
-/// More calls of a kind than an opening makes.
+/// A number of calls of one kind that no opening reaches.
 const MOST_CALLS: u64 = 32;
 
-/// How many openings found the same as where no call fails, and how many another thing.
+/// How many openings found the same as where no call fails, and how many something else.
 #[derive(Clone, Copy)]
 struct Count {
     same: u64,
@@ -43,7 +43,7 @@ impl Count {
     }
 }
 
-/// An opening of these areas, and what it comes to where no call fails.
+/// An opening of these areas, and its result where no call fails.
 #[derive(Drop)]
 pub struct Trial<'a> {
     alloc: Global,
@@ -79,7 +79,7 @@ impl<'a> Trial<'a> {
         Ok(())
     }
 
-    /// How often the disks are read is no part of the format, so that reads aren't counted.
+    /// Reads aren't counted, since how often the disks are read is no part of the format.
     fn tell_failing_reads(&self, answer: &mut String) -> Told {
         let (calls, count) = self.count_failing(CallKind::Read)?;
         if calls > 0 && count.other == 0 {
@@ -100,7 +100,7 @@ impl<'a> Trial<'a> {
         Ok((MOST_CALLS, count))
     }
 
-    /// The disks after this call failed, if it came.
+    /// The disks after this call failed, if it was made.
     fn failed(&self, kind: CallKind, number: u64) -> Result<Option<Disks>, AllocError> {
         let disks = Disks::failing(self.alloc, self.areas, kind, number)?;
         let Opened { text, disks } = reopened(self.alloc, self.member, disks)?;
@@ -142,7 +142,7 @@ impl<'a> Trial<'a> {
         Ok(())
     }
 
-    /// Stops the machine with these disks, for each outcome of each of them.
+    /// Stops the machine with these disks, once for each outcome of each disk.
     fn stop_each(&self, disks: &Disks, counts: &mut [Count]) -> Told {
         for place in 0..FILL_COUNT {
             if let (Some((fill, _)), Some(count)) = (FILLS.get(place), counts.get_mut(place)) {
@@ -152,7 +152,7 @@ impl<'a> Trial<'a> {
         Ok(())
     }
 
-    /// The same with this fill.
+    /// Does the same with this fill.
     fn stop_both(&self, disks: &Disks, fill: Fill, count: &mut Count) -> Told {
         for is_second in [false, true] {
             for left in outcomes(self.alloc, disks.of_area(is_second), fill)? {
@@ -162,7 +162,7 @@ impl<'a> Trial<'a> {
         Ok(())
     }
 
-    /// Stops the machine, which leaves these bytes of an area, and opens what is left.
+    /// Stops the machine so that it leaves these bytes of an area, and opens what is left.
     fn stop(&self, disks: &Disks, is_second: bool, left: Vec<u8>, count: &mut Count) -> Told {
         let mut again = disks.again(self.alloc, self.areas)?;
         let may = again.stop(is_second, left);
@@ -172,7 +172,7 @@ impl<'a> Trial<'a> {
     }
 }
 
-/// Tells of the fill at a place how many stops there were, and what was found after them.
+/// Shows for the fill at a place how many stops there were, and what was found after them.
 fn tell_fill(place: usize, counts: &[Count], answer: &mut String) -> Told {
     let (Some((_, name)), Some(count)) = (FILLS.get(place), counts.get(place)) else {
         return Ok(());

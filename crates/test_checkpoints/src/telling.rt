@@ -1,10 +1,10 @@
-//! Outputs and records as case files have them.
+//! Outputs and records as files of cases have them.
 
 use test_cases::{Told, write_hex};
 use wire::{Certificate, Digest, Output, batch_digest, certificate_digest, header_digest};
 
-/// Adds a line for each output: its kind, and the digest of what it has. A certificate also has its voters, and a piece of
-/// the order its place.
+/// Adds a line for each output: its kind, and the digest of its content. A certificate also has its voters, and a piece of the order its
+/// place.
 pub fn tell_outputs(outputs: &[Output], answer: &mut String) -> Told {
     for output in outputs {
         answer.push_str("out ")?;

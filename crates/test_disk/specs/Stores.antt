@@ -1,9 +1,9 @@
--- What a journal is opened on.
+-- The disks on which a journal is opened.
 use Rattle.std.specs.Prelude.{Bool, true, false}
 use Rattle.journal.specs.declared.store.Store.{Store}
 use Rattle.journal.specs.declared.store.Store.TheVariants.{One, Two}
 
--- it has two disks
+-- there are two disks
 abbrev pub has_two : {D : Type 0} → Store D → Bool
 has_two (One disk) = false
 has_two (Two first second) = true

@@ -12,22 +12,22 @@ use wire::{Author, Key};
 /// The member whose node it is, unless a case says otherwise.
 pub const OWN: Author = Author(0);
 
-/// The stakes of a committee of four, all of them alike.
+/// The stakes of a committee of four, all equal.
 pub const FOUR: [u64; 4] = [1; 4];
 
 /// The stakes of a committee of seven.
 pub const SEVEN: [u64; 7] = [1; 7];
 
-/// How a node is set up, twice.
+/// The setting of a node, in two forms.
 #[derive(Drop)]
 pub struct Setting {
-    /// What it is driven with.
+    /// The configuration of the running code.
     pub config: Config<HashSign>,
-    /// The same for the plain program.
+    /// The configuration of the reference implementation.
     pub node: Node<HashSign>,
 }
 
-/// The member of this number among as many as there are stakes, if there is such a one.
+/// The setting of the member with this number among as many members as there are stakes, if there is one.
 pub fn setting_of(
     alloc: Global,
     own: u8,
@@ -48,7 +48,7 @@ pub fn setting_of(
     Ok(Some(Setting { config, node }))
 }
 
-/// What member 0 of four is set up with. The file of its committee is sound, so only memory can be wanting.
+/// The setting of member 0 of four. Its committee's file is valid, so only an allocation can fail.
 pub fn own_setting(alloc: Global) -> Result<Setting, AllocError> {
     match setting_of(alloc, 0, DEFAULT_DEPTH, &FOUR)? {
         Some(setting) => Ok(setting),
@@ -56,7 +56,7 @@ pub fn own_setting(alloc: Global) -> Result<Setting, AllocError> {
     }
 }
 
-/// What member 0 of four or of seven is driven with.
+/// The configuration of member 0 of four or of seven.
 pub fn own_config(alloc: Global, stakes: &[u64]) -> Result<Config<HashSign>, AllocError> {
     match config_of(alloc, 0, DEFAULT_DEPTH, stakes)? {
         Some(config) => Ok(config),
@@ -96,7 +96,7 @@ fn committee_of(
     }
 }
 
-/// The line of a committee's file that has the keys of so many members.
+/// Adds the line of a committee file that has the keys of so many members.
 fn put_keys(file: &mut String, count: usize) -> Told {
     file.push_str("members = [")?;
     let mut byte = 0u8;
@@ -109,7 +109,7 @@ fn put_keys(file: &mut String, count: usize) -> Told {
     file.push_str("]\n")
 }
 
-/// The line that has the stakes.
+/// Adds the line of a committee file that has the stakes.
 fn put_stakes(file: &mut String, stakes: &[u64]) -> Told {
     file.push_str("stakes = [")?;
     for stake in stakes {

@@ -1,4 +1,4 @@
-//! The tests of a disk over a file, of the simulator, of the runner, and of the node that threads share with its flusher.
+//! The tests of a disk over a file, of the simulator, of running nodes, and of the node that threads share with its flusher.
 
 mod answers;
 mod crowd;

@@ -1,5 +1,5 @@
-//! The tests of all that needs a disk: of the disks, the journal and the book, of openings and scripts of a node, of lists of
-//! random steps, of the node that threads share, and of the programs. Case files, a file for each crate or program that made it.
+//! The tests of everything that needs a disk: of the disks, the journal and the book, of openings and scripts of a node, of lists of random
+//! steps, of the node that threads share, and of the programs. There is a file of cases for each of these crates and programs.
 #![tactic(auto)]
 
 mod committees;
@@ -22,12 +22,12 @@ use store::{StoreCases, laws_hold};
 use test_cases::{Ending, Player, Told, names_of};
 use validator::Config;
 
-/// What the cases are put to.
+/// What the commands of a case work on.
 #[derive(Drop)]
 struct Cases<'a> {
     store: StoreCases<'a>,
     live: Case,
-    /// The case is one of the store.
+    /// Whether the case is one of the store.
     has_store: bool,
 }
 
@@ -73,7 +73,7 @@ fn main(rt: HostRuntime) -> ExitCode {
     }
 }
 
-/// Plays the files of these names; says whether there is one, and each has commands that were answered as expected.
+/// Plays the files with these names; gives whether there is one, and all commands had the expected answers.
 fn tested<R>(rt: &R, config: &Config<HashSign>, names: &[String]) -> Result<bool, Ending>
 where
     R: Files<File = File> + Print + AllocGlobal + Threads + Wait + Sync,
@@ -95,7 +95,7 @@ where
     played(rt, config, player, &mut io::writer(rt))
 }
 
-/// Plays the cases, and prints the report of the lists after them.
+/// Plays the cases, and prints the report of the lists after that.
 fn played<R, I, W>(
     rt: &R,
     config: &Config<HashSign>,
@@ -128,7 +128,7 @@ where
     Ok(right)
 }
 
-/// Plays each title and command. The loop owns nothing, since what a loop owns costs the proof at each way out of it.
+/// Plays each title and command. The loop owns nothing, since everything that a loop owns makes the proof more expensive at each exit.
 fn play_each<R, I, W>(rt: &R, player: &mut Player<I, W>, cases: &mut Cases) -> Result<(), Ending>
 where
     R: Files<File = File> + AllocGlobal + Threads + Wait + Sync,

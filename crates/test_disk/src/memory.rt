@@ -11,7 +11,7 @@ pub fn disk_with(alloc: Global, bytes: &[u8]) -> Result<MemDisk, AllocError> {
     MemDisk::new(alloc, bytes.to_vec(alloc)?)
 }
 
-/// A disk that has these bytes, of which the count-th call of a kind is told to fail, none at 0.
+/// A disk with these bytes, with the count-th call of a kind set to fail; 0 sets none.
 pub fn failing_disk(
     alloc: Global,
     bytes: &[u8],
@@ -23,7 +23,7 @@ pub fn failing_disk(
     Ok(disk)
 }
 
-/// Takes a disk, and leaves an empty one.
+/// Takes a disk out, and leaves an empty one in its place.
 pub fn taken(alloc: Global, disk: &mut MemDisk) -> Result<MemDisk, AllocError> {
     Ok(mem::replace(disk, disk_with(alloc, &[])?))
 }
@@ -35,7 +35,7 @@ pub fn stopped(alloc: Global, disk: MemDisk) -> Result<MemDisk, AllocError> {
     Ok(disk)
 }
 
-/// Stops a disk, which is to leave these bytes.
+/// Stops a disk so that it leaves these bytes.
 pub fn stop_with(alloc: Global, disk: &mut MemDisk, bytes: &[u8]) -> Told {
     disk.choose(bytes.to_vec(alloc)?);
     disk.stop();

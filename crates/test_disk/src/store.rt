@@ -42,7 +42,7 @@ use validator::Config;
 use words::{Told, Word, parted, words_of};
 use worlds::Worlds;
 
-/// What the cases are put to, new in each case.
+/// What the commands of a case work on, new in each case.
 #[derive(Drop)]
 pub struct StoreCases<'a> {
     alloc: Global,
@@ -50,12 +50,12 @@ pub struct StoreCases<'a> {
     node: Node,
     worlds: Worlds,
     areas: AreaLists<'a>,
-    /// The case is one of the node, and not of the store.
+    /// Whether the case is one of the node, and not of the store.
     has_node: bool,
 }
 
 impl<'a> StoreCases<'a> {
-    /// As before the first case.
+    /// The state before the first case.
     pub fn new(alloc: Global, config: &'a Config<HashSign>) -> Result<StoreCases<'a>, AllocError> {
         Ok(StoreCases {
             alloc,
@@ -75,7 +75,7 @@ impl<'a> StoreCases<'a> {
         self.node.begin()
     }
 
-    /// Carries out a command, and adds the lines that it answers.
+    /// Carries out a command, and adds the lines of its answer.
     pub fn obey(&mut self, command: &str, answer: &mut String) -> Told {
         let (name, rest) = parted(command);
         if name == "areas" {
@@ -85,12 +85,12 @@ impl<'a> StoreCases<'a> {
         self.obey_words(name, words.as_slice(), answer)
     }
 
-    /// What is printed of the lists.
+    /// The report of the lists.
     pub fn report(&self) -> &[u8] {
         self.worlds.report()
     }
 
-    /// `node` or `file` makes the case one of the node: its commands have names that the store's have too.
+    /// `node` or `file` makes the case one of the node, since some names of commands mean something else for the store.
     fn obey_words(&mut self, name: &str, words: &[Word], answer: &mut String) -> Told {
         match name {
             "lists" => return self.worlds.obey(words, answer),
@@ -113,7 +113,7 @@ impl<'a> StoreCases<'a> {
     }
 }
 
-/// Each law of the libraries below, which has no condition.
+/// Calls each law of the libraries below that has no condition.
 pub fn laws_hold() {
     journal::written_groups_stand();
     spec_records::one_record();

@@ -15,7 +15,7 @@ pub fn call_of(name: &str) -> Option<CallKind> {
     }
 }
 
-/// The texts before and after the first blank; where there is none, the whole one and nothing.
+/// The texts before and after the first blank; the whole text and nothing where there is no blank.
 pub fn parted(text: &str) -> (&str, &str) {
     text.split_once(' ').unwrap_or((text, ""))
 }
@@ -27,12 +27,12 @@ pub fn tell_fault(answer: &mut String, outcome: Result<(), DiskFault>) {
     }
 }
 
-/// Adds a number between two parts.
+/// Adds a number between two texts.
 pub fn put_count(answer: &mut String, before: &str, count: u64, after: &str) {
     let _ = write!(answer, "{before}{count}{after}");
 }
 
-/// Adds what this is shown as, between two parts.
+/// Adds a value between two texts.
 pub fn put_shown<T: Display>(answer: &mut String, before: &str, shown: &T, after: &str) {
     let _ = write!(answer, "{before}{shown}{after}");
 }

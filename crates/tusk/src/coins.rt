@@ -45,21 +45,21 @@ impl Coins {
         }
     }
 
-    /// These coins, of the waves from 1 on. It takes no memory.
+    /// The coins with these values, of the waves from 1 on. The call allocates no memory.
     pub fn restore(values: Vec<u64>) -> Coins
         ensures { result ≡ values.items }
     {
         Coins { values }
     }
 
-    /// The coin at a place, from 0 on: that of the wave after the place's number. None from the number of coins on.
+    /// The coin at a place, counted from 0: that of the wave with the next number. None from the number of coins on.
     pub fn nth(&self, place: usize) -> Option<u64>
         ensures { result ≡ slice_get self.now place }
     {
         self.values.get(place).copied()
     }
 
-    /// Adds the coin of the next wave. `AllocError` where an allocation failed.
+    /// Adds the coin of the next wave. On `AllocError` an allocation failed.
     pub fn push(&mut self, value: u64) -> Result<(), AllocError>
         ensures ok { OnOk result (self.new ≡ self.old ++ value ∷ []) }
         ensures err { OnErr result (self.new ≡ self.old) }
@@ -87,8 +87,8 @@ impl Coins {
         self.values.get((wave - 1) as usize).copied()
     }
 
-    /// The slot of a wave's leader: of the wave's first round, and by the author that its coin chooses. There is one where
-    /// the wave has a coin and the slot holds a certificate.
+    /// The slot of a wave's leader: the wave's first round, and the author that the wave's coin chooses. None where the wave has no coin or
+    /// the slot holds no certificate.
     pub fn leader(&self, dag: &Dag, wave: u64) -> Option<(Round, Author)>
         ensures value { result ≡ option_map slot_of (leader (ledger_in dag.now self.now) wave) }
         ensures round { IfSome result (λ leader. leader.0 ≡ 2 * wave - 1) }
@@ -98,7 +98,7 @@ impl Coins {
         chosen(dag, wave, coin)
     }
 
-    // Whether a wave is committed by itself.
+    // Whether a wave is directly committed: its leader has support.
     fn is_committed(&self, dag: &Dag, wave: u64) -> bool
         ensures { result ≡ is_directly_committed (ledger_in dag.now self.now) wave }
     {
@@ -109,8 +109,8 @@ impl Coins {
         }
     }
 
-    /// The greatest wave that is committed by itself. The waves are asked from that of the last coin downwards, until one is;
-    /// of those below the floor no leader is held.
+    /// The greatest directly committed wave. The waves are tried from that of the last coin downwards; a wave below the floor has no leader
+    /// that is held.
     pub fn top(&self, dag: &Dag) -> Option<u64>
         ensures { result ≡ top (ledger_in dag.now self.now) }
     {
@@ -125,9 +125,8 @@ impl Coins {
         None
     }
 
-    // The slots of a wave's leader, and of those of the waves above `last` that are committed with it, the oldest first. It
-    // walks down once: whom the leader that was taken last reaches is known of each wave's first round from that of the round
-    // above.
+    // The slots of the leaders of the waves above `last` that are committed with this wave's leader, oldest first, and of that leader
+    // itself. It walks down once: the set that the last leader taken reaches in one wave's first round gives the set for the wave below.
     fn newer_to(
         &self,
         alloc: Global,
@@ -161,7 +160,7 @@ impl Coins {
         Ok(chain)
     }
 
-    // The slots that `newer_to` has where the leader has support, and none where it hasn't.
+    // The slots that `newer_to` gives if the leader has support, and otherwise none.
     fn newer_if_supported(
         &self,
         alloc: Global,
@@ -182,7 +181,7 @@ impl Coins {
         self.newer_to(alloc, dag, last, wave, leader)
     }
 
-    // The slots of the leaders of the waves above `last` that are committed with that of a wave, the oldest first.
+    // The slots of the leaders of the waves above `last` that are committed when this wave's leader is, oldest first.
     fn newer_at(
         &self,
         alloc: Global,
@@ -202,8 +201,8 @@ impl Coins {
         }
     }
 
-    /// The slots of the leaders newer than a wave that are committed, the oldest first; of all committed leaders where no wave
-    /// is given. Where that wave is committed too, they are the newer part of its chain.
+    /// The slots of the committed leaders of later waves, oldest first; without a wave, of all committed leaders. If the given wave is
+    /// committed too, these are the newer part of its chain.
     pub fn chain_from(
         &self,
         alloc: Global,
@@ -220,10 +219,9 @@ impl Coins {
         }
     }
 
-    /// The slots of the leaders, the oldest first, that a member's certificate commits that is new to the DAG and not yet in
-    /// it, where the last committed wave is this one and the base its leader's round. Where the certificate is of a wave's
-    /// second round it may support the wave's leader. Of another round it supports none, and where it is a leader itself
-    /// nothing supports it yet.
+    /// The slots of the leaders, oldest first, that a member's new certificate commits; it isn't in the DAG yet. The last committed wave is
+    /// `last`, and the DAG's base is its leader's round. A certificate of the second round of a wave may support the wave's leader. A
+    /// certificate of any other round supports none, and a new leader has no supporters yet.
     pub fn committed_by(
         &self,
         alloc: Global,
@@ -253,8 +251,8 @@ impl Coins {
         }
     }
 
-    /// The slots of the leaders, the oldest first, that the coin of the next wave commits, where the last committed wave is
-    /// this one and the base its leader's round.
+    /// The slots of the leaders, oldest first, that the coin of the next wave commits. The last committed wave is `last`, and the DAG's
+    /// base is its leader's round.
     pub fn committed_with(
         &self,
         alloc: Global,

@@ -1,4 +1,4 @@
-//! The leaders of waves, by the coins and what a DAG holds, and which of them are committed.
+//! The leaders of waves, chosen by the coins among the certificates of a DAG, and which of them are committed.
 #![tactic(auto)]
 
 mod coins;

@@ -1,4 +1,4 @@
--- What a validator's tables say of the header to propose, and when they stand at a state.
+-- Which header a validator's tables propose, and when the tables hold a state.
 use Rattle.std.specs.Prelude.{◌≡◌, ℕ, ◌-◌, ◌||◌, nat_lt, List, take, filter_map, Option, Some, None, is_some, option_map, if◌then◌else◌}
 use Rattle.wire.specs.declared.limits.TheConstants.{MAX_BATCHES}
 use Rattle.wire.specs.declared.round.TheConstants.Round.{MAX as MAX_ROUND}
@@ -17,23 +17,23 @@ use Rattle.admission.specs.Headers.{AssembliesView, header_in}
 use Rattle.admission.specs.Headers as assemblies
 use Rattle.admission.specs.Batches.{HasBatches}
 
--- a number is that of a round for which a header may still be made: there is such a round, and it has no own header
+-- the round with this number, if there is one for which a header may still be made: it has no own header
 abbrev pub free_round : AssembliesView → ℕ → Option ℕ
 free_round headers number = if is_some (header_in headers number) || nat_lt MAX_ROUND number then None else Some number
 
--- the least batches that may be named, up to a header's limit
+-- the nameable batches with the lowest digests, up to a header's limit
 abbrev pub least_batches : BatchStoreView → List BatchReference
 least_batches stock = take MAX_BATCHES (nameable stock)
 
--- all certificates of a round by author, as a header names them
+-- the parent references to all certificates of a round, by author
 abbrev pub parents_in : DagView → ℕ → List ParentReference
 parents_in graph round = filter_map (λ author. option_map as_parent (slots_in graph round author)) (numbers (size_in graph))
 
--- the header of a round: over all certificates of the round below, with the least batches
+-- the header of a round: its parents are all certificates of the round below, its batches the first nameable ones
 abbrev pub header_in_round : (Digest → Signature) → Author → BatchStoreView → DagView → ℕ → Header
 header_in_round sign own stock graph round = signed_by sign (body_of own round (least_batches stock) (parents_in graph (round - 1)))
 
--- the author and the signer are a node's, and the tables have what its sound state has: batches, own headers and certificates
+-- the author and the signer are a node's, and these tables have the batches, own headers and certificates of its sound state
 pub record AreAt (node : Node) (state : State) (own : Author) (sign : Digest → Signature) (stock : BatchStoreView) (headers : AssembliesView) (sequence : SequencerView) : Type 0 where
   pub node_is : IsNode node
   pub sound : IsSound node state

@@ -1,4 +1,4 @@
--- What a validator is set up with, as a node.
+-- The setting of a validator, and the node that it describes.
 use Rattle.committee.specs.Charter.{Charter}
 use Rattle.spec_model.specs.Nodes.{Node}
 use Rattle.spec_model.specs.Words.{Author}
@@ -10,7 +10,7 @@ pub record ConfigView (S : Type 0) : Type 0 where
   pub charter : Charter
   pub signer : S
 
--- the node of it, with the signer's key and the signatures that it gives
+-- the node with this setting; its key and signatures are the signer's
 abbrev pub node_of : {S : Type 0} → Scheme S → ConfigView S → Node
 node_of scheme setting = record {
   own = setting.own;

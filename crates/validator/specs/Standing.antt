@@ -1,4 +1,4 @@
--- When a validator stands at a state.
+-- When a validator is in a state.
 use Rattle.std.specs.Prelude.{◌≡◌, ◌++◌, ◌∷◌, [], IsTrue, Result}
 use Rattle.spec_model.specs.Admitting.{is_new, header_outputs, IsTaken, IsLegal}
 use Rattle.spec_model.specs.Giving.{kept}
@@ -19,32 +19,32 @@ use Rattle.admission.specs.Standing.{AreAt, Meets}
 use Rattle.admission.specs.declared.tables.Tables.{Tables}
 use Rattle.validator.specs.Setting.{ConfigView}
 
--- a validator: what it is set up with, and its tables
+-- a validator: its setting, and its tables
 pub record ValidatorView (S : Type 0) : Type 0 where
   pub setting : ConfigView S
   pub tables : Tables
 
--- tables stand at a node's state: it is a sound one, and they are exactly it
+-- the tables hold this state of a node, which is sound
 pub record AreAtSound (node : Node) (tables : Tables) (state : State) : Type 0 where
   pub sound : IsSound node state
   pub at : AreAt node state tables
 
--- there is such a state
+-- the tables hold some sound state of the node
 abbrev pub StandSomewhere : Node → Tables → Type 0
 StandSomewhere node tables = (state : State) × AreAtSound node tables state
 
--- after a new event: the longer history is legal, tables stand at what is kept of it, and its order begins with that from before
+-- after a new event the longer history is legal, the tables hold the state kept of it, and its order has the earlier order as a prefix
 pub record GoesOn (node : Node) (history : History) (event : Event) (later : Tables) : Type 0 where
   pub legal : IsLegal node (history ++ event ∷ [])
   pub at : AreAtSound node later (kept node (history ++ event ∷ []))
   pub order : Begins (order node history) (order node (history ++ event ∷ []))
 
--- a header is taken as the node's own, and new
+-- this header can be taken as the node's own, and is new
 pub record IsNewThere (node : Node) (state : State) (header : Header) : Type 0 where
   pub taken : IsTaken node (own_event node header)
   pub new : answered node state (own_event node header) ≡ New (header_outputs node header)
 
--- ---- what comes of an event, at each state of a node with these signatures that the tables have all of
+-- ---- the result for an event, at each state that the tables hold, of a node with these signatures
 
 abbrev pub AnswersEvent : Tables → (Digest → Signature) → Event → Result Step Refusal → Type 0
 AnswersEvent tables sign event result = (node : Node) (state : State) → Meets node state event tables event.message → node.sign ≡ sign

@@ -1,4 +1,4 @@
-//! What a validator is set up with.
+//! The setting of a validator.
 
 ghost use Rattle.std.specs.Prelude.{◌≡◌, All, IfSome, IsNone, Some, slice_get};
 ghost use Rattle.wire.specs.Fields.{HasBytes, AreBytes};
@@ -11,7 +11,7 @@ use sigface::Sign;
 use std::marker::Model;
 use wire::{Author, Key};
 
-/// A member of a committee with its signer. Contracts see all three.
+/// A member of a committee, with its signer. Contracts see the committee, the number and the signer.
 pub struct Config<S: Sign> {
     node: Node<S>,
 }
@@ -34,7 +34,7 @@ impl<S: Sign> Model for Config<S> {
 }
 
 impl<S: Sign> Config<S> {
-    /// That of the member of this number. None where it is no member, or the signer's key isn't its key.
+    /// The configuration of the member with this number. None where the number is no member's, or the signer's key isn't the member's.
     pub fn new(committee: Committee, own: Author, signer: S) -> Option<Config<S>>
     where
         S: Drop,
@@ -83,14 +83,14 @@ impl<S: Sign> Config<S> {
         &self.node.signer
     }
 
-    /// What holds of each: it is a member of its committee with its signer's key. The call does nothing.
+    /// What holds of every configuration: it is of a member of its committee, which has its signer's key. The call does nothing.
     pub fn limits_hold(&self)
         ensures { IsNode (node_of S.scheme self.now) }
     {
         let _ = &self.node;
     }
 
-    /// What holds of the committee's keys: each key has 32 bytes. It looks at each, and does nothing.
+    /// Each key of the committee has 32 bytes. The call looks at each key and changes nothing.
     pub fn keys_hold(&self)
         ensures { All (λ key. HasBytes 32 key.0) self.now.charter.keys }
     {
@@ -98,7 +98,7 @@ impl<S: Sign> Config<S> {
     }
 }
 
-// What holds of the keys of a committee: each has 32 bytes. It looks at each, and does nothing.
+// Each key of a committee has 32 bytes. The call looks at each key and changes nothing.
 fn look_at_keys(committee: &Committee)
     ensures { All (λ key. HasBytes 32 key.0) committee.now.keys }
 {
@@ -110,14 +110,14 @@ fn look_at_keys(committee: &Committee)
     }
 }
 
-// What holds of a key: it has 32 bytes. The call does nothing.
+// A key has 32 bytes. The call does nothing.
 fn is_key(key: &Key)
     ensures { HasBytes 32 key.now.0 }
 {
     are_bytes(&key.0);
 }
 
-// What holds of bytes. The call does nothing.
+// Each of these bytes is a number below 256. The call does nothing.
 fn are_bytes(bytes: &[u8])
     ensures { AreBytes bytes.now }
 {

@@ -1,4 +1,4 @@
-//! The validator: what it answers each event, and what it keeps.
+//! The validator: how it answers each event, and what it keeps.
 #![tactic(auto)]
 
 mod config;

@@ -1,4 +1,4 @@
-//! The header of given parts.
+//! Making a header of given parts.
 
 ghost use Rattle.std.specs.Prelude.{◌≡◌, None, IfOk};
 ghost use Rattle.header.specs.Making.{batches_fault, parents_fault, body_of, signed_by};
@@ -7,7 +7,7 @@ use sigface::Sign;
 use std::alloc::{AllocError, Global};
 use wire::{Author, BatchReference, Header, ParentReference, Round, WireError};
 
-/// The signed header of these parts, which rise and are few enough. `AllocError` where an allocation failed.
+/// The signed header with these parts, which are sorted and few enough. On `AllocError` an allocation failed.
 pub(crate) fn signed<S: Sign>(
     alloc: Global,
     signer: &S,

@@ -12,7 +12,7 @@ use admission::Tables;
 use header::Checked;
 use wire::Message;
 
-/// Whether an event would be new at tables. It takes no memory.
+/// Whether an event would be new in the state of these tables. The call allocates no memory.
 pub(crate) fn is_new(tables: &Tables, event: &Checked) -> bool
     requires meets { MeetSome tables.now event.now.message }
     ensures { (node : Node) (state : State) → Meets node state event.now tables.now event.now.message → result ≡ is_new (answered node state event.now) }

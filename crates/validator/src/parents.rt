@@ -9,7 +9,7 @@ use dag::Dag;
 use std::alloc::{AllocError, Global};
 use wire::{Author, ParentReference, Round};
 
-// What a slot holds, as a header names it.
+// The parent reference to the certificate of a slot, if there is one.
 fn parent(dag: &Dag, round: Round, author: Author) -> Option<ParentReference>
     ensures { result ≡ option_map as_parent (slots_in dag.now round author.0) }
 {
@@ -24,7 +24,7 @@ fn parent(dag: &Dag, round: Round, author: Author) -> Option<ParentReference>
     }
 }
 
-/// All certificates of a round by author, as a header names them. `AllocError` where an allocation failed.
+/// The parent references to all certificates of a round, by author. On `AllocError` an allocation failed.
 pub(crate) fn parents_of(
     alloc: Global,
     dag: &Dag,

@@ -29,7 +29,7 @@ fn free_round(headers: &Assemblies, number: u64) -> Option<Round>
     Some(round)
 }
 
-// The round below another one. The genesis has none, and gives itself.
+// The round below this one; for round 0, which has none below it, round 0 itself.
 fn below(round: Round) -> Round
     ensures { result ≡ round - 1 }
 {
@@ -39,7 +39,7 @@ fn below(round: Round) -> Round
     }
 }
 
-// The header of a round.
+// The header that would be proposed in this round.
 fn header_for<S: Sign>(
     alloc: Global,
     signer: &S,
@@ -52,14 +52,14 @@ fn header_for<S: Sign>(
 {
     let batches = batches.least_nameable(alloc)?;
     let parents = parents_of(alloc, dag, below(round))?;
-    // The parents are members', and a header takes as many.
+    // All parents are of members, so they are as few as a header may have.
     dag.limits_hold();
     signed(alloc, signer, own, round, &batches, &parents)
 }
 
-/// The header that a validator proposes: over all certificates of the round below its own, with the least batches that may be
-/// named, up to a header's limit. None where the round has an own header, or is past the greatest round. `AllocError` where an
-/// allocation failed.
+/// The header that a validator proposes: its parents are all certificates of the round below its own, its batches the first nameable ones
+/// by digest, up to a header's limit. None where the round has an own header, or is past the greatest round. On `AllocError` an allocation
+/// failed.
 pub(crate) fn propose<S: Sign>(
     alloc: Global,
     signer: &S,
@@ -73,7 +73,7 @@ pub(crate) fn propose<S: Sign>(
     let Some(round) = free_round(headers, sequencer.round()) else {
         return Ok(None);
     };
-    // The store lists what the state may propose.
+    // The store lists exactly the batches that the state allows to be named.
     batches.limits_hold();
     nameable_agrees();
     let header = header_for(alloc, signer, own, batches, sequencer.dag(), round)?;

@@ -11,7 +11,7 @@ use admission::{Tables, others_are_ready};
 use header::Checked;
 use wire::Message;
 
-/// Whether an event is ready at tables: its answer isn't that a parent is missing.
+/// Whether an event is ready in the state of these tables: its answer isn't that a parent is missing.
 pub(crate) fn is_ready(tables: &Tables, event: &Checked) -> bool
     requires meets { MeetSome tables.now event.now.message }
     ensures { (node : Node) (state : State) → Meets node state event.now tables.now event.now.message → result ≡ is_ready node state event.now }

@@ -25,7 +25,7 @@ pub(crate) fn given(digest: Option<Digest>) -> Digest
 /// Takes an event, with the digests that its checks computed.
 ///
 /// # Errors
-/// The refusal of admission, or `Memory` where an allocation failed. They change nothing.
+/// The refusal of admission, or `Memory` where an allocation failed. Neither changes anything.
 pub(crate) fn take<S: Sign>(
     tables: &mut Tables,
     alloc: Global,

@@ -39,8 +39,8 @@ use std::alloc::{AllocError, Global};
 use std::marker::Model;
 use wire::{Author, Digest, Header, Round};
 
-/// A validator without a disk. It answers events, keeps what it has to, and orders. Contracts see its configuration and
-/// its tables, which are always those of a sound state.
+/// A validator without a disk. It answers events, keeps the state that it needs for that, and orders certificates. Contracts see its
+/// configuration and its tables, which always hold a sound state.
 pub struct Validator<'a, S: Sign> {
     alloc: Global,
     config: &'a Config<S>,
@@ -73,7 +73,7 @@ impl<'a, S: Sign> Model for Validator<'a, S> {
 }
 
 impl<'a, S: Sign> Validator<'a, S> {
-    /// One that has taken nothing: it holds the genesis. `AllocError` where an allocation failed.
+    /// A validator that has taken no event: it holds the genesis certificates. On `AllocError` an allocation failed.
     pub fn new(alloc: Global, config: &'a Config<S>) -> Result<Validator<'a, S>, AllocError>
         ensures setting { IfOk result (λ made. made.setting ≡ config.now) }
         ensures at { let node = node_of S.scheme config.now in IfOk result (λ made. AreAtSound node made.tables (fresh node)) }
@@ -89,7 +89,7 @@ impl<'a, S: Sign> Validator<'a, S> {
         })
     }
 
-    /// One at a sound state of which these are the parts. `AllocError` where an allocation failed.
+    /// A validator in the sound state that has these parts. On `AllocError` an allocation failed.
     pub fn restore(
         alloc: Global,
         config: &'a Config<S>,
@@ -111,7 +111,7 @@ impl<'a, S: Sign> Validator<'a, S> {
     /// The validator of these records of a checkpoint: its configuration, and those of its state.
     ///
     /// # Errors
-    /// `Unsound` of the first record at fault, `UnsoundWhole` where none is and all together are; `Memory` where an allocation failed.
+    /// `Unsound` with the first record at fault, `UnsoundWhole` where only the whole is at fault; `Memory` where an allocation failed.
     pub fn load(
         alloc: Global,
         config: &'a Config<S>,
@@ -136,7 +136,7 @@ impl<'a, S: Sign> Validator<'a, S> {
         &self.tables
     }
 
-    /// What holds of each: it is set up as a node, and its tables are those of a sound state. The call does nothing.
+    /// What holds of every validator: its setting is a node's, and its tables hold a sound state. The call does nothing.
     pub fn limits_hold(&self)
         ensures node { IsNode (node_of S.scheme self.now.setting) }
         ensures sound { StandSomewhere (node_of S.scheme self.now.setting) self.now.tables }
@@ -151,10 +151,10 @@ impl<'a, S: Sign> Validator<'a, S> {
         self.config.committee()
     }
 
-    /// Takes an event that passed the checks of its committee, and tells what comes of it. A known event changes nothing.
+    /// Takes an event that passed the checks of its committee, and gives the answer with the outputs. A known event changes nothing.
     ///
     /// # Errors
-    /// The refusal of admission, or `Memory` where an allocation failed. They change nothing.
+    /// The refusal of admission, or `Memory` where an allocation failed. Neither changes anything.
     pub fn step(&mut self, event: Checked) -> Result<Step, Refusal>
         requires passed { fault_of self.old.setting.charter accepts_all event ≡ None }
         ensures answer { let node = node_of S.scheme self.old.setting in (state : State) → AreAtSound node self.old.tables state
@@ -165,10 +165,10 @@ impl<'a, S: Sign> Validator<'a, S> {
             → AreAtSound node self.new.tables (after node state event) }
         ensures same { is_new_step result ≡ false → self.new ≡ self.old }
         ensures setting { self.new.setting ≡ self.old.setting }
-        // It doesn't know of Down.
+        // A validator has no disk and is never down.
         ensures never_down { IfErr result (λ refusal. refusal ≢ Refusal.Down) }
-        // Said of a legal history: where the tables are what is kept of it, the answer is that of admission, and after a new
-        // event they are what is kept of the longer one, whose order begins with that from before.
+        // The same for legal histories: if the tables hold the state kept of a history, the answer is admission's, and after a new event
+        // they hold the state kept of the longer history, whose order has the earlier one as a prefix.
         ensures admits { let node = node_of S.scheme self.old.setting in (history : History) → IsLegal node history
             → AreAtSound node self.old.tables (kept node history)
             → IsAnswer (admit node history event) result }
@@ -185,7 +185,7 @@ impl<'a, S: Sign> Validator<'a, S> {
         take(&mut self.tables, self.alloc, self.config.signer(), event)
     }
 
-    /// The order: the digests of the certificates that are ordered.
+    /// The order: the digests of the ordered certificates.
     pub fn order(&self) -> &[Digest]
         ensures at { (state : State) → AreAtSound (node_of S.scheme self.now.setting) self.now.tables state → result.now ≡ state.order }
         ensures scratch { let node = node_of S.scheme self.now.setting in (history : History)
@@ -195,7 +195,7 @@ impl<'a, S: Sign> Validator<'a, S> {
         self.tables.sequencer().order()
     }
 
-    /// The validator's round, up to `Round::MAX + 1`: 1 plus the greatest round of which a quorum of authors has certificates.
+    /// The validator's round, up to `Round::MAX + 1`: 1 plus the greatest round in which a quorum of authors has certificates.
     pub fn round(&self) -> u64
         ensures at { let node = node_of S.scheme self.now.setting in (state : State) → AreAtSound node self.now.tables state
             → result ≡ round_in node state }
@@ -208,8 +208,8 @@ impl<'a, S: Sign> Validator<'a, S> {
         self.tables.sequencer().round()
     }
 
-    /// The floor: nothing of a lower round is held, and no header, vote or certificate of a round up to it is taken, if it is
-    /// above 0.
+    /// The floor: certificates of lower rounds are dropped, and if it is above 0, no header, vote or certificate of a round up to it is
+    /// taken.
     pub fn floor(&self) -> Round
         ensures at { let node = node_of S.scheme self.now.setting in (state : State) → AreAtSound node self.now.tables state
             → result ≡ floor_in node state }
@@ -221,7 +221,7 @@ impl<'a, S: Sign> Validator<'a, S> {
         self.tables.floor()
     }
 
-    /// The digest of the header that has the vote of an author and round; an own header has the own one. None for low rounds.
+    /// The digest of the header that the validator voted for in a slot; its own header counts as voted for. None for low rounds.
     pub fn voted(&self, author: Author, round: Round) -> Option<Digest>
         ensures at { (state : State) → AreAtSound (node_of S.scheme self.now.setting) self.now.tables state
             → result ≡ state.votes round author.0 }
@@ -247,7 +247,7 @@ impl<'a, S: Sign> Validator<'a, S> {
         is_ready(&self.tables, event)
     }
 
-    /// Whether an event that passed the checks would be new. It takes no memory.
+    /// Whether an event that passed the checks would be new. The call allocates no memory.
     pub fn is_new(&self, event: &Checked) -> bool
         requires passed { fault_of self.now.setting.charter accepts_all event.now ≡ None }
         ensures at { let node = node_of S.scheme self.now.setting in (state : State) → AreAtSound node self.now.tables state
@@ -262,16 +262,16 @@ impl<'a, S: Sign> Validator<'a, S> {
         is_new(&self.tables, event)
     }
 
-    /// The header that the validator proposes: over all certificates of the round below its own, with the at most
-    /// `MAX_BATCHES` least digests of available own batches that no own header has named. None where its round has an own
-    /// header, or is past `Round::MAX`. `AllocError` where an allocation failed.
+    /// The header that the validator proposes: its parents are all certificates of the round below its own; its batches are the first
+    /// `MAX_BATCHES`, by digest, of the available own batches that no own header has named. None where its round has an own header, or is
+    /// past `Round::MAX`. On `AllocError` an allocation failed.
     pub fn propose(&self) -> Result<Option<Header>, AllocError>
         ensures at { let node = node_of S.scheme self.now.setting in IfOk result (λ found. (state : State) → AreAtSound node self.now.tables state
             → found ≡ proposed node state) }
         ensures history { let node = node_of S.scheme self.now.setting in IfOk result (λ found. (history : History) → IsLegal node history
             → AreAtSound node self.now.tables (kept node history)
             → found ≡ propose_of node history) }
-        // Taken back as an event, it is new.
+        // The proposed header is new if it is handed in again as an event.
         ensures new { let node = node_of S.scheme self.now.setting in IfOk result (λ found. (state : State) → AreAtSound node self.now.tables state
             → IfSome found (IsNewThere node state)) }
     {
@@ -289,7 +289,7 @@ impl<'a, S: Sign> Validator<'a, S> {
         )
     }
 
-    /// The records of a checkpoint of it: its configuration, and what it keeps. `AllocError` where an allocation failed.
+    /// The records of its checkpoint: its configuration, and those of its state. On `AllocError` an allocation failed.
     pub fn kept_records(&self) -> Result<Vec<Vec<u8>>, AllocError>
         ensures { let node = node_of S.scheme self.now.setting in IfOk result (λ rows. Describes node self.now.tables (contents rows.items)) }
     {
@@ -297,7 +297,7 @@ impl<'a, S: Sign> Validator<'a, S> {
         checkpoint::kept_records(self.alloc, self.config.own(), &self.tables)
     }
 
-    /// A checkpoint of it, as a journal writes it: these records. `AllocError` where an allocation failed.
+    /// The validator's checkpoint as a journal writes it, with the same records. On `AllocError` an allocation failed.
     pub fn snapshot(&self) -> Result<Snapshot, AllocError>
         ensures { let node = node_of S.scheme self.now.setting in IfOk result (λ snapshot. Describes node self.now.tables snapshot) }
     {

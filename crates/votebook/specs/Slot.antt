@@ -1,4 +1,4 @@
--- Slots, by round and then author.
+-- Slots, ordered by round and then author.
 use Rattle.std.specs.Prelude.{ℕ, List, refl}
 use Rattle.std.specs.declared.cmp.Ordering.{Ordering}
 use Rattle.std.specs.Ordering.{nat_cmp, ordering_then}

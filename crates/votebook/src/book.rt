@@ -13,14 +13,14 @@ use std::collections::BTreeMap;
 use std::marker::Model;
 use wire::{Author, Digest, Round};
 
-/// What the book says of a vote that is asked for.
+/// The answer of the book to a header that asks for a vote.
 #[derive(Clone, Copy, Debug, PartialEq, Eq)]
 pub enum Voted {
-    /// The author and round had no vote; now they have this one.
+    /// There was no vote in this slot; now the vote is there.
     New,
-    /// They had this vote already.
+    /// This vote was there already.
     Again,
-    /// They have the vote for another header.
+    /// The slot has the vote for another header.
     Equivocation,
 }
 
@@ -57,8 +57,7 @@ impl VoteBook {
         }
     }
 
-    /// The book with these votes, whose slots strictly rise: by round, and by author within a round. `AllocError` where an
-    /// allocation failed.
+    /// The book with these votes, whose slots are strictly ascending, by round and then author. On `AllocError` an allocation failed.
     pub fn restore(alloc: Global, votes: Vec<(Slot, Digest)>) -> Result<VoteBook, AllocError>
         requires rising { IsStrictlySortedBy slot_cmp (keys_of votes.items) }
         ensures { IfOk result (λ book. map.entries book ≡ votes.items) }
@@ -67,8 +66,8 @@ impl VoteBook {
         Ok(VoteBook { votes })
     }
 
-    /// The vote at a place, counted from 0, in the order of the slots: by round, and by author within a round. None from the
-    /// number of votes on. It takes time in proportion to the place.
+    /// The vote at a place, counted from 0, in the order of rounds and then authors. None from the number of votes on. It takes time in
+    /// proportion to the place.
     pub fn nth(&self, place: usize) -> Option<(Slot, Digest)>
         ensures { result ≡ slice_get (map.entries self.now) place }
     {
@@ -76,14 +75,14 @@ impl VoteBook {
         Some((*slot, *header))
     }
 
-    /// The header that has the vote of this author and round, if any.
+    /// The digest of the header that was voted for in this slot, if any.
     pub fn voted(&self, author: Author, round: Round) -> Option<Digest>
         ensures { result ≡ voted_in self.now author round }
     {
         self.votes.get(&slot_of(author, round)).copied()
     }
 
-    /// Asks for the vote of this author and round for a header. Only `New` changes the book, by this vote.
+    /// Asks for the vote of a slot, for a header. Only `New` changes the book, by adding this vote.
     pub fn vote(
         &mut self,
         author: Author,

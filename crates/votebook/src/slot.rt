@@ -1,6 +1,6 @@
 //! What a vote is for.
 
-/// The header of an author in a round.
+/// A slot: the place of an author's header in a round.
 #[derive(Clone, Copy, Debug, PartialEq, Eq, PartialOrd, Ord)]
 pub struct Slot {
     pub round: u64,

@@ -1,4 +1,4 @@
--- Batches, and the bytes of their bodies. Numbers have their highest byte first.
+-- Batches, and the bytes of their bodies. Numbers are big-endian.
 use Rattle.std.specs.Prelude.{◌≡◌, ℕ, zero, suc, ◌+◌, ◌≤◌, List, [], ◌∷◌, ◌++◌, length, take, drop, sum_by, All, Bool, nat_le}
 use Rattle.std.specs.List.{flat_map}
 use Rattle.std.specs.Int.{w16, w32, to_be_bytes, from_be_bytes}

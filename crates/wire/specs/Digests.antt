@@ -1,4 +1,4 @@
--- The digests: SHA-256 (FIPS 180-4) of a letter and what is digested.
+-- The digests: SHA-256 (FIPS 180-4) of a letter and the bytes that are digested.
 use Rattle.std.specs.Prelude.{ℕ, List, [], ◌∷◌, ◌++◌}
 use Rattle.std.specs.Int.{w16, w64, to_be_bytes}
 use Rattle.sha2.specs.Sha256.{sha256}
@@ -6,18 +6,18 @@ use Rattle.wire.specs.declared.header.HeaderBody.{HeaderBody}
 use Rattle.wire.specs.Batches.{BatchView, batch_body}
 use Rattle.wire.specs.Spelling.{body_bytes, header_body}
 
--- of a batch: after the letter B
+-- the digest of a batch: of the letter B and the batch's body
 abbrev pub batch_digest_of : BatchView → List ℕ
 batch_digest_of b = sha256 (66 ∷ batch_body b)
 
--- of a header, without its signature: after the letter H
+-- the digest of a header, without its signature: of the letter H and the header's body
 abbrev pub header_digest_of : HeaderBody → List ℕ
 header_digest_of h = sha256 (72 ∷ header_body h)
 
--- of a certificate, whatever its votes: after the letter C the header's digest, round and author
+-- the digest of a certificate, whatever its votes: of the letter C and the header's digest, round and author
 abbrev pub certificate_digest_of : List ℕ → ℕ → ℕ → List ℕ
 certificate_digest_of header round author = sha256 (67 ∷ header ++ to_be_bytes w64 round ++ to_be_bytes w16 author)
 
--- of the genesis certificate of an author: its header has round 0, no batches and no parents
+-- the digest of an author's genesis certificate, whose header has round 0, no batches and no parents
 abbrev pub genesis_digest_of : ℕ → List ℕ
 genesis_digest_of author = certificate_digest_of (sha256 (72 ∷ body_bytes author 0 [] [])) 0 author

@@ -1,4 +1,4 @@
--- Which values are messages, and which bytes spell them.
+-- Which values are messages, and which bytes encode them.
 use Rattle.std.specs.Prelude.{◌≡◌, ℕ, ◌<◌, ◌^◌, List}
 use Rattle.wire.specs.declared.header.HeaderBody.{HeaderBody}
 use Rattle.wire.specs.declared.header.Header.{Header}
@@ -57,6 +57,6 @@ IsMessage (message.Vote v) = IsVote v
 IsMessage (message.Certificate c) = IsCertificate c
 IsMessage (message.Coin c) = IsCoin c
 
--- a message, and its one spelling in bytes
+-- a message, and its one encoding in bytes
 abbrev pub Spells : Message → List ℕ → Type 0
 Spells m bytes = IsMessage m × (bytes ≡ spelling m)

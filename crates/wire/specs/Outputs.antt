@@ -1,4 +1,4 @@
--- The bytes of what a validator gives out: a receiver, and what it gets.
+-- The bytes of an output: its receiver, and its content.
 use Rattle.std.specs.Prelude.{ℕ, ◌+◌, ◌*◌, ◌≤◌, List, ◌∷◌, ◌++◌, length, All}
 use Rattle.std.specs.List.{flat_map}
 use Rattle.std.specs.Int.{w16, w32, w64, to_be_bytes}
@@ -11,7 +11,7 @@ use Rattle.wire.specs.Fields.{IsDigest}
 use Rattle.wire.specs.Grammar.{IsMessage}
 use Rattle.wire.specs.Spelling.{spelling, length_of}
 
--- who gets it: a member by its number, all members as FFFF, or the host as FFFE
+-- the receiver of an output: a member's number, FFFF for all members, or FFFE for the host
 abbrev pub receiver_of : Output → ℕ
 receiver_of (output.Batch b) = 65535
 receiver_of (output.Ack to ack) = to.0
@@ -32,7 +32,7 @@ digests_bytes digests = to_be_bytes w32 (length digests) ++ flat_map digest_byte
 abbrev pub order_bytes : ℕ → List Digest → List ℕ
 order_bytes start digests = 7 ∷ to_be_bytes w64 start ++ digests_bytes digests
 
--- what it gets: a message, or a piece of the order
+-- the content of an output: a message, or a piece of the order
 abbrev pub content_of : Output → List ℕ
 content_of (output.Batch b) = spelling (message.Batch b)
 content_of (output.Ack to ack) = spelling (message.BatchAck ack)
@@ -41,7 +41,7 @@ content_of (output.Vote v) = spelling (message.Vote v)
 content_of (output.Certificate c) = spelling (message.Certificate c)
 content_of (output.Order start digests) = order_bytes start digests
 
--- how many bytes it gets
+-- the length of an output's content
 abbrev pub content_len : Output → ℕ
 content_len (output.Batch b) = length_of (message.Batch b)
 content_len (output.Ack to ack) = length_of (message.BatchAck ack)
@@ -50,11 +50,11 @@ content_len (output.Vote v) = length_of (message.Vote v)
 content_len (output.Certificate c) = length_of (message.Certificate c)
 content_len (output.Order start digests) = 13 + 32 * length digests
 
--- an output in bytes
+-- the bytes of an output
 abbrev pub output_bytes : Output → List ℕ
 output_bytes o = to_be_bytes w16 (receiver_of o) ++ content_of o
 
--- an output as a frame: the length of its bytes in four, the highest first, and its bytes
+-- an output as a frame: the number of its bytes, in four bytes, big-endian, and the bytes
 unfoldable pub frame_of : Output → List ℕ
 frame_of output = to_be_bytes w32 (length (output_bytes output)) ++ output_bytes output
 
@@ -63,7 +63,7 @@ pub record AreOrdered (digests : List Digest) : Type 0 where
   pub few : length digests ≤ MAX_ORDER_DIGESTS
   pub each : All IsDigest digests
 
--- what an output carries is a message, or a piece of the order
+-- an output is well formed: its content is a message, or a piece of the order
 abbrev pub IsOutput : Output → Type 0
 IsOutput (output.Batch b) = IsMessage (message.Batch b)
 IsOutput (output.Ack to ack) = IsMessage (message.BatchAck ack)

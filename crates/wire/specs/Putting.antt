@@ -1,4 +1,4 @@
--- Bytes that are put after others.
+-- Appending bytes to others.
 use Rattle.std.specs.Prelude.{ℕ, List}
 use Rattle.wire.specs.Lists.{Begins}
 

@@ -23,7 +23,7 @@ use Rattle.wire.specs.declared.votes.VoteEntry.{VoteEntry}
 use Rattle.wire.specs.Batches.{BatchView, has_room}
 use Rattle.wire.specs.References.{batch_follows, parent_follows, vote_follows}
 
--- a step after another one: it goes on with what that one gave, or passes its fault on
+-- one step after another: it continues with the value of the first, or passes the first one's fault on
 infixl 10 ◌>>=◌
 abbrev pub ◌>>=◌ : {A B : Type 0} → Result A WireError → (A → Result B WireError) → Result B WireError
 (Ok x) >>= f = f x
@@ -35,11 +35,11 @@ Read X = Result (X × List ℕ) WireError
 
 -- ---- fields of fixed size
 
--- a number of so many bytes, the highest first
+-- a big-endian number of this width
 abbrev pub number_at : Width → List ℕ → Read ℕ
 number_at w bytes = if nat_lt (length bytes) (byte_len w) then Err Short else Ok (from_be_bytes w (take (byte_len w) bytes), drop (byte_len w) bytes)
 
--- so many bytes
+-- this many bytes
 abbrev pub bytes_at : ℕ → List ℕ → Read (List ℕ)
 bytes_at n bytes = if nat_lt (length bytes) n then Err Short else Ok (take n bytes, drop n bytes)
 
@@ -81,56 +81,56 @@ count_at w limit bytes = do
 
 -- ---- lists. The order is tested as soon as the key of an entry is read, a transaction's length as soon as it is read
 
--- so many entries, each read after those before it
+-- this many entries; how each is read may depend on those before it
 unfoldable pub more_at : {X : Type 0} → (List X → List ℕ → Read X) → ℕ → List X → List ℕ → Read (List X)
 more_at entry_at zero before bytes = Ok (before, bytes)
 more_at entry_at (suc n) before bytes = do
   entry ← entry_at before bytes
   more_at entry_at n (before ++ entry.0 ∷ []) entry.1
 
--- a batch after those before it
+-- one reference to a batch, given those before it
 unfoldable pub batch_reference_at : List BatchReference → List ℕ → Read BatchReference
 batch_reference_at before bytes = do
   digest ← digest_at bytes
   if batch_follows before digest.0 then (number_at w16 digest.1 >>= λ worker. Ok (record { digest = digest.0; worker = worker.0 }, worker.1)) else Err NotCanonical
 
--- their count, at most 128, and the batches
+-- the number of batches, at most 128, and the references to them
 unfoldable pub batches_at : List ℕ → Read (List BatchReference)
 batches_at bytes = do
   count ← count_at w16 MAX_BATCHES bytes
   more_at batch_reference_at count.0 [] count.1
 
--- a parent after those before it
+-- one reference to a parent, given those before it
 unfoldable pub parent_reference_at : List ParentReference → List ℕ → Read ParentReference
 parent_reference_at before bytes = do
   author ← author_at bytes
   if parent_follows before author.0 then (digest_at author.1 >>= λ certificate. Ok (record { author = author.0; certificate = certificate.0 }, certificate.1)) else Err NotCanonical
 
--- their count, at most 31, and the parents
+-- the number of parents, at most 31, and the references to them
 unfoldable pub parents_at : List ℕ → Read (List ParentReference)
 parents_at bytes = do
   count ← count_at w16 MAX_PARENTS bytes
   more_at parent_reference_at count.0 [] count.1
 
--- a vote of a certificate after those before it
+-- one vote of a certificate, given those before it
 unfoldable pub vote_entry_at : List VoteEntry → List ℕ → Read VoteEntry
 vote_entry_at before bytes = do
   voter ← author_at bytes
   if vote_follows before voter.0 then (signature_at voter.1 >>= λ signature. Ok (record { voter = voter.0; signature = signature.0 }, signature.1)) else Err NotCanonical
 
--- their count, at most 31, and the votes
+-- the number of votes, at most 31, and the votes
 unfoldable pub votes_at : List ℕ → Read (List VoteEntry)
 votes_at bytes = do
   count ← count_at w16 MAX_VOTES bytes
   more_at vote_entry_at count.0 [] count.1
 
--- a transaction after those before it: its length is at most 65,536, and the body with it has at most 500,000 bytes
+-- one transaction, given those before it: its length is at most 65,536, and the body with it has at most 500,000 bytes
 unfoldable pub transaction_at : List (List ℕ) → List ℕ → Read (List ℕ)
 transaction_at before bytes = do
   len ← number_at w32 bytes
   if not (nat_lt MAX_TRANSACTION_BYTES len.0) && has_room before len.0 then bytes_at len.0 len.1 else Err TooMany
 
--- their count, at most 124,998, and the transactions
+-- the number of transactions, at most 124,998, and the transactions
 unfoldable pub transactions_at : List ℕ → Read (List (List ℕ))
 transactions_at bytes = do
   count ← count_at w32 MAX_TRANSACTIONS bytes
@@ -138,7 +138,7 @@ transactions_at bytes = do
 
 -- ---- messages
 
--- author, worker, transactions
+-- a batch: author, worker, transactions
 unfoldable pub batch_at : List ℕ → Read BatchView
 batch_at bytes = do
   author ← author_at bytes
@@ -146,14 +146,14 @@ batch_at bytes = do
   transactions ← transactions_at worker.1
   Ok (record { author = author.0; worker = worker.0; transactions = transactions.0 }, transactions.1)
 
--- who acknowledges, batch digest
+-- an acknowledgement: who acknowledges, batch digest
 unfoldable pub ack_at : List ℕ → Read BatchAck
 ack_at bytes = do
   author ← author_at bytes
   batch ← digest_at author.1
   Ok (record { author = author.0; batch = batch.0 }, batch.1)
 
--- author, round, batches, parents
+-- the body of a header: author, round, batches, parents
 unfoldable pub header_body_at : List ℕ → Read HeaderBody
 header_body_at bytes = do
   author ← author_at bytes
@@ -162,14 +162,14 @@ header_body_at bytes = do
   parents ← parents_at batches.1
   Ok (record { author = author.0; round = round.0; batches = batches.0; parents = parents.0 }, parents.1)
 
--- the body, signature
+-- a header: its body, its signature
 unfoldable pub header_at : List ℕ → Read Header
 header_at bytes = do
   body ← header_body_at bytes
   signature ← signature_at body.1
   Ok (record { body = body.0; signature = signature.0 }, signature.1)
 
--- header digest, round, author, voter, signature
+-- a vote: header digest, round, author, voter, signature
 unfoldable pub vote_at : List ℕ → Read Vote
 vote_at bytes = do
   header ← digest_at bytes
@@ -179,21 +179,21 @@ vote_at bytes = do
   signature ← signature_at voter.1
   Ok (record { header = header.0; round = round.0; author = author.0; voter = voter.0; signature = signature.0 }, signature.1)
 
--- the body of the header, votes
+-- a certificate: the body of its header, the votes
 unfoldable pub certificate_at : List ℕ → Read Certificate
 certificate_at bytes = do
   header ← header_body_at bytes
   votes ← votes_at header.1
   Ok (record { header = header.0; votes = votes.0 }, votes.1)
 
--- wave, value
+-- a coin: wave, value
 unfoldable pub coin_at : List ℕ → Read Coin
 coin_at bytes = do
   wave ← wave_at bytes
   value ← number_at w64 wave.1
   Ok (record { wave = wave.0; value = value.0 }, value.1)
 
--- the tag, and what it has
+-- a message: the tag, and what follows it
 unfoldable pub tagged_at : List ℕ → Read Message
 tagged_at [] = Err Short
 tagged_at (tag ∷ bytes) =
@@ -211,9 +211,9 @@ message_of bytes = do
   m ← tagged_at bytes
   if length m.1 == 0 then Ok m.0 else Err Trailing
 
--- ---- what a reader of the code returns
+-- ---- what a function that reads bytes returns
 
--- the fault that reading gives, unless memory ran out
+-- the fault that reading gives, unless an allocation failed
 abbrev pub Faults : {Y : Type 0} → WireError → Result Y WireError → Type 0
 Faults Memory read = Unit {0}
 Faults Short read = read ≡ Err Short
@@ -223,7 +223,7 @@ Faults NotCanonical read = read ≡ Err NotCanonical
 Faults TooMany read = read ≡ Err TooMany
 Faults BadRound read = read ≡ Err BadRound
 
--- what reading gives, as view sees it, unless memory ran out
+-- the value that reading gives, as `view` shows it, unless an allocation failed
 abbrev pub Gives : {X Y : Type 0} → (X → Y) → Result X WireError → Result Y WireError → Type 0
 Gives view (Ok x) read = read ≡ Ok (view x)
 Gives view (Err e) read = Faults e read

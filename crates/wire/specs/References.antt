@@ -12,7 +12,7 @@ use Rattle.wire.specs.declared.votes.VoteEntry.{VoteEntry}
 use Rattle.wire.specs.Fields.{IsNumber, IsAuthor, IsDigest, IsSignature}
 use Rattle.wire.specs.Rising.{rises, follows, AreEntries}
 
--- of two digests, the first byte that differs tells which comes first
+-- digests are compared by the first byte that differs
 abbrev pub digest_before : Digest → Digest → Bool
 digest_before a b = is_lt (slice_cmp nat_cmp a.0 b.0)
 
@@ -20,15 +20,15 @@ digest_before a b = is_lt (slice_cmp nat_cmp a.0 b.0)
 abbrev pub batch_before : BatchReference → BatchReference → Bool
 batch_before a b = digest_before a.digest b.digest
 
--- the batches rise by digest
+-- the batches are sorted strictly by digest
 abbrev pub batches_rise : List BatchReference → Bool
 batches_rise = rises batch_before
 
--- a batch of this digest may come next
+-- a batch with this digest may be the next one
 abbrev pub batch_follows : List BatchReference → Digest → Bool
 batch_follows batches digest = follows (λ a. digest_before a.digest digest) batches
 
--- a batch put in its place among others that rise by digest, once
+-- a batch, inserted once at its place in a list sorted by digest
 abbrev pub placed : List BatchReference → BatchReference → List BatchReference
 placed [] batch = batch ∷ []
 placed (first ∷ rest) batch =
@@ -40,11 +40,11 @@ placed (first ∷ rest) batch =
 abbrev pub parent_before : ParentReference → ParentReference → Bool
 parent_before a b = nat_lt a.author.0 b.author.0
 
--- the parents rise by author
+-- the parents are sorted strictly by author
 abbrev pub parents_rise : List ParentReference → Bool
 parents_rise = rises parent_before
 
--- a parent by this author may come next
+-- a parent of this author may be the next one
 abbrev pub parent_follows : List ParentReference → Author → Bool
 parent_follows parents author = follows (λ a. nat_lt a.author.0 author.0) parents
 
@@ -52,11 +52,11 @@ parent_follows parents author = follows (λ a. nat_lt a.author.0 author.0) paren
 abbrev pub vote_before : VoteEntry → VoteEntry → Bool
 vote_before a b = nat_lt a.voter.0 b.voter.0
 
--- the votes rise by voter
+-- the votes are sorted strictly by voter
 abbrev pub votes_rise : List VoteEntry → Bool
 votes_rise = rises vote_before
 
--- a vote by this voter may come next
+-- a vote of this voter may be the next one
 abbrev pub vote_follows : List VoteEntry → Author → Bool
 vote_follows votes voter = follows (λ a. nat_lt a.voter.0 voter.0) votes
 
@@ -75,14 +75,14 @@ pub record IsVoteEntry (v : VoteEntry) : Type 0 where
   pub voter : IsAuthor v.voter
   pub signature : IsSignature v.signature
 
--- a header names at most 128 batches, which rise by digest
+-- a header names at most 128 batches, sorted by digest
 abbrev pub AreBatches : List BatchReference → Type 0
 AreBatches = AreEntries MAX_BATCHES IsBatchReference batch_before
 
--- a header names at most 31 parents, which rise by author, so no author twice
+-- a header names at most 31 parents, sorted by author, and no author twice
 abbrev pub AreParents : List ParentReference → Type 0
 AreParents = AreEntries MAX_PARENTS IsParentReference parent_before
 
--- a certificate has at most 31 votes, which rise by voter, so no voter twice
+-- a certificate has at most 31 votes, sorted by voter, and no voter twice
 abbrev pub AreVotes : List VoteEntry → Type 0
 AreVotes = AreEntries MAX_VOTES IsVoteEntry vote_before

@@ -1,4 +1,4 @@
--- Lists that rise strictly, up to a limit.
+-- Strictly ascending lists, up to a limit.
 use Rattle.std.specs.Prelude.{ℕ, ◌≤◌, All, IsTrue, Bool, true, ◌&&◌, List, [], ◌∷◌, length}
 
 -- each element comes before the next
@@ -13,7 +13,7 @@ follows before [] = true
 follows before (x ∷ []) = before x
 follows before (x ∷ y ∷ rest) = follows before (y ∷ rest)
 
--- entries within a limit, each of which fits, and which rise
+-- entries within a limit, each of which fits, in strictly ascending order
 pub record AreEntries {X : Type 0} (limit : ℕ) (Fits : X → Type 0) (before : X → X → Bool) (entries : List X) : Type 0 where
   pub few : length entries ≤ limit
   pub each : All Fits entries

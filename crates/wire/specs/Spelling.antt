@@ -1,4 +1,4 @@
--- The one spelling of each message in bytes. Numbers have their highest byte first.
+-- The one encoding of each message in bytes. Numbers are big-endian.
 use Rattle.std.specs.Prelude.{ℕ, ◌+◌, ◌*◌, List, ◌∷◌, ◌++◌, length}
 use Rattle.std.specs.List.{flat_map}
 use Rattle.std.specs.Int.{w16, w64, to_be_bytes}

@@ -53,28 +53,28 @@ impl Model for Batch {
 }
 
 impl Batch {
-    /// Whose it is.
+    /// The author of the batch.
     pub fn author(&self) -> Author
         ensures { result ≡ self.now.author }
     {
         self.author
     }
 
-    /// The worker that gathered it, by its number.
+    /// The number of the worker that gathered the batch.
     pub fn worker(&self) -> u16
         ensures { result ≡ self.now.worker }
     {
         self.worker
     }
 
-    /// How many transactions it has, at most `MAX_TRANSACTIONS`.
+    /// How many transactions the batch has, at most `MAX_TRANSACTIONS`.
     pub fn len(&self) -> u32
         ensures { result ≡ length self.now.transactions }
     {
         self.count
     }
 
-    /// The same batch once more. The body isn't copied. `AllocError` where an allocation failed.
+    /// The same batch with one more owner. The body isn't copied. On `AllocError` an allocation failed.
     pub fn share(&self) -> Result<Batch, AllocError>
         ensures { IfOk result (λ batch. batch ≡ self.now) }
     {
@@ -86,7 +86,7 @@ impl Batch {
         })
     }
 
-    /// Its body: author, worker, and the transactions after their count.
+    /// The batch's encoding: author, worker, the number of transactions, the transactions.
     pub fn body(&self) -> &[u8]
         ensures value { result.now ≡ batch_body self.now }
         ensures len { length result.now ≡ body_len self.now.transactions }
@@ -97,13 +97,13 @@ impl Batch {
     }
 }
 
-/// A batch that more transactions may be added to.
+/// A batch to which transactions can still be added.
 #[derive(Debug, Drop)]
 pub struct OpenBatch {
     author: Author,
     worker: u16,
     count: u32,
-    // The body, whose count is written when the batch is closed.
+    // The body so far. Its count is written when the batch is closed.
     body: Vec<u8>,
 }
 
@@ -118,14 +118,15 @@ impl Model for OpenBatch {
 }
 
 impl OpenBatch {
-    /// A batch of no transactions. `AllocError` where an allocation failed.
+    /// A batch without transactions. On `AllocError` an allocation failed.
     pub fn new(alloc: Global, author: Author, worker: u16) -> Result<OpenBatch, AllocError>
         ensures { IfOk result (λ batch. batch ≡ record { author = author; worker = worker; transactions = [] }) }
     {
         OpenBatch::with_room(alloc, author, worker, 0)
     }
 
-    /// The same, with room for transactions of so many bytes with their lengths, at most for what a body may have.
+    /// A batch without transactions, with room for so many bytes of transactions and their lengths, but never for more than a body may
+    /// have.
     pub fn with_room(
         alloc: Global,
         author: Author,
@@ -147,14 +148,14 @@ impl OpenBatch {
         })
     }
 
-    /// Whether it has no transaction.
+    /// Whether the batch has no transaction.
     pub fn is_empty(&self) -> bool
         ensures { IsTrue result ↔ (self.now.transactions ≡ []) }
     {
         self.count == 0
     }
 
-    /// Whether its body has room for one more transaction of so many bytes.
+    /// Whether the body has room for one more transaction of so many bytes.
     pub fn has_room(&self, len: usize) -> bool
         ensures { result ≡ has_room self.now.transactions len }
     {
@@ -162,8 +163,7 @@ impl OpenBatch {
         len <= room && room - len >= LENGTH_BYTES
     }
 
-    /// Adds a transaction of at most `MAX_TRANSACTION_BYTES` at the end, where `has_room` says that it may.
-    /// `AllocError` where an allocation failed.
+    /// Adds a transaction of at most `MAX_TRANSACTION_BYTES` at the end, if `has_room` allows it. On `AllocError` an allocation failed.
     pub fn push(&mut self, transaction: &[u8]) -> Result<(), AllocError>
         requires short { length transaction.now ≤ MAX_TRANSACTION_BYTES }
         requires room { IsTrue (has_room self.old.transactions (length transaction.now)) }
@@ -177,7 +177,7 @@ impl OpenBatch {
         Ok(())
     }
 
-    /// The batch of these transactions. Where an allocation fails the open batch is handed back as it was.
+    /// The batch of these transactions. If an allocation fails the open batch is handed back as it was.
     pub fn close(self) -> Result<Batch, AllocFailed<OpenBatch>>
         ensures { MatchResult result (λ batch. batch ≡ self) (λ failed. failed.value ≡ self) }
     {
@@ -207,7 +207,7 @@ impl OpenBatch {
     }
 }
 
-// Puts a transaction with its length before it into a body that has room for both.
+// Adds a transaction, after its length, to a body that has room for both.
 fn put_transaction(body: &mut Vec<u8>, len: &[u8; 4], transaction: &[u8])
     requires room { vec_len body.old + 4 + length transaction.now ≤ vec_capacity body.old }
     ensures { body.new.items ≡ body.old.items ++ (len.now ++ transaction.now) }

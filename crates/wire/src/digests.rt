@@ -1,4 +1,4 @@
-//! The digests of batches, headers and certificates. They take no memory.
+//! The digests of batches, headers and certificates. Computing them allocates no memory.
 
 ghost use Rattle.std.specs.Prelude.{◌≡◌, ◌++◌, ◌∷◌, [], List, ℕ, ◌≤◌, length};
 ghost use Rattle.std.specs.Int.{w16, w64, to_be_bytes};
@@ -17,16 +17,16 @@ use crate::references::{BatchReference, ParentReference};
 use crate::round::Round;
 use sha2::{Digest as Hasher, Sha256};
 
-/// What comes before a batch body in its digest: the letter B.
+/// The letter B, which precedes a batch's body in what is digested.
 const BATCH_LETTER: u8 = 0x42;
 
-/// What comes before a header in its digest: the letter H.
+/// The letter H, which precedes a header in what is digested.
 const HEADER_LETTER: u8 = 0x48;
 
-/// What comes before a certificate in its digest: the letter C.
+/// The letter C, which precedes a certificate in what is digested.
 const CERTIFICATE_LETTER: u8 = 0x43;
 
-// In one piece each, since a call of the hasher costs as much as a few bytes.
+// In one piece, since one call of the hasher costs as much as a few bytes.
 fn batch_bytes(batch: &BatchReference) -> [u8; 34]
     ensures { result ≡ batch_reference_bytes batch.now }
 {
@@ -36,7 +36,7 @@ fn batch_bytes(batch: &BatchReference) -> [u8; 34]
     bytes
 }
 
-// Without their count.
+// Feeds the references to batches, without their count.
 fn feed_batches(hasher: &mut Sha256, batches: &[BatchReference])
     ensures { (m : List ℕ) → Holds256 hasher.old m → Holds256 hasher.new (m ++ flat_map batch_reference_bytes batches.now) }
 {
@@ -73,7 +73,7 @@ fn slot_bytes(author: Author, round: Round) -> [u8; 11]
     bytes
 }
 
-// All that comes before the batches, of which there are so many.
+// Everything that precedes the references to batches, of which there are so many.
 fn head_bytes(author: Author, round: Round, batches: u16) -> [u8; 13]
     ensures { result ≡ (72 ∷ to_be_bytes w16 author.0 ++ to_be_bytes w64 round) ++ to_be_bytes w16 batches }
 {
@@ -100,7 +100,7 @@ fn body_digest(
     Digest(hasher.finalize())
 }
 
-/// The digest of a batch: of its body, so also of its author and its worker.
+/// The digest of a batch: of its body, which has its author and its worker too.
 pub fn batch_digest(batch: &Batch) -> Digest
     ensures { result.0 ≡ batch_digest_of batch.now }
 {
@@ -148,15 +148,14 @@ fn certificate_bytes(header: &Digest, round: Round, author: Author) -> [u8; 43]
     bytes
 }
 
-/// The digest of the certificate of the header of this digest, round and author. It doesn't depend on the
-/// votes.
+/// The digest of the certificate of a header with this digest, round and author. It doesn't depend on the votes.
 pub fn certificate_digest(header: &Digest, round: Round, author: Author) -> Digest
     ensures { result.0 ≡ certificate_digest_of header.now.0 round author.0 }
 {
     Digest(Sha256::digest(certificate_bytes(header, round, author)))
 }
 
-/// The digest of the genesis certificate of an author: round 0, no batches, no parents, no votes.
+/// The digest of an author's genesis certificate: round 0, no batches, no parents, no votes.
 pub fn genesis_digest(author: Author) -> Digest
     ensures { result.0 ≡ genesis_digest_of author.0 }
 {

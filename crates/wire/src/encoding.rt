@@ -45,7 +45,7 @@ pub(crate) const VOTE_BYTES: usize = 109;
 /// Bytes of a coin, with its tag.
 const COIN_BYTES: usize = 17;
 
-/// Bytes of a header's body beside what it refers to: author, round and both counts.
+/// Bytes of a header's body without its references: author, round and both counts.
 const HEADER_FRONT_BYTES: usize = 14;
 
 /// Bytes of a reference to a batch or to a parent.
@@ -60,7 +60,7 @@ const COUNT_BYTES: usize = 2;
 /// Bytes of a vote in a certificate.
 const VOTE_ENTRY_BYTES: usize = 66;
 
-// Puts bytes. What stood there before stays, also where the allocation fails.
+// Adds bytes. Earlier bytes stay, also if the allocation fails.
 #[tactic(auto, using(crate::proofs::Joining::put_kept))]
 fn put_bytes(out: &mut Vec<u8>, bytes: &[u8]) -> Result<(), AllocError>
     ensures bytes { OnOk result (out.new.items ≡ out.old.items ++ bytes.now) }
@@ -248,7 +248,7 @@ fn put_coin(out: &mut Vec<u8>, coin: &Coin) -> Result<(), AllocError>
     put_bytes(out, &eight_bytes(coin.value))
 }
 
-// How many bytes the body of a header has.
+// The length of a header's body, in bytes.
 fn header_body_length(header: &HeaderBody) -> usize
     ensures len { result ≡ header_body_len header.now }
     ensures limit { result ≤ 14 + 34 * (MAX_BATCHES + MAX_PARENTS) }
@@ -256,7 +256,7 @@ fn header_body_length(header: &HeaderBody) -> usize
     HEADER_FRONT_BYTES + REFERENCE_BYTES * (header.batches.len() + header.parents.len())
 }
 
-// How many bytes the message of a batch has.
+// The length of a batch message, in bytes.
 pub(crate) fn batch_length(batch: &Batch) -> usize
     ensures len { result ≡ length_of (Message.Batch batch.now) }
     ensures spelled { result ≡ length (spelling (Message.Batch batch.now)) }
@@ -265,7 +265,7 @@ pub(crate) fn batch_length(batch: &Batch) -> usize
     1 + batch.body().len()
 }
 
-// How many bytes the message of a header has.
+// The length of a header message, in bytes.
 pub(crate) fn header_length(header: &Header) -> usize
     ensures len { result ≡ length_of (Message.Header header.now) }
     ensures limit { result ≤ 1 + (14 + 34 * (MAX_BATCHES + MAX_PARENTS) + 64) }
@@ -273,7 +273,7 @@ pub(crate) fn header_length(header: &Header) -> usize
     1 + (header_body_length(&header.body) + SIGNATURE_BYTES)
 }
 
-// How many bytes the message of a certificate has.
+// The length of a certificate message, in bytes.
 pub(crate) fn certificate_length(certificate: &Certificate) -> usize
     ensures len { result ≡ length_of (Message.Certificate certificate.now) }
     ensures limit { result ≤ 1 + (14 + 34 * (MAX_BATCHES + MAX_PARENTS) + (2 + 66 * MAX_VOTES)) }
@@ -282,10 +282,10 @@ pub(crate) fn certificate_length(certificate: &Certificate) -> usize
     1 + (header_body_length(&certificate.header) + votes)
 }
 
-/// How many bytes the spelling of a message has.
+/// The length of a message's encoding, in bytes.
 pub fn encoded_len(message: &Message) -> usize
     ensures len { result ≡ length (spelling message.now) }
-    // So it fits a frame, with a sender before it.
+    // A message fits a frame, together with its sender.
     ensures limit { result ≤ 1 + MAX_BATCH_BYTES }
 {
     message.limits_hold();
@@ -299,14 +299,13 @@ pub fn encoded_len(message: &Message) -> usize
     }
 }
 
-/// Puts the one spelling of a message after these bytes. `AllocError` where an allocation failed: then a part of
-/// it may stand there.
+/// Adds the encoding of a message to these bytes. On `AllocError` an allocation failed, and a part of the encoding may have been added.
 #[tactic(auto, using(crate::proofs::Joining::rest_at_refusal))]
 pub fn encode_onto(out: &mut Vec<u8>, message: &Message) -> Result<(), AllocError>
     ensures bytes { OnOk result (out.new.items ≡ out.old.items ++ spelling message.now) }
     ensures message { OnOk result (IsMessage message.now) }
     ensures len { OnOk result (length out.new.items ≡ length out.old.items + length_of message.now) }
-    // So it fits a frame, with a sender before it.
+    // A message fits a frame, together with its sender.
     ensures limit { OnOk result (length_of message.now ≤ 1 + MAX_BATCH_BYTES) }
     ensures kept { OnErr result ((rest : List ℕ) × (out.new.items ≡ out.old.items ++ rest)) }
 {
@@ -321,11 +320,11 @@ pub fn encode_onto(out: &mut Vec<u8>, message: &Message) -> Result<(), AllocErro
     }
 }
 
-/// The one spelling of a message. `AllocError` where an allocation failed.
+/// The encoding of a message. On `AllocError` an allocation failed.
 pub fn encode(alloc: Global, message: &Message) -> Result<Vec<u8>, AllocError>
     ensures spelling { IfOk result (λ bytes. Spells message.now bytes.items) }
     ensures len { IfOk result (λ bytes. length bytes.items ≡ length_of message.now) }
-    // So it fits a frame, with a sender before it.
+    // A message fits a frame, together with its sender.
     ensures limit { IfOk result (λ bytes. length bytes.items ≤ 1 + MAX_BATCH_BYTES) }
 {
     let mut out = Vec::with_capacity(alloc, encoded_len(message))?;

@@ -6,7 +6,7 @@ ghost use Rattle.wire.specs.Rising.{rises, follows, AreEntries};
 use std::alloc::{AllocError, Global};
 use std::marker::Model;
 
-/// What a list holds.
+/// An element of a list.
 pub trait Entry: Copy {
     // How many entries a list has, at most.
     ghost limit: { ℕ };
@@ -22,7 +22,7 @@ pub trait Entry: Copy {
         ensures { fits self.now };
 }
 
-/// Entries that rise strictly, at most as many as the limit. Each list of headers and certificates is one of these.
+/// Entries in strictly ascending order, at most as many as the limit. Each list in a header or certificate is of this type.
 #[derive(Debug)]
 pub struct Entries<E: Entry> {
     list: Vec<E>,
@@ -65,7 +65,7 @@ impl<E: Entry> Entries<E> {
         }
     }
 
-    /// How many there are.
+    /// How many entries there are.
     pub fn len(&self) -> usize
         ensures value { result ≡ length self.now }
         ensures limit { result ≤ E.limit }
@@ -73,15 +73,14 @@ impl<E: Entry> Entries<E> {
         self.list.len()
     }
 
-    /// Whether there is none.
+    /// Whether the list has no entry.
     pub fn is_empty(&self) -> bool
         ensures { IsTrue result ↔ (self.now ≡ []) }
     {
         self.list.is_empty()
     }
 
-    /// Adds an entry at the end, where there is room and `may_follow` says that it may.
-    /// `AllocError` where an allocation failed.
+    /// Adds an entry at the end, if there is room and `may_follow` allows it. On `AllocError` an allocation failed.
     pub fn push(&mut self, entry: E) -> Result<(), AllocError>
         requires room { length self.old < E.limit }
         requires follows { IsTrue (follows (λ last. E.before last entry) self.old) }

@@ -1,4 +1,4 @@
-//! Why bytes, or parts of a message, are refused.
+//! Why bytes, or the parts of a message, are refused.
 
 ghost use Rattle.std.specs.Prelude.{◌≡◌};
 ghost use Rattle.wire.specs.declared.error.WireError.TheVariants.{Memory};
@@ -21,7 +21,7 @@ pub enum WireError {
     /// No message has this tag.
     #[error("4 BadTag")]
     BadTag,
-    /// A list doesn't rise strictly.
+    /// A list isn't strictly ascending.
     #[error("5 NotCanonical")]
     NotCanonical,
     /// A count, a length, or the sum of a batch's lengths is above its limit.

@@ -14,7 +14,7 @@ use std::alloc::{AllocError, Global};
 pub struct HeaderBody {
     /// Who proposes.
     pub author: Author,
-    /// The round that it is for.
+    /// The header's round.
     pub round: Round,
     /// The batches to order.
     pub batches: BatchReferences,
@@ -51,19 +51,19 @@ pub struct Vote {
 pub struct Certificate {
     /// The header, without its signature.
     pub header: HeaderBody,
-    /// The votes on it.
+    /// The votes on the header.
     pub votes: VoteEntries,
 }
 
 impl HeaderBody {
-    /// The same body once more. `AllocError` where an allocation failed.
+    /// A copy of the body. On `AllocError` an allocation failed.
     pub fn try_clone(&self) -> Result<HeaderBody, AllocError>
         ensures { IfOk result (λ body. body ≡ self.now) }
     {
         self.clone()
     }
 
-    /// What holds of each body of a header. The call does nothing.
+    /// What holds of every header body. The call does nothing.
     pub fn limits_hold(&self)
         ensures { IsHeaderBody self.now }
     {
@@ -75,14 +75,14 @@ impl HeaderBody {
 }
 
 impl Header {
-    /// The same header once more. `AllocError` where an allocation failed.
+    /// A copy of the header. On `AllocError` an allocation failed.
     pub fn try_clone(&self) -> Result<Header, AllocError>
         ensures { IfOk result (λ header. header ≡ self.now) }
     {
         self.clone()
     }
 
-    /// What holds of each header. The call does nothing.
+    /// What holds of every header. The call does nothing.
     pub fn limits_hold(&self)
         ensures { IsHeader self.now }
     {
@@ -92,7 +92,7 @@ impl Header {
 }
 
 impl Vote {
-    /// What holds of each vote. The call does nothing.
+    /// What holds of every vote. The call does nothing.
     pub fn limits_hold(&self)
         ensures { IsVote self.now }
     {
@@ -105,14 +105,14 @@ impl Vote {
 }
 
 impl Certificate {
-    /// The same certificate once more. `AllocError` where an allocation failed.
+    /// A copy of the certificate. On `AllocError` an allocation failed.
     pub fn try_clone(&self) -> Result<Certificate, AllocError>
         ensures { IfOk result (λ certificate. certificate ≡ self.now) }
     {
         self.clone()
     }
 
-    /// What holds of each certificate. The call does nothing.
+    /// What holds of every certificate. The call does nothing.
     pub fn limits_hold(&self)
         ensures { IsCertificate self.now }
     {

@@ -1,4 +1,4 @@
-//! Names of fixed size: members, digests, keys and signatures.
+//! Values of fixed size: members, digests, keys and signatures.
 
 ghost use Rattle.std.specs.Prelude.{[], ◌∷◌};
 ghost use Rattle.std.specs.Cmp.Rules.{hashing};
@@ -16,7 +16,7 @@ pub struct Author(pub u16);
 #[derive(Clone, Copy, Debug, PartialEq, Eq, PartialOrd, Ord)]
 pub struct Digest(pub [u8; 32]);
 
-// In one write, where a derive would write its bytes one by one.
+// Hashes the digest in one write; a derive would write its bytes one by one.
 impl Hash for Digest {
     ghost hash_input = { λ digest. digest.0 ∷ [] };
 
@@ -35,7 +35,7 @@ pub struct Key(pub [u8; 32]);
 #[derive(Clone, Copy, Debug, PartialEq, Eq)]
 pub struct Signature(pub [u8; 64]);
 
-// What holds of bytes. The call does nothing.
+// Each of these bytes is a number below 256. The call does nothing.
 fn are_bytes(bytes: &[u8])
     ensures { AreBytes bytes.now }
 {
@@ -43,7 +43,7 @@ fn are_bytes(bytes: &[u8])
 }
 
 impl Author {
-    /// What holds of each author: its number has two bytes. The call does nothing.
+    /// Every author's number has two bytes. The call does nothing.
     pub fn limits_hold(&self)
         ensures { IsAuthor self.now }
     {
@@ -52,7 +52,7 @@ impl Author {
 }
 
 impl Digest {
-    /// What holds of each digest: it has 32 bytes. The call does nothing.
+    /// Every digest has 32 bytes. The call does nothing.
     pub fn limits_hold(&self)
         ensures { IsDigest self.now }
     {
@@ -61,7 +61,7 @@ impl Digest {
 }
 
 impl Signature {
-    /// What holds of each signature: it has 64 bytes. The call does nothing.
+    /// Every signature has 64 bytes. The call does nothing.
     pub fn limits_hold(&self)
         ensures { IsSignature self.now }
     {

@@ -1,5 +1,5 @@
-//! The messages of the validators: their types, which keep the limits and the order of every list, their
-//! one spelling in bytes, and the digests.
+//! The messages of the validators: their types, which keep the limits and the order of every list, their one encoding in bytes, and the
+//! digests.
 #![tactic(auto)]
 
 mod batch;

@@ -1,4 +1,4 @@
-//! The limits of messages. A round's and a wave's stand with their types.
+//! The limits of messages. Those of rounds and waves are with their types.
 
 ghost use Rattle.std.specs.Prelude.{◌≡◌, ◌-◌, ◌^◌};
 ghost use Rattle.wire.specs.declared.round.TheConstants.Round.{MAX as MAX_ROUND};
@@ -28,7 +28,7 @@ pub const MAX_ORDER_DIGESTS: usize = 16_000;
 /// Bytes of a frame after its length, at most.
 pub const MAX_FRAME_BYTES: usize = 524_288;
 
-/// The limits in numbers. Every other promise names them.
+/// The limits as numbers; all other contracts use their names.
 pub fn limits_in_numbers()
     ensures transaction { MAX_TRANSACTION_BYTES ≡ 65536 }
     ensures batch { MAX_BATCH_BYTES ≡ 500000 }

@@ -8,7 +8,7 @@ use crate::keys::{Author, Digest};
 use crate::numbers::fits_eight_bytes;
 use crate::round::Wave;
 
-/// That a member holds a batch.
+/// An acknowledgement: a member holds a batch.
 #[derive(Clone, Copy, Debug, PartialEq, Eq)]
 pub struct BatchAck {
     /// Who acknowledges.
@@ -31,7 +31,7 @@ pub struct Coin {
 pub enum Message {
     /// A worker's transactions.
     Batch(Batch),
-    /// That a batch is held.
+    /// An acknowledgement of a batch.
     BatchAck(BatchAck),
     /// A proposal.
     Header(Header),
@@ -44,7 +44,7 @@ pub enum Message {
 }
 
 impl BatchAck {
-    /// What holds of each acknowledgement. The call does nothing.
+    /// What holds of every acknowledgement. The call does nothing.
     pub fn limits_hold(&self)
         ensures { IsAck self.now }
     {
@@ -54,7 +54,7 @@ impl BatchAck {
 }
 
 impl Coin {
-    /// What holds of each coin. The call does nothing.
+    /// What holds of every coin. The call does nothing.
     pub fn limits_hold(&self)
         ensures { IsCoin self.now }
     {
@@ -64,7 +64,7 @@ impl Coin {
 }
 
 impl Message {
-    /// What holds of each message: it keeps all limits. The call does nothing.
+    /// Every message keeps all limits. The call does nothing.
     pub fn limits_hold(&self)
         ensures { IsMessage self.now }
     {

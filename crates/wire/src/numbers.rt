@@ -1,4 +1,4 @@
-//! Numbers as bytes, the highest byte first.
+//! Numbers as bytes, big-endian.
 
 ghost use Rattle.std.specs.Prelude.{◌≡◌, ◌<◌, ◌^◌};
 ghost use Rattle.std.specs.Int.{w16, w32, w64, to_be_bytes};
@@ -35,14 +35,14 @@ pub(crate) fn four_bytes(number: u32) -> [u8; 4]
     bytes
 }
 
-// What holds of a number of two bytes. The call does nothing.
+// A number of two bytes is within its range. The call does nothing.
 pub(crate) fn fits_two_bytes(number: u16)
     ensures { number < 2 ^ 16 }
 {
     let _ = number;
 }
 
-// What holds of a number of eight bytes. The call does nothing.
+// A number of eight bytes is within its range. The call does nothing.
 pub(crate) fn fits_eight_bytes(number: u64)
     ensures { number < 2 ^ 64 }
 {

@@ -1,4 +1,4 @@
-//! What a validator gives out.
+//! The outputs of a validator.
 
 ghost use Rattle.std.specs.Prelude.{◌≡◌, ◌<◌, ◌≤◌, ◌++◌, [], ◌∷◌, List, length, IsTrue, ◌↔◌, OnOk, OnErr};
 
@@ -10,12 +10,12 @@ use crate::message::BatchAck;
 use std::alloc::{AllocError, Global};
 use std::marker::Model;
 
-/// Something that a validator gives out.
+/// One output of a validator.
 #[derive(Debug, Drop)]
 pub enum Output {
     /// An own batch, to all.
     Batch(Batch),
-    /// That a batch is held, to the batch's author.
+    /// An acknowledgement of a batch, to the batch's author.
     Ack { to: Author, ack: BatchAck },
     /// An own header, to all.
     Header(Header),
@@ -23,7 +23,7 @@ pub enum Output {
     Vote(Vote),
     /// An own certificate, to all.
     Certificate(Certificate),
-    /// The certificates that the order has from the place `start` on, to the host.
+    /// The part of the order that begins at the place `start`, to the host.
     Order { start: u64, digests: OrderDigests },
 }
 
@@ -61,7 +61,7 @@ impl OrderDigests {
         }
     }
 
-    /// How many there are.
+    /// How many digests there are.
     pub fn len(&self) -> usize
         ensures value { result ≡ length self.now }
         ensures limit { result ≤ MAX_ORDER_DIGESTS }
@@ -69,7 +69,7 @@ impl OrderDigests {
         self.list.len()
     }
 
-    /// Whether there is none.
+    /// Whether there is no digest.
     pub fn is_empty(&self) -> bool
         ensures { IsTrue result ↔ (self.now ≡ []) }
     {
@@ -83,7 +83,7 @@ impl OrderDigests {
         self.list.len() < MAX_ORDER_DIGESTS
     }
 
-    /// Adds a digest at the end, where `has_room` says that it may. `AllocError` where an allocation failed.
+    /// Adds a digest at the end, if `has_room` allows it. On `AllocError` an allocation failed.
     pub fn push(&mut self, digest: Digest) -> Result<(), AllocError>
         requires { length self.old < MAX_ORDER_DIGESTS }
         ensures ok { OnOk result (self.new ≡ self.old ++ digest ∷ []) }

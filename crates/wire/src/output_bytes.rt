@@ -1,4 +1,4 @@
-//! What a validator gives out as bytes.
+//! The outputs of a validator as bytes.
 
 ghost use Rattle.std.specs.Prelude.{◌≡◌, ◌≤◌, ◌+◌, ◌*◌, ◌++◌, length, IfOk, OnOk};
 ghost use Rattle.wire.specs.declared.limits.TheConstants.{MAX_FRAME_BYTES, MAX_ORDER_DIGESTS};
@@ -12,10 +12,10 @@ use crate::numbers::{eight_bytes, four_bytes, two_bytes};
 use crate::output::{OrderDigests, Output};
 use std::alloc::{AllocError, Global};
 
-/// The receiver of what goes to all members. No member has this number.
+/// The receiver number of outputs to all members. No member has it.
 pub const TO_ALL: u16 = 0xffff;
 
-/// The receiver of what goes to the node's own host. No member has this number.
+/// The receiver number of outputs to the node's own host. No member has it.
 pub const HOST: u16 = 0xfffe;
 
 /// The tag of a piece of the order.
@@ -82,7 +82,7 @@ fn put_content(out: &mut Vec<u8>, output: &Output) -> Result<(), AllocError>
     }
 }
 
-// How many bytes it gets.
+// The length of an output's content, in bytes.
 fn content_length(output: &Output) -> usize
     ensures len { result ≡ content_len output.now }
     ensures limit { result ≤ 13 + 32 * MAX_ORDER_DIGESTS }
@@ -97,12 +97,12 @@ fn content_length(output: &Output) -> usize
     }
 }
 
-/// The receiver of an output, two bytes, and what it gets: a message, or a piece of the order.
-/// `AllocError` where an allocation failed.
+/// The bytes of an output: its receiver, in two bytes, and its content, which is a message or a piece of the order. On `AllocError` an
+/// allocation failed.
 pub fn encode_output(alloc: Global, output: &Output) -> Result<Vec<u8>, AllocError>
     ensures bytes { IfOk result (λ bytes. bytes.items ≡ output_bytes output.now) }
     ensures fits { IfOk result (λ _. IsOutput output.now) }
-    // It fits a frame.
+    // The output fits a frame.
     ensures limit { IfOk result (λ bytes. length bytes.items ≤ MAX_FRAME_BYTES) }
 {
     let mut out = Vec::with_capacity(alloc, RECEIVER_BYTES + content_length(output))?;

@@ -18,7 +18,7 @@ pub struct BatchReference {
 }
 
 impl BatchReference {
-    /// What holds of each reference to a batch. The call does nothing.
+    /// What holds of every reference to a batch. The call does nothing.
     pub fn limits_hold(&self)
         ensures { IsBatchReference self.now }
     {
@@ -37,7 +37,7 @@ pub struct ParentReference {
 }
 
 impl ParentReference {
-    /// What holds of each reference to a parent. The call does nothing.
+    /// What holds of every reference to a parent. The call does nothing.
     pub fn limits_hold(&self)
         ensures { IsParentReference self.now }
     {
@@ -70,14 +70,14 @@ impl Entry for ParentReference {
     }
 }
 
-/// The batches of a header: at most `MAX_BATCHES`, their digests rising strictly.
+/// The batches of a header: at most `MAX_BATCHES`, sorted strictly by digest.
 pub type BatchReferences = Entries<BatchReference>;
 
-/// The parents of a header: at most `MAX_PARENTS`, their authors rising strictly.
+/// The parents of a header: at most `MAX_PARENTS`, sorted strictly by author.
 pub type ParentReferences = Entries<ParentReference>;
 
 impl Entries<BatchReference> {
-    /// Whether a batch of this digest may come next: the last one's digest is less.
+    /// Whether a batch with this digest may be the next one: the last one's digest is lower.
     pub fn may_follow(&self, digest: &Digest) -> bool
         ensures { result ≡ batch_follows self.now digest.now }
     {
@@ -89,7 +89,7 @@ impl Entries<BatchReference> {
 }
 
 impl Entries<ParentReference> {
-    /// Whether a parent by this author may come next: the last one's author is less.
+    /// Whether a parent by this author may be the next one: the last one's author is lower.
     pub fn may_follow(&self, author: Author) -> bool
         ensures { result ≡ parent_follows self.now author }
     {

@@ -47,7 +47,7 @@ impl Round {
         Round { number: 0 }
     }
 
-    /// Its number.
+    /// The round's number.
     pub fn number(self) -> u64
         ensures value { result ≡ self }
         ensures limit { result ≤ Round.MAX }
@@ -91,7 +91,7 @@ impl Wave {
         Ok(Wave { number })
     }
 
-    /// Its number.
+    /// The wave's number.
     pub fn number(self) -> u64
         ensures value { result ≡ self }
         ensures least { 0 < result }

@@ -12,12 +12,12 @@ use crate::keys::{Author, Signature};
 pub struct VoteEntry {
     /// Who votes.
     pub voter: Author,
-    /// Its signature of the certificate digest.
+    /// The voter's signature of the certificate digest.
     pub signature: Signature,
 }
 
 impl VoteEntry {
-    /// What holds of each vote of a certificate. The call does nothing.
+    /// What holds of every vote of a certificate. The call does nothing.
     pub fn limits_hold(&self)
         ensures { IsVoteEntry self.now }
     {
@@ -38,11 +38,11 @@ impl Entry for VoteEntry {
     }
 }
 
-/// The votes of a certificate: at most `MAX_VOTES`, their voters rising strictly.
+/// The votes of a certificate: at most `MAX_VOTES`, sorted strictly by voter.
 pub type VoteEntries = Entries<VoteEntry>;
 
 impl Entries<VoteEntry> {
-    /// Whether a vote by this voter may come next: the last one's voter is less.
+    /// Whether a vote by this voter may be the next one: the last one's voter is lower.
     pub fn may_follow(&self, voter: Author) -> bool
         ensures { result ≡ vote_follows self.now voter }
     {

@@ -1,4 +1,4 @@
--- Frames on a stream: four bytes of length, the highest first, and that many bytes.
+-- Frames on a stream: a length in four bytes, big-endian, and that many bytes.
 use Rattle.std.specs.Prelude.{◌≡◌, ℕ, ◌+◌, ◌<◌, ◌≤◌, List, ◌++◌, length, take, All, map, Vec}
 use Rattle.std.specs.List.{flat_map}
 use Rattle.std.specs.Int.{w32, to_be_bytes, from_be_bytes}

@@ -1,4 +1,5 @@
--- The messages as a table of fields, and the fault that bytes have by it: that of the first field that breaks a limit, an order or a range.
+-- The messages as a table of fields, and the fault of bytes by this table: that of the first field that breaks a limit, an order or a
+-- range.
 use Rattle.std.specs.Prelude.{◌≡◌, ℕ, ◌+◌, zero, suc, Bool, List, [], ◌∷◌, ◌++◌, length, take, sum_by, Option, Some, None, nat_lt, nat_le, ◌==◌, ◌&&◌, if◌then◌else◌}
 use Rattle.std.specs.List.{concat}
 use Rattle.std.specs.Int.{Width, w8, w16, w32, w64, byte_len, from_be_bytes, is_in_range}
@@ -16,7 +17,8 @@ pub record Field : Type 0 where
   pub width : ℕ
   pub fault : List ℕ → Option WireError
 
--- a part of a message: a field, or entries after a count of this width, at most this limit. An entry is a key, by the keys before it, and a field, by its key
+-- a part of a message: a field; or entries after a count of this width, up to this limit. An entry is a key, which depends on the keys
+-- before it, and a field that depends on the key
 pub data Part : Type 0 where
   one : Field → Part
   many : Width → ℕ → (List (List ℕ) → Field) → (List ℕ → Field) → Part
@@ -27,11 +29,11 @@ pub data Part : Type 0 where
 abbrev pub bytes : ℕ → Field
 bytes width = record { width = width; fault = λ value. None }
 
--- a number that passes this test, or else is this fault
+-- a number that passes this test; otherwise it has this fault
 abbrev pub number : Width → (ℕ → Bool) → WireError → Field
 number w passes bad = record { width = byte_len w; fault = λ value. if passes (from_be_bytes w value) then None else Some bad }
 
--- a key of so many bytes, which rises: the last one before it, if there is one, is less
+-- a key of this many bytes, which has to be greater than the last key before it, if there is one
 abbrev pub rising : ℕ → (List ℕ → List ℕ → Bool) → List (List ℕ) → Field
 rising width less keys = record { width = width; fault = λ key. if follows (λ before. less before key) keys then None else Some NotCanonical }
 
@@ -53,7 +55,7 @@ rising_digest = rising 32 (λ a b. is_lt (slice_cmp nat_cmp a b))
 abbrev pub rising_member : List (List ℕ) → Field
 rising_member = rising 2 (λ a b. nat_lt (from_be_bytes w16 a) (from_be_bytes w16 b))
 
--- a transaction's length. The body with it has 8 bytes, and 4 and the length for each transaction
+-- a transaction's length. The body with it has 8 bytes, and for each transaction 4 bytes and its length
 abbrev pub transaction_len : List (List ℕ) → Field
 transaction_len lens = number w32 (λ n. nat_le n MAX_TRANSACTION_BYTES && nat_le (8 + sum_by (λ len. 4 + from_be_bytes w32 len) lens + (4 + n)) MAX_BATCH_BYTES) TooMany
 
@@ -63,7 +65,7 @@ transaction_len lens = number w32 (λ n. nat_le n MAX_TRANSACTION_BYTES && nat_l
 abbrev pub header_body : List Part
 header_body = one (bytes 2) ∷ one round ∷ many w16 MAX_BATCHES rising_digest (λ key. bytes 2) ∷ many w16 MAX_PARENTS rising_member (λ key. bytes 32) ∷ []
 
--- what stands after each tag
+-- the parts after each tag
 unfoldable pub parts_of : ℕ → List Part
 parts_of tag =
     -- author, worker, transactions (length, bytes)
@@ -81,14 +83,15 @@ parts_of tag =
 
 -- ---- the next field
 
--- the field after these ones of so many entries, with these keys before them; after the last entry it is that of what follows
+-- the field that follows these in a list of entries, with these keys before them; after the last entry it is the first field of what
+-- follows
 unfoldable pub next_entry : (List (List ℕ) → Field) → (List ℕ → Field) → (List (List ℕ) → Option Field) → ℕ → List (List ℕ) → List (List ℕ) → Option Field
 next_entry key value after zero keys fields = after fields
 next_entry key value after (suc n) keys [] = Some (key keys)
 next_entry key value after (suc n) keys (k ∷ []) = Some (value k)
 next_entry key value after (suc n) keys (k ∷ v ∷ fields) = next_entry key value after n (keys ++ k ∷ []) fields
 
--- the field after these ones of the parts; none after the last part
+-- the field that follows these in the parts; none follows the last part
 unfoldable pub next_part : List Part → List (List ℕ) → Option Field
 next_part [] fields = None
 next_part (one field ∷ parts) [] = Some field
@@ -96,24 +99,26 @@ next_part (one field ∷ parts) (f ∷ fields) = next_part parts fields
 next_part (many w limit key value ∷ parts) [] = Some (number w (is_in_range 0 limit) TooMany)
 next_part (many w limit key value ∷ parts) (count ∷ fields) = next_entry key value (next_part parts) (from_be_bytes w count) [] fields
 
--- the field after these ones of a message, the first of which is its tag
+-- the field that follows these in a message, the first of which is the tag
 unfoldable pub next : List (List ℕ) → Option Field
 next [] = Some (number w8 (is_in_range 1 6) BadTag)
 next (tag ∷ fields) = next_part (parts_of (from_be_bytes w8 tag)) fields
 
 -- ---- the fault
 
--- these bytes pass as the field: they have its width, and no fault
+-- these bytes pass as this field: they have its width, and no fault
 abbrev pub Passes : Option Field → List ℕ → Type 0
 Passes None f = ⊥
 Passes (Some field) f = (length f ≡ field.width) × (field.fault f ≡ None)
 
--- these bytes are fields that pass, each as the field after those before it, and a rest. Such fields need not begin a message: no digest passes after one of all 255
+-- these bytes are fields that pass, each as the one that follows those before it, and then a rest. Not every such list of fields is the
+-- start of a message: no digest can follow one whose bytes are all 255
 pub record IsCut (text : List ℕ) (fields : List (List ℕ)) (rest : List ℕ) : Type 0 where
   pub whole : text ≡ concat fields ++ rest
   pub pass : (before following : List (List ℕ)) (f : List ℕ) → fields ≡ before ++ f ∷ following → Passes (next before) f
 
--- the fault of the rest, where this field is next: it ends within the field, or has the fault of the field, if any; or it goes on after the last field
+-- the fault of the rest, where this field is next: the rest ends within the field, or the field is at fault; where no field is next, the
+-- rest isn't empty
 abbrev pub fault_at : Option Field → List ℕ → Option WireError
 fault_at None rest = if length rest == 0 then None else Some Trailing
 fault_at (Some field) rest = if nat_lt (length rest) field.width then Some Short else field.fault (take field.width rest)

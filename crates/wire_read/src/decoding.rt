@@ -1,4 +1,4 @@
-//! Whole messages.
+//! Decoding whole messages.
 
 ghost use Rattle.std.specs.Prelude.{◌≡◌, ◌≢◌, ◌<◌, ◌++◌, ◌↔◌, List, ℕ, length, IfOk, IsOk, Ok, Err};
 ghost use Rattle.wire.specs.declared.error.WireError.{WireError};
@@ -120,47 +120,47 @@ fn message_in(alloc: Global, bytes: &[u8]) -> Result<Message, WireError>
     Ok(message)
 }
 
-/// The message that all of the bytes are. A refusal is the first fault from the left, or `Memory`.
+/// The message that all of these bytes are. The error is the first fault from left to right, or `Memory`.
 pub fn decode(alloc: Global, bytes: &[u8]) -> Result<Message, WireError>
-    // What is read is a message, and the bytes are its spelling.
+    // A result is a message, and the bytes are its encoding.
     ensures found { IfOk result (λ message. Spells message bytes.now) }
-    // What is spelled is read, unless memory runs out.
+    // The bytes of a message are always decoded to it, unless an allocation fails.
     ensures only { (message : Message) → Spells message bytes.now → Gives (λ found. found) result (Ok message) }
-    // Which fault it is.
+    // Otherwise this is the fault.
     ensures fault { Gives (λ message. message) result (message_of bytes.now) }
 {
     message_in(alloc, bytes)
 }
 
-/// No spelling of a message is a prefix of another: two messages, each with bytes after it, that are the
-/// same bytes are one message with the same bytes after it.
+/// No encoding of a message is a prefix of another one: if two messages, each followed by bytes, are the same bytes, the messages are equal
+/// and so are the bytes that follow.
 pub fn one_spelling()
     ensures { (m n : Message) (x y : List ℕ) → IsMessage m → IsMessage n → spelling m ++ x ≡ spelling n ++ y → (m ≡ n) × (x ≡ y) }
 {}
 
-/// Two bodies of headers, each within its limits, that have one spelling are one.
+/// No two header bodies within their limits have the same encoding.
 pub fn one_body()
     ensures { OneBody }
 {}
 
-/// Bytes that go on after a message are refused as such, whatever they are.
+/// A message followed by any bytes is refused as `Trailing`.
 pub fn what_follows_is_trailing()
     ensures { (m : Message) (rest : List ℕ) → IsMessage m → 0 < length rest → message_of (spelling m ++ rest) ≡ Err Trailing }
 {}
 
-/// Each proper prefix of a message's spelling is refused as one that ends too early.
+/// Each proper prefix of a message's encoding is refused as `Short`.
 pub fn beginnings_are_short()
     ensures { (m : Message) (bytes more : List ℕ) → IsMessage m → spelling m ≡ bytes ++ more → 0 < length more → message_of bytes ≡ Err Short }
 {}
 
-/// Any other refusal than for an early end stays, whatever follows: it is for the first fault from the left.
+/// Any refusal but `Short` stays the same, whatever bytes follow: it is for the first fault from the left.
 pub fn faults_stay()
     ensures { (bytes more : List ℕ) (fault : WireError) → message_of bytes ≡ Err fault → fault ≢ Short → message_of (bytes ++ more) ≡ Err fault }
 {}
 
-/// Reading gives what the table of fields says, whatever the bytes. Cut by the table, the fault is that of
-/// the first field that breaks a limit, an order or a range, and every field before it passes. Where none
-/// does, the bytes end within a field, go on after the last one, or are a message.
+/// Decoding agrees with the table of fields, whatever the bytes. By the table, the fault is that of the first field that breaks a limit, an
+/// order or a range, and every field before it passes. If no field does, the bytes end within a field, or go on after the last one, or are
+/// a message.
 pub fn faults_by_the_table()
     ensures fault { (bytes : List ℕ) (fault : WireError) → (message_of bytes ≡ Err fault) ↔ HasFault bytes fault }
     ensures none { (bytes : List ℕ) → IsOk (message_of bytes) ↔ HasNone bytes }

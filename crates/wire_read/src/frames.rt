@@ -1,4 +1,4 @@
-//! Frames on a stream that comes in pieces.
+//! Cutting a stream that comes in pieces into frames.
 
 ghost use Rattle.std.specs.Prelude.{◌≡◌, ◌+◌, ◌≤◌, ◌++◌, [], List, ℕ, length, take, drop, IsTrue, ◌↔◌, ◌⊎◌, IfOk, IfErr, OnErr};
 ghost use Rattle.std.specs.Option.{MatchOption};
@@ -8,15 +8,15 @@ use std::alloc::{AllocError, Global};
 use std::marker::Model;
 use wire::{MAX_FRAME_BYTES, WireError};
 
-/// Bytes of a frame's length.
+/// Bytes of a frame's length field.
 const LENGTH_BYTES: usize = 4;
 
-/// Cuts a stream into the bodies of its frames. A frame is four bytes of length, the highest first, and
-/// that many bytes, at most `MAX_FRAME_BYTES`.
+/// Cuts a stream into the bodies of its frames. A frame is a length in four bytes, big-endian, and that many bytes, at most
+/// `MAX_FRAME_BYTES`.
 #[derive(Debug, Drop)]
 pub struct FrameReader {
     alloc: Global,
-    // What has come of the next frame.
+    // The bytes so far of the next frame.
     held: Vec<u8>,
 }
 
@@ -32,7 +32,7 @@ impl Model for FrameReader {
 }
 
 impl FrameReader {
-    /// A reader to which nothing has come.
+    /// A reader that has got no bytes.
     pub fn new(alloc: Global) -> FrameReader
         ensures { result ≡ [] }
     {
@@ -42,19 +42,19 @@ impl FrameReader {
         }
     }
 
-    /// Whether nothing has come of the next frame.
+    /// Whether the reader has no bytes of the next frame.
     pub fn is_empty(&self) -> bool
         ensures { IsTrue result ↔ (self.now ≡ []) }
     {
         self.held.is_empty()
     }
 
-    /// Takes the next piece of the stream and gives the bodies of the frames that are whole now, in their
-    /// order. `TooMany` where a length above the limit stands in a frame's place, `Memory` where an allocation
-    /// failed. A refusal leaves the reader as it was before the piece, and gives none of its frames.
+    /// Takes the next piece of the stream and gives the bodies of the frames that are now whole, in their order. `TooMany` where a length
+    /// above the limit is in a frame's place, `Memory` where an allocation failed. A refusal leaves the reader as it was before the piece,
+    /// and gives none of the piece's frames.
     pub fn feed(&mut self, piece: &[u8]) -> Result<Vec<Vec<u8>>, WireError>
-        // Where the stream so far is frames of the bodies before and what is held, with the piece it is
-        // frames of these and the new bodies, and what is held then.
+        // If the stream so far is frames of some bodies and then the held bytes, then with the piece it is frames of these and the new
+        // bodies, and then the bytes held now.
         ensures ok { IfOk result (λ bodies. (stream : List ℕ) (before : List (List ℕ)) → Splits stream before self.old → Splits (stream ++ piece.now) (before ++ bodies_bytes bodies.items) self.new) }
         ensures too_many { IfErr result (λ e. (e ≡ WireError.Memory) ⊎ ((e ≡ WireError.TooMany) × ((stream : List ℕ) (before : List (List ℕ)) → Splits stream before self.old → Breaks (stream ++ piece.now)))) }
         ensures never { IfOk result (λ _. Breaks (self.old ++ piece.now) → ⊥) }
@@ -71,8 +71,8 @@ impl FrameReader {
     }
 }
 
-// Takes a piece after what is held, and gives the bodies of the frames that are whole then. After the frame that is begun bodies are
-// cut out of the piece itself, and what is left of it is held. A refusal leaves what was held at the front.
+// Adds a piece to the held bytes, and gives the bodies of the frames that are whole then. After the frame that is begun, bodies are cut out
+// of the piece itself, and what is left of it is held. A refusal leaves the held bytes at the front.
 fn feed_held(alloc: Global, held: &mut Vec<u8>, piece: &[u8]) -> Result<Vec<Vec<u8>>, WireError>
     ensures splits { IfOk result (λ bodies. Splits (held.old.items ++ piece.now) (bodies_bytes bodies.items) held.new.items) }
     ensures breaks { IfErr result (λ e. (e ≡ WireError.Memory) ⊎ ((e ≡ WireError.TooMany) × Breaks (held.old.items ++ piece.now))) }
@@ -91,7 +91,7 @@ fn feed_held(alloc: Global, held: &mut Vec<u8>, piece: &[u8]) -> Result<Vec<Vec<
     Ok(bodies)
 }
 
-// Cuts the whole frames off what is held.
+// Cuts the whole frames off the held bytes.
 fn cut_held(alloc: Global, held: &mut Vec<u8>) -> Result<Vec<Vec<u8>>, WireError>
     ensures splits { IfOk result (λ bodies. Splits held.old.items (bodies_bytes bodies.items) held.new.items) }
     ensures breaks { IfErr result (λ e. (e ≡ WireError.Memory) ⊎ ((e ≡ WireError.TooMany) × Breaks held.old.items)) }
@@ -102,7 +102,7 @@ fn cut_held(alloc: Global, held: &mut Vec<u8>) -> Result<Vec<Vec<u8>>, WireError
     Ok(bodies)
 }
 
-// How many bytes of a piece end the frame that is begun, as far as they are there.
+// How many bytes of a piece belong to the frame that is begun.
 fn begun_len(held: &[u8], piece: &[u8]) -> usize
     ensures { result ≤ length piece.now }
 {
@@ -132,7 +132,7 @@ fn remove_front(bytes: &mut Vec<u8>, count: usize)
     bytes.drain(..count);
 }
 
-// The bodies of the whole frames at the front, and how many bytes these frames have.
+// The bodies of the whole frames at the front, and the length of these frames.
 fn bodies_of(alloc: Global, stream: &[u8]) -> Result<(Vec<Vec<u8>>, usize), WireError>
     ensures within { IfOk result (λ found. found.1 ≤ length stream.now) }
     ensures splits { IfOk result (λ found. Splits stream.now (bodies_bytes found.0.items) (drop found.1 stream.now)) }
@@ -147,7 +147,7 @@ fn bodies_of(alloc: Global, stream: &[u8]) -> Result<(Vec<Vec<u8>>, usize), Wire
     Ok((bodies, taken))
 }
 
-// The body of the frame at the front, or `None` where it isn't whole.
+// The body of the frame at the front; `None` where the frame isn't whole.
 fn body_at(bytes: &[u8]) -> Result<Option<&[u8]>, WireError>
     ensures whole { IfOk result (λ found. MatchOption found (IsPartial bytes.now) (λ body. IsFrameBody body.now × (bytes.now ≡ frame body.now ++ drop (4 + length body.now) bytes.now))) }
     ensures err { IfErr result (λ e. (e ≡ WireError.TooMany) × IsTooLong bytes.now) }
@@ -165,8 +165,8 @@ fn body_at(bytes: &[u8]) -> Result<Option<&[u8]>, WireError>
     Ok(Some(&rest[..len]))
 }
 
-/// A stream is frames in one way, and never frames and broken at once: so what a reader gives doesn't
-/// depend on how the stream was cut into pieces.
+/// A stream can be cut into frames in only one way, and is never both frames and broken. So what a reader gives doesn't depend on how the
+/// stream came in pieces.
 pub fn one_split()
     ensures same { (stream : List ℕ) (a b : List (List ℕ)) (x y : List ℕ) → Splits stream a x → Splits stream b y → (a ≡ b) × (x ≡ y) }
     ensures either { (stream : List ℕ) (a : List (List ℕ)) (x : List ℕ) → Splits stream a x → Breaks stream → ⊥ }

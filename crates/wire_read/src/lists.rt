@@ -79,7 +79,7 @@ fn vote_of(reader: &mut Reader, before: &VoteEntries) -> Result<VoteEntry, WireE
     Ok(VoteEntry { voter, signature })
 }
 
-/// Votes after their count of two bytes: each is a voter, above the one before, and a signature.
+/// Votes after their count of two bytes: each is a voter, greater than the one before, and a signature.
 ///
 /// # Errors
 /// The first fault from left to right; `Memory` where an allocation failed.

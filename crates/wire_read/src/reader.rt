@@ -1,4 +1,4 @@
-//! Fields of fixed size.
+//! Reading fields of fixed size.
 
 ghost use Rattle.std.specs.Prelude.{◌≡◌, ◌≤◌, length, IfOk};
 ghost use Rattle.std.specs.Int.{w16, w32, w64};
@@ -7,7 +7,7 @@ ghost use Rattle.wire.specs.Reading.{Gives, number_at, bytes_at, author_at, dige
 use std::marker::Model;
 use wire::{Author, Digest, Round, Signature, Wave, WireError};
 
-/// Bytes that are still to be read. After a fault nothing more is said of them.
+/// Bytes that are still to be read. After a fault, contracts say nothing of them.
 #[derive(Drop)]
 pub struct Reader<'a> {
     rest: &'a [u8],
@@ -29,14 +29,14 @@ impl<'a> Reader<'a> {
         Reader { rest: bytes }
     }
 
-    /// What is left.
+    /// The bytes that are left.
     pub fn rest(&self) -> &[u8]
         ensures { result.now ≡ self.now }
     {
         self.rest
     }
 
-    /// So many bytes. `Short` where there are fewer.
+    /// The next so many bytes. `Short` where there are fewer.
     pub fn slice(&mut self, len: usize) -> Result<&'a [u8], WireError>
         ensures reads { Gives (λ x. (x.now, self.new)) result (bytes_at len self.old) }
         ensures len { IfOk result (λ x. length x.now ≡ len) }
@@ -57,21 +57,21 @@ impl<'a> Reader<'a> {
         Ok(array)
     }
 
-    /// A number of two bytes, the higher one first. `Short` where they are missing.
+    /// A big-endian number of two bytes. `Short` where they are missing.
     pub fn u16(&mut self) -> Result<u16, WireError>
         ensures { Gives (λ x. (x, self.new)) result (number_at w16 self.old) }
     {
         Ok(u16::from_be_bytes(self.array()?))
     }
 
-    /// A number of four bytes, the highest one first. `Short` where they are missing.
+    /// A big-endian number of four bytes. `Short` where they are missing.
     pub fn u32(&mut self) -> Result<u32, WireError>
         ensures { Gives (λ x. (x, self.new)) result (number_at w32 self.old) }
     {
         Ok(u32::from_be_bytes(self.array()?))
     }
 
-    /// A number of eight bytes, the highest one first. `Short` where they are missing.
+    /// A big-endian number of eight bytes. `Short` where they are missing.
     pub fn u64(&mut self) -> Result<u64, WireError>
         ensures { Gives (λ x. (x, self.new)) result (number_at w64 self.old) }
     {

@@ -1,4 +1,4 @@
-//! Batches. A transaction's length is tested as soon as it is read, and before room is made for it.
+//! Reading batches. A transaction's length is tested as soon as it is read, and before memory is allocated for it.
 
 ghost use Rattle.std.specs.Prelude.{◌≡◌, ◌≤◌, [], length, IfOk, IsTrue};
 ghost use Rattle.wire.specs.Batches.{has_room};

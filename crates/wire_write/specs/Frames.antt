@@ -1,9 +1,9 @@
--- What is written of a frame, also where a writer fails.
+-- How a frame is written, also where the writer fails.
 use Rattle.std.specs.Prelude.{◌<◌, ℕ, List, Option, length}
 use Rattle.std.specs.Io.KnownBytes.{Appends}
 use Rattle.wire.specs.Lists.{Begins}
 
--- a writer's known bytes grow by a beginning of these, not by all of them
+-- what the writer has got grows by a prefix of these bytes, not by all of them
 pub record AppendsLess (old new : Option (List ℕ)) (bytes : List ℕ) : Type 0 where
   pub part : List ℕ
   pub begins : Begins part bytes

@@ -13,10 +13,10 @@ use wire::{Output, encode_output};
 /// Why an output wasn't written. Printed as its number and its name.
 #[derive(Clone, Copy, Debug, PartialEq, Eq, Error)]
 pub enum WriteError {
-    /// Memory was refused, and nothing was written.
+    /// An allocation failed, and nothing was written.
     #[error("1 Memory")]
     Memory,
-    /// The writer failed. A beginning of the frame may have been written.
+    /// The writer failed. A prefix of the frame may have been written.
     #[error("2 Output")]
     Output,
 }
@@ -32,8 +32,8 @@ impl From<AllocError> for WriteError {
     }
 }
 
-/// Writes an output as a frame: the length of its bytes in four, the highest first, and its bytes. It makes as many calls of the writer
-/// as that takes, and makes one that was interrupted again.
+/// Writes an output as a frame: the number of its bytes, in four bytes, big-endian, and the bytes. Makes as many calls of the writer as are
+/// needed, and repeats a call that was interrupted.
 ///
 /// # Errors
 /// `Memory` where an allocation failed, `Output` where the writer failed or took no more.
@@ -51,7 +51,7 @@ pub fn write_output<W: Write>(
     write_bytes(writer, body.as_slice())
 }
 
-// Writes all of these bytes, in as many calls as it takes. At an error a beginning of them was written.
+// Writes all of these bytes, in as many calls as it takes. At an error a prefix of them was written.
 fn write_bytes<W: Write>(writer: &mut W, bytes: &[u8]) -> Result<(), WriteError>
     ensures ok { OnOk result (Appends (W.contents writer.old) (W.contents writer.new) bytes.now) }
     ensures err { OnErr result (AppendsLess (W.contents writer.old) (W.contents writer.new) bytes.now) }
@@ -72,7 +72,7 @@ fn write_bytes<W: Write>(writer: &mut W, bytes: &[u8]) -> Result<(), WriteError>
     Ok(())
 }
 
-// The bytes after so many of them.
+// The bytes without the first `count`.
 fn after(bytes: &[u8], count: usize) -> &[u8]
     requires { count ≤ length bytes.now }
     ensures { result.now ≡ drop count bytes.now }
@@ -80,7 +80,7 @@ fn after(bytes: &[u8], count: usize) -> &[u8]
     &bytes[count..]
 }
 
-// Writes a beginning of these bytes, and says how many they are: none where the call was interrupted, which is to be made again.
+// Writes some of the first bytes, and gives how many: none where the call was interrupted, so that it is to be made again.
 fn write_some<W: Write>(writer: &mut W, bytes: &[u8]) -> Result<usize, WriteError>
     ensures ok { IfOk result (λ count. Appends (W.contents writer.old) (W.contents writer.new) (take count bytes.now)) }
     ensures within { IfOk result (λ count. count ≤ length bytes.now) }

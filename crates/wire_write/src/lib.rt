@@ -1,4 +1,4 @@
-//! Outputs as bytes of a stream: `write_output` writes the frame of one.
+//! Writing outputs to a stream: `write_output` writes the frame of one.
 #![tactic(auto)]
 
 mod frames;

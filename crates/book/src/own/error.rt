@@ -6,10 +6,10 @@ ghost use Rattle.book.specs.declared.own.error.FlushError.TheVariants.{Memory};
 use std::alloc::AllocError;
 use thiserror::Error;
 
-/// Why a round of taking, adding and settling failed. Printed as its number and its name.
+/// Why a round of taking, appending and settling failed. Printed as its number and its name.
 #[derive(Clone, Copy, Debug, PartialEq, Eq, Error)]
 pub enum FlushError {
-    /// Memory was refused; nothing was taken.
+    /// An allocation failed; nothing was taken.
     #[error("1 Memory")]
     Memory,
     /// A device call failed; the book is down.
@@ -18,7 +18,7 @@ pub enum FlushError {
     /// The journal is full; the book is down.
     #[error("3 Full")]
     Full,
-    /// The book was down before, or a group was in flight; nothing was changed.
+    /// The book was down already, or a group was in flight; nothing was changed.
     #[error("4 Down")]
     Down,
 }

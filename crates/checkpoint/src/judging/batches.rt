@@ -1,4 +1,4 @@
-//! The batches: whether they are sound, and what is held of them then.
+//! Whether the batches are sound, and what a store holds of them.
 
 ghost use Rattle.std.specs.Prelude.{◌≡◌, ℕ, ◌+◌, ◌<◌, ◌^◌, ◌==◌, ◌&&◌, [], List, length, All, not, nat_lt, is_some, IfOk, IfErr, IfSome, OnOk};
 ghost use Rattle.std.specs.List.{list_all, list_any};
@@ -24,10 +24,10 @@ use std::alloc::{AllocError, Global};
 use std::collections::BTreeSet;
 use wire::{Author, Batch, Digest, Message};
 
-/// What is held of batches, of which the first stands in the record at this place, each with its digest.
+/// What a store holds of these batches, each with its digest. The first of them is in the record at this place.
 ///
 /// # Errors
-/// `Unsound` of the first that isn't sound; `Memory` where an allocation failed.
+/// `Unsound` with the first that isn't sound; `Memory` where an allocation failed.
 pub fn sound_batches<S: Sign>(
     alloc: Global,
     node: &Node<S>,
@@ -56,7 +56,8 @@ pub fn sound_batches<S: Sign>(
     Ok(found)
 }
 
-/// What is held of a batch after so many others, with its digest: where it is sound if none of those has this digest.
+/// What a store holds of a batch after so many others, with its digest, if the batch is sound apart from whether an earlier one has its
+/// digest.
 fn sound_batch<S: Sign>(
     node: &Node<S>,
     before: usize,
@@ -86,7 +87,7 @@ fn sound_batch<S: Sign>(
     Ok(Some((digest, Held::new(batch, set_of(&members), named))))
 }
 
-/// The digest of a batch that passes the checks as from its author.
+/// The digest of a batch, if it passes the checks as one from its author.
 fn digest_of<S: Sign>(node: &Node<S>, batch: &Batch) -> Result<Option<Digest>, AllocError>
     ensures passes { let seen = node_view S.scheme node.now in IfOk result (λ found. faults.passes seen batch.now.author (message.Batch batch.now) ≡ is_some found) }
     ensures digest { IfOk result (λ found. IfSome found (λ digest. digest ≡ holdings.batch_digest batch.now)) }
@@ -111,7 +112,7 @@ fn are_members(size: u16, members: &[u16]) -> bool
     members.iter().all(|member| *member < size)
 }
 
-/// The set of members of these numbers.
+/// The set of the members with these numbers.
 fn set_of(members: &[u16]) -> MemberSet
     requires { All (λ member. member < MAX_MEMBERS) members.now }
     ensures { (member : ℕ) → has result member ≡ list_any (λ one. one == member) members.now }

@@ -14,16 +14,16 @@ use sigface::Sign;
 use std::alloc::{AllocError, Global};
 use wire::{Certificate, Digest, HeaderBody, Message, certificate_digest, header_digest};
 
-/// Certificates, each beside its digest, and whether each passes the checks.
+/// Certificates with their digests, and of each whether it passes the checks.
 #[derive(Drop)]
 pub struct Rechecked {
     /// The certificates with their digests.
     pub list: Vec<(Certificate, Digest)>,
-    /// Whether they pass, one by one.
+    /// Of each certificate, in the same order, whether it passes the checks.
     pub passed: Vec<bool>,
 }
 
-/// Computes the digests of certificates while it checks them again. `AllocError` where an allocation failed.
+/// Computes the digests of certificates and checks the certificates again. On `AllocError` an allocation failed.
 pub fn recheck_all<S: Sign>(
     alloc: Global,
     node: &Node<S>,
@@ -68,10 +68,10 @@ fn digest_of(header: &HeaderBody) -> Digest
     certificate_digest(&header_digest(header), header.round, header.author)
 }
 
-/// Tests the certificates, of which the first stands in the record at this place.
+/// Tests the certificates, the first of which is in the record at this place.
 ///
 /// # Errors
-/// `Unsound` of the first that isn't sound.
+/// `Unsound` with the first that isn't sound.
 pub fn test_certificates<S: Sign>(
     node: &Node<S>,
     floor: u64,
@@ -96,7 +96,7 @@ pub fn test_certificates<S: Sign>(
     Ok(())
 }
 
-/// Whether a certificate is sound, of which it is known whether it passes the checks.
+/// Whether a certificate is sound, given whether it passes the checks.
 fn is_certificate_sound<S: Sign>(
     node: &Node<S>,
     floor: u64,

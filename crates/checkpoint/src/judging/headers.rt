@@ -1,4 +1,4 @@
-//! The own headers: whether they are sound, and what is kept of them then.
+//! Whether the own headers are sound, and what is restored of them.
 
 ghost use Rattle.std.specs.Prelude.{◌≡◌, ◌+◌, ◌<◌, ◌^◌, [], length, map, All, nat_lt, false, IfOk, IfErr, OnOk};
 ghost use Rattle.std.specs.List.{list_all};
@@ -26,10 +26,10 @@ use wire::{
     certificate_digest, encode, header_digest,
 };
 
-/// What is kept of own headers, of which the first stands in the record at this place: each with the own vote on it.
+/// The own headers as they are restored, each with the node's own vote on it. The first of them is in the record at this place.
 ///
 /// # Errors
-/// `Unsound` of the first that isn't sound; `Memory` where an allocation failed.
+/// `Unsound` with the first that isn't sound; `Memory` where an allocation failed.
 pub fn sound_headers<S: Sign>(
     alloc: Global,
     node: &Node<S>,
@@ -57,7 +57,7 @@ pub fn sound_headers<S: Sign>(
     Ok(found)
 }
 
-/// An own header with the own vote on it, which the node gives again.
+/// An own header with the node's own vote on it, which is signed again.
 fn voted<S: Sign>(
     alloc: Global,
     node: &Node<S>,
@@ -75,7 +75,7 @@ fn voted<S: Sign>(
     })
 }
 
-/// The node's own vote on a header: it signs the digest of the certificate.
+/// The node's own vote on a header: its signature is of the certificate's digest.
 fn own_vote<S: Sign>(node: &Node<S>, header: &HeaderBody) -> Vote
     ensures { result ≡ holdings.own_vote (node_view S.scheme node.now) header.now }
 {
@@ -90,8 +90,8 @@ fn own_vote<S: Sign>(node: &Node<S>, header: &HeaderBody) -> Vote
     }
 }
 
-/// Whether an own header is of a round that isn't low, passes the checks as from the node itself, its parents are held, who voted
-/// on it are members, and the votes on it are no quorum or its certificate is held.
+/// Whether an own header is sound: its round isn't low, it passes the checks as the node's, its parents are held, the voters on it are
+/// members, and the votes on it weigh less than a quorum or its certificate is held.
 fn is_header_sound<S: Sign>(
     alloc: Global,
     node: &Node<S>,
@@ -118,7 +118,7 @@ fn is_header_sound<S: Sign>(
     is_completed_well(alloc, node, floor, list, read)
 }
 
-/// Whether a header passes the checks as from the node itself.
+/// Whether a header passes the checks as the node's own.
 fn passes<S: Sign>(node: &Node<S>, header: &Header) -> Result<bool, AllocError>
     ensures { let seen = node_view S.scheme node.now in IfOk result (λ passes. passes ≡ faults.passes seen seen.own (message.Header header.now)) }
 {
@@ -139,8 +139,8 @@ fn are_voters(size: u16, votes: &[VoteEntry]) -> bool
     votes.iter().all(|entry| entry.voter.0 < size)
 }
 
-/// Whether the votes on an own header are no quorum; or its slot holds the header's certificate, and without one of the votes of
-/// others they are none.
+/// Whether the votes on an own header weigh less than a quorum; or the header's slot holds its certificate, and without some other member's
+/// vote they would.
 fn is_completed_well<S: Sign>(
     alloc: Global,
     node: &Node<S>,
@@ -177,7 +177,7 @@ fn has_certificate<S: Sign>(
     }
 }
 
-/// Whether one body of a header is another: certificates of both have the same bytes.
+/// Whether two header bodies are equal, by comparing the bytes of certificates of both.
 #[tactic(auto, using(crate::proofs::SameBodies::same_with_votes))]
 fn same_body(alloc: Global, one: &HeaderBody, other: &HeaderBody) -> Result<bool, AllocError>
     ensures { IfOk result (λ same. same ≡ faults.same_body one.now other.now) }

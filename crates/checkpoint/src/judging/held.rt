@@ -1,4 +1,4 @@
-//! The certificates of a list by their slots, and whether the parents of headers are among them.
+//! The certificates of a sorted list by slot, and whether the parents of headers are among them.
 
 ghost use Rattle.std.specs.Prelude.{◌≡◌, true, false, option_map, option_copied, IfSome};
 ghost use Rattle.std.specs.List.{list_all};
@@ -15,7 +15,7 @@ use header::Node;
 use sigface::Sign;
 use wire::{Author, Certificate, Digest, HeaderBody, ParentReference, genesis_digest};
 
-/// What the list has in a slot, with its digest. The list is halved until that is known.
+/// The certificate of a slot in the list, with its digest, by binary search.
 pub fn entry_of(
     list: &[(Certificate, Digest)],
     round: u64,
@@ -56,7 +56,7 @@ fn is_of(one: &(Certificate, Digest), round: u64, author: u16) -> bool
     header.round.number() == round && header.author.0 == author
 }
 
-/// Whether all parents of a header are held, or lie at or below a floor above 0.
+/// Whether all parents of a header are held, or are at or below a floor above 0.
 pub fn are_parents_held<S: Sign>(
     node: &Node<S>,
     floor: u64,
@@ -104,7 +104,7 @@ fn is_held<S: Sign>(
     is_in_slot(node, floor, list, below, parent) || (0 < floor && below <= floor)
 }
 
-/// Whether the slot of a parent, in this round, holds the certificate of its digest.
+/// Whether the slot of a parent, in this round, has the certificate with the parent's digest.
 fn is_in_slot<S: Sign>(
     node: &Node<S>,
     floor: u64,
@@ -124,7 +124,7 @@ fn is_in_slot<S: Sign>(
     }
 }
 
-/// Whether a parent is the certificate of a member in the genesis.
+/// Whether a parent is a genesis certificate of a member.
 fn is_genesis<S: Sign>(node: &Node<S>, parent: &ParentReference) -> bool
     ensures { let seen = node_view S.scheme node.now in result ≡ is_of_genesis seen parent.now }
 {

@@ -12,10 +12,10 @@ use sigface::Sign;
 use votebook::Slot;
 use wire::Digest;
 
-/// Tests the votes, of which the first stands in the record at this place.
+/// Tests the votes, the first of which is in the record at this place.
 ///
 /// # Errors
-/// `Unsound` of the first that isn't sound.
+/// `Unsound` with the first that isn't sound.
 pub fn test_votes<S: Sign>(
     node: &Node<S>,
     floor: u64,
@@ -36,7 +36,7 @@ pub fn test_votes<S: Sign>(
     Ok(())
 }
 
-/// Whether a vote is for another member, of a round that isn't low.
+/// Whether a vote is for another member's header, in a round that isn't low.
 fn is_vote_sound<S: Sign>(node: &Node<S>, floor: u64, vote: &(Slot, Digest)) -> bool
     ensures { result ≡ is_vote_sound_at (node_view S.scheme node.now) floor (vote_of vote.now) }
 {

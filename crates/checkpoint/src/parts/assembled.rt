@@ -27,7 +27,7 @@ pub fn voted_header(
     })
 }
 
-/// The own vote on a header.
+/// The validator's own vote on a header.
 fn own_vote(own: Author, assembly: &Assembly) -> Result<Vote, AllocError>
     ensures { IfOk result (IsCountedBy own.0 assembly.now) }
 {
@@ -54,11 +54,11 @@ fn signature_of(voter: Author, assembly: &Assembly) -> Result<Signature, AllocEr
             return Ok(entry.signature);
         }
     }
-    // The own vote is always counted.
+    // This is never reached: the validator's own vote is always counted.
     Err(AllocError)
 }
 
-/// The votes of others on a header.
+/// The other members' votes on a header.
 fn others(alloc: Global, own: Author, assembly: &Assembly) -> Result<Vec<VoteEntry>, AllocError>
     ensures { IfOk result (λ votes. votes.items ≡ other_votes own.0 assembly.now.places) }
 {

@@ -23,7 +23,7 @@ pub fn batches_of(alloc: Global, batches: &BatchStore) -> Result<Vec<(Digest, He
     Ok(found)
 }
 
-/// What is held of a batch once more, with its digest.
+/// A copy of what is held of a batch, with its digest.
 fn again(held: &Held) -> Result<(Digest, Held), AllocError>
     ensures digested { IfOk result IsUnderItsDigest }
     ensures same { IfOk result (λ entry. entry.1 ≡ held.now) }

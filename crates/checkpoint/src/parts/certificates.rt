@@ -21,18 +21,18 @@ pub fn certificates_of(alloc: Global, dag: &Dag) -> Result<Vec<(Certificate, Dig
             found.push(digested(certificate)?)?;
         }
     }
-    // There are fewer.
+    // The loop ends before this, since there are fewer certificates.
     Ok(found)
 }
 
-/// Whether a certificate isn't of the genesis.
+/// Whether a certificate is above the genesis.
 fn is_above_genesis(certificate: &Certificate) -> bool
     ensures { result ≡ is_above certificate.now }
 {
     certificate.header.round.number() > 0
 }
 
-/// A certificate once more, with its digest.
+/// A copy of a certificate, with its digest.
 fn digested(certificate: &Certificate) -> Result<(Certificate, Digest), AllocError>
     ensures { IfOk result (λ found. found ≡ digested certificate.now) }
 {

@@ -8,7 +8,7 @@ use crate::parts::assembled::voted_header;
 use admission::{Assemblies, VotedHeader};
 use std::alloc::{AllocError, Global};
 
-/// The own headers with the votes on them: they make the table again.
+/// The own headers with the votes on them, from which the same table can be restored.
 pub fn headers_of(alloc: Global, headers: &Assemblies) -> Result<Vec<VotedHeader>, AllocError>
     ensures voted { IfOk result (λ found. AreVotedBy headers.now.charter headers.now.own found.items) }
     ensures others { IfOk result (λ found. All (AreOfOthers headers.now.own) found.items) }
@@ -24,6 +24,6 @@ pub fn headers_of(alloc: Global, headers: &Assemblies) -> Result<Vec<VotedHeader
         let own = assembly.header().body.author;
         found.push(voted_header(alloc, own, assembly)?)?;
     }
-    // No memory holds so many.
+    // This is never reached: no memory holds so many headers.
     unreachable!()
 }

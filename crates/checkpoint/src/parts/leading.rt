@@ -9,7 +9,7 @@ use dag::Dag;
 use sequencer::{Coins, listed_top};
 use wire::{Author, Certificate, Digest, Round};
 
-/// The slot of the last committed leader of a DAG whose certificates above the genesis are listed.
+/// The slot of the last committed leader of a DAG, of which the certificates above the genesis are listed.
 pub fn last_leader(
     dag: &Dag,
     coins: &Coins,

@@ -7,7 +7,7 @@ use std::alloc::{AllocError, Global};
 use votebook::{Slot, VoteBook};
 use wire::Digest;
 
-/// The votes for the headers of others.
+/// The votes for other members' headers.
 pub fn votes_of(alloc: Global, votes: &VoteBook) -> Result<Vec<(Slot, Digest)>, AllocError>
     ensures { IfOk result (λ found. found.items ≡ map.entries votes.now) }
 {
@@ -18,6 +18,6 @@ pub fn votes_of(alloc: Global, votes: &VoteBook) -> Result<Vec<(Slot, Digest)>, 
         };
         found.push(vote)?;
     }
-    // No memory holds so many.
+    // This is never reached: no memory holds so many votes.
     unreachable!()
 }

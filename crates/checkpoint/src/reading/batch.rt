@@ -1,4 +1,4 @@
-//! A batch, as it is read.
+//! Reading a batch of a checkpoint.
 
 ghost use Rattle.std.specs.Prelude.{◌≡◌, nat_lt};
 ghost use Rattle.std.specs.Int.{w16};
@@ -17,9 +17,9 @@ use wire_read::{Reader, batch_of};
 /// A batch that was read.
 #[derive(Drop)]
 pub struct ReadBatch {
-    /// Whether an own header names it.
+    /// Whether an own header names the batch.
     pub named: bool,
-    /// The other members who acknowledged it, by rising number. They may be numbers of no members.
+    /// The other members who acknowledged it, sorted by number. Whether these numbers are members' isn't known yet.
     pub members: Vec<u16>,
     /// The batch.
     pub batch: Batch,
@@ -33,7 +33,7 @@ impl Model for ReadBatch {
     ghost view = { λ read. record { named = read.named; members = read.members.items; batch = read.batch } };
 }
 
-/// Whether an own header names a batch, who acknowledged it, the batch.
+/// Reads whether an own header names the batch, who acknowledged it, and the batch.
 #[tactic(auto, unfolding(spec_checkpoint::specs::Reading::kept_batch_at))]
 pub fn read_batch_of<S: Sign>(
     alloc: Global,
@@ -64,7 +64,7 @@ fn mark_of(reader: &mut Reader) -> Result<bool, WireError>
     }
 }
 
-/// Other members after their count.
+/// Reads other members' numbers after their count.
 fn members_of<S: Sign>(
     alloc: Global,
     node: &Node<S>,
@@ -81,7 +81,7 @@ fn members_of<S: Sign>(
     Ok(members)
 }
 
-/// Another member's number after those before it.
+/// Reads another member's number, which has to be greater than those before it.
 #[tactic(auto, unfolding(spec_checkpoint::specs::Reading::member_at))]
 fn member_of<S: Sign>(node: &Node<S>, before: &[u16], reader: &mut Reader) -> Result<u16, WireError>
     ensures { Gives (λ x. (x, reader.new)) result (member_at (node_view S.scheme node.now) before.now reader.old) }
@@ -93,7 +93,7 @@ fn member_of<S: Sign>(node: &Node<S>, before: &[u16], reader: &mut Reader) -> Re
     Ok(member)
 }
 
-/// Whether a number may come next among those that rise.
+/// Whether a number is greater than all of those before it.
 fn member_may_follow(before: &[u16], member: u16) -> bool
     ensures { result ≡ follows (λ one. nat_lt one member) before.now }
 {

@@ -1,4 +1,4 @@
-//! An own header with the votes of others, as it is read.
+//! Reading an own header of a checkpoint, with the other members' votes on it.
 
 ghost use Rattle.std.specs.Prelude.{◌≡◌, ◌&&◌, ◌==◌};
 ghost use Rattle.std.specs.List.{list_any};
@@ -19,7 +19,7 @@ use wire_read::{Reader, header_of, votes_of};
 pub struct ReadHeader {
     /// The header.
     pub header: Header,
-    /// The votes of others on it, by rising number. They may be of numbers of no members.
+    /// The other members' votes on it, sorted by number. Whether these numbers are members' isn't known yet.
     pub votes: VoteEntries,
 }
 
@@ -31,7 +31,7 @@ impl Model for ReadHeader {
     ghost view = { λ read. record { header = read.header; votes = read.votes } };
 }
 
-/// An own header with its signature, the votes of others.
+/// Reads an own header with its signature, and the other members' votes on it.
 #[tactic(auto, using(crate::proofs::HeadersTested::kept_header_tested))]
 pub fn read_header_of<S: Sign>(
     alloc: Global,
@@ -48,7 +48,7 @@ pub fn read_header_of<S: Sign>(
     Ok(read)
 }
 
-/// A header with its signature, and votes, whichever they are.
+/// Reads a header with its signature, and any votes.
 #[tactic(auto, unfolding(crate::specs::Reading::header_with_votes_at))]
 fn header_with_votes_of(alloc: Global, reader: &mut Reader) -> Result<ReadHeader, WireError>
     ensures { Gives (λ x. (x, reader.new)) result (header_with_votes_at reader.old) }
@@ -58,7 +58,7 @@ fn header_with_votes_of(alloc: Global, reader: &mut Reader) -> Result<ReadHeader
     Ok(ReadHeader { header, votes })
 }
 
-/// Whether an own header may come next, and none of its votes is the node's own.
+/// Whether an own header may follow these, and none of its votes is the node's own.
 fn may_come_next<S: Sign>(node: &Node<S>, before: &[ReadHeader], read: &ReadHeader) -> bool
     ensures { result ≡ (header_may_follow before.now read.now.header.body.round && are_of_others (node_view S.scheme node.now) read.now.votes) }
 {
@@ -66,7 +66,7 @@ fn may_come_next<S: Sign>(node: &Node<S>, before: &[ReadHeader], read: &ReadHead
         && are_of_others(node, read.votes.as_slice())
 }
 
-/// Whether an own header of this round may come next.
+/// Whether an own header of this round may follow these.
 fn header_may_follow(before: &[ReadHeader], round: u64) -> bool
     ensures { result ≡ header_may_follow before.now round }
 {

@@ -1,4 +1,4 @@
-//! Pieces of the order and of the coins, as they are read.
+//! Reading pieces of the order and of the coins.
 
 ghost use Rattle.std.specs.Prelude.{◌≡◌};
 ghost use Rattle.std.specs.Int.{w32, w64};
@@ -10,7 +10,7 @@ use std::alloc::Global;
 use wire::{Digest, WireError};
 use wire_read::Reader;
 
-/// The digests of a piece, of which there is one at least.
+/// Reads the digests of one piece of the order, at least one.
 #[tactic(auto, unfolding(spec_checkpoint::specs::Reading::digests_at))]
 pub fn digests_of(alloc: Global, reader: &mut Reader) -> Result<Vec<Digest>, WireError>
     ensures { Gives (λ x. (x.items, reader.new)) result (digests_at reader.old) }
@@ -22,7 +22,7 @@ pub fn digests_of(alloc: Global, reader: &mut Reader) -> Result<Vec<Digest>, Wir
     Ok(digests)
 }
 
-/// Digests after their count.
+/// Reads digests after their count.
 fn counted_digests_of(alloc: Global, reader: &mut Reader) -> Result<Vec<Digest>, WireError>
     ensures { Gives (λ x. (x.items, reader.new)) result (counted_at w32 ORDER_PIECE (λ before. digest_at) reader.old) }
 {
@@ -35,7 +35,7 @@ fn counted_digests_of(alloc: Global, reader: &mut Reader) -> Result<Vec<Digest>,
     Ok(digests)
 }
 
-/// The values of a piece of coins, of which there is one at least.
+/// Reads the values of one piece of coins, at least one.
 #[tactic(auto, unfolding(spec_checkpoint::specs::Reading::coins_at))]
 pub fn coins_of(alloc: Global, reader: &mut Reader) -> Result<Vec<u64>, WireError>
     ensures { Gives (λ x. (x.items, reader.new)) result (coins_at reader.old) }
@@ -47,7 +47,7 @@ pub fn coins_of(alloc: Global, reader: &mut Reader) -> Result<Vec<u64>, WireErro
     Ok(coins)
 }
 
-/// Values of coins after their count.
+/// Reads values of coins after their count.
 fn counted_coins_of(alloc: Global, reader: &mut Reader) -> Result<Vec<u64>, WireError>
     ensures { Gives (λ x. (x.items, reader.new)) result (counted_at w32 COINS_PIECE (λ before. number_at w64) reader.old) }
 {

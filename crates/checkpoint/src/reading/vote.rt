@@ -1,4 +1,4 @@
-//! The vote for another author's header, as it is read.
+//! Reading a vote of a checkpoint for another author's header.
 
 ghost use Rattle.std.specs.Prelude.{◌≡◌, map};
 ghost use Rattle.spec_checkpoint.specs.Reading.{kept_vote_at, vote_may_follow};
@@ -10,7 +10,7 @@ use votebook::Slot;
 use wire::{Digest, WireError};
 use wire_read::Reader;
 
-/// Author, round, header digest.
+/// Reads author, round and header digest.
 #[tactic(auto, unfolding(spec_checkpoint::specs::Reading::kept_vote_at))]
 pub fn read_vote_of(
     before: &[(Slot, Digest)],
@@ -27,7 +27,7 @@ pub fn read_vote_of(
     Ok((Slot { round, author }, header))
 }
 
-/// Whether a vote for this author and round may come next.
+/// Whether a vote in this slot may follow these.
 fn vote_may_follow(before: &[(Slot, Digest)], round: u64, author: u16) -> bool
     ensures { result ≡ vote_may_follow (map vote_of before.now) round author }
 {

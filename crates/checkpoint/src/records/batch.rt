@@ -17,7 +17,7 @@ use wire::numbers::two_bytes;
 /// The kind of a batch's record.
 pub const BATCH: u8 = 4;
 
-/// Puts the record of a batch after others. Its body is a part of its own, so it is copied once.
+/// Adds the record of a batch. The batch's body is a part of its own, so it is copied only once.
 pub fn put_batch<S: RecordSink>(alloc: Global, sink: &mut S, held: &Held) -> Result<(), AllocError>
     requires { S.fits (records.batch_record (keep_of held.now)) }
     ensures { OnOk result (S.records sink.new ≡ S.records sink.old ++ records.batch_record (keep_of held.now) ∷ []) }
@@ -26,8 +26,8 @@ pub fn put_batch<S: RecordSink>(alloc: Global, sink: &mut S, held: &Held) -> Res
     sink.put(alloc, &[head.as_slice(), held.batch().body()])
 }
 
-/// What stands before a batch's body: its kind, whether an own header names it, the other members who acknowledged it
-/// after their count.
+/// What precedes a batch's body: the kind, whether an own header names the batch, the number of other members who acknowledged it, and
+/// these members.
 fn batch_head(alloc: Global, held: &Held) -> Result<Vec<u8>, AllocError>
     ensures { IfOk result (λ bytes. bytes.items ++ batch_body held.now.batch ≡ records.batch_record (keep_of held.now)) }
 {
@@ -40,7 +40,7 @@ fn batch_head(alloc: Global, held: &Held) -> Result<Vec<u8>, AllocError>
     Ok(bytes)
 }
 
-/// The byte of a mark.
+/// The byte that says whether a batch is named.
 fn mark_byte(named: bool) -> u8
     ensures { result ≡ (if named then 1 else 0) }
 {
@@ -61,7 +61,7 @@ fn count_of(members: &MemberSet) -> u16
     count
 }
 
-/// Puts the numbers of members after bytes.
+/// Adds the numbers of these members to the bytes.
 fn put_members(bytes: &mut Vec<u8>, members: &MemberSet) -> Result<(), AllocError>
     ensures { OnOk result (bytes.new.items ≡ bytes.old.items ++ flat_map (to_be_bytes w16) (members_in members.now)) }
 {

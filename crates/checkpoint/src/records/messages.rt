@@ -34,7 +34,7 @@ pub fn vote_record(alloc: Global, vote: &(Slot, Digest)) -> Result<Vec<u8>, Allo
     Ok(bytes)
 }
 
-/// An own header: its kind, the header's body, its signature, and the votes of others after their count.
+/// An own header: its kind, the header's body, its signature, the number of others' votes on it, and these votes.
 pub fn header_record(alloc: Global, voted: &VotedHeader) -> Result<Vec<u8>, AllocError>
     ensures { IfOk result (λ bytes. bytes.items ≡ records.header_record (header_of voted.now)) }
 {
@@ -44,7 +44,7 @@ pub fn header_record(alloc: Global, voted: &VotedHeader) -> Result<Vec<u8>, Allo
     Ok(bytes)
 }
 
-/// A certificate: its kind, the header's body, and the votes after their count.
+/// A certificate: its kind, the header's body, the number of votes, and the votes.
 pub fn certificate_record(alloc: Global, certificate: &Certificate) -> Result<Vec<u8>, AllocError>
     ensures { IfOk result (λ bytes. bytes.items ≡ records.certificate_record certificate.now) }
 {
@@ -55,7 +55,7 @@ pub fn certificate_record(alloc: Global, certificate: &Certificate) -> Result<Ve
     )
 }
 
-/// A message with a kind in the place of its tag.
+/// The bytes of a message, with a record's kind in the place of the message's tag.
 fn of_kind(alloc: Global, kind: u8, message: &Message) -> Result<Vec<u8>, AllocError>
     ensures { IfOk result (λ bytes. bytes.items ≡ kind ∷ drop 1 (spelling message.now)) }
 {
@@ -74,7 +74,7 @@ fn count_bytes(count: usize) -> [u8; 2]
     two_bytes((count % 65_536) as u16)
 }
 
-/// Puts a vote on a header after bytes.
+/// Adds a vote on a header to the bytes.
 fn put_vote_entry(bytes: &mut Vec<u8>, entry: &VoteEntry) -> Result<(), AllocError>
     ensures { OnOk result (bytes.new.items ≡ bytes.old.items ++ vote_entry_bytes entry.now) }
 {
@@ -83,7 +83,7 @@ fn put_vote_entry(bytes: &mut Vec<u8>, entry: &VoteEntry) -> Result<(), AllocErr
     Ok(())
 }
 
-/// Puts votes on a header after bytes.
+/// Adds votes on a header to the bytes.
 fn put_entries(bytes: &mut Vec<u8>, votes: &[VoteEntry]) -> Result<(), AllocError>
     ensures { OnOk result (bytes.new.items ≡ bytes.old.items ++ flat_map vote_entry_bytes votes.now) }
 {

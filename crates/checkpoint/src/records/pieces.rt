@@ -14,13 +14,13 @@ pub const ORDER: u8 = 3;
 /// The kind of the record of a piece of the coins.
 pub const COINS: u8 = 8;
 
-/// How many digests a piece of the order has, but for the last: 2 MiB.
+/// How many digests a piece of the order has, except the last one: 2 MiB of them.
 pub const ORDER_PIECE: usize = 65_536;
 
-/// How many values a piece of the coins has, but for the last: 1 MiB.
+/// How many values a piece of the coins has, except the last one: 1 MiB of them.
 pub const COINS_PIECE: usize = 131_072;
 
-/// A piece of a list, which is cut into pieces of so many.
+/// One piece of a list that is cut into pieces of this size.
 pub fn piece_at<T>(list: &[T], size: usize, piece: usize) -> &[T]
     requires { size * piece < length list.now }
     ensures value { result.now ≡ take size (drop (size * piece) list.now) }
@@ -30,7 +30,7 @@ pub fn piece_at<T>(list: &[T], size: usize, piece: usize) -> &[T]
     &rest[..size.min(rest.len())]
 }
 
-/// A piece of the order: its kind, how many digests, and these.
+/// A piece of the order: its kind, the number of digests, the digests.
 pub fn order_record(alloc: Global, digests: &[Digest]) -> Result<Vec<u8>, AllocError>
     requires { length digests.now ≤ ORDER_PIECE }
     ensures { IfOk result (λ bytes. bytes.items ≡ records.order_record digests.now) }
@@ -42,7 +42,7 @@ pub fn order_record(alloc: Global, digests: &[Digest]) -> Result<Vec<u8>, AllocE
     Ok(bytes)
 }
 
-/// Puts digests after bytes.
+/// Adds digests to the bytes.
 fn put_digests(bytes: &mut Vec<u8>, digests: &[Digest]) -> Result<(), AllocError>
     ensures { OnOk result (bytes.new.items ≡ bytes.old.items ++ flat_map (λ digest. digest.0) digests.now) }
 {
@@ -52,7 +52,7 @@ fn put_digests(bytes: &mut Vec<u8>, digests: &[Digest]) -> Result<(), AllocError
     Ok(())
 }
 
-/// A piece of the coins from a place on: its kind, how many values, and these.
+/// A piece of the coins from a place on: its kind, the number of values, the values.
 pub fn coins_record(alloc: Global, coins: &Coins, from: usize) -> Result<Vec<u8>, AllocError>
     requires { from < length coins.now }
     ensures { IfOk result (λ bytes. bytes.items ≡ records.coins_record (take COINS_PIECE (drop from coins.now))) }
@@ -65,7 +65,7 @@ pub fn coins_record(alloc: Global, coins: &Coins, from: usize) -> Result<Vec<u8>
     Ok(bytes)
 }
 
-/// Puts so many values of the coins from a place on after bytes.
+/// Adds so many values of the coins, from a place on, to the bytes.
 fn put_values(
     bytes: &mut Vec<u8>,
     coins: &Coins,

@@ -1,4 +1,4 @@
-//! What a validator answers the lines of a history.
+//! The answers of a validator to the lines of a history.
 
 ghost use Rattle.std.specs.Prelude.{◌≡◌, None};
 ghost use Rattle.header.specs.Checks.{fault_of, accepts_all};
@@ -11,14 +11,14 @@ use std::alloc::{AllocError, Global};
 use validator::{Refusal, Step, Validator};
 use wire::{Author, Coin, Header, Message, Wave};
 
-/// The lines that an event is answered, and whether it was new.
+/// The lines of the answer to an event, and whether the event was new.
 #[derive(Drop)]
 pub struct Answer {
     pub is_new: bool,
     pub lines: String,
 }
 
-/// Gives a validator the event of a line, where so many were new before.
+/// Gives a validator the event of a line; `before` events were new before it.
 pub fn answered(
     alloc: Global,
     labels: &Labels,
@@ -39,14 +39,14 @@ pub fn answered(
     }
 }
 
-/// The contract of that call is long, so it stands alone.
+/// A function of its own, since the contract of this call is long.
 fn stepped(validator: &mut Validator<'_, HashSign>, event: Checked) -> Result<Step, Refusal>
     requires { fault_of validator.old.setting.charter accepts_all event ≡ None }
 {
     validator.step(event)
 }
 
-/// The sender and the message of a line: a command of scripts, or the coin that another member sends.
+/// The sender and the message of a line: a command of scripts, or a coin that another member sends.
 fn event_of(alloc: Global, labels: &Labels, line: &str) -> Result<(Author, Message), FormError> {
     if let Some(words) = line.strip_prefix("coin-from ") {
         return coin_of(alloc, words);
@@ -57,7 +57,7 @@ fn event_of(alloc: Global, labels: &Labels, line: &str) -> Result<(Author, Messa
     }
 }
 
-/// The coin of these words: who sends it, its wave, and its value.
+/// The coin in these words: its sender, its wave, and its value.
 fn coin_of(alloc: Global, words: &str) -> Result<(Author, Message), FormError> {
     let words: Vec<&str> = words.split(' ').collect(alloc)?;
     let [sender, wave, value] = words.as_slice() else {
@@ -97,7 +97,7 @@ fn answer_of(
     Ok(Answer { is_new, lines })
 }
 
-/// The line of what a validator has: `floor`, `round`, `order`, or `propose`, what it proposes.
+/// The line that shows something of a validator: `floor`, `round`, `order`, or `propose`, which shows its proposal.
 pub fn looked(
     alloc: Global,
     labels: &Labels,

@@ -1,8 +1,8 @@
-//! How many validators were loaded along the histories of a file, and what they took.
+//! How many validators were loaded along the histories of a file, and how much they were tested.
 
 use test_cases::Told;
 
-/// How many events a loaded validator takes, where its history has as many.
+/// How many events a loaded validator takes, if its history has as many.
 pub const EVENTS: u64 = 50;
 
 /// How many validators were loaded, how many of them took all their events, and how many answers they gave.
@@ -14,7 +14,7 @@ pub struct Counts {
 }
 
 impl Counts {
-    /// None.
+    /// No validators.
     pub fn new() -> Counts {
         Counts {
             loaded: 0,
@@ -33,12 +33,12 @@ impl Counts {
         self.whole = self.whole.saturating_add(1);
     }
 
-    /// Counts so many answers of loaded validators.
+    /// Counts this many answers of loaded validators.
     pub fn answer(&mut self, answers: u64) {
         self.answers = self.answers.saturating_add(answers);
     }
 
-    /// Tells them.
+    /// Shows the counts.
     pub fn tell(&self, answer: &mut String) -> Told {
         let (loaded, whole, answers) = (self.loaded, self.whole, self.answers);
         writeln!(

@@ -1,4 +1,4 @@
-//! A history: a validator that takes its events, and those that were loaded from its records on the way.
+//! A history: a validator that takes its events, and the ones that were loaded from its records in between.
 
 use crate::histories::answers::{answered, looked};
 use crate::histories::counts::Counts;
@@ -11,10 +11,10 @@ use std::alloc::{AllocError, Global};
 use test_cases::Told;
 use validator::{Config, LoadError, Validator};
 
-/// After so many events a validator is loaded, each time.
+/// After how many events another validator is loaded.
 const BETWEEN: u64 = 5;
 
-/// A validator that takes events, and those that were loaded from its records, the oldest first.
+/// A validator that takes events, and the ones that were loaded from its records, the oldest first.
 #[derive(Drop)]
 pub struct History<'c> {
     alloc: Global,
@@ -25,12 +25,12 @@ pub struct History<'c> {
     counts: Counts,
     /// How many events came.
     events: u64,
-    /// How many of them were new.
+    /// How many of the events were new.
     new: u64,
 }
 
 impl<'c> History<'c> {
-    /// No events yet, where so many validators were loaded before.
+    /// A history without events yet; `counts` is of the validators that were loaded before.
     pub fn new(
         alloc: Global,
         config: &'c Config<HashSign>,
@@ -55,7 +55,7 @@ impl<'c> History<'c> {
         self.counts
     }
 
-    /// Carries out a command, and adds the lines that it answers.
+    /// Carries out a command, and adds the lines of its answer.
     pub fn obey(&mut self, command: &str, answer: &mut String) -> Result<(), FormError> {
         let (name, _) = command.split_once(' ').unwrap_or((command, ""));
         match name {
@@ -74,7 +74,7 @@ impl<'c> History<'c> {
         }
     }
 
-    /// Tells what the validator has. Each that was loaded has to have the same.
+    /// Shows something of the validator. Each loaded validator has to show the same.
     fn look(&self, name: &str, answer: &mut String) -> Told {
         let told = looked(self.alloc, &self.labels, &self.validator, name)?;
         answer.push_str(told.as_str())?;
@@ -84,7 +84,7 @@ impl<'c> History<'c> {
         Ok(())
     }
 
-    /// Gives the event of a line to all. Before every so many events one more is loaded.
+    /// Gives the event of a line to all validators. Every so many events one more is loaded before.
     fn take(&mut self, line: &str, answer: &mut String) -> Result<(), FormError> {
         if self.events % BETWEEN == 0 {
             self.load(answer)?;
@@ -103,7 +103,7 @@ impl<'c> History<'c> {
         Ok(self.end_first(answer)?)
     }
 
-    /// Gives the event of a line, which is answered so, to those that were loaded.
+    /// Gives the event of a line, which had this answer, to the loaded validators.
     fn take_loaded(
         &mut self,
         line: &str,
@@ -133,7 +133,7 @@ impl<'c> History<'c> {
         }
     }
 
-    /// Ends the oldest of those that were loaded, if it took all its events.
+    /// Ends the oldest of the loaded validators, if it took all its events.
     fn end_first(&mut self, answer: &mut String) -> Told {
         match self.loaded.first() {
             Some(first) if first.is_done() => {}
@@ -144,7 +144,7 @@ impl<'c> History<'c> {
         first.compare_records(&kept_records(&self.validator)?, answer)
     }
 
-    /// Ends the history: compares the records of those that were loaded and have not taken all their events.
+    /// Ends the history: compares the records of the loaded validators that have not taken all their events.
     pub fn end(&self, answer: &mut String) -> Told {
         let records = kept_records(&self.validator)?;
         for one in &self.loaded {

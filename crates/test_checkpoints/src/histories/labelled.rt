@@ -1,4 +1,4 @@
-//! Outputs and headers as the files of histories have them: by their labels.
+//! Outputs and headers as the files of histories have them: with labels.
 
 use sim_script::{Form, FormError, Labels, define_header};
 use std::alloc::Global;
@@ -8,7 +8,7 @@ use wire::{
     genesis_digest, header_digest,
 };
 
-/// Members whose genesis certificates have labels in every script.
+/// The number of members whose genesis certificates have labels in every script.
 const LABELLED: u16 = 4;
 
 /// Labels the genesis certificates of so many members.
@@ -96,7 +96,7 @@ fn tell_certificate(labels: &Labels, certificate: &Certificate, answer: &mut Str
     Ok(())
 }
 
-/// Adds the labels of certificates that have these digests, each after a blank.
+/// Adds the labels of the certificates with these digests, each after a blank.
 fn tell_labels(labels: &Labels, digests: &[Digest], answer: &mut String) -> Told {
     for digest in digests {
         answer.push_str(" ")?;
@@ -105,7 +105,7 @@ fn tell_labels(labels: &Labels, digests: &[Digest], answer: &mut String) -> Told
     Ok(())
 }
 
-/// Adds a line of an order.
+/// Adds a line with an order.
 pub fn tell_order(labels: &Labels, digests: &[Digest], answer: &mut String) -> Told {
     answer.push_str("order")?;
     if digests.is_empty() {
@@ -115,7 +115,7 @@ pub fn tell_order(labels: &Labels, digests: &[Digest], answer: &mut String) -> T
     answer.push_str("\n")
 }
 
-/// Adds a line of what is proposed: the round, the parents and the batches.
+/// Adds a line with a proposal: the round, the parents and the batches.
 pub fn tell_proposal(labels: &Labels, proposal: Option<Header>, answer: &mut String) -> Told {
     match proposal {
         Some(header) => tell_proposed(labels, &header, answer),
@@ -123,7 +123,7 @@ pub fn tell_proposal(labels: &Labels, proposal: Option<Header>, answer: &mut Str
     }
 }
 
-/// Adds that line of a header.
+/// Adds the line of a proposed header.
 fn tell_proposed(labels: &Labels, header: &Header, answer: &mut String) -> Told {
     let round = header.body.round.number();
     write!(answer, "proposes {round}")?;
@@ -136,7 +136,7 @@ fn tell_proposed(labels: &Labels, header: &Header, answer: &mut String) -> Told 
     tell_batches(labels, header.body.batches.as_slice(), answer)
 }
 
-/// Adds the labels of the batches that a header names, or a line, and ends the line.
+/// Adds the labels of the batches that a header names, or a dash, and ends the line.
 fn tell_batches(labels: &Labels, batches: &[BatchReference], answer: &mut String) -> Told {
     if batches.is_empty() {
         answer.push_str(" -")?;

@@ -1,4 +1,4 @@
-//! A validator that was loaded from the records of another one, and takes the same events from then on.
+//! A validator that was loaded from the records of another one, and then takes the same events.
 
 use crate::histories::answers::{answered, looked};
 use crate::histories::counts::EVENTS;
@@ -9,20 +9,20 @@ use std::alloc::Global;
 use test_cases::Told;
 use validator::Validator;
 
-/// A validator that was loaded after some events. Where it answers otherwise than the one from whose records it was loaded,
-/// the answer has lines more, and is then not as expected.
+/// A validator that was loaded after some events. If its answer differs from that of the validator from whose records it was loaded, the
+/// answer gets extra lines, and then isn't as expected.
 #[derive(Drop)]
 pub struct Loaded<'c> {
     alloc: Global,
     validator: Validator<'c, HashSign>,
-    /// How many events came before it was loaded.
+    /// How many events came before the validator was loaded.
     after: u64,
-    /// How many events it still takes.
+    /// How many more events the validator takes.
     left: u64,
 }
 
 impl<'c> Loaded<'c> {
-    /// One that was loaded after so many events.
+    /// A validator that was loaded after this many events.
     pub fn new(alloc: Global, validator: Validator<'c, HashSign>, after: u64) -> Loaded<'c> {
         Loaded {
             alloc,
@@ -32,12 +32,12 @@ impl<'c> Loaded<'c> {
         }
     }
 
-    /// Whether it took all its events.
+    /// Whether the validator has taken as many events as are planned for a loaded one.
     pub fn is_done(&self) -> bool {
         self.left == 0
     }
 
-    /// Takes the event of a line, which has to be answered by these lines.
+    /// Takes the event of a line; the answer has to have these lines.
     pub fn take(
         &mut self,
         labels: &Labels,
@@ -51,7 +51,7 @@ impl<'c> Loaded<'c> {
         Ok(self.compare(own.lines.as_str(), told, answer)?)
     }
 
-    /// Tells what it has, which has to be this line.
+    /// Shows something of the validator; it has to be this line.
     pub fn look(&self, labels: &Labels, name: &str, told: &str, answer: &mut String) -> Told {
         let own = looked(self.alloc, labels, &self.validator, name)?;
         self.compare(own.as_str(), told, answer)
@@ -64,7 +64,7 @@ impl<'c> Loaded<'c> {
         writeln!(answer, "loaded after {}: {own}", self.after)
     }
 
-    /// Compares what it keeps with these records.
+    /// Compares its checkpoint with these records.
     pub fn compare_records(&self, records: &[Vec<u8>], answer: &mut String) -> Told {
         if kept_records(&self.validator)?.as_slice() == records {
             return Ok(());

@@ -1,4 +1,4 @@
-//! What a history is of: member 0 of a committee.
+//! The committee of a history, of which member 0 takes the events.
 
 use crate::nodes::{Member, member_of};
 use sim_script::BATCHES;
@@ -14,7 +14,7 @@ pub struct Setup {
 }
 
 impl Setup {
-    /// As before the first case.
+    /// The setup before the first case.
     pub fn new(alloc: Global) -> Setup {
         Setup {
             alloc,

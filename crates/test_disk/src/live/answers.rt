@@ -1,4 +1,4 @@
-//! What a run is answered with.
+//! The answer to a run.
 
 use crate::live::streams::Seen;
 use crate::live::words::{put, put_count, put_hex, put_sum};
@@ -6,10 +6,10 @@ use std::alloc::Global;
 use std::str;
 use wire_read::FrameReader;
 
-/// Bytes of an output's body that are shown, at most.
+/// The greatest number of bytes of an output's body that are shown.
 const SHOWN_BYTES: usize = 13;
 
-/// A line for each output, with the length of its body and the first bytes of that, and a line for each line of the errors.
+/// Adds a line for each output, with the length of its body and its first bytes, and a line for each line of the errors.
 pub fn tell_seen(alloc: Global, seen: &Seen, answer: &mut String) {
     match FrameReader::new(alloc).feed(&seen.output) {
         Ok(bodies) => tell_outputs(&bodies, answer),
@@ -18,7 +18,7 @@ pub fn tell_seen(alloc: Global, seen: &Seen, answer: &mut String) {
     tell_errors(&seen.errors, answer);
 }
 
-/// The same with a line for all outputs together: how many there are, and a sum over their frames.
+/// As `tell_seen`, with one line for all outputs: how many there are, and a sum over their frames.
 pub fn tell_sum(alloc: Global, seen: &Seen, answer: &mut String) {
     match FrameReader::new(alloc).feed(&seen.output) {
         Ok(bodies) => put_count(answer, "", bodies.len() as u64, " outputs, "),
@@ -37,7 +37,7 @@ fn tell_outputs(bodies: &[Vec<u8>], answer: &mut String) {
     }
 }
 
-/// A line for each line, but for those that come before the first one which says that a node is down.
+/// Adds the lines of the errors, except those before the first one that says that the node is down.
 pub fn tell_errors(errors: &[u8], answer: &mut String) {
     match str::from_utf8(errors) {
         Ok(text) => tell_lines(text, answer),

@@ -21,30 +21,30 @@ use std::thread::{self, Threads};
 use validator::Config;
 use wire::Author;
 
-// How many members there are. The batches of those after the node's own are submitted, by a thread each.
+// How many members there are. The batches of all but the node's own member are submitted, each member's by a thread of its own.
 const MEMBERS: u16 = 4;
 
 // How many batches each thread submits.
 const EACH: u64 = 1_000;
 
-// How many that are together.
+// How many batches there are in all.
 const ALL: u64 = 3_000;
 
-// How often the thread that flushes does so, before it ends without all.
+// How often the flushing thread flushes before it gives up.
 const TURNS: u64 = 10_000_000;
 
-// On two disks a checkpoint follows each so many rounds, of which there are at least as many.
+// On two disks a checkpoint follows every so many rounds; there are at least as many.
 const EVERY: u64 = 20;
 
-// Who submits, and through which seat.
+// The member whose batches a thread submits, and the thread's seat.
 #[derive(Drop)]
 struct Member<'n, 'a> {
     caller: Caller<'n, 'a, HashSign>,
     author: Author,
 }
 
-/// Submits all batches to a node in three threads, beside one that flushes, and that makes checkpoints if the words ask for them; stops the
-/// node in a way that loses what isn't synced, opens it again and submits them once more.
+/// Submits all batches to a node in three threads, while another one flushes, and makes checkpoints if the words ask for them. Then the
+/// node is stopped and loses what isn't synced; it is opened again, and all batches are submitted once more.
 pub fn crowd<R>(rt: &R, alloc: Global, words: &str, answer: &mut String) -> Result<(), Ending>
 where
     R: Threads + Wait + Sync,
@@ -69,7 +69,7 @@ fn empty_store(alloc: Global, are_two: bool) -> Result<Store<MemDisk>, AllocErro
     }
 }
 
-// Whether there are two disks, on which a journal can be rewritten.
+// Whether there are two disks, so that a journal can be rewritten.
 fn has_two<D>(store: &Store<D>) -> bool
     ensures { result ≡ has_two store.now }
 {
@@ -100,7 +100,8 @@ where
     Ok(left)
 }
 
-// How many events two seats that meet have seen. No handle lets this function wait, so its types say that none of the calls does.
+// How many events two seats that meet have seen. This function is given no handle for waiting, so its types prove that none of its calls
+// waits.
 fn look(node: &Node<'_, HashSign>, first: &mut Seat, second: &mut Seat) -> u64
     requires first { IsOf node.now first.old }
     requires second { IsOf node.now second.old }
@@ -110,7 +111,7 @@ fn look(node: &Node<'_, HashSign>, first: &mut Seat, second: &mut Seat) -> u64
     node.meet(first, second)
 }
 
-// Each member submits its batches in a thread, while one more flushes.
+// Each member submits its batches in a thread, while another thread flushes.
 fn submit_beside<'a, R>(
     rt: &R,
     alloc: Global,
@@ -134,7 +135,7 @@ where
     flushed
 }
 
-// What is told of the tickets.
+// Submits the batches of all members, each member's in a thread of its own, and gives what is shown of their tickets.
 fn submit_each<R>(
     rt: &R,
     alloc: Global,
@@ -162,7 +163,7 @@ fn members_of<'n, 'a>(
     Ok(members)
 }
 
-// Answers the tickets, in their order.
+// Submits a member's batches, and gives their tickets in order.
 fn submit_batches<R: Wait>(
     rt: &R,
     alloc: Global,
@@ -177,7 +178,7 @@ fn submit_batches<R: Wait>(
     Ok(tickets)
 }
 
-// Answers the ticket of a new event.
+// Submits a batch, which is new, and gives its ticket.
 fn submit_batch<R: Wait>(
     rt: &R,
     alloc: Global,
@@ -203,7 +204,7 @@ fn submit<R: Wait>(
     Ok(caller.submit(rt, event)?)
 }
 
-// Flushes until all are settled, and answers what the node was opened on.
+// Flushes until all batches are settled, and gives back the disks on which the node was opened.
 fn flush_all<R: Wait>(
     rt: &R,
     mut rounds: Rounds<'_, '_, HashSign, MemDisk>,
@@ -226,7 +227,7 @@ fn flush_all<R: Wait>(
     }
 }
 
-// A round, and a checkpoint after it, if one is to follow.
+// Makes a round, and a checkpoint after it if one is to follow.
 fn flush<R: Wait>(
     rt: &R,
     rounds: &mut Rounds<'_, '_, HashSign, MemDisk>,
@@ -278,7 +279,7 @@ fn are_rising(tickets: &[u64]) -> bool {
     true
 }
 
-// Whether these are the numbers from 1 to that of all.
+// Whether these are the numbers from 1 to that of all batches.
 fn are_all(tickets: &[u64]) -> bool {
     let mut last = 0_u64;
     for ticket in tickets {
@@ -290,7 +291,7 @@ fn are_all(tickets: &[u64]) -> bool {
     last == ALL
 }
 
-// How many of the batches a node on this disk knows.
+// How many of the batches are known to a node on these disks.
 fn submit_again<R: Wait>(
     rt: &R,
     alloc: Global,

@@ -6,7 +6,7 @@ use disk_file::FileDisk;
 use diskmodel::{Disk, DiskFault};
 use std::alloc::Global;
 
-/// Carries out a command, and adds the lines that it answers.
+/// Carries out a command, and adds the lines of its answer.
 pub fn obey_disk(
     alloc: Global,
     disk: &mut FileDisk,

@@ -1,4 +1,4 @@
-//! What ends a test before its end.
+//! Why a test ends early.
 
 use crate::live::words::Told;
 use diskmodel::TooManyTold;
@@ -9,17 +9,17 @@ use sim_script::FormError;
 use std::alloc::{AllocError, AllocFailed};
 use wire::WireError;
 
-/// Why a test isn't carried out to its end.
+/// Why a test wasn't carried out to its end.
 #[derive(Clone, Copy)]
 pub enum Ending {
-    /// Memory was refused.
+    /// An allocation failed.
     Memory,
-    /// A call answered what it never should there.
+    /// A call gave an answer that can't occur here.
     Unexpected,
 }
 
 impl Ending {
-    /// Adds a line to the answer of a command, if it ended in a way that it never should. `AllocError` where an allocation failed.
+    /// Adds a line to the answer of a command that ended early. On `AllocError` an allocation failed.
     pub fn tell(ended: Result<(), Ending>, answer: &mut String) -> Told {
         match ended {
             Ok(()) => Ok(()),

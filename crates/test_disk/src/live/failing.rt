@@ -17,27 +17,27 @@ use std::sync::Wait;
 use validator::Config;
 use wire::{Author, Round};
 
-// Rounds of one kind of call, at most.
+// The greatest number of rounds for one kind of call.
 const MOST: u64 = 10;
 
-// What is done to a node whose disk fails.
+// What happens to a node whose disk fails.
 #[derive(Clone, Copy)]
 enum Plan {
-    // A sync fails, and then the node is asked.
+    // A sync fails, and then the node is asked several things.
     Down,
-    // In a round with one record the call of a kind with this number, from 1 on, fails.
+    // In a round with one record the call of this kind and number, counted from 1, fails.
     Call(CallKind, u64),
 }
 
-/// What a node answers that a round took down.
+/// Shows what a node answers after a round took it down.
 pub fn go_down<R: Wait>(rt: &R, alloc: Global, answer: &mut String) -> Result<(), Ending> {
     carry_out(rt, alloc, Plan::Down, answer)?;
     Ok(())
 }
 
-/// A round with one record, in which the first call of a kind, of which this is the name in the plural, fails, then the second, and so
-/// on, until none does: what it answers, and how many records a stop after it leaves that keeps all, and one that loses what isn't
-/// synced.
+/// Makes rounds with one record in which the first call of a kind fails, then the second, and so on, until none does; `name` is the kind's
+/// name in the plural. Shows the answer of each round, and how many records are left by a stop after it that keeps everything, and by one
+/// that loses what isn't synced.
 pub fn fail_each<R: Wait>(
     rt: &R,
     alloc: Global,
@@ -74,7 +74,7 @@ fn events_on(alloc: Global, disk: MemDisk) -> Result<u64, Ending> {
     Ok(count)
 }
 
-// Says whether one record was settled, and gives the disk back.
+// Plays a round, shows whether its record was settled, and gives the disk back.
 fn carry_out<R: Wait>(
     rt: &R,
     alloc: Global,
@@ -105,7 +105,7 @@ fn carry_out_on<R: Wait>(
     }
 }
 
-// The same with a caller of the node.
+// Plays a round of this node, with a caller of it, and shows whether its record was settled.
 fn play_with<'a, R: Wait>(
     rt: &R,
     alloc: Global,

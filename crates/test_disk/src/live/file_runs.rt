@@ -10,7 +10,7 @@ use std::rt::Files;
 use std::sync::Wait;
 use std::thread::Threads;
 
-/// A run without input, with these arguments: files stand where the program runs.
+/// Runs a node without input and with these arguments. Its files are in the folder in which the program runs.
 pub fn run_files<R: Files<File = File> + AllocGlobal + Threads + Wait + Sync>(
     rt: &R,
     alloc: Global,

@@ -1,4 +1,4 @@
-//! The folder, and the file of it that is open.
+//! The folder, and the file in it that is open as a disk.
 
 use crate::live::disks::obey_disk;
 use crate::live::journals::{records_of, tell_opening};
@@ -8,7 +8,7 @@ use std::alloc::Global;
 use std::fs::{self, File};
 use std::rt::Files;
 
-/// The folder that the program runs in, and the disk of it that is open.
+/// The folder in which the program runs, and the open disk over one of its files.
 #[derive(Drop)]
 pub struct Folder {
     alloc: Global,
@@ -16,12 +16,12 @@ pub struct Folder {
 }
 
 impl Folder {
-    /// No disk is open.
+    /// A folder in which no disk is open yet.
     pub fn new(alloc: Global) -> Folder {
         Folder { alloc, disk: None }
     }
 
-    /// Carries out a command, and adds the lines that it answers.
+    /// Carries out a command, and adds the lines of its answer.
     pub fn obey<R: Files<File = File> + AllocGlobal>(
         &mut self,
         rt: &R,
@@ -54,13 +54,13 @@ impl Folder {
         }
     }
 
-    // Opens a file in place of the disk that is open.
+    // Opens a file instead of the disk that is open.
     fn open<R: Files<File = File>>(&mut self, rt: &R, name: &str, answer: &mut String) {
         self.disk = None;
         self.disk = opened(FileDisk::open(rt, self.alloc, name), answer);
     }
 
-    // The same, with so many bytes of it kept.
+    // Opens a file instead of the disk that is open, and keeps only so many bytes of it in memory.
     fn open_front<R: Files<File = File>>(&mut self, rt: &R, rest: &str, answer: &mut String) {
         let (name, count) = parted(rest);
         let keep = count.parse().unwrap_or(0);
@@ -68,7 +68,7 @@ impl Folder {
         self.disk = opened(FileDisk::open_front(rt, self.alloc, name, keep), answer);
     }
 
-    // Opens a journal over the disk and puts a group of the records there, if there are any. It leaves the disk.
+    // Opens a journal on the open disk and appends a group of the records, if there are any. The disk is closed then.
     fn journal(&mut self, rest: &str, answer: &mut String) -> Told {
         let records = records_of(self.alloc, rest)?;
         if let Some(disk) = self.disk.take() {
@@ -78,7 +78,7 @@ impl Folder {
     }
 }
 
-// Says how an opening of a file went.
+// Adds the result of opening a file.
 fn opened(outcome: Result<FileDisk, OpenError>, answer: &mut String) -> Option<FileDisk> {
     match outcome {
         Ok(disk) => {
@@ -92,7 +92,7 @@ fn opened(outcome: Result<FileDisk, OpenError>, answer: &mut String) -> Option<F
     }
 }
 
-// The bytes of a file, whoever has it.
+// Adds the bytes of a file, even if a disk has it open.
 fn tell_file<R: Files<File = File> + AllocGlobal>(rt: &R, name: &str, answer: &mut String) {
     match fs::read(rt, name) {
         Ok(bytes) => tell_bytes(answer, &bytes),

@@ -1,4 +1,4 @@
-//! A flusher that is held before a sync, while others submit.
+//! A flusher that is held up before a sync, while another thread submits.
 
 ghost use Rattle.std.specs.Prelude.{◌≡◌, IsSome};
 ghost use Rattle.std.specs.Thread.{IsSend, IsSync};
@@ -21,20 +21,20 @@ use std::thread::{self, Threads};
 use validator::Config;
 use wire::{Author, Output, Round};
 
-// How often a thread looks for what it waits for, before it goes on without it.
+// How often a thread looks for what it waits for before it goes on without it.
 const TURNS: u64 = 10_000_000;
 
-// What the thread that flushes and the one that submits tell one another.
+// What the flushing thread and the submitting thread share.
 #[derive(Drop)]
 struct Doors {
     // How many syncs were reached.
     reached: AtomicU64,
-    // How many of them may go on.
+    // How many of the syncs may go on.
     open: AtomicU64,
 }
 
 impl Doors {
-    // They let all go on.
+    // Doors that let every sync go on.
     fn new() -> Doors {
         Doors {
             reached: AtomicU64::new(0),
@@ -42,20 +42,20 @@ impl Doors {
         }
     }
 
-    // Lets no sync go on after those that were reached. Answers how many these are.
+    // Holds all syncs after those that were reached so far, and gives how many these are.
     fn close(&self) -> u64 {
         let reached = self.reached.load(Ordering::SeqCst);
         self.let_go(reached);
         reached
     }
 
-    // Lets so many of all syncs go on.
+    // Lets the first `count` of all syncs go on.
     fn let_go(&self, count: u64) {
         self.open.store(count, Ordering::SeqCst);
     }
 }
 
-// Waits until the number is at least that.
+// Waits until the number is at least `least`.
 fn wait(number: &AtomicU64, least: u64) -> bool {
     for _ in 0..TURNS {
         if number.load(Ordering::SeqCst) >= least {
@@ -83,15 +83,15 @@ impl Gate for Held<'_> {
     }
 }
 
-// What is held.
+// What is held up: a round, or a checkpoint.
 #[derive(Clone, Copy)]
 enum Kind {
     Round,
     Checkpoint,
 }
 
-/// Submits a header, and two more while a round with the first one, or a checkpoint of it, is held before its sync; then lets it go on,
-/// to its next sync and to its end. A round brings the other two.
+/// Submits a header, and two more while a round with the first one, or a checkpoint of it, is held before its sync; then lets it go on to
+/// its next sync, and to its end. The next round has the other two.
 pub fn hold<R>(rt: &R, alloc: Global, name: &str, answer: &mut String) -> Result<(), Ending>
 where
     R: Threads + Wait + Sync,
@@ -139,7 +139,7 @@ where
     flush_rest(rt, rounds, &mut caller, answer)
 }
 
-// A round in which nothing is held.
+// Makes a round in which nothing is held.
 fn flush_rest<R: Wait, D: Disk + Drop>(
     rt: &R,
     mut rounds: Rounds<'_, '_, HashSign, D>,
@@ -151,7 +151,7 @@ fn flush_rest<R: Wait, D: Disk + Drop>(
     Ok(())
 }
 
-// What a call of the flusher answers, and the rounds.
+// The result of a call of the flusher, and the rounds.
 type Flushed<'n, 'a, D> = (Result<u64, FlushError>, Rounds<'n, 'a, HashSign, D>);
 
 // Flushes in one thread and submits in another.
@@ -193,8 +193,8 @@ fn flush<'n, 'a, D: Disk + Drop, R: Wait>(
     (flushed, rounds)
 }
 
-// Once the first sync after so many is held: two more headers, and what the node says meanwhile. Then what it says while the second one
-// is. Then all may go on.
+// Once the first sync after so many is held, submits two more headers and shows what the node answers meanwhile; then what it answers while
+// the second sync is held. Then everything may go on.
 fn submit_more<R: Wait>(
     rt: &R,
     alloc: Global,
@@ -245,7 +245,7 @@ fn tell_voted<R: Wait>(
     Ok(())
 }
 
-// What is synced, and two outputs.
+// Adds how many records are synced, and the next two outputs.
 fn tell_outputs<R: Wait>(rt: &R, caller: &mut Caller<'_, '_, HashSign>, told: &mut String) {
     put_number(told, "synced", caller.synced());
     for _ in 0..2 {

@@ -1,4 +1,4 @@
-//! Journals: the one over the disk that is open, and those that runs leave on a disk in memory.
+//! Journals: the one on the open disk, and those that runs leave on disks in memory.
 
 ghost use Rattle.std.specs.Prelude.{◌≡◌, None};
 ghost use Rattle.journal.specs.Journal.{spare_of, IsAlive};
@@ -11,7 +11,7 @@ use journal::{Group, Journal, Record, Store};
 use std::alloc::{AllocError, Global};
 use test_cases::bytes_of;
 
-/// The records whose digits these words are.
+/// The records in these words of digits.
 pub fn records_of(alloc: Global, rest: &str) -> Result<Vec<Vec<u8>>, AllocError> {
     let mut records = Vec::new(alloc);
     for word in rest.split_whitespace() {
@@ -22,8 +22,7 @@ pub fn records_of(alloc: Global, rest: &str) -> Result<Vec<Vec<u8>>, AllocError>
     Ok(records)
 }
 
-/// Opens a journal on a disk, says which records it gives, puts a group of these after them, if there are any, and gives the disk
-/// back.
+/// Opens a journal on a disk, shows its records, appends a group of these records, if there are any, and gives the disk back.
 pub fn tell_opening(
     alloc: Global,
     disk: FileDisk,
@@ -74,11 +73,11 @@ fn put_records(answer: &mut String, records: &[Record]) {
 /// What an opened journal has.
 #[derive(Drop)]
 pub struct Found {
-    /// How often it was rewritten.
+    /// How often the journal was rewritten.
     pub generation: u64,
-    /// How long the area is that is read, in bytes.
+    /// The length of the area that is read, in bytes.
     pub len: u64,
-    /// Its records.
+    /// The records of the journal.
     pub records: Vec<Record>,
 }
 
@@ -93,7 +92,7 @@ impl Found {
         }
     }
 
-    /// How many of its records are events, and how many bytes these have with their lengths.
+    /// How many of its records are events, and how many bytes these have together with their length fields.
     pub fn events(&self) -> (u64, u64) {
         let (mut count, mut bytes) = (0_u64, 0_u64);
         for record in &self.records {

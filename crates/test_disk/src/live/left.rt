@@ -12,7 +12,7 @@ use node::{Caller, start};
 use std::alloc::Global;
 use std::sync::Wait;
 
-/// The order of a node that is opened there, and its round.
+/// Adds the order of a node that is opened on these disks, and its round.
 pub fn tell_node<R: Wait>(
     rt: &R,
     alloc: Global,
@@ -33,8 +33,8 @@ pub fn tell_node<R: Wait>(
     Ok(())
 }
 
-/// Whether the journal was rewritten at least so many times, and how many bytes of events there are after its checkpoint, if these are not
-/// less than so many.
+/// Adds whether the journal was rewritten at least so many times, and how many bytes of events follow its checkpoint, if there are at least
+/// so many.
 pub fn tell_rewritten(alloc: Global, store: Store<MemDisk>, words: &str, answer: &mut String) {
     let (least, most) = words.split_once(' ').unwrap_or((words, ""));
     let (least, most) = (least.parse().unwrap_or(u64::MAX), most.parse().unwrap_or(0));

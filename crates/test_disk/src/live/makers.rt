@@ -1,4 +1,4 @@
-//! What is submitted to the node that threads share, which is member 0 of four.
+//! Messages for the node that threads share, which is member 0 of four.
 
 ghost use Rattle.std.specs.Prelude.{◌≡◌, None, IfOk};
 ghost use Rattle.header.specs.Checks.{fault_of, accepts_all};
@@ -14,10 +14,10 @@ use std::sync::Wait;
 use validator::Config;
 use wire::{Author, Message, ParentReference, Round, genesis_digest};
 
-// Of how many members a header names the certificates of the round before.
+// How many certificates of the round before a header names.
 const QUORUM: u16 = 3;
 
-/// An author's header for round 1.
+/// The header of an author for round 1.
 pub fn header_of(
     alloc: Global,
     config: &Config<HashSign>,
@@ -44,7 +44,7 @@ pub fn first_parents(alloc: Global) -> Result<Vec<ParentReference>, AllocError> 
     Ok(parents)
 }
 
-/// Submits an author's header for round 1, and answers its ticket.
+/// Submits the header of an author for round 1, and gives its ticket.
 pub fn submit_header<R: Wait>(
     rt: &R,
     alloc: Global,
@@ -56,7 +56,7 @@ pub fn submit_header<R: Wait>(
     Ok(receipt.ticket)
 }
 
-/// An author's batch of one transaction, which is this number.
+/// The batch of an author with one transaction, which is this number.
 pub fn batch_of(
     alloc: Global,
     config: &Config<HashSign>,

@@ -1,4 +1,4 @@
-//! The rounds of the other members, of which a run is given the frames.
+//! The rounds of the other members, as frames for a run.
 
 use crate::live::ending::Ending;
 use crate::live::makers::first_parents;
@@ -11,13 +11,13 @@ use wire::{
     Author, Coin, Message, ParentReference, Round, Wave, certificate_digest, encode, header_digest,
 };
 
-/// Who proposes in each round.
+/// The members who propose in each round.
 const OTHERS: [Author; 3] = [Author(1), Author(2), Author(3)];
 
-/// Who votes on each header.
+/// The members who vote on each header.
 const VOTERS: &str = "0,1,2";
 
-/// Which member's certificate each coin elects.
+/// The member whose certificate each coin chooses.
 const ELECTED: u64 = 1;
 
 /// The frames of the rounds so far.
@@ -26,13 +26,13 @@ pub struct OtherRounds {
     alloc: Global,
     // The number of the last round.
     number: u64,
-    // Its certificates.
+    // The certificates of the last round.
     made: Vec<ParentReference>,
     frames: Vec<u8>,
 }
 
 impl OtherRounds {
-    /// Before the first round, over certificates of the genesis.
+    /// Before the first round, with the genesis certificates as parents.
     pub fn new(alloc: Global) -> Result<OtherRounds, Ending> {
         Ok(OtherRounds {
             alloc,
@@ -42,8 +42,8 @@ impl OtherRounds {
         })
     }
 
-    /// The frames of so many more rounds. In each there are a batch of member 1, the headers of the others, their certificates over those
-    /// of the round before, and the coin of the wave that ends with it, if one does.
+    /// The frames of so many more rounds. Each round has a batch of member 1, the headers of the other members, their certificates on top
+    /// of those of the round before, and the coin of the wave that ends with it, if one does.
     pub fn next(&mut self, count: u64) -> Result<Vec<u8>, Ending> {
         for _ in 0..count {
             self.number = self.number.saturating_add(1);
@@ -107,7 +107,7 @@ impl OtherRounds {
         self.put(OWN, Message::Coin(Coin { wave, value }))
     }
 
-    // The frame of a message from its sender.
+    // Adds the frame of a message from its sender.
     fn put(&mut self, sender: Author, message: Message) -> Result<(), Ending> {
         let bytes = encode(self.alloc, &message)?;
         let len = (bytes.len() + 2) as u32;

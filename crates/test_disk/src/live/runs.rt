@@ -20,17 +20,17 @@ use std::rt::Files;
 use std::sync::{Mutex, Wait};
 use std::thread::Threads;
 
-/// What the next run of a case is given.
+/// What the next run of a case gets.
 #[derive(Drop)]
 pub struct Runs {
     alloc: Global,
     text: String,
-    // 0, where the case doesn't say.
+    // The member's number; 0 where the case gives none.
     own: Option<String>,
     disk: Vec<u8>,
-    // What the second disk has, where the journal is on two.
+    // The bytes of the second disk, where the journal is on two disks.
     second: Option<Vec<u8>>,
-    // How much longer the area that is read gets before a checkpoint.
+    // By how much the area that is read grows until a checkpoint.
     every: u64,
     rounds: Option<OtherRounds>,
     failing: Option<(CallKind, u64)>,
@@ -40,7 +40,7 @@ pub struct Runs {
 }
 
 impl Runs {
-    /// Nothing: an empty committee file, an empty disk, and a reader that gives nothing.
+    /// An empty committee file, an empty disk, and a reader that gives nothing.
     pub fn new(alloc: Global) -> Runs {
         Runs {
             alloc,
@@ -57,7 +57,7 @@ impl Runs {
         }
     }
 
-    /// Carries out a command, and adds the lines that it answers.
+    /// Carries out a command, and adds the lines of its answer.
     pub fn obey<R: Files<File = File> + AllocGlobal + Threads + Wait + Sync>(
         &mut self,
         rt: &R,
@@ -125,7 +125,7 @@ impl Runs {
         Ok(())
     }
 
-    // A line more.
+    // Adds one more line.
     fn put_line(&mut self, words: &str) -> Told {
         self.text.push_str(words)?;
         self.text.push_str("\n")
@@ -139,7 +139,7 @@ impl Runs {
         }
     }
 
-    // The frames of so many more rounds.
+    // Adds the frames of so many more rounds.
     fn add_rounds(&mut self, words: &str) -> Result<(), Ending> {
         let mut rounds = match self.rounds.take() {
             Some(rounds) => rounds,
@@ -150,7 +150,7 @@ impl Runs {
         Ok(())
     }
 
-    // A run over the disks, with a line for each output, and how many events their journal has.
+    // Runs a node on the disks; shows a line for each output, and how many events the journal has.
     fn run<R: Threads + Wait + Sync>(&mut self, rt: &R, answer: &mut String) -> Told {
         let (status, seen) = self.carry_out(rt)?;
         tell_seen(self.alloc, &seen, answer);
@@ -158,7 +158,7 @@ impl Runs {
         self.tell_events(answer)
     }
 
-    // A run with a sum over the outputs.
+    // Runs a node and shows a sum over the outputs.
     fn sum<R: Threads + Wait + Sync>(&mut self, rt: &R, answer: &mut String) -> Told {
         let (status, seen) = self.carry_out(rt)?;
         tell_sum(self.alloc, &seen, answer);
@@ -166,7 +166,7 @@ impl Runs {
         Ok(())
     }
 
-    // A run over the disks, which keeps what these are left with.
+    // Runs a node on the disks, and keeps what it leaves on them.
     fn carry_out<R: Threads + Wait + Sync>(&mut self, rt: &R) -> Result<(u8, Seen), AllocError> {
         let switch = Switch::new(self.alloc)?;
         let store = self.store_with(&switch)?;
@@ -180,7 +180,7 @@ impl Runs {
         Ok((status, seen.into_inner()))
     }
 
-    // The status, and the disks, if the run gives them back.
+    // The exit status, and the disks, if the run gives them back.
     fn run_steps<R: Threads + Wait + Sync>(
         &self,
         rt: &R,
@@ -214,7 +214,7 @@ impl Runs {
         self.store_with(&Switch::new(self.alloc)?)
     }
 
-    // The same with a switch that fails their calls.
+    // The same disks, with a switch that sets their calls to fail.
     fn store_with(&self, switch: &Switch) -> Result<Store<MemDisk>, AllocError> {
         let first = switched_disk(self.alloc, &self.disk, switch)?;
         match &self.second {
@@ -223,7 +223,7 @@ impl Runs {
         }
     }
 
-    // Keeps what the disks have, or nothing where they are lost.
+    // Keeps the bytes of the disks; no bytes where the disks are lost.
     fn keep(&mut self, left: Option<Store<MemDisk>>) -> Told {
         self.disk.clear();
         match left {
@@ -244,7 +244,7 @@ impl Runs {
         }
     }
 
-    // How many events the journal has.
+    // Adds how many events the journal has.
     fn tell_events(&self, answer: &mut String) -> Told {
         match found_on(self.alloc, self.store()?) {
             Some(found) if !found.records.is_empty() => {
@@ -256,7 +256,7 @@ impl Runs {
         }
     }
 
-    // How long the area is that is read, and then the other one.
+    // Adds the length of the area that is read, and of the other one.
     fn tell_areas(&self, answer: &mut String) -> Told {
         let Some(found) = found_on(self.alloc, self.store()?) else {
             return answer.push_str("no journal\n");
@@ -268,13 +268,13 @@ impl Runs {
         Ok(())
     }
 
-    // The node that is opened there.
+    // Adds what a node shows that is opened on the disks.
     fn tell_opened<R: Wait>(&self, rt: &R, answer: &mut String) -> Told {
         Ending::tell(tell_node(rt, self.alloc, self.store()?, answer), answer)
     }
 }
 
-// A disk that has these bytes, of which the switch can fail calls.
+// A disk with these bytes, whose calls the switch can set to fail.
 fn switched_disk(alloc: Global, bytes: &[u8], switch: &Switch) -> Result<MemDisk, AllocError> {
     MemDisk::with_switch(alloc, bytes.to_vec(alloc)?, switch)
 }

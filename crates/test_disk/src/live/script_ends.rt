@@ -1,4 +1,4 @@
-//! What a script is read from, and where its lines go.
+//! The reader that gives a script, and the writer that takes its lines.
 
 use crate::live::streams::filled;
 use crate::live::words::put_count;
@@ -6,11 +6,11 @@ use std::alloc::Global;
 use std::cell::Cell;
 use std::io::{self, Read, Write};
 
-/// Reads a script, and notes before each read how many lines were written.
+/// Gives a script, and notes before each read how many lines were written.
 #[derive(Drop)]
 pub struct Input<'a> {
     pub rest: &'a [u8],
-    /// Whether a read gives one line at most, as a terminal does.
+    /// Whether a read gives at most one line, as a terminal does.
     pub is_typed: bool,
     /// Whether reading fails at the end.
     pub is_broken: bool,
@@ -31,7 +31,7 @@ impl Read for Input<'_> {
 }
 
 impl Input<'_> {
-    // What a read gives at most.
+    // What one read gives at most.
     fn at_once(&self) -> &[u8] {
         if self.is_typed {
             first_line(self.rest)
@@ -41,7 +41,7 @@ impl Input<'_> {
     }
 }
 
-// Bytes up to the first newline, with it, or all.
+// The bytes up to the first newline, included; all bytes where there is none.
 fn first_line(bytes: &[u8]) -> &[u8] {
     match bytes.iter().position(|byte| *byte == b'\n') {
         Some(place) => bytes.get(..place + 1).unwrap_or(bytes),
@@ -49,7 +49,7 @@ fn first_line(bytes: &[u8]) -> &[u8] {
     }
 }
 
-/// Takes so many bytes, and counts the calls and the lines.
+/// Takes a limited number of bytes, and counts the calls and the lines.
 #[derive(Drop)]
 pub struct Taker<'a> {
     pub bytes: Vec<u8>,
@@ -59,7 +59,7 @@ pub struct Taker<'a> {
 }
 
 impl<'a> Taker<'a> {
-    /// Room for so many bytes, of which none is taken.
+    /// A writer with room for so many bytes, which has taken none.
     pub fn new(alloc: Global, room: usize, lines: &'a Cell<u64>) -> Taker<'a> {
         Taker {
             bytes: Vec::new(alloc),

@@ -3,19 +3,19 @@
 use crate::live::words::add_word;
 use std::alloc::{AllocError, Global};
 
-/// A script, and how it is read and its lines are taken.
+/// A script, how it is read, and how its lines are taken.
 #[derive(Drop)]
 pub struct Script {
     alloc: Global,
     pub bytes: Vec<u8>,
     pub is_typed: bool,
     pub is_broken: bool,
-    /// Bytes of output that can be written.
+    /// How many bytes of output can be written.
     pub room: usize,
 }
 
 impl Script {
-    /// No lines, from a file, with room for all output.
+    /// A script without lines, read from a file, with room for all output.
     pub fn new(alloc: Global) -> Script {
         Script {
             alloc,
@@ -26,7 +26,7 @@ impl Script {
         }
     }
 
-    /// Adds a line so many times.
+    /// Adds a line, so many times.
     pub fn add_lines(&mut self, times: u32, line: &str) -> Result<(), AllocError> {
         for _ in 0..times {
             self.bytes.extend_from_slice(line.as_bytes())?;
@@ -35,7 +35,7 @@ impl Script {
         Ok(())
     }
 
-    /// Adds the first lines of a script that a case has kept, as many as these words say; says whether they say it.
+    /// Adds the first lines of a script that a case has kept, as many as these words say; gives whether they say a number.
     pub fn add_first(&mut self, kept: &[u8], rest: &str) -> Result<bool, AllocError> {
         let Ok(count) = rest.parse() else {
             return Ok(false);
@@ -46,7 +46,7 @@ impl Script {
         Ok(true)
     }
 
-    /// Changes the script, how it is read or how its lines are taken; says whether the words are ones for that.
+    /// Changes the script, how it is read or how its lines are taken; gives whether the words say how.
     pub fn change(&mut self, name: &str, rest: &str) -> Result<bool, AllocError> {
         match name {
             "bytes" => add_word(self.alloc, rest, &mut self.bytes),

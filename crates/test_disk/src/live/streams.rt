@@ -9,10 +9,10 @@ use std::sync::{Mutex, Wait};
 use std::thread::yield_now;
 use std::time::{Clock, Duration};
 
-/// How often a reader looks whether what it waits for is there.
+/// How often a reader looks for what it waits for.
 const TURNS: u64 = 10_000_000;
 
-/// A clock that tells no time, and never sleeps.
+/// A clock without a time, which never sleeps.
 pub struct NoClock;
 
 impl Clock for NoClock {
@@ -28,15 +28,15 @@ impl Clock for NoClock {
 /// What a reader does next.
 #[derive(Drop)]
 pub enum Step {
-    /// It gives these bytes.
+    /// The reader gives these bytes.
     Give(Vec<u8>),
-    /// It waits until so many bytes were written.
+    /// The reader waits until so many bytes were written.
     Await(usize),
-    /// It gives these bytes again and again, until a line says that the node is down.
+    /// The reader gives these bytes again and again, until a line says that the node is down.
     Repeat(Vec<u8>),
-    /// It would block.
+    /// Reading would block.
     Block,
-    /// It fails.
+    /// Reading fails.
     Fail,
 }
 
@@ -45,7 +45,7 @@ pub enum Step {
 pub struct Seen {
     pub output: Vec<u8>,
     pub errors: Vec<u8>,
-    /// How many writes of output would block first.
+    /// How many writes of output would block, before one doesn't.
     pub blocks: u64,
     /// Whether a write of output fails.
     pub is_broken: bool,
@@ -63,7 +63,7 @@ impl Seen {
     }
 }
 
-/// A reader that takes steps.
+/// A reader that goes through steps.
 #[derive(Drop)]
 pub struct Steps<'t, R: Wait> {
     rt: &'t R,
@@ -72,12 +72,12 @@ pub struct Steps<'t, R: Wait> {
 }
 
 impl<'t, R: Wait> Steps<'t, R> {
-    /// A reader that has taken none of these steps.
+    /// A reader that is before the first of these steps.
     pub fn new(rt: &'t R, seen: &'t Mutex<Seen>, steps: VecDeque<Step>) -> Steps<'t, R> {
         Steps { rt, seen, steps }
     }
 
-    // Waits until so many bytes were written. Gives none.
+    // Waits until so many bytes were written. Gives no bytes.
     fn wait(&self, count: usize) -> io::Result<Option<usize>>
         ensures { IfOk result (λ given. given ≡ None) }
     {
@@ -114,7 +114,8 @@ impl<'t, R: Wait> Read for Steps<'t, R> {
 }
 
 impl<'t, R: Wait> Steps<'t, R> {
-    // Takes a step. Answers how many bytes it gives; where it is over and gives none the next one follows.
+    // Makes a step, and gives how many bytes it has put into the buffer. None if the step is over and has put none; then the next step
+    // follows.
     fn take(&mut self, step: Step, buffer: &mut [u8]) -> io::Result<Option<usize>>
         ensures { IfOk result (λ given. IfSome given (λ count. count ≤ length buffer.old)) }
     {
@@ -138,7 +139,7 @@ impl<'t, R: Wait> Steps<'t, R> {
         Ok(Some(count))
     }
 
-    // Gives what fits, and keeps the rest.
+    // Gives the bytes that fit, and keeps the others for later.
     fn give(&mut self, bytes: Vec<u8>, buffer: &mut [u8]) -> io::Result<Option<usize>>
         ensures { IfOk result (λ given. IfSome given (λ count. count ≤ length buffer.old)) }
     {
@@ -152,7 +153,7 @@ impl<'t, R: Wait> Steps<'t, R> {
     }
 }
 
-/// Puts what fits of the bytes into the buffer, and answers how many these are.
+/// Copies the bytes that fit into the buffer, and gives how many these are.
 pub fn filled(bytes: &[u8], buffer: &mut [u8]) -> usize
     ensures few { result ≤ length bytes.now }
     ensures fits { result ≤ length buffer.old }

@@ -1,4 +1,4 @@
-//! What a case is about.
+//! What a case tests.
 
 use crate::live::folder::Folder;
 use crate::live::runs::Runs;
@@ -12,10 +12,10 @@ use std::rt::Files;
 use std::sync::Wait;
 use std::thread::Threads;
 
-// What the commands of a case are put to.
+// What the commands of a case work on.
 #[derive(Drop)]
 enum Subject {
-    // Each command is a test of its own. A case begins so too, since its first command says what it is about.
+    // Each command is a test of its own. Every case begins with this, since only its first command says what it tests.
     Threads,
     Folder(Folder),
     Script(Script),
@@ -27,7 +27,7 @@ enum Subject {
 pub struct Case {
     alloc: Global,
     subject: Subject,
-    // The script that a case has kept, for later ones.
+    // The script that a case has kept for later cases.
     kept: Vec<u8>,
 }
 
@@ -46,7 +46,7 @@ impl Case {
         self.subject = Subject::Threads;
     }
 
-    /// Carries out a command, and adds the lines that it answers.
+    /// Carries out a command, and adds the lines of its answer.
     pub fn obey<R>(&mut self, rt: &R, command: &str, answer: &mut String) -> Told
     where
         R: Files<File = File> + AllocGlobal + Threads + Wait + Sync,
@@ -63,7 +63,7 @@ impl Case {
         }
     }
 
-    // What the case is about, where no command before this one says so.
+    // Chooses what the case tests, if no earlier command has.
     fn choose(&mut self, name: &str) {
         if let Subject::Threads = self.subject {
             self.subject = subject_of(self.alloc, name);
@@ -71,7 +71,7 @@ impl Case {
     }
 }
 
-// What a case is about whose first command has this name.
+// What a case tests whose first command has this name.
 fn subject_of(alloc: Global, name: &str) -> Subject {
     match name {
         "hold" | "crowd" | "down" | "fail" => Subject::Threads,

@@ -9,7 +9,7 @@ use std::alloc::Global;
 use std::sync::Wait;
 use std::thread::Threads;
 
-/// Carries out a command, each of which is a test of its own, and adds the lines that it answers.
+/// Carries out a command, which is a test of its own, and adds the lines of its answer.
 pub fn obey_threads<R>(rt: &R, alloc: Global, name: &str, words: &str, answer: &mut String) -> Told
 where
     R: Threads + Wait + Sync,

@@ -15,7 +15,8 @@ use std::cell::Cell;
 use std::sync::Wait;
 use wire::{Message, Vote};
 
-/// A line after `|` is one of the script. A script that is kept begins later ones. The other commands change how it is run, or run it.
+/// A line after `|` is a line of the script. A script that was kept can begin later ones. The other commands change how the script is run,
+/// or run it.
 pub fn obey_script<R: Wait>(
     rt: &R,
     alloc: Global,
@@ -53,7 +54,7 @@ fn keep(script: &Script, kept: &mut Vec<u8>) -> Told {
     kept.extend_from_slice(&script.bytes)
 }
 
-// What a run leaves.
+// What is left after a run.
 #[derive(Drop)]
 struct Outcome {
     notes: String,
@@ -86,7 +87,7 @@ fn outcome_of<R: Wait>(rt: &R, alloc: Global, script: &Script) -> Outcome {
     }
 }
 
-// What is printed, what is told as an error, and the status.
+// Adds what is printed, what goes to the errors, and the status.
 fn play<R: Wait>(rt: &R, alloc: Global, script: &Script, answer: &mut String) {
     let outcome = outcome_of(rt, alloc, script);
     put_text(answer, &outcome.printed);
@@ -97,7 +98,7 @@ fn play<R: Wait>(rt: &R, alloc: Global, script: &Script, answer: &mut String) {
     put_number(answer, "status", outcome.status as u64);
 }
 
-// The SHA-256 of what `play` answers.
+// Adds the SHA-256 of the answer of `play`.
 fn sum<R: Wait>(rt: &R, alloc: Global, script: &Script, answer: &mut String) {
     let mut lines = String::new(alloc);
     play(rt, alloc, script, &mut lines);
@@ -105,13 +106,13 @@ fn sum<R: Wait>(rt: &R, alloc: Global, script: &Script, answer: &mut String) {
     put(answer, "\n");
 }
 
-// How many lines were written before each read.
+// Adds how many lines were written before each read.
 fn watch<R: Wait>(rt: &R, alloc: Global, script: &Script, answer: &mut String) {
     let outcome = outcome_of(rt, alloc, script);
     put(answer, &outcome.notes);
 }
 
-// How many lines are written, and whether by at most as many calls.
+// Adds how many lines are written, and whether there were at most as many calls.
 fn count<R: Wait>(rt: &R, alloc: Global, script: &Script, answer: &mut String) {
     let outcome = outcome_of(rt, alloc, script);
     let few = outcome.calls <= outcome.lines;
@@ -119,7 +120,7 @@ fn count<R: Wait>(rt: &R, alloc: Global, script: &Script, answer: &mut String) {
     put_shown(answer, ", at most as many calls: ", &few, "\n");
 }
 
-// How many bytes each area of the journal has after the script.
+// Adds how many bytes each area of the journal has after the script.
 fn journal<R: Wait>(rt: &R, alloc: Global, script: &Script, answer: &mut String) {
     match disks_after(rt, alloc, &script.bytes) {
         Some((first, second)) => {
@@ -130,7 +131,7 @@ fn journal<R: Wait>(rt: &R, alloc: Global, script: &Script, answer: &mut String)
     }
 }
 
-// Whether a vote may go out after the script, and passes the checks.
+// Adds whether a vote may leave after the script, and passes the checks.
 fn vote<R: Wait>(rt: &R, alloc: Global, script: &Script, answer: &mut String) {
     match vote_after(rt, alloc, &script.bytes) {
         Some(vote) if passes(alloc, vote) => put(answer, "passes\n"),

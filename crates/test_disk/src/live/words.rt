@@ -16,7 +16,7 @@ pub fn joined(alloc: Global, words: &str) -> Result<Option<Vec<u8>>, AllocError>
     Ok(Some(bytes))
 }
 
-/// Adds the bytes of a word, in which a star is before how often its digits stand. Says whether it has such digits.
+/// Adds the bytes of a word, in which a star is followed by how often its digits occur. Gives whether it has such digits.
 pub fn add_word(alloc: Global, word: &str, bytes: &mut Vec<u8>) -> Result<bool, AllocError> {
     let (digits, times) = word.split_once('*').unwrap_or((word, "1"));
     let Some(part) = bytes_of(alloc, digits)? else {
@@ -38,12 +38,12 @@ pub fn put_hex(answer: &mut String, bytes: &[u8]) {
     let _ = write_hex(answer, bytes);
 }
 
-/// Adds the text that these bytes are.
+/// Adds bytes as text.
 pub fn put_text(answer: &mut String, bytes: &[u8]) {
     put(answer, str::from_utf8(bytes).unwrap_or("no text\n"));
 }
 
-/// Adds a line of a number after a word.
+/// Adds a line with a word and a number.
 pub fn put_number(answer: &mut String, word: &str, number: u64) {
     let _ = writeln!(answer, "{word} {number}");
 }

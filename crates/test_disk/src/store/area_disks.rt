@@ -5,7 +5,7 @@ use crate::store::area_steps::Left;
 use diskmodel::{MemDisk, Switch};
 use std::alloc::{AllocError, Global};
 
-/// Both disks of a journal, whose calls one switch counts and fails.
+/// Both disks of a journal, with one switch that counts their calls and sets them to fail.
 #[derive(Drop)]
 pub struct Disks {
     pub first: MemDisk,
@@ -21,7 +21,7 @@ impl Disks {
         })
     }
 
-    /// The machine stops, and leaves these. Says whether it may.
+    /// Stops the machine so that it leaves this of the disks. Gives whether that is possible.
     pub fn stop(&mut self, alloc: Global, first: Left, second: Left) -> Result<bool, AllocError> {
         let can = stop(alloc, &mut self.first, first)?;
         Ok(stop(alloc, &mut self.second, second)? && can)
@@ -53,7 +53,8 @@ fn torn(
     Ok(bytes)
 }
 
-/// A byte that has to stay; or this one, where so many divide its place; or what a read gives there, or the last sync.
+/// The byte at a place, if a stop can't change it; otherwise this byte at places that are a multiple of `every`, and what a read gives, or
+/// the last sync, at the others.
 fn left_at(disk: &MemDisk, byte: u8, every: u64, place: u64) -> u8 {
     let (read, durable) = (
         disk.bytes().get(place as usize),

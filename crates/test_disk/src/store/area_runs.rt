@@ -1,4 +1,4 @@
-//! A list of steps over a journal on two areas, made by the running code.
+//! A list of steps on a journal on two areas, made by the running code.
 
 ghost use Rattle.std.specs.Prelude.{◌≡◌, ◌≤◌, true, length, IsSome, Some, IfOk, IfSome};
 ghost use Rattle.journal.specs.Areas.{generation_of};
@@ -18,7 +18,7 @@ use std::alloc::{AllocError, Global};
 use std::collections::VecDeque;
 use validator::{Config, Refusal, Step as Stepped, Validator};
 
-/// The calls of an append, each by its kind and how many of that kind there are up to it.
+/// The calls of an append, each by its kind and its number among the calls of that kind.
 const APPEND: [(CallKind, u64); 4] = [
     (CallKind::Write, 1),
     (CallKind::Sync, 1),
@@ -38,7 +38,7 @@ const REWRITING: [(CallKind, u64); 8] = [
     (CallKind::Sync, 4),
 ];
 
-/// What runs beside the disks.
+/// The state of the run that isn't on the disks.
 #[derive(Drop)]
 pub struct Run<'l, 'a> {
     alloc: Global,
@@ -46,10 +46,10 @@ pub struct Run<'l, 'a> {
     events: &'l [Listed],
     switch: Switch,
     validator: Validator<'a, HashSign>,
-    /// The numbers of all events that were accepted, over all runs, and how many of them are on the disk.
+    /// The numbers of all events that were accepted, over all runs; and how many of these are on the disk.
     history: Vec<usize>,
     written: usize,
-    /// The numbers of events of the groups in flight, and how many of these groups are written.
+    /// The numbers of events in the groups in flight; and how many of these groups are written.
     groups: VecDeque<usize>,
     groups_written: usize,
     /// How many events each generation of the areas has in its checkpoint.
@@ -80,7 +80,7 @@ impl<'l, 'a> Run<'l, 'a> {
         })
     }
 
-    /// Makes the steps from two empty areas on, and puts what each comes to.
+    /// Makes the steps, from two empty areas on, and adds the result of each.
     pub fn play(&mut self, steps: &[Step], answer: &mut String) -> Told {
         let mut disks = Disks::new(self.alloc, &self.switch)?;
         let mut place = 0usize;
@@ -105,14 +105,14 @@ impl<'l, 'a> Run<'l, 'a> {
         Ok(())
     }
 
-    /// Tells the count-th call of a kind to fail, none at 0.
+    /// Sets the count-th call of a kind to fail; 0 sets none.
     fn tell_call(&self, kind: CallKind, count: u64) {
         if count > 0 {
             let _ = self.switch.fail(kind, count);
         }
     }
 
-    /// Tells one of these calls to fail, counted from 1, none at 0.
+    /// Sets one of these calls to fail, counted from 1; 0 sets none.
     fn tell_one(&self, calls: &[(CallKind, u64)], call: u64) {
         if call > 0
             && let Some((kind, count)) = calls.get((call - 1) as usize)
@@ -123,7 +123,7 @@ impl<'l, 'a> Run<'l, 'a> {
 
     // ---- openings
 
-    /// Opens both areas, and makes steps until the machine stops. Answers how many.
+    /// Opens both areas, and makes steps until the machine stops. Gives how many steps.
     fn open(
         &mut self,
         disks: Disks,
@@ -145,7 +145,7 @@ impl<'l, 'a> Run<'l, 'a> {
         }
     }
 
-    /// A run after what was read. A journal without a record first gets its configuration.
+    /// Begins a run with what was read. A journal without a record first gets its configuration.
     fn begin(
         &mut self,
         journal: &mut Journal<MemDisk>,
@@ -174,8 +174,8 @@ impl<'l, 'a> Run<'l, 'a> {
         self.go_on(journal, steps, answer)
     }
 
-    /// Puts what was read: the generation, how many records are before the events, their sum, and the events' numbers. What
-    /// runs is then after these.
+    /// Adds what was read: the generation, how many records precede the events, a sum over those records, and the events' numbers. The
+    /// state is then that after these events.
     fn find(&mut self, generation: u64, records: &[Record], answer: &mut String) -> Told {
         let front = records
             .iter()
@@ -193,7 +193,7 @@ impl<'l, 'a> Run<'l, 'a> {
         self.go_back(generation as usize, events.len())
     }
 
-    /// What runs is after a checkpoint and so many events.
+    /// Sets the state to that after a checkpoint and so many events.
     fn go_back(&mut self, generation: usize, events: usize) -> Told {
         let base = self.bases.get(generation).copied().unwrap_or(0);
         self.bases.truncate(generation.saturating_add(1));
@@ -217,7 +217,7 @@ impl<'l, 'a> Run<'l, 'a> {
 
     // ---- steps
 
-    /// Makes steps until the machine stops, or a call fails. Answers how many.
+    /// Makes steps until the machine stops, or a call fails. Gives how many steps.
     fn go_on<D: Disk>(
         &mut self,
         journal: &mut Journal<D>,
@@ -241,7 +241,7 @@ impl<'l, 'a> Run<'l, 'a> {
         Ok(made)
     }
 
-    /// Makes a step. Says whether the machine goes on.
+    /// Makes a step. Gives whether the machine goes on.
     fn make<D: Disk>(
         &mut self,
         journal: &mut Journal<D>,
@@ -262,7 +262,7 @@ impl<'l, 'a> Run<'l, 'a> {
         Ok(true)
     }
 
-    /// A step that needs no journal.
+    /// Makes a step that needs no journal.
     fn make_alone(&mut self, step: Step, answer: &mut String) -> Told {
         match step {
             Step::Accept(number) => return self.accept(number, answer),
@@ -277,7 +277,7 @@ impl<'l, 'a> Run<'l, 'a> {
         Ok(())
     }
 
-    /// An event comes in: it is new or known, or refused for the reason of this number.
+    /// An event comes in. Adds whether it is new, known, or refused for the reason with this number.
     fn accept(&mut self, number: usize, answer: &mut String) -> Told {
         match self.arrive(number)? {
             Some(Ok(Stepped::New(_))) => {
@@ -296,7 +296,7 @@ impl<'l, 'a> Run<'l, 'a> {
         Ok(())
     }
 
-    /// Puts an event to the validator, if there is one of this number.
+    /// Steps the event with this number on the validator, if there is such an event.
     fn arrive(&mut self, number: usize) -> Result<Option<Result<Stepped, Refusal>>, AllocError> {
         let Some(listed) = self.events.get(number) else {
             return Ok(None);
@@ -310,7 +310,7 @@ impl<'l, 'a> Run<'l, 'a> {
         }
     }
 
-    /// All is taken for a checkpoint of the next generation. Puts how many records it has.
+    /// Takes everything for a checkpoint of the next generation. Adds how many records it has.
     fn take_all(&mut self, generation: usize, answer: &mut String) -> Told {
         self.snapshot = kept_records(self.alloc, self.config.own(), self.validator.tables())?;
         self.bases.truncate(generation.saturating_add(1));
@@ -322,7 +322,7 @@ impl<'l, 'a> Run<'l, 'a> {
 
     // ---- writing
 
-    /// The records of the first group that isn't written.
+    /// The records of the first group that isn't written yet.
     fn group(&self) -> Result<Vec<Vec<u8>>, AllocError> {
         let count = self.groups.get(self.groups_written).copied().unwrap_or(0);
         let mut records = Vec::new(self.alloc);
@@ -334,7 +334,7 @@ impl<'l, 'a> Run<'l, 'a> {
         Ok(records)
     }
 
-    /// Appends the first group that isn't written, of which a call may fail. Says whether none did.
+    /// Appends the first group that isn't written yet; a call may be set to fail. Gives whether none failed.
     fn append<D: Disk>(
         &mut self,
         journal: &mut Journal<D>,
@@ -364,7 +364,7 @@ impl<'l, 'a> Run<'l, 'a> {
         Ok(true)
     }
 
-    /// Rewrites the other area to the checkpoint that was taken, of which a call may fail. Says whether none did.
+    /// Rewrites the spare area to the checkpoint that was taken; a call may be set to fail. Gives whether none failed.
     fn rewrite<D: Disk>(
         &mut self,
         journal: &mut Journal<D>,
@@ -393,7 +393,7 @@ impl<'l, 'a> Run<'l, 'a> {
     }
 }
 
-/// Appends a group. Puts how many records it has, or that a call failed; says whether none did.
+/// Appends a group. Adds how many records it has, or that a call failed; gives whether none failed.
 fn append_to<D: Disk>(journal: &mut Journal<D>, group: Group, answer: &mut String) -> bool
     requires alive { IsAlive D.device journal.old }
     requires pair { IsSome (spare_of journal.old) }
@@ -414,7 +414,7 @@ fn append_to<D: Disk>(journal: &mut Journal<D>, group: Group, answer: &mut Strin
     }
 }
 
-/// Rewrites the other area. Puts the new generation, or that a call failed; says whether none did.
+/// Rewrites the spare area. Adds the new generation, or that a call failed; gives whether none failed.
 #[tactic(auto, using(crate::proofs::Begun::begun))]
 fn rewrite_to<D: Disk>(journal: &mut Journal<D>, snapshot: Snapshot, answer: &mut String) -> bool
     requires alive { IsAlive D.device journal.old }
@@ -437,7 +437,7 @@ fn rewrite_to<D: Disk>(journal: &mut Journal<D>, snapshot: Snapshot, answer: &mu
     }
 }
 
-/// The checkpoint of these records, if they are one.
+/// The checkpoint with these records, if they are one's.
 fn snapshot_of(alloc: Global, records: &[Vec<u8>]) -> Result<Option<Snapshot>, AllocError> {
     if !records.is_empty() && shaped_version(&records[0]).is_none() {
         return Ok(None);
@@ -450,7 +450,7 @@ pub fn own_configuration(alloc: Global, config: &Config<HashSign>) -> Result<Vec
     configuration_record(alloc, Version::Second, config.committee(), config.own())
 }
 
-/// Adds the group of a configuration alone. Says whether no call failed.
+/// Appends the group of a configuration alone. Gives whether no call failed.
 pub fn add_first(
     alloc: Global,
     journal: &mut Journal<MemDisk>,
@@ -485,9 +485,9 @@ fn first_group(alloc: Global, configuration: Vec<u8>) -> Result<Option<Group>, A
     Ok(Some(group))
 }
 
-// ---- what is put
+// ---- the parts of answers
 
-/// Puts a word after those of a line.
+/// Adds a word to a line.
 fn put_word(answer: &mut String, word: &str) {
     if !answer.as_str().is_empty() && !answer.as_str().ends_with("\n") {
         put(answer, " ");
@@ -502,7 +502,7 @@ fn put_line(answer: &mut String) {
     }
 }
 
-/// Puts the number of the event that a record has.
+/// Adds the number of a record's event.
 fn put_event(answer: &mut String, events: &[Listed], record: &Record) {
     let number = events.iter().position(|listed| listed.record.as_slice()
         == record.bytes.as_slice());
@@ -512,7 +512,7 @@ fn put_event(answer: &mut String, events: &[Listed], record: &Record) {
     }
 }
 
-/// The sum over the bytes of so many records, FNV-1a of 32 bits.
+/// A sum over the bytes of the first records, FNV-1a of 32 bits.
 fn sum_of(records: &[Record], count: usize) -> u32 {
     let mut sum = 2_166_136_261;
     for record in records.iter().take(count) {

@@ -1,4 +1,4 @@
-//! The steps of lists over two areas, each a word.
+//! The steps of lists on two areas, each written as a word.
 
 use diskmodel::CallKind;
 use std::alloc::{AllocError, Global};
@@ -10,15 +10,15 @@ pub enum Left {
     Read,
     /// What the last sync left.
     Synced,
-    /// This length, and this byte at each place that may hold any and that so many divide. Else what a read gives there,
-    /// or the last sync.
+    /// This length; and of the places that may hold any byte, those that are a multiple of `every` hold this byte, and the others hold what
+    /// a read gives there, or the last sync.
     Torn { byte: u8, every: u64, len: u64 },
 }
 
-/// A step. Of the calls that a step makes one is told to fail, none at 0.
+/// A step. One of the calls that a step makes may be set to fail; 0 sets none.
 #[derive(Clone, Copy)]
 pub enum Step {
-    /// The event of this number comes in.
+    /// The event with this number comes in.
     Accept(usize),
     /// So many more of the accepted events are taken, as a group.
     Take(usize),
@@ -26,15 +26,15 @@ pub enum Step {
     Append(u64),
     /// The first group is settled.
     Settle,
-    /// All that is accepted is taken, for a checkpoint.
+    /// All accepted events are taken, for a checkpoint.
     TakeAll,
-    /// The other area is rewritten to it.
+    /// The spare area is rewritten to the checkpoint.
     Rewrite(u64),
-    /// All that it took is settled.
+    /// Everything that the checkpoint took is settled.
     SettleAll,
-    /// The machine stops, and leaves this of the first area and of the second.
+    /// The machine stops, and leaves this of the first area and this of the second.
     Stop(Left, Left),
-    /// Both areas are opened, where the count-th call of this kind fails.
+    /// Both areas are opened, with the count-th call of this kind set to fail.
     Open(CallKind, u64),
     Bad,
 }
@@ -60,7 +60,7 @@ fn step_of(word: &str) -> Step {
     }
 }
 
-/// A letter before a number, or before what a stop leaves; or the number of an event.
+/// A step that is a letter before a number, or before what a stop leaves; or the number of an event.
 fn counted(word: &str) -> Step {
     if let Some(count) = word.strip_prefix('t') {
         return Step::Take(number_of(count) as usize);
@@ -87,7 +87,7 @@ fn number_of(word: &str) -> u64 {
     word.parse().unwrap_or(0)
 }
 
-/// An opening of which a call fails: the letter of its kind, and which of that kind.
+/// An opening in which a call fails, given as the letter of the call's kind and a number.
 fn failing(call: &str) -> Step {
     if let Some(count) = call.strip_prefix('w') {
         return Step::Open(CallKind::Write, number_of(count));
@@ -117,7 +117,7 @@ fn left_of(word: &str) -> Left {
     }
 }
 
-/// The byte, at which places it stands, and the length.
+/// What is left by a stop that is given as the byte, its places, and the length.
 fn torn(word: &str) -> Left {
     let (byte, rest) = word.split_once('.').unwrap_or((word, ""));
     let (every, len) = rest.split_once('.').unwrap_or((rest, ""));

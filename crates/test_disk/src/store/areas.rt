@@ -1,5 +1,4 @@
-//! Lists of steps over a journal on two areas. `oracles/worlds.py` draws them, and says what each comes to in a world of
-//! plain lists.
+//! Lists of steps on a journal on two areas. `oracles/worlds.py` draws them, and computes the result of each in a world of plain lists.
 
 use crate::store::area_runs::Run;
 use crate::store::area_steps::steps_of;
@@ -15,11 +14,11 @@ use wire::Author;
 pub struct Listed {
     pub sender: Author,
     pub message: Vec<u8>,
-    /// Its record.
+    /// The record of the event.
     pub record: Vec<u8>,
 }
 
-/// The events that may come in, each by its number.
+/// The events that may come in, by number.
 #[derive(Drop)]
 pub struct AreaLists<'a> {
     alloc: Global,
@@ -28,7 +27,7 @@ pub struct AreaLists<'a> {
 }
 
 impl<'a> AreaLists<'a> {
-    /// Before the first case.
+    /// The state before the first case.
     pub fn new(alloc: Global, config: &'a Config<HashSign>) -> AreaLists<'a> {
         let events = Vec::new(alloc);
         AreaLists {
@@ -43,7 +42,7 @@ impl<'a> AreaLists<'a> {
         self.events = Vec::new(self.alloc);
     }
 
-    /// `event SENDER MESSAGE` is one more event.
+    /// `event SENDER MESSAGE` adds an event.
     pub fn add(&mut self, sender: u64, message: &[u8]) -> Told {
         let sender = Author(u16::try_from(sender).unwrap_or(u16::MAX));
         let [high, low] = sender.0.to_be_bytes();
@@ -58,7 +57,7 @@ impl<'a> AreaLists<'a> {
         Ok(())
     }
 
-    /// `areas STEP ..` makes these steps from two empty areas on.
+    /// `areas STEP ..` makes these steps, from two empty areas on.
     pub fn play(&self, steps: &str, answer: &mut String) -> Told {
         let steps = steps_of(self.alloc, steps)?;
         Run::new(self.alloc, self.config, &self.events)?.play(&steps, answer)

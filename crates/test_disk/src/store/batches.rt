@@ -1,14 +1,14 @@
-//! Batches of one transaction each, of which so many come in that they fill a group.
+//! Batches of one transaction each, enough of them to fill groups.
 
 use crate::store::scripts::Line;
 use crate::store::words::Told;
 use std::alloc::{AllocError, Global};
 use wire::{Author, BATCH_TAG};
 
-/// Who makes them.
+/// The author of the batches.
 const AUTHOR: u8 = 2;
 
-/// So many come in, each with a transaction of so many bytes: its number in four, and then zeros.
+/// Adds so many batches, each with a transaction of so many bytes: its number in four bytes, and then zeros.
 pub fn come_in(alloc: Global, lines: &mut Vec<Line>, count: u32, len: u32) -> Told {
     for number in 0..count {
         let sender = Author(u16::from(AUTHOR));

@@ -18,7 +18,7 @@ use validator::Refusal::{
 use validator::{Config, Step, Validator};
 use wire::{Author, Message, Round};
 
-/// Who sends the votes and the batches of the cases.
+/// The sender of the votes and the batches in the cases.
 const OTHER: Author = Author(1);
 
 /// Each reason to refuse an event.
@@ -48,7 +48,7 @@ pub fn own_book(
 }
 
 impl Store<'_> {
-    /// Commands with no word: groups of the book on their way to the disk, and what it says of itself.
+    /// Commands with no word: groups of the book in flight to the disk, and what the book shows of itself.
     pub fn obey_book(&mut self, name: &str, answer: &mut String) -> Told {
         match name {
             "put" => return self.put(Putting::Written, answer),
@@ -65,7 +65,7 @@ impl Store<'_> {
         Ok(())
     }
 
-    /// The vote of a member for an author's header of a round.
+    /// Gives the book a member's vote for an author's header of a round.
     pub fn take_vote(&mut self, author: u64, round: u64, answer: &mut String) -> Told {
         match slot(author, round) {
             Some((author, round)) => self.accept(OTHER, vote(OTHER, author, round), answer),
@@ -74,7 +74,7 @@ impl Store<'_> {
         Ok(())
     }
 
-    /// A header of an author and a round over certificates of some members, to the book, or to a validator without one.
+    /// Gives the book, or a validator without one, the header of an author and a round, with certificates of some members as parents.
     pub fn take_header(&mut self, name: &str, words: &[Word], answer: &mut String) -> Told {
         let [
             Word::Number(author),
@@ -105,7 +105,7 @@ impl Store<'_> {
         }
     }
 
-    /// So many batches of member 1, each another one, whose records have this length; tells of the last.
+    /// Gives the book so many different batches of member 1, whose records have this length; shows the answer to the last.
     pub fn fill(&mut self, count: u64, len: usize, answer: &mut String) -> Told {
         for number in 0..count {
             answer.clear();
@@ -123,7 +123,7 @@ impl Store<'_> {
         Ok(())
     }
 
-    /// A checkpoint, of whose writes to the disk the count-th fails, none at 0. The opening makes the first one.
+    /// Makes a checkpoint, with the count-th write to the disk set to fail; 0 sets none. The opening makes the first write.
     fn checkpoint(&mut self, count: u64, answer: &mut String) -> Told {
         put_checkpoint(self.alloc, self.config, &mut self.book, count, answer)
     }
@@ -151,7 +151,7 @@ fn slot(author: u64, round: u64) -> Option<(Author, Round)> {
     Some((author, Round::new(round).ok()?))
 }
 
-/// Puts a message to a validator without a book.
+/// Gives a message to a validator without a book.
 fn step(
     alloc: Global,
     config: &Config<HashSign>,
@@ -171,7 +171,7 @@ fn step(
     Ok(())
 }
 
-/// What came of an event, and whether it was said to be new.
+/// Adds the answer to an event, and whether `is_new` had said that it is new.
 fn tell_step(
     committee: &Committee,
     is_new: bool,

@@ -13,8 +13,8 @@ use sigface::HashSign;
 use std::alloc::Global;
 use validator::Config;
 
-/// Makes a checkpoint of a book on two new disks that have its node's configuration alone. The count-th write to the other
-/// disk is told to fail, none at 0. Tells the new generation, and how long the area is that is read then.
+/// Makes a checkpoint of a book on two new disks that have its node's configuration alone. The count-th write to the spare disk is set to
+/// fail; 0 sets none. Adds the new generation, and how long the area is that is read then.
 pub fn put_checkpoint(
     alloc: Global,
     config: &Config<HashSign>,
@@ -47,7 +47,7 @@ fn rewrite(own: &mut OwnBook<'_, HashSign>, journal: &mut Journal<MemDisk>, answ
     rewrite_begun(own, journal, answer)
 }
 
-/// Makes it, and tells of it.
+/// Makes the checkpoint, and adds its result.
 #[tactic(auto, using(crate::proofs::Begun::begun))]
 fn rewrite_begun(
     own: &mut OwnBook<'_, HashSign>,

@@ -1,4 +1,4 @@
-//! Openings of a node on a file that is cut or changed at each of some places.
+//! Openings of a node on a file that is cut or changed at each of several places.
 
 use crate::store::openings::told;
 use crate::store::words::{Told, put, put_count, put_other};
@@ -7,7 +7,7 @@ use std::alloc::{AllocError, Global};
 use std::ops::RangeInclusive;
 use validator::Config;
 
-/// Opens the beginnings of a file, of each of these lengths. A line is told wherever the answer becomes another one.
+/// Opens the prefixes of a file with each of these lengths. A line is added wherever the answer changes.
 pub fn lengths(
     alloc: Global,
     config: &Config<HashSign>,
@@ -25,15 +25,14 @@ pub fn lengths(
     Ok(())
 }
 
-/// How often an answer came.
+/// How often an answer was given.
 #[derive(Drop)]
 struct Count {
     text: String,
     times: u64,
 }
 
-/// Opens a file with each of these places changed to so many other values, which are as far from each other. Tells how
-/// often each answer came.
+/// Opens a file with each of these places changed to so many other values at equal distances. Adds how often each answer was given.
 pub fn changes(
     alloc: Global,
     config: &Config<HashSign>,
@@ -63,7 +62,7 @@ fn tell_counts(counts: &[Count], answer: &mut String) {
     }
 }
 
-/// What is told of a file with so much more in a place.
+/// The answer for a file with this number added to one byte.
 fn told_changed(
     alloc: Global,
     config: &Config<HashSign>,

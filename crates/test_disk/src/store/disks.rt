@@ -22,7 +22,7 @@ impl Store<'_> {
         Ok(())
     }
 
-    /// `cut PLACE` cuts the disk to a length that it has.
+    /// `cut PLACE` cuts the disk to a length up to its own.
     pub fn cut(&mut self, words: &[Word], answer: &mut String) -> Told {
         let [Word::Number(place)] = words else {
             return told_bad(answer);
@@ -35,7 +35,7 @@ impl Store<'_> {
         Ok(())
     }
 
-    /// `fail CALL COUNT` tells the count-th of these calls to fail.
+    /// `fail CALL COUNT` sets the count-th of these calls to fail.
     pub fn fail(&mut self, words: &[Word], answer: &mut String) -> Told {
         let [Word::Call(kind), Word::Number(count)] = words else {
             return told_bad(answer);
@@ -43,7 +43,7 @@ impl Store<'_> {
         self.disk.fail(*kind, *count)
     }
 
-    /// Writes bytes in a place that the disk has.
+    /// Writes bytes at a place within the disk.
     pub fn write(&mut self, place: u64, bytes: &[u8], answer: &mut String) -> Told {
         if place <= self.disk.bytes().len() as u64 {
             tell_fault(answer, self.disk.write_at(place, bytes));
@@ -53,13 +53,13 @@ impl Store<'_> {
         Ok(())
     }
 
-    /// Tells whether a stop may leave these bytes.
+    /// Adds whether a stop may leave these bytes.
     pub fn tell_can(&self, bytes: &[u8], answer: &mut String) -> Told {
         tell_if(answer, self.disk.can_leave(bytes));
         Ok(())
     }
 
-    /// Takes another disk, which has these bytes.
+    /// Replaces the disk by one with these bytes.
     pub fn renew(&mut self, bytes: &[u8]) -> Told {
         self.disk = disk_with(self.alloc, bytes)?;
         Ok(())
@@ -71,7 +71,7 @@ impl Store<'_> {
         Ok(())
     }
 
-    /// Tells so many bytes from a place on.
+    /// Adds so many bytes from a place on.
     pub fn read(&mut self, place: u64, count: u64, answer: &mut String) -> Told {
         let len = self.disk.bytes().len() as u64;
         if place > len || count > len - place {
@@ -86,12 +86,12 @@ impl Store<'_> {
     }
 }
 
-/// Tells whether something holds.
+/// Adds whether something holds.
 pub fn tell_if(answer: &mut String, holds: bool) {
     put(answer, if holds { "yes\n" } else { "no\n" });
 }
 
-/// Tells what is left of a file on a disk: all of it, or the bytes.
+/// Adds what is left of a file on a disk: that all of it is, or the bytes.
 pub fn tell_left(text: &mut String, disk: &MemDisk, file: &[u8]) {
     if disk.durable() != disk.bytes() {
         put(text, ", not firm");
@@ -103,7 +103,7 @@ pub fn tell_left(text: &mut String, disk: &MemDisk, file: &[u8]) {
     }
 }
 
-/// The length, what a read gives, the bytes of the last sync, and the places that were written since then.
+/// Adds the length, what a read gives, the bytes of the last sync, and the places that were written since then.
 fn tell_disk(disk: &mut MemDisk, answer: &mut String) {
     put(answer, "bytes");
     if let Ok(len) = disk.len() {

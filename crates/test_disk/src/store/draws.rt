@@ -2,14 +2,14 @@
 
 ghost use Rattle.std.specs.Prelude.{◌<◌};
 
-/// The state of a linear congruential generator, of which 48 bits count.
+/// The state of a linear congruential generator, of which 48 bits are used.
 #[derive(Clone, Copy)]
 pub struct Draws {
     state: u64,
 }
 
 impl Draws {
-    /// Before the first number.
+    /// The state before the first number.
     pub fn from(start: u64) -> Draws {
         Draws { state: start }
     }

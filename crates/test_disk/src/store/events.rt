@@ -1,4 +1,4 @@
-//! The events of the lists, each with a number.
+//! The events of the lists, by number.
 
 use crate::committees::OWN;
 use crate::store::headers::{Named, body, header, vote};
@@ -8,19 +8,19 @@ use wire::{Author, HeaderBody, Message, Round};
 /// The members who send events: 1 to 6 of seven.
 pub const SENDERS: u64 = 6;
 
-/// What each of them may send.
+/// How many kinds of messages each sender may send.
 pub const KINDS: u64 = 6;
 
 /// What a member sends.
 #[derive(Clone, Copy)]
 pub enum Kind {
-    /// A header of round 1 over the genesis of members 0 to 4.
+    /// A header of round 1 with the genesis certificates of members 0 to 4.
     First,
-    /// Another one of that round, over that of members 2 to 6.
+    /// Another header of that round, with those of members 2 to 6.
     Second,
     /// A header of round 2, whose parents nobody holds.
     Orphan,
-    /// A header of round 1 that names a batch, which nobody holds.
+    /// A header of round 1 that names a batch that nobody holds.
     Batched,
     /// A header of round 0.
     Low,
@@ -28,12 +28,12 @@ pub enum Kind {
     Vote,
 }
 
-/// Who sends the event of this number.
+/// The sender of the event with this number.
 pub fn sender_of(number: u64) -> Author {
     Author((number % SENDERS) as u16 + 1)
 }
 
-/// What is sent as the event of this number.
+/// The kind of message in the event with this number.
 pub fn kind_of(number: u64) -> Kind {
     match number / SENDERS {
         0 => Kind::First,
@@ -45,7 +45,7 @@ pub fn kind_of(number: u64) -> Kind {
     }
 }
 
-/// The message of this number.
+/// The message in the event with this number.
 pub fn message_of(alloc: Global, number: u64) -> Result<Message, AllocError> {
     let (author, kind) = (sender_of(number), kind_of(number));
     if matches!(kind, Kind::Vote) {
@@ -54,7 +54,7 @@ pub fn message_of(alloc: Global, number: u64) -> Result<Message, AllocError> {
     Ok(header(body_of(alloc, author, kind)?))
 }
 
-/// The header of a member of this kind.
+/// The header body of this kind, by this member.
 pub fn body_of(alloc: Global, author: Author, kind: Kind) -> Result<HeaderBody, AllocError> {
     let named = match kind {
         Kind::Batched => Named::Batch,

@@ -1,4 +1,4 @@
-//! An opening or a script in which a call of the disk fails, and the openings on what a stop may leave after it.
+//! Openings or scripts in which a call of the disk fails, and the openings on whatever a stop may leave after that.
 
 use crate::memory::{failing_disk, stop_with};
 use crate::store::openings::opened;
@@ -9,14 +9,13 @@ use sigface::HashSign;
 use std::alloc::{AllocError, Global};
 use validator::Config;
 
-/// A byte that no journal has.
+/// A byte that occurs in no journal here.
 const OTHER: u8 = 0x99;
 
-/// The ways in which the written bytes of an outcome are filled.
+/// In how many ways the written bytes of an outcome are filled.
 const FILLS: usize = 4;
 
-/// A node that is opened on a file, and carries out a script if there is one, where the count-th call of this kind is told
-/// to fail.
+/// A node that is opened on a file, and carries out a script if there is one, with the count-th call of this kind set to fail.
 #[derive(Clone, Copy)]
 pub struct Trial<'a> {
     pub alloc: Global,
@@ -28,7 +27,7 @@ pub struct Trial<'a> {
 }
 
 impl Trial<'_> {
-    /// What the opening or the script answers, and then what the openings on its outcomes do, each answer once.
+    /// Adds the answer of the opening or the script, and then the answers of the openings on its outcomes, each answer once.
     pub fn tell(&self, answer: &mut String) -> Told {
         let disk = self.play(answer)?;
         put(answer, "\n");
@@ -43,7 +42,7 @@ impl Trial<'_> {
         Ok(())
     }
 
-    /// Tells how a node is opened after a stop that leaves the bytes of this length and fill, if one may.
+    /// Adds how a node is opened after a stop that leaves the bytes of this length and fill, if that is possible.
     fn tell_outcome(
         &self,
         disk: &MemDisk,
@@ -67,7 +66,7 @@ impl Trial<'_> {
         }
     }
 
-    /// Tells how a node is opened after a stop that leaves these bytes, unless that is told already.
+    /// Adds how a node is opened after a stop that leaves these bytes, unless the same was added already.
     fn tell_after(&self, outcome: &[u8], answer: &mut String) -> Told {
         let mut text = String::new(self.alloc);
         let mut disk = self.play(&mut text)?;
@@ -88,7 +87,7 @@ impl Trial<'_> {
     }
 }
 
-/// Bytes of this length that a stop may leave: where they were written they are as they are read, as the last sync left
+/// Bytes of this length that a stop may leave. Where bytes were written they are, by the fill, as they are read, as the last sync left
 /// them, another byte, or one of these in turn.
 fn outcome(
     alloc: Global,

@@ -1,4 +1,4 @@
-//! A file that is cut or changed at each of some places. A line is answered wherever the answer becomes another one.
+//! Journals on a file that is cut or changed at each of several places. A line is added wherever the answer changes.
 
 use crate::memory::disk_with;
 use crate::store::disks::tell_left;
@@ -8,7 +8,7 @@ use diskmodel::MemDisk;
 use journal::Record;
 use std::alloc::{AllocError, Global};
 
-/// Opens the beginnings of a file, from the first of these lengths to the last.
+/// Opens the prefixes of a file, from the first of these lengths to the last.
 pub fn beginnings(alloc: Global, file: &[u8], from: u64, to: u64, answer: &mut String) -> Told {
     for len in from..=to {
         if let Some(bytes) = file.get(..len as usize) {
@@ -18,7 +18,7 @@ pub fn beginnings(alloc: Global, file: &[u8], from: u64, to: u64, answer: &mut S
     Ok(())
 }
 
-/// Opens a file with each value at each of these places, and tells no more than the number of its records.
+/// Opens a file with each value at each of these places, and shows only the number of its records.
 pub fn changes(alloc: Global, file: &[u8], from: u64, to: u64, answer: &mut String) -> Told {
     for place in from..=to {
         for value in 0..=255 {
@@ -36,7 +36,7 @@ pub fn changes(alloc: Global, file: &[u8], from: u64, to: u64, answer: &mut Stri
     Ok(())
 }
 
-/// Adds a line of this text, unless the last one has it.
+/// Adds a line with this text, unless the last line has it.
 fn note(answer: &mut String, places: &[u64], text: String) {
     if !answer.as_str().ends_with(text.as_str()) {
         put(answer, "at");
@@ -55,7 +55,7 @@ fn opened(alloc: Global, file: &[u8], in_full: bool) -> Result<String, AllocErro
     Ok(text)
 }
 
-/// How a file is opened, its records or how many they are, and what is left of it.
+/// Adds how a file is opened, its records or how many they are, and what is left of it.
 fn tell_opened(alloc: Global, file: &[u8], in_full: bool, text: &mut String) -> Told {
     let (disk, found) = attempt(alloc, disk_with(alloc, file)?, None, text)?;
     put_records(text, &found, in_full);
@@ -63,7 +63,7 @@ fn tell_opened(alloc: Global, file: &[u8], in_full: bool, text: &mut String) -> 
     open_again(alloc, disk, &found, text)
 }
 
-/// Opens a disk again, to the same.
+/// Opens a disk again, which has to give the same.
 fn open_again(alloc: Global, disk: MemDisk, found: &[Record], text: &mut String) -> Told {
     let len = disk.bytes().len();
     let (disk, again) = attempt(alloc, disk, None, &mut String::new(alloc))?;

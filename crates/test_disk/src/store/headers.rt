@@ -1,4 +1,4 @@
-//! The messages of the cases, and what a node puts out for them.
+//! The messages of the cases, and the outputs of a node for them.
 
 ghost use Rattle.std.specs.Prelude.{◌≡◌, ◌≤◌, None, IfOk, IfSome, length};
 ghost use Rattle.header.specs.Checks.{fault_of, accepts_all};
@@ -16,11 +16,11 @@ use wire::{
 };
 use wire_read::decode;
 
-/// The digest of what nobody holds.
+/// The digest of something that nobody holds.
 pub const FOREIGN: Digest = Digest([7; 32]);
 
-/// The bytes of a batch's record around its one transaction: the kind, the sender, the tag, and the body's eight bytes
-/// and the transaction's length.
+/// The length of a batch's record without its one transaction: the kind, the sender, the tag, the body's eight bytes and the transaction's
+/// length field.
 const AROUND: usize = 16;
 
 /// The length of the shortest record of a batch, whose transaction is a number alone.
@@ -31,13 +31,13 @@ pub const SHORTEST: usize = AROUND + 8;
 pub enum Named {
     /// The genesis certificates of its parents' authors.
     Genesis,
-    /// These, and a batch that nobody holds.
+    /// The genesis certificates, and a batch that nobody holds.
     Batch,
     /// Certificates that nobody holds.
     Foreign,
 }
 
-/// A header over certificates of these members, so many as may stand in one.
+/// The body of a header with certificates of these members as parents, as many as a header may have.
 pub fn body(
     alloc: Global,
     named: Named,
@@ -95,8 +95,8 @@ pub fn vote(voter: Author, author: Author, round: Round) -> Message {
     })
 }
 
-/// The batch of a member with one transaction, which begins with this number, and with a record of this length. None
-/// where the record is too short or too long for that.
+/// The batch of a member with one transaction, which begins with this number, and with a record of this length. None where the record would
+/// be too short or too long.
 pub fn batch(
     alloc: Global,
     author: Author,
@@ -125,7 +125,7 @@ fn transaction(alloc: Global, number: u64, len: usize) -> Result<Vec<u8>, AllocE
     Ok(bytes)
 }
 
-/// The message that these bytes are, if they are one.
+/// The message in these bytes, if they are one.
 pub fn message_in(alloc: Global, bytes: &[u8]) -> Result<Option<Message>, AllocError> {
     match decode(alloc, bytes) {
         Ok(message) => Ok(Some(message)),
@@ -134,15 +134,15 @@ pub fn message_in(alloc: Global, bytes: &[u8]) -> Result<Option<Message>, AllocE
     }
 }
 
-/// The message as an event from its sender, if it passes the checks, its signature not tested.
+/// The message as an event from its sender, if it passes the checks; its signature isn't tested.
 pub fn event(committee: &Committee, sender: Author, message: Message) -> Option<Checked>
     ensures { IfSome result (λ event. fault_of committee.now accepts_all event ≡ None) }
 {
     recheck(committee, sender, message).ok()
 }
 
-/// Tells what is put out: an acknowledgement, an own header, or a vote of member 0, whether it passes the checks, and
-/// whether it does with another signature.
+/// Adds an output: an acknowledgement, an own header, or a vote of member 0; of a vote also whether it passes the checks, and whether it
+/// does with another signature.
 pub fn tell_output(committee: &Committee, answer: &mut String, output: &Output) {
     match output {
         Output::Vote(vote) => tell_vote(committee, answer, vote),
@@ -167,7 +167,7 @@ fn tell_vote(committee: &Committee, answer: &mut String, vote: &Vote) {
     );
 }
 
-/// Why a vote of member 0 is refused, if it is.
+/// Why a vote of member 0 is refused; None where it passes.
 fn refusal(committee: &Committee, vote: Vote) -> Option<CheckError> {
     check(committee, &HashVerify, OWN, Message::Vote(vote)).err()
 }

@@ -1,4 +1,4 @@
-//! Commands to a journal on the disk, which is opened for each of them.
+//! Commands to a journal on the disk; each of them opens the journal first.
 
 ghost use Rattle.std.specs.Prelude.{◌≡◌, None};
 ghost use Rattle.journal.specs.Journal.{spare_of, IsAlive};
@@ -12,7 +12,7 @@ use journal::JournalError::{ConfigMismatch, Damaged, Device, Full, Memory};
 use journal::{Group, Journal, JournalError, Record, stands};
 use std::alloc::{AllocError, Global};
 
-/// Each error of a journal.
+/// All errors of a journal.
 const ERRORS: [JournalError; 5] = [Memory, Device, Damaged(15), ConfigMismatch, Full];
 
 impl Store<'_> {
@@ -22,13 +22,13 @@ impl Store<'_> {
         self.attempt(records, answer)
     }
 
-    /// Opens the journal, and appends so many records of zeros, each of this length.
+    /// Opens the journal, and appends `count` records of zeros, each with this length.
     pub fn append_alike(&mut self, count: u64, len: usize, answer: &mut String) -> Told {
         let records = alike(self.alloc, count, len)?;
         self.attempt(Some(records), answer)
     }
 
-    /// Opens the journal, and appends the group that these bytes are, of so many records.
+    /// Opens the journal, and appends the group with these bytes and this many records.
     pub fn append_written(&mut self, count: u64, bytes: &[u8], answer: &mut String) -> Told {
         let disk = taken(self.alloc, &mut self.disk)?;
         self.disk = append_written(self.alloc, disk, count, bytes, answer)?;
@@ -47,7 +47,7 @@ impl Store<'_> {
     }
 }
 
-/// The records of these words, or `None` without any, or with a word that is no bytes.
+/// The records in these words; None where there is no word, or one that isn't bytes.
 pub fn listed(alloc: Global, words: &[Word]) -> Result<Option<Vec<Vec<u8>>>, AllocError> {
     let mut records = Vec::new(alloc);
     for word in words {
@@ -67,8 +67,8 @@ fn alike(alloc: Global, count: u64, len: usize) -> Result<Vec<Vec<u8>>, AllocErr
     Ok(records)
 }
 
-/// Opens the journal on a disk, and puts a group of these records after those that it gives, which are none where it
-/// does not open. Gives the disk back.
+/// Opens the journal on a disk, adds its records to the answer, and appends a group of these records. If it doesn't open it has no records.
+/// Gives the disk back.
 pub fn attempt(
     alloc: Global,
     disk: MemDisk,
@@ -90,8 +90,7 @@ pub fn attempt(
     }
 }
 
-/// Opens the journal on a disk, and puts the group that these bytes are, of so many records, after those that stand
-/// there. Gives the disk back.
+/// Opens the journal on a disk, and appends the group with these bytes and this many records. Gives the disk back.
 fn append_written(
     alloc: Global,
     disk: MemDisk,
@@ -150,7 +149,7 @@ fn append_group(journal: &mut Journal<MemDisk>, group: Option<Group>, text: &mut
     }
 }
 
-/// Puts how many records there are, and in full each of them after the place of its gate.
+/// Adds how many records there are, and, if they are shown in full, each one after the place of its gate.
 pub fn put_records(text: &mut String, records: &[Record], in_full: bool) {
     put(text, ", records");
     put_number(text, records.len() as u64);
@@ -163,7 +162,7 @@ pub fn put_records(text: &mut String, records: &[Record], in_full: bool) {
     }
 }
 
-/// Tells each error of a journal.
+/// Adds each error of a journal.
 pub fn tell_errors(answer: &mut String) {
     for error in &ERRORS {
         put_error(answer, *error);
@@ -171,7 +170,7 @@ pub fn tell_errors(answer: &mut String) {
     }
 }
 
-/// Puts an error, and where damage is.
+/// Adds an error, and the place of damage.
 pub fn put_error(text: &mut String, error: JournalError) {
     put_shown(text, "", &error, "");
     if let Damaged(gate) = error {
@@ -180,7 +179,7 @@ pub fn put_error(text: &mut String, error: JournalError) {
     }
 }
 
-/// Tells the records of these bytes.
+/// Adds the records that these bytes are read as.
 pub fn tell_stands(alloc: Global, bytes: &[u8], answer: &mut String) {
     match stands(alloc, bytes) {
         Ok(records) => {

@@ -1,4 +1,4 @@
-//! The world of a node as plain lists.
+//! A model of a node's world, in lists.
 
 use crate::store::events::{Kind, SENDERS, kind_of};
 use book::Receipt;
@@ -9,13 +9,13 @@ use std::collections::VecDeque;
 /// A node's world: events by their numbers, oldest first.
 #[derive(Drop)]
 pub struct Plain {
-    /// What this run began with, and after it what it accepted.
+    /// What this run began with, and then what it accepted.
     pub history: Vec<u64>,
     // How long the history was when this run began, and how much of it is taken and settled.
     began: usize,
     taken: usize,
     settled: usize,
-    /// The events whose outputs wait, each with how long the history was then.
+    /// The events whose outputs wait, each with the length of the history at that time.
     waiting: VecDeque<(usize, u64)>,
     /// The events whose outputs were given out, over all runs.
     given: Vec<u64>,
@@ -80,12 +80,12 @@ impl Plain {
         self.history.len().saturating_sub(self.taken)
     }
 
-    /// All that is pending is taken: it always fits a group here.
+    /// Takes everything that is pending; here it always fits a group.
     pub fn take(&mut self) {
         self.taken = self.history.len();
     }
 
-    /// What was taken is on the disk.
+    /// What was taken is on the disk now.
     pub fn settle(&mut self) {
         self.settled = self.taken;
     }
@@ -95,7 +95,7 @@ impl Plain {
         self.down = true;
     }
 
-    /// The event whose output goes out next.
+    /// The event whose output goes out next, if there is one.
     pub fn release(&mut self) -> Result<Option<u64>, AllocError> {
         match self.waiting.front() {
             Some((end, number)) if *end <= self.settled && !self.down => {
@@ -108,7 +108,7 @@ impl Plain {
         }
     }
 
-    /// The machine stops, and leaves what was settled, or what was taken. A new run begins.
+    /// The machine stops, and leaves what was settled, or also what was taken. A new run begins.
     pub fn stop(&mut self, leaves_taken: bool) {
         let end = if leaves_taken {
             self.taken
@@ -123,7 +123,7 @@ impl Plain {
         self.down = false;
     }
 
-    /// Whether each event whose output was given out is there, and no two are of one author and round.
+    /// Whether each event whose output was given out is still there, and no two of them are of one author and round.
     pub fn keeps_what_it_gave(&self) -> bool {
         self.given
             .iter()

@@ -1,4 +1,4 @@
-//! Lists of random steps, made by the running code and by the plain world side by side.
+//! Lists of random steps, made by the running code and by a list-based model of the world side by side.
 
 ghost use Rattle.std.specs.Prelude.{◌≡◌, ◌<◌, None, IfOk, IsNone};
 ghost use Rattle.journal.specs.Journal.{spare_of, IsAlive};
@@ -22,7 +22,7 @@ use std::alloc::{AllocError, Global};
 use validator::Config;
 use wire::{Output, header_digest};
 
-/// The running code and the plain world.
+/// The running code and the model of its world.
 #[derive(Drop)]
 pub struct Lists<'a> {
     alloc: Global,
@@ -32,12 +32,12 @@ pub struct Lists<'a> {
     book: OwnBook<'a, HashSign>,
     plain: Plain,
     tally: Tally,
-    /// How many answers weren't those of the plain world.
+    /// How many answers differed from those of the model.
     wrong: u64,
 }
 
 impl<'a> Lists<'a> {
-    /// Both on an empty disk, with numbers drawn from this start value.
+    /// The running code and the model, both on an empty disk, with random numbers from this start value.
     pub fn new(
         alloc: Global,
         config: &'a Config<HashSign>,
@@ -72,7 +72,7 @@ impl<'a> Lists<'a> {
         Ok(())
     }
 
-    /// Tells the counts, and how many answers were wrong.
+    /// Adds the counts, and how many answers were wrong.
     pub fn tell(&self, answer: &mut String) -> Told {
         self.tally.tell(answer);
         put_count(answer, "wrong ", self.wrong, "\n");
@@ -116,7 +116,7 @@ impl<'a> Lists<'a> {
         Ok(())
     }
 
-    /// What comes in and goes out beside a group's way to the disk.
+    /// Steps that happen while a group is in flight: events come in, and outputs go out.
     fn beside(&mut self) -> Told
         ensures { KeepsInFlight ⟦<HashSign as Sign>⟧.scheme self.old.book self.new.book }
     {
@@ -124,8 +124,8 @@ impl<'a> Lists<'a> {
         self.release()
     }
 
-    /// A group is taken and appended, which may fail at each device call, and is then settled, if the machine doesn't
-    /// stop. A second group may follow it on the same journal.
+    /// Takes a group and appends it, which may fail at each device call, and then settles it unless the machine stops. A second group may
+    /// follow on the same journal.
     fn flush(&mut self) -> Told {
         let (has_pending, pending) = (self.book.has_pending(), self.plain.pending());
         self.expect(has_pending == (pending > 0));
@@ -150,7 +150,7 @@ impl<'a> Lists<'a> {
         }
     }
 
-    /// Takes a group and appends it, and then maybe a second one, and stops where the machine is to.
+    /// Takes a group and appends it, and then perhaps a second one; stops where the machine is to stop.
     fn write_groups(
         &mut self,
         mut journal: Journal<MemDisk>,
@@ -171,7 +171,7 @@ impl<'a> Lists<'a> {
         }
     }
 
-    /// Takes a group and appends it. Answers the moment of a stop, if there is to be one.
+    /// Takes a group and appends it. Gives the moment of a stop, if there is to be one.
     fn write(
         &mut self,
         journal: &mut Journal<MemDisk>,
@@ -230,7 +230,7 @@ impl<'a> Lists<'a> {
         taken(self.alloc, &mut self.disk)
     }
 
-    /// The machine stops and begins a new run. Of a group on its way the gate is at this place.
+    /// The machine stops and begins a new run. The gate of a group in flight is at this place.
     fn stop(&mut self, moment: Moment, gate: usize) -> Told {
         self.tally.add_stop(moment);
         let mut leaves_taken = self.leave(moment, gate)?;
@@ -241,7 +241,7 @@ impl<'a> Lists<'a> {
         self.open()
     }
 
-    /// A stop leaves any of its outcomes; says whether it has the group that was taken.
+    /// A stop leaves any of its outcomes; gives whether that has the group that was taken.
     fn leave(&mut self, moment: Moment, gate: usize) -> Result<bool, AllocError> {
         let leaves = leaves_of(self.draws.below(3));
         let found = self.outcome(leaves)?;
@@ -264,7 +264,7 @@ impl<'a> Lists<'a> {
         }
     }
 
-    /// Stops the disk, which is to leave these bytes.
+    /// Stops the disk so that it leaves these bytes.
     fn stop_disk(&mut self, found: &[u8]) -> Told {
         stop_with(self.alloc, &mut self.disk, found)?;
         let left = self.disk.bytes() == found;
@@ -272,7 +272,7 @@ impl<'a> Lists<'a> {
         Ok(())
     }
 
-    /// An opening that is told to fail at one of its calls; says whether it did. It then leaves the disk to another stop.
+    /// Opens with one of the calls set to fail; gives whether that call was made. The disk is then left to another stop.
     fn fail_to_open(&mut self) -> Result<bool, AllocError> {
         let call = self.draws.below(5);
         let (kind, count) = opening_call(call);
@@ -291,7 +291,7 @@ impl<'a> Lists<'a> {
         }
     }
 
-    /// Opens the node, whose journal then has the records of the plain history.
+    /// Opens the node, whose journal has to have the records of the model's history.
     fn open(&mut self) -> Told {
         match open_book(self.alloc, self.config, self.taken_disk()?) {
             Ok((book, journal)) => {
@@ -307,7 +307,7 @@ impl<'a> Lists<'a> {
         }
     }
 
-    /// Compares what was opened with the plain world.
+    /// Compares what was opened with the model.
     fn compare(&mut self) -> Told {
         let (right, keeps) = (self.has_plain_records()?, self.plain.keeps_what_it_gave());
         self.expect(right && keeps);
@@ -315,7 +315,7 @@ impl<'a> Lists<'a> {
         Ok(())
     }
 
-    /// Whether the journal has the records of the plain history.
+    /// Whether the journal has the records of the model's history.
     fn has_plain_records(&mut self) -> Result<bool, AllocError> {
         match Journal::open(self.alloc, self.taken_disk()?) {
             Ok((journal, records)) => {
@@ -330,7 +330,7 @@ impl<'a> Lists<'a> {
     }
 }
 
-/// The output is the one of the event of this number, or there is none of both.
+/// Whether the output is that of the event with this number; or there is neither an output nor an event.
 fn is_expected(
     alloc: Global,
     output: Option<Output>,
@@ -343,7 +343,7 @@ fn is_expected(
     }
 }
 
-/// The output is the node's vote for the header of this number.
+/// Whether the output is the node's vote for the header with this number.
 fn is_vote_for(alloc: Global, output: &Output, number: u64) -> Result<bool, AllocError> {
     let Output::Vote(vote) = output else {
         return Ok(false);
@@ -357,7 +357,7 @@ fn is_vote_for(alloc: Global, output: &Output, number: u64) -> Result<bool, Allo
     )
 }
 
-/// Makes calls of a kind, which change nothing, until one fails, so that none is told to fail any more.
+/// Makes calls of a kind, which change nothing, until one fails, so that none is set to fail any more.
 fn spend(disk: &mut MemDisk, kind: CallKind) {
     for _ in 0..3 {
         if fails(disk, kind) {
@@ -378,7 +378,7 @@ fn is_open(bytes: &[u8], gate: usize) -> bool {
     matches!(bytes.get(gate), Some(byte) if *byte != 0)
 }
 
-/// A call of an opening: which one of its kind it is.
+/// One of the calls of an opening, as its kind and its number among the calls of that kind.
 fn opening_call(number: u64) -> (CallKind, u64) {
     match number {
         0 => (CallKind::Sync, 1),
@@ -389,7 +389,7 @@ fn opening_call(number: u64) -> (CallKind, u64) {
     }
 }
 
-/// At which moment an append fails, if it does.
+/// The moment at which an append fails, if it does.
 fn moment_of(number: u64) -> Option<Moment> {
     match number {
         0 => Some(Moment::Taken),
@@ -400,7 +400,7 @@ fn moment_of(number: u64) -> Option<Moment> {
     }
 }
 
-/// Tells the disk to fail the call after this moment of an append. The opening before it syncs once.
+/// Sets the call after this moment of an append to fail. The opening before it makes one sync.
 fn arm(disk: &mut MemDisk, failing: Option<Moment>) -> Told {
     match failing {
         Some(Moment::Taken) => disk.fail(CallKind::Write, 1),
@@ -411,8 +411,8 @@ fn arm(disk: &mut MemDisk, failing: Option<Moment>) -> Told {
     }
 }
 
-/// Any bytes that a stop may leave: of a length between that of the last sync and what is read, any byte in each place
-/// that was written since then or lies past the smaller of both, closed gates more often than others.
+/// Any bytes that a stop may leave: of a length between that of the last sync and the current one; with any byte at each place that was
+/// written since then or is past the smaller of both lengths, closed gates more often than others.
 fn torn(alloc: Global, disk: &MemDisk, draws: &mut Draws) -> Result<Vec<u8>, AllocError> {
     let (durable, read) = (disk.durable(), disk.bytes().len());
     let (smallest, greatest) = (durable.len().min(read), durable.len().max(read));

@@ -7,7 +7,7 @@ use crate::store::{batches, damages, failures, openings, texts};
 use std::alloc::{AllocError, Global};
 use wire::Author;
 
-/// How a node is set up, the file of its journal, and what it is told.
+/// The setting of a node, the file of its journal, and its commands.
 #[derive(Drop)]
 pub struct Node {
     alloc: Global,
@@ -17,7 +17,7 @@ pub struct Node {
 }
 
 impl Node {
-    /// Before the first case.
+    /// The state before the first case.
     pub fn new(alloc: Global) -> Result<Node, AllocError> {
         Ok(Node {
             alloc,
@@ -27,7 +27,7 @@ impl Node {
         })
     }
 
-    /// Member 0 of four, with an empty file, told nothing.
+    /// Member 0 of four, with an empty file and no commands.
     pub fn begin(&mut self) -> Told {
         self.setting = own_setting(self.alloc)?;
         self.file.clear();
@@ -35,7 +35,7 @@ impl Node {
         Ok(())
     }
 
-    /// Carries out a command. Its words are told apart where it is carried out.
+    /// Carries out a command. Its words are interpreted by the function that carries it out.
     pub fn obey(&mut self, name: &str, words: &[Word], answer: &mut String) -> Told {
         match name {
             "node" => self.set_up(words, answer),
@@ -126,8 +126,8 @@ impl Node {
         damages::changes(alloc, config, &self.file, *from..=*to, *values, answer)
     }
 
-    /// Carries out what the node is told, with a flush or a stop of these words after each command, or else with calls of
-    /// a kind that fail, or with writers that take no more than some of the bytes.
+    /// Carries out the node's commands, with a flush or a stop from these words after each; or with calls of a kind that fail; or with
+    /// writers that take only some of the bytes.
     fn drive(&self, words: &[Word], answer: &mut String) -> Told {
         let after = lines_of(self.alloc, words)?;
         let script = self.script(&after);
@@ -138,14 +138,14 @@ impl Node {
         }
     }
 
-    /// The same by the plain program.
+    /// Adds what the reference implementation writes for the node's commands.
     fn tell_plain(&self, words: &[Word], answer: &mut String) -> Told {
         let after = lines_of(self.alloc, words)?;
         texts::tell(&self.script(&after), &self.setting.node, answer)
     }
 
-    /// The same on two disks, beside the plain program, or with calls of a kind that fail on each disk. Words after the kind or the
-    /// bytes are what is done after each command there too.
+    /// The same on two disks, compared with the reference implementation, or with calls of a kind that fail on each disk. Words after the
+    /// kind or the bytes are carried out after each command here too.
     fn drive_pair(&self, words: &[Word], answer: &mut String) -> Told {
         let after = lines_of(self.alloc, words)?;
         let script = self.script(&after);
@@ -166,7 +166,7 @@ impl Node {
         }
     }
 
-    /// Opens the node, or has it carry out a script, where a call of a kind with this number fails.
+    /// Opens the node, or lets it carry out a script, with a call of a kind and number set to fail.
     fn tell_fails(&self, words: &[Word], script: Option<Script<'_>>, answer: &mut String) -> Told {
         let [Word::Call(kind), Word::Number(count)] = words else {
             return told_bad(answer);

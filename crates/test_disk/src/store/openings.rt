@@ -1,4 +1,4 @@
-//! Openings of a node, and what is told of them.
+//! Openings of a node, and their answers.
 
 use crate::memory::disk_with;
 use crate::store::disks::tell_left;
@@ -11,10 +11,10 @@ use std::alloc::{AllocError, Global};
 use validator::{Config, Validator};
 use wire::{Author, Round};
 
-/// How many bytes of a digest are told.
+/// How many bytes of a digest are shown.
 const SHOWN: usize = 4;
 
-/// Opens a node on a file, and tells what is left of the file. What is left is opened again, which has to be the same.
+/// Opens a node on a file, and adds what is left of the file. What is left is opened again, which has to give the same.
 pub fn open(alloc: Global, config: &Config<HashSign>, file: &[u8], answer: &mut String) -> Told {
     let mut text = String::new(alloc);
     let disk = opened(alloc, config, disk_with(alloc, file)?, &mut text);
@@ -27,14 +27,14 @@ pub fn open(alloc: Global, config: &Config<HashSign>, file: &[u8], answer: &mut 
     Ok(())
 }
 
-/// What the opening of a node on a file is told as.
+/// The answer of opening a node on a file.
 pub fn told(alloc: Global, config: &Config<HashSign>, file: &[u8]) -> Result<String, AllocError> {
     let mut text = String::new(alloc);
     let _ = opened(alloc, config, disk_with(alloc, file)?, &mut text);
     Ok(text)
 }
 
-/// Opens a node on a disk, and tells what comes of it. Gives the disk back.
+/// Opens a node on a disk, and adds the answer. Gives the disk back.
 pub fn opened(
     alloc: Global,
     config: &Config<HashSign>,
@@ -53,7 +53,7 @@ pub fn opened(
     }
 }
 
-/// Opens a node on two disks, and tells what comes of it.
+/// Opens a node on two disks, and adds the answer.
 pub fn tell_pair(
     alloc: Global,
     config: &Config<HashSign>,
@@ -71,7 +71,7 @@ pub fn tell_pair(
     put(answer, "\n");
 }
 
-/// The round, the length of the order, and the votes of the first rounds, by author and round.
+/// Adds the round, the length of the order, and the votes of the first rounds, by author and round.
 fn tell_node(validator: &Validator<'_, HashSign>, text: &mut String) {
     put_count(text, "opened, round ", validator.round(), "");
     put_count(text, ", order ", validator.order().len() as u64, "");

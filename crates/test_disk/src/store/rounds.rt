@@ -1,4 +1,4 @@
-//! How groups of the book come to the disk.
+//! How the groups of a book reach the disk.
 
 ghost use Rattle.std.specs.Prelude.{◌≡◌, ◌∷◌, [], None};
 ghost use Rattle.journal.specs.Journal.{spare_of, IsAlive};
@@ -23,7 +23,7 @@ pub enum Putting {
     Two,
 }
 
-/// Opens the journal on a disk, and puts groups of the book there. Gives the disk back.
+/// Opens the journal on a disk, and writes groups of the book. Gives the disk back.
 pub fn put_groups(
     alloc: Global,
     own: &mut OwnBook<'_, HashSign>,
@@ -48,7 +48,7 @@ pub fn put_groups(
     }
 }
 
-/// Takes a group and writes it. It stays on the way.
+/// Takes a group and writes it. It stays in flight.
 fn write(own: &mut OwnBook<'_, HashSign>, journal: &mut Journal<MemDisk>, answer: &mut String)
     requires alive { IsAlive ⟦<MemDisk as Disk>⟧.device journal.old }
     requires alone { spare_of journal.old ≡ None }

@@ -1,4 +1,4 @@
-//! The code that runs: a book, and a journal on a disk in memory.
+//! The running code: a book, and a journal on a disk in memory.
 
 ghost use Rattle.std.specs.Prelude.{◌≡◌, None, IfOk};
 ghost use Rattle.journal.specs.Journal.{spare_of};
@@ -27,7 +27,7 @@ pub fn open_book<'a>(
     Ok((OwnBook::new(alloc, validator), journal))
 }
 
-/// The event of this number comes in; `None` where it doesn't pass the checks.
+/// The event with this number comes in; None where it doesn't pass the checks.
 pub fn accept(
     own: &mut OwnBook<'_, HashSign>,
     alloc: Global,
@@ -42,7 +42,7 @@ pub fn accept(
     }
 }
 
-/// The records of a journal after this history.
+/// The records of a journal with this history.
 pub fn records_of(alloc: Global, history: &[u64]) -> Result<Vec<Vec<u8>>, AllocError> {
     let mut records = vec![in alloc; configuration(alloc)?]?;
     for number in history {
@@ -51,7 +51,7 @@ pub fn records_of(alloc: Global, history: &[u64]) -> Result<Vec<Vec<u8>>, AllocE
     Ok(records)
 }
 
-/// The record of the event of this number: its kind, its sender, and its message.
+/// The record of the event with this number: its kind, its sender, and its message.
 fn record_of(alloc: Global, number: u64) -> Result<Vec<u8>, AllocError> {
     let [high, low] = sender_of(number).0.to_be_bytes();
     let mut record = vec![in alloc; EVENT_RECORD, high, low]?;
@@ -72,7 +72,7 @@ fn configuration(alloc: Global) -> Result<Vec<u8>, AllocError> {
     Ok(record)
 }
 
-/// The records are those of a journal after this history.
+/// Whether these are the records of a journal with this history.
 pub fn are_of(alloc: Global, records: &[Record], history: &[u64]) -> Result<bool, AllocError> {
     let expected = records_of(alloc, history)?;
     let mut same = records.len() == expected.len();

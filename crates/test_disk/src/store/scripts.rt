@@ -20,10 +20,10 @@ use test_cases::write_hex;
 use validator::Config;
 use wire::Author;
 
-/// Longer texts are told by their SHA-256.
+/// Texts longer than this are shown by their SHA-256.
 const SHOWN: usize = 128;
 
-/// More calls of a kind than the scripts here make.
+/// A number of calls of one kind that no script here reaches.
 const CALLS: u64 = 100;
 
 /// A command of a case.
@@ -50,32 +50,32 @@ pub fn lines_of(alloc: Global, words: &[Word]) -> Result<Vec<Line>, AllocError> 
     Ok(lines)
 }
 
-/// The disk after all commands, or that where they ended early, with the reason.
+/// The disk after all commands; or after those up to an early end, with the reason.
 pub type Driven = Result<MemDisk, Failed<DriveError, MemDisk>>;
 
-/// The same of two disks.
+/// Both disks after all commands; or after those up to an early end, with the reason.
 pub type DrivenOnTwo = Result<(MemDisk, MemDisk), Failed<DriveError, (MemDisk, MemDisk)>>;
 
-/// Commands that a node carries out, one after the other, on a disk with a file.
+/// Commands that a node carries out in turn, on a disk with a file.
 #[derive(Clone, Copy)]
 pub struct Script<'a> {
     pub alloc: Global,
     pub config: &'a Config<HashSign>,
     pub file: &'a [u8],
     pub lines: &'a [Line],
-    /// What is done after each of the lines.
+    /// The commands that follow each of the lines.
     pub after: &'a [Line],
 }
 
 impl Script<'_> {
-    /// Tells what is written, and how long the file is then.
+    /// Adds what is written, and how long the file is then.
     pub fn tell(&self, answer: &mut String) -> Told {
         let _ = self.tell_on(self.disk()?, answer)?;
         put(answer, "\n");
         Ok(())
     }
 
-    /// Tells what is written where a call of this kind fails: the first one, the second one and so on, until none does.
+    /// Adds what is written if a call of this kind fails: the first one, the second one and so on, until none does.
     pub fn tell_failing(&self, kind: CallKind, answer: &mut String) -> Told {
         for count in 1..CALLS {
             put_count(answer, "", count, ": ");
@@ -89,8 +89,8 @@ impl Script<'_> {
         Ok(())
     }
 
-    /// Carries all out on two disks where a call of this kind fails on one of them: the first one, the second one and so on. Tells
-    /// whether each ended so, and whether a node was opened again on what was left.
+    /// Carries out everything on two disks with a call of this kind failing on one of them: the first one, the second one and so on. Adds
+    /// whether each time the script ended so, and whether a node could be opened on what was left.
     pub fn tell_failing_on_two(&self, kind: CallKind, answer: &mut String) -> Told {
         for is_second in [false, true] {
             for count in 1..CALLS {
@@ -111,7 +111,7 @@ impl Script<'_> {
         Ok(())
     }
 
-    /// Tells what is wrong with how a script ended whose disk failed: nothing where it says so, and a node opens on what is left.
+    /// Adds what is wrong with the end of a script whose disk failed: nothing if it reports that, and a node can be opened on what is left.
     fn tell_again(&self, failed: Failed<DriveError, (MemDisk, MemDisk)>, answer: &mut String) {
         let Failed { error, disk } = failed;
         if error != DriveError::Device {
@@ -123,13 +123,13 @@ impl Script<'_> {
         }
     }
 
-    /// An empty disk of which a call fails.
+    /// An empty disk of which a call is set to fail.
     fn failing(&self, kind: CallKind, count: u64) -> Result<MemDisk, AllocError> {
         failing_disk(self.alloc, self.file, kind, count)
     }
 
-    /// Tells what is written to a writer that fails after so many bytes, for each number of bytes of the text. A line is
-    /// told wherever the answer becomes another one.
+    /// Adds what is written to a writer that fails after so many bytes, for each number of bytes of the text. A line is added wherever the
+    /// answer changes.
     pub fn tell_rooms(&self, text: &[u8], answer: &mut String) -> Told {
         let mut before = String::new(self.alloc);
         for room in 0..=text.len() {
@@ -139,7 +139,7 @@ impl Script<'_> {
         Ok(())
     }
 
-    /// The same on two disks.
+    /// As `tell_rooms`, on two disks.
     pub fn tell_rooms_on_two(&self, text: &[u8], answer: &mut String) -> Told {
         let mut before = String::new(self.alloc);
         for room in 0..=text.len() {
@@ -149,7 +149,7 @@ impl Script<'_> {
         Ok(())
     }
 
-    /// What is told there where the writer takes so many bytes of the text.
+    /// The answer there if the writer takes so many bytes of the text.
     fn told_room_on_two(&self, room: usize, text: &[u8]) -> Result<String, AllocError> {
         let mut taker = Taker::new(self.alloc, room);
         let mut told = String::new(self.alloc);
@@ -162,7 +162,7 @@ impl Script<'_> {
         Ok(told)
     }
 
-    /// What is told where the writer takes so many bytes of the text.
+    /// The answer if the writer takes so many bytes of the text.
     fn told_room(&self, room: usize, text: &[u8]) -> Result<String, AllocError> {
         let mut taker = Taker::new(self.alloc, room);
         let mut told = String::new(self.alloc);
@@ -175,7 +175,7 @@ impl Script<'_> {
         Ok(told)
     }
 
-    /// Tells what is written where the node is on this disk, and gives whether all was carried out.
+    /// Adds what is written if the node is on this disk, and gives whether all was carried out.
     fn tell_on(&self, disk: MemDisk, answer: &mut String) -> Result<bool, AllocError> {
         let mut written = Vec::new(self.alloc);
         match self.run(disk, &mut written)? {
@@ -197,7 +197,7 @@ impl Script<'_> {
         }
     }
 
-    /// Tells how the commands end on this disk, and gives it back.
+    /// Adds how the commands end on this disk, and gives it back.
     pub fn left_by(&self, disk: MemDisk, answer: &mut String) -> Result<MemDisk, AllocError> {
         let mut written = Vec::new(self.alloc);
         match self.run(disk, &mut written)? {
@@ -221,7 +221,7 @@ impl Script<'_> {
         disk_with(self.alloc, self.file)
     }
 
-    /// Each line, and what is done after it.
+    /// Each line, and the commands that follow it.
     pub fn spaced_lines(&self) -> Result<Vec<&Line>, AllocError> {
         let mut spaced = Vec::new(self.alloc);
         for line in self.lines {
@@ -233,7 +233,7 @@ impl Script<'_> {
         Ok(spaced)
     }
 
-    /// Carries out all commands on a disk; nothing where a message can't come in.
+    /// Carries out all commands on a disk; None where a message isn't valid.
     pub fn run<W: Write>(
         &self,
         disk: MemDisk,
@@ -246,7 +246,7 @@ impl Script<'_> {
         }
     }
 
-    /// The same for these commands; nothing where they are too many.
+    /// Carries out these commands on a disk; None where they are too many.
     fn carry_out<W: Write>(
         &self,
         disk: MemDisk,
@@ -262,7 +262,7 @@ impl Script<'_> {
         Some(drive(self.alloc, self.config, disk, commands, writer))
     }
 
-    /// Carries out all commands on two disks; nothing where a message can't come in.
+    /// Carries out all commands on two disks; None where a message isn't valid.
     pub fn run_on_two<W: Write>(
         &self,
         first: MemDisk,
@@ -276,7 +276,7 @@ impl Script<'_> {
         }
     }
 
-    /// The same for these commands; nothing where they are too many.
+    /// Carries out these commands on two disks; None where they are too many.
     fn carry_out_on_two<W: Write>(
         &self,
         first: MemDisk,
@@ -294,7 +294,7 @@ impl Script<'_> {
     }
 }
 
-/// The commands of these lines, on two disks or on one, if each message can come in.
+/// The commands of these lines, on two disks or on one, if each message is valid.
 fn commands_of(
     alloc: Global,
     config: &Config<HashSign>,
@@ -314,7 +314,7 @@ fn commands_of(
     Ok(Some(commands))
 }
 
-/// A checkpoint is one of two disks.
+/// A command of a line; a checkpoint needs two disks.
 fn command_of(
     alloc: Global,
     config: &Config<HashSign>,
@@ -333,7 +333,7 @@ fn command_of(
     }
 }
 
-/// The event of a message, if it can be read and passes the checks.
+/// The event with this message, if it can be read and passes the checks.
 fn event_of(
     alloc: Global,
     config: &Config<HashSign>,
@@ -367,7 +367,7 @@ fn tell_error(error: DriveError, answer: &mut String) {
     }
 }
 
-/// Tells how long a text is, and what it is, or its SHA-256.
+/// Adds how long a text is, and the text, or its SHA-256.
 pub fn tell_text(text: &[u8], answer: &mut String) {
     put_count(answer, ", ", text.len() as u64, " bytes");
     if text.len() > SHOWN {

@@ -10,8 +10,8 @@ use journal::{
 };
 use std::alloc::{AllocError, Global};
 
-/// The group that these bytes are, of so many records: what stands after an open gate there, spelled again, gives the
-/// same bytes. None where they are no such group.
+/// The group with these bytes and this many records: what follows an open gate there has the same bytes when it is written again. None
+/// where they are no such group.
 pub fn group_in(alloc: Global, bytes: &[u8], count: u64) -> Result<Option<Group>, AllocError> {
     let mut file = vec![in alloc; OPEN]?;
     file.extend_from_slice(bytes)?;
@@ -26,8 +26,8 @@ pub fn group_in(alloc: Global, bytes: &[u8], count: u64) -> Result<Option<Group>
     }
 }
 
-/// The bytes of a group of these records after its gate: the length of the body, the records, each with its length before
-/// it, and the next gate, which is closed. None outside a group's limits.
+/// The bytes of a group of these records after its gate: the length of the body, the records, each after its length, and the closed gate
+/// for the next group. None outside a group's limits.
 fn spelled(alloc: Global, records: &[Record]) -> Result<Option<Vec<u8>>, AllocError>
     ensures { IfOk result (λ found. IfSome found (λ bytes. IsGroup bytes.items (length records.now))) }
 {
@@ -59,7 +59,7 @@ fn body_len_within(records: &[Record]) -> Option<usize>
     Some(total)
 }
 
-// Puts the records after the bytes, each with its length before it.
+// Adds the records to the bytes, each after its length.
 fn put_body(bytes: &mut Vec<u8>, records: &[Record]) -> Result<(), AllocError>
     requires { body_len (map (λ record_in. record_in.bytes) records.now) ≤ MAX_GROUP_BYTES }
     ensures { OnOk result (bytes.new.items ≡ bytes.old.items ++ body_bytes (map (λ record_in. record_in.bytes) records.now)) }

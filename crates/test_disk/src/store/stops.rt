@@ -1,4 +1,4 @@
-//! A stop of the machine at a call of the disk that fails, with each of its outcomes.
+//! Stops of the machine at a failing call of the disk, with each of their outcomes.
 
 use crate::memory::{failing_disk, stop_with};
 use crate::store::journals::{attempt, listed, put_records};
@@ -7,10 +7,10 @@ use crate::store::words::{Told, Word, put, put_number, put_once, told_bad};
 use diskmodel::{CallKind, Disk, MemDisk};
 use std::alloc::{AllocError, Global};
 
-/// A byte that no case writes.
+/// A byte that occurs in no case.
 const OTHER: u8 = 0x99;
 
-/// A file that is opened, the records that are then appended, and a call of the disk that is told to fail, none at 0.
+/// A file that is opened, the records that are then appended, and a call of the disk that is set to fail; 0 sets none.
 #[derive(Clone, Copy)]
 struct Trial<'a> {
     alloc: Global,
@@ -21,7 +21,7 @@ struct Trial<'a> {
 }
 
 impl Store<'_> {
-    /// `stops CALL COUNT RECORD ..` opens the file and appends the records, where the count-th of these calls fails.
+    /// `stops CALL COUNT RECORD ..` opens the file and appends the records, with the count-th of these calls set to fail.
     pub fn tell_stops(&mut self, words: &[Word], answer: &mut String) -> Told {
         let [Word::Call(kind), Word::Number(count), records @ ..] = words else {
             return told_bad(answer);
@@ -39,7 +39,7 @@ impl Store<'_> {
 }
 
 impl Trial<'_> {
-    /// What the calls answer, how many outcomes a stop has, and to what these are opened, each once.
+    /// Adds the answers of the calls, how many outcomes a stop has, and what opening them gives, each answer once.
     fn tell(&self, answer: &mut String) -> Told {
         let found = outcomes(self.alloc, &self.play(answer)?)?;
         put(answer, ", outcomes");
@@ -51,7 +51,7 @@ impl Trial<'_> {
         Ok(())
     }
 
-    /// The disk after the calls. None of its calls is told to fail any more.
+    /// The disk after the calls. No more of its calls are set to fail.
     fn play(&self, text: &mut String) -> Result<MemDisk, AllocError> {
         let records = listed(self.alloc, self.records)?;
         let disk = failing_disk(self.alloc, self.file, self.kind, self.count)?;
@@ -62,7 +62,7 @@ impl Trial<'_> {
         Ok(disk)
     }
 
-    /// To what the disk is opened after a stop that leaves these bytes.
+    /// What opening gives after a stop that leaves these bytes.
     fn after_stop(&self, outcome: &[u8]) -> Result<String, AllocError> {
         let mut text = String::new(self.alloc);
         let mut disk = self.play(&mut text)?;
@@ -78,7 +78,7 @@ impl Trial<'_> {
     }
 }
 
-/// Whether a call of this kind fails, of which neither bytes nor length become other ones.
+/// Makes a call of this kind that changes neither bytes nor length, and gives whether it fails.
 pub fn fails(disk: &mut MemDisk, kind: CallKind) -> bool {
     let len = disk.bytes().len() as u64;
     let outcome = match kind {
@@ -90,8 +90,7 @@ pub fn fails(disk: &mut MemDisk, kind: CallKind) -> bool {
     outcome.is_err()
 }
 
-/// What a stop may leave, of each length. Of each byte three values are tried: as the last sync left it, as it is
-/// read, and another.
+/// What a stop may leave, for each length. For each byte three values are tried: as the last sync left it, as it is read, and another.
 fn outcomes(alloc: Global, disk: &MemDisk) -> Result<Vec<Vec<u8>>, AllocError> {
     let mut found = Vec::new(alloc);
     let mut fronts = vec![in alloc; Vec::new(alloc)]?;
@@ -107,7 +106,7 @@ fn outcomes(alloc: Global, disk: &MemDisk) -> Result<Vec<Vec<u8>>, AllocError> {
     Ok(found)
 }
 
-/// The fronts of outcomes that are one byte longer.
+/// The prefixes of outcomes that are one byte longer.
 fn longer(alloc: Global, disk: &MemDisk, fronts: &[Vec<u8>]) -> Result<Vec<Vec<u8>>, AllocError> {
     let mut found = Vec::new(alloc);
     for front in fronts {
@@ -142,7 +141,7 @@ fn add_value(values: &mut Vec<u8>, value: Option<&u8>) -> Told {
     }
 }
 
-/// Whether a stop may leave a file with this front, after which the bytes are as they are read.
+/// Whether a stop may leave a file with this prefix, in which the bytes after it are as they are read.
 fn may_begin(alloc: Global, disk: &MemDisk, front: &[u8]) -> Result<bool, AllocError> {
     let mut bytes = front.to_vec(alloc)?;
     if let Some(rest) = disk.bytes().get(front.len()..) {

@@ -10,7 +10,7 @@ use sigface::HashSign;
 use std::alloc::{AllocError, Global};
 use validator::Config;
 
-/// A disk and a book, which are new in each case.
+/// A disk and a book, both new in each case.
 #[derive(Drop)]
 pub struct Store<'a> {
     pub alloc: Global,
@@ -20,7 +20,7 @@ pub struct Store<'a> {
 }
 
 impl<'a> Store<'a> {
-    /// Before the first case.
+    /// The state before the first case.
     pub fn new(alloc: Global, config: &'a Config<HashSign>) -> Result<Store<'a>, AllocError> {
         Ok(Store {
             alloc,
@@ -37,8 +37,8 @@ impl<'a> Store<'a> {
         Ok(())
     }
 
-    /// Carries out a command. The words of a few are told apart where these are carried out. The others are told apart by
-    /// how many words they have and of what kind these are, and then by their names.
+    /// Carries out a command. The words of some are interpreted by the function that carries them out. The others are distinguished by the
+    /// number and kinds of their words, and then by their names.
     pub fn obey(&mut self, name: &str, words: &[Word], answer: &mut String) -> Told {
         match name {
             "append" => self.append(words, answer),

@@ -3,10 +3,10 @@
 use std::alloc::Global;
 use std::io::{self, ErrorKind, Write};
 
-/// How many bytes it takes in one call at most.
+/// How many bytes the writer takes in one call.
 const PIECE: usize = 50;
 
-/// Takes so many bytes, in pieces.
+/// A writer that takes a limited number of bytes, in pieces.
 #[derive(Drop)]
 pub struct Taker {
     pub bytes: Vec<u8>,
@@ -14,7 +14,7 @@ pub struct Taker {
 }
 
 impl Taker {
-    /// Has room for so many bytes.
+    /// A writer with room for so many bytes.
     pub fn new(alloc: Global, room: usize) -> Taker {
         Taker {
             bytes: Vec::new(alloc),

@@ -11,13 +11,13 @@ pub enum Moment {
     Idle,
     /// A group was taken.
     Taken,
-    /// It was written, and not synced.
+    /// The group was written, but not synced.
     Written,
-    /// It was synced, its gate closed.
+    /// The group was synced, and its gate is closed.
     Synced,
-    /// Its gate was opened, and not synced.
+    /// The group's gate was opened, but not synced.
     Opened,
-    /// Its gate is synced, and it isn't settled.
+    /// The group's gate is synced, and the group isn't settled.
     Durable,
 }
 
@@ -44,9 +44,9 @@ pub struct Tally {
     pub settled: u64,
     pub failed: u64,
     pub stops: [u64; 6],
-    // Outcomes of stops with the group or its gate written and not synced: what a read gives, what the last sync had, torn.
+    // Outcomes of stops where the group or its gate was written but not synced: what a read gives, what the last sync had, torn.
     left: [u64; 3],
-    /// Stops with the group's gate written and not synced that left it open, or closed.
+    /// Stops where the group's gate was written but not synced, that left it open, or closed.
     pub gates: [u64; 2],
     pub opened: u64,
     // Openings that failed: at the first sync, the read, the write, the cut, the second sync.
@@ -89,13 +89,13 @@ const OPENED: [&str; 6] = [
     "second sync",
 ];
 
-/// Counts one more.
+/// Counts one more at a place.
 pub fn count(place: &mut u64) {
     *place = place.saturating_add(1);
 }
 
 impl Tally {
-    /// All of them 0.
+    /// All counts are 0.
     pub fn new() -> Tally {
         Tally {
             new: 0,
@@ -114,7 +114,7 @@ impl Tally {
         }
     }
 
-    /// An event was answered.
+    /// Counts the answer to an event.
     pub fn add_answer(&mut self, answer: Result<Receipt, Refusal>) {
         let place = match answer {
             Ok(Receipt { new: true, .. }) => return count(&mut self.new),
@@ -130,7 +130,7 @@ impl Tally {
         count(&mut self.refused[place]);
     }
 
-    /// An output went out, or was held back.
+    /// Counts an output that went out, or was held back.
     pub fn add_release(&mut self, went: bool) {
         if went {
             count(&mut self.released);
@@ -139,12 +139,12 @@ impl Tally {
         }
     }
 
-    /// The machine stopped.
+    /// Counts a stop of the machine.
     pub fn add_stop(&mut self, moment: Moment) {
         count(&mut self.stops[moment as usize]);
     }
 
-    /// A stop left an outcome, of a group with its gate open or closed.
+    /// Counts an outcome that a stop left, of a group with its gate open or closed.
     pub fn add_outcome(&mut self, moment: Moment, leaves: Leaves, open: bool) {
         match moment {
             Moment::Written => count(&mut self.left[leaves as usize]),
@@ -156,14 +156,14 @@ impl Tally {
         }
     }
 
-    /// An opening failed at this of its calls.
+    /// Counts an opening that failed at this of its calls.
     pub fn add_fault(&mut self, call: usize) {
         if call < 5 {
             count(&mut self.faults[call]);
         }
     }
 
-    /// Tells the counts, in lines.
+    /// Adds the counts, in lines.
     pub fn tell(&self, answer: &mut String) {
         tell_line(answer, &["new", "known"], &[self.new, self.known]);
         tell_line(answer, &REFUSED, &self.refused);
@@ -181,7 +181,7 @@ impl Tally {
     }
 }
 
-/// Tells counts, each after its name.
+/// Adds counts, each after its name.
 fn tell_line(answer: &mut String, names: &[&str], counts: &[u64]) {
     for (place, count) in counts.iter().enumerate() {
         if place > 0 {

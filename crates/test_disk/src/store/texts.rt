@@ -1,4 +1,4 @@
-//! The text of a script by the plain program, beside what a node writes.
+//! The text of a script by the reference implementation, compared with what a node writes.
 
 use crate::memory::disk_with;
 use crate::store::headers::message_in;
@@ -16,7 +16,7 @@ use wire::Author;
 /// The kind of a record that has an event.
 const EVENT: u8 = 1;
 
-/// Tells the text of a script, and whether a node writes the same.
+/// Adds the text of a script, and whether a node writes the same.
 pub fn tell(script: &Script, node: &Node<HashSign>, answer: &mut String) -> Told {
     let mut written = Vec::new(script.alloc);
     match script.run(script.disk()?, &mut written)? {
@@ -25,7 +25,7 @@ pub fn tell(script: &Script, node: &Node<HashSign>, answer: &mut String) -> Told
     }
 }
 
-/// The same of a node on two disks, and what both are read as then.
+/// Adds the text of a script on two disks, whether a node writes the same, and what both disks are read as after that.
 pub fn tell_pair(script: &Script, node: &Node<HashSign>, answer: &mut String) -> Told {
     let alloc = script.alloc;
     let mut written = Vec::new(alloc);
@@ -66,7 +66,7 @@ fn tell_beside(text: &[u8], written: &[u8], answer: &mut String) {
     put(answer, "\n");
 }
 
-/// The text of a script after what its file has, if all of it can be read.
+/// The text of a script after the events in its file, if all of that can be read.
 fn text_of(script: &Script, node: &Node<HashSign>) -> Result<Option<Vec<u8>>, AllocError> {
     let alloc = script.alloc;
     let Some(history) = history_of(alloc, script.disk()?)? else {
@@ -134,7 +134,7 @@ fn command_of(alloc: Global, line: &Line) -> Result<Option<Command>, AllocError>
     }
 }
 
-/// A message with its sender, if its bytes are one.
+/// A message with its sender, if the bytes are a message.
 fn event_of(alloc: Global, sender: Author, bytes: &[u8]) -> Result<Option<Event>, AllocError> {
     match message_in(alloc, bytes)? {
         Some(message) => Ok(Some(Event { sender, message })),

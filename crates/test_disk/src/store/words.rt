@@ -10,7 +10,7 @@ use test_cases::{bytes_of, write_hex};
 #[derive(Drop)]
 pub enum Word {
     Number(u64),
-    /// `x`, and then digits.
+    /// Bytes: an `x`, and then digits.
     Bytes(Vec<u8>),
     Call(CallKind),
     Flush,
@@ -38,7 +38,7 @@ fn word_of(alloc: Global, word: &str) -> Result<Word, AllocError> {
     }
 }
 
-/// A word that has no bytes.
+/// A word that isn't bytes.
 fn named(word: &str) -> Word {
     match word {
         "flush" => Word::Flush,
@@ -69,14 +69,14 @@ pub fn numbers(alloc: Global, words: &[Word]) -> Result<Vec<u64>, AllocError> {
     Ok(numbers)
 }
 
-/// Adds a line, unless the text has it.
+/// Adds a line, unless the text has it already.
 pub fn put_once(text: &mut String, line: &str) {
     if !text.as_str().contains(line) {
         put(text, line);
     }
 }
 
-/// Adds a line of a number and a text, where that is another one than the text before, and keeps it as that.
+/// Adds a line with a number and a text, if the text differs from the last one, and keeps it as the last one.
 pub fn put_other(answer: &mut String, number: u64, text: String, before: &mut String) {
     if text.as_str() != before.as_str() {
         put_count(answer, "", number, ": ");
@@ -97,7 +97,7 @@ pub fn put_bytes(text: &mut String, bytes: &[u8]) {
     let _ = write_hex(text, bytes);
 }
 
-/// Answers a command that is none.
+/// Adds the answer to a line that is no command.
 pub fn told_bad(answer: &mut String) -> Told {
     bad(answer);
     Ok(())

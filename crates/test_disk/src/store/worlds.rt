@@ -1,11 +1,11 @@
-//! Lists of runs: random steps and stops of the running code, made beside a plain world.
+//! Lists of runs: random steps and stops of the running code, compared with a list-based model of the world.
 
 use crate::committees::{SEVEN, own_config};
 use crate::store::lists::Lists;
 use crate::store::words::{Told, Word, put, put_count, told_bad};
 use std::alloc::Global;
 
-/// What the lists came to.
+/// The results of the lists.
 #[derive(Drop)]
 pub struct Worlds {
     alloc: Global,
@@ -14,18 +14,18 @@ pub struct Worlds {
 }
 
 impl Worlds {
-    /// Before the first list.
+    /// The state before the first list.
     pub fn new(alloc: Global) -> Worlds {
         let report = String::new(alloc);
         Worlds { alloc, report }
     }
 
-    /// What is printed of them.
+    /// The report that is printed.
     pub fn report(&self) -> &[u8] {
         self.report.as_bytes()
     }
 
-    /// `lists COUNT STEPS START` makes so many lists of so many steps each, drawn from a start value.
+    /// `lists COUNT STEPS START` makes `COUNT` lists of `STEPS` steps each, with random numbers from a start value.
     pub fn obey(&mut self, words: &[Word], answer: &mut String) -> Told {
         match words {
             [
@@ -49,7 +49,7 @@ impl Worlds {
     }
 }
 
-/// Makes so many lists of so many steps each, and tells what they come to.
+/// Makes so many lists of so many steps each, and adds their results.
 fn play(mut lists: Lists<'_>, count: u64, steps: u64, answer: &mut String) -> Told {
     for _ in 0..count {
         lists.play(steps)?;

@@ -14,7 +14,8 @@ returns-in_ok-own g c =
     ok_weaker c.put.result _ _
     (λ later put records texts is.
     let bytes = c.as_slice.result.now in
-    begins_state g.S.Sign.scheme c.args.config.now c.fails_at_first.ensures read_as_written records c.args.version c.args.gate (record { bytes = c.args.bytes.now; gate = c.args.place }) bytes later is c.if-place-gate.true
+    begins_state g.S.Sign.scheme c.args.config.now c.fails_at_first.ensures read_as_written records c.args.version c.args.gate
+    (record { bytes = c.args.bytes.now; gate = c.args.place }) bytes later is c.if-place-gate.true
     (c.as_slice.ensures.value ∙ c.in_ok-own.ensures.bytes ∙ (λ i. configuration_of c.args.version (c.committee.ensures i) (c.own.ensures i)))
     (subst (λ (l : LoadingView g.row.S.Denot). IsPut g.S.Sign.scheme l [] bytes c.args.gate later) c.begin-loading.ensures
     (subst (λ (l : List ℕ). IsPut g.S.Sign.scheme c.begin-loading.result l bytes c.args.gate later) c.new.ensures.items put)))

@@ -13,7 +13,8 @@ returns-then-not-is_event g c =
     let off : c.is_event.result ≡ false = search rules in
     ok_weaker c.put.result _ _
     (λ later put records texts is.
-    put_more g.S.Sign.scheme c.args.loading.setting c.fails_at_first.ensures read_as_written records c.args.loading c.args.gates.items (record { bytes = c.args.bytes.now; gate = c.args.place }) later texts c.is_text.ensures
+    put_more g.S.Sign.scheme c.args.loading.setting c.fails_at_first.ensures read_as_written records c.args.loading c.args.gates.items
+    (record { bytes = c.args.bytes.now; gate = c.args.place }) later texts c.is_text.ensures
     (sym (c.is_event.ensures c.args.place) ∙ off) is
     put)
     c.put.ensures
@@ -36,5 +37,6 @@ pub returns-in-Err : goal.returns-in-Err
 returns-in-Err g c records texts is =
     let on : c.is_event.result ≡ true = search rules in
     let other : c.in-Err.fault ≢ errors.Memory = search rules in
-    ends_fault g.S.Sign.scheme c.args.loading.setting records c.args.loading c.args.gates.items is (record { bytes = c.args.bytes.now; gate = c.args.place }) c.in-Err.fault (sym (c.is_event.ensures c.args.place) ∙ on) other
+    ends_fault g.S.Sign.scheme c.args.loading.setting records c.args.loading c.args.gates.items is
+    (record { bytes = c.args.bytes.now; gate = c.args.place }) c.in-Err.fault (sym (c.is_event.ensures c.args.place) ∙ on) other
     (c.in-Err.ensures.err is.first is.state is.came is.gates_are)

@@ -22,13 +22,16 @@ returns-in-None-clause-placed g c =
 pub returns-in-Some-First-clause-placed : goal.returns-in-Some-First-clause-placed
 returns-in-Some-First-clause-placed g c =
     let node = node_of g.S.Sign.scheme c.args.config.now in
-    placed_anew node g.D.Disk.device c.args.version c.args.journal.now c.migrate.new.journal c.migrate.result (some_is c.args.version c.in-Some-First.field-0 First c.in-Some-First.is (rw c.in-Some-First.is at c.in-Some-First.field-0-is)) c.migrate.ensures.rewritten
+    placed_anew node g.D.Disk.device c.args.version c.args.journal.now c.migrate.new.journal c.migrate.result
+    (some_is c.args.version c.in-Some-First.field-0 First c.in-Some-First.is (rw c.in-Some-First.is at c.in-Some-First.field-0-is)) c.migrate.ensures.rewritten
 
 pub returns-in-Some-Second-clause-placed : goal.returns-in-Some-Second-clause-placed
 returns-in-Some-Second-clause-placed g c =
     let node = node_of g.S.Sign.scheme c.args.config.now in
     let journal = c.args.journal.now in
-    placed_as_before node g.D.Disk.device c.args.version journal journal (second_is_not_first c.args.version (some_is c.args.version c.in-Some-Second.field-0 Second c.in-Some-Second.is (rw c.in-Some-Second.is at c.in-Some-Second.field-0-is))) (kept_places journal journal c.requires.pair refl)
+    placed_as_before node g.D.Disk.device c.args.version journal journal
+    (second_is_not_first c.args.version (some_is c.args.version c.in-Some-Second.field-0 Second c.in-Some-Second.is
+    (rw c.in-Some-Second.is at c.in-Some-Second.field-0-is))) (kept_places journal journal c.requires.pair refl)
 
 pub returns-in-Some-Second-clause-renewed : goal.returns-in-Some-Second-clause-renewed
 returns-in-Some-Second-clause-renewed g c =

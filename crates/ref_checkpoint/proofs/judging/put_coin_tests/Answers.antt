@@ -5,4 +5,5 @@ use Rattle.ref_checkpoint.proofs.judging.put_coin_tests.Goals as goal
 
 pub loop-preserved : goal.loop-preserved
 loop-preserved c =
-    piece_test_more (λ (piece : ℕ). take COINS_PIECE (drop (COINS_PIECE * piece) c.args.coins.now)) c.loop.counter c.loop.tests.items c.push.new.self.items c.args.tests.now.items c.in_ok-push.ensures.items c.loop.invariant
+    piece_test_more (λ (piece : ℕ). take COINS_PIECE (drop (COINS_PIECE * piece) c.args.coins.now)) c.loop.counter c.loop.tests.items c.push.new.self.items
+    c.args.tests.now.items c.in_ok-push.ensures.items c.loop.invariant

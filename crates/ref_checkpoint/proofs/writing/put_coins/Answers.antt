@@ -6,5 +6,6 @@ use Rattle.ref_checkpoint.proofs.writing.put_coins.Goals as goal
 
 pub loop-piece-preserved : goal.loop-piece-preserved
 loop-piece-preserved c =
-    piece_more coins_record (λ (piece : ℕ). take COINS_PIECE (drop (COINS_PIECE * piece) c.args.coins.now)) c.loop-piece.piece c.loop-piece.rows.items c.push.new.self.items c.in_ok-coins_record.field-0
+    piece_more coins_record (λ (piece : ℕ). take COINS_PIECE (drop (COINS_PIECE * piece) c.args.coins.now)) c.loop-piece.piece c.loop-piece.rows.items
+    c.push.new.self.items c.in_ok-coins_record.field-0
     (contents c.args.rows.now.items) c.in_ok-push.ensures.items (c.in_ok-coins_record.ensures ∙ ap coins_record c.piece_at.ensures.value) c.loop-piece.invariant

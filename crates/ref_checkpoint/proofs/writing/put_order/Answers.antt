@@ -6,5 +6,6 @@ use Rattle.ref_checkpoint.proofs.writing.put_order.Goals as goal
 
 pub loop-piece-preserved : goal.loop-piece-preserved
 loop-piece-preserved c =
-    piece_more order_record (λ (piece : ℕ). take ORDER_PIECE (drop (ORDER_PIECE * piece) c.args.digests.now)) c.loop-piece.piece c.loop-piece.rows.items c.push.new.self.items c.in_ok-order_record.field-0
+    piece_more order_record (λ (piece : ℕ). take ORDER_PIECE (drop (ORDER_PIECE * piece) c.args.digests.now)) c.loop-piece.piece c.loop-piece.rows.items
+    c.push.new.self.items c.in_ok-order_record.field-0
     (contents c.args.rows.now.items) c.in_ok-push.ensures.items (c.in_ok-order_record.ensures ∙ ap order_record c.piece_at.ensures.value) c.loop-piece.invariant

@@ -13,7 +13,8 @@ turn_of c =
     let all = c.args.certificates.items in
     let done = c.loop-certificate.yielded in
     let chain = YieldsList-from_vec {s = c.into_iter-certificate-iterator.result} all (search rules) (search rules) in
-    let turn = YieldsList-turn chain done c.loop-certificate.certificate-iterator c.loop-certificate.yielded_by c.next.result c.next.new.self (c.in-Some.certificate, c.in-Some.digest) c.in-Some.is c.next.ensures.steps in
+    let turn = YieldsList-turn chain done c.loop-certificate.certificate-iterator c.loop-certificate.yielded_by c.next.result c.next.new.self
+    (c.in-Some.certificate, c.in-Some.digest) c.in-Some.is c.next.ensures.steps in
     record {
       front = sym (map-id done) ∙ YieldsList-so_far chain done c.loop-certificate.certificate-iterator c.loop-certificate.yielded_by;
       within = turn.0;

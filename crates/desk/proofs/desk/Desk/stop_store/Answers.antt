@@ -41,7 +41,8 @@ returns-clause-steps g c =
     let device = g.D.Disk.device in
     let found = areas_in device c.stopped.result in
     let may = may_leave device c.args.self.journal c.into_store.result c.into_store.ensures found c.stopped.ensures.content in
-    ok_weaker c.open_store.result _ _ (λ next opened world is. stops node device world c.args.self is found (λ two. (c.keys_hold.ensures, c.histories_begin_on_two.ensures)) may next opened) c.open_store.ensures.ok
+    ok_weaker c.open_store.result _ _ (λ next opened world is. stops node device world c.args.self is found
+    (λ two. (c.keys_hold.ensures, c.histories_begin_on_two.ensures)) may next opened) c.open_store.ensures.ok
 
 pub returns-clause-cause : goal.returns-clause-cause
 returns-clause-cause g c =

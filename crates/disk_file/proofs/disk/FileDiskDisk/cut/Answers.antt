@@ -12,7 +12,8 @@ invariant_of-self c =
     record {
       sound = cut_sound _ _ _ c.fail_if_down.new.self.sound within more;
       length_is = sym (cut_length _ _ _ c.fail_if_down.new.self.sound within more);
-      mirrors = cut_mirrors _ c.args.len (held c.fail_if_down.new.self.tape) (held c.cut.new.self) is c.fail_if_down.new.self.mirror c.cut_kept.new.kept c.cut_kept.ensures c.fail_if_down.new.self.mirrors;
+      mirrors = cut_mirrors _ c.args.len (held c.fail_if_down.new.self.tape)
+          (held c.cut.new.self) is c.fail_if_down.new.self.mirror c.cut_kept.new.kept c.cut_kept.ensures c.fail_if_down.new.self.mirrors;
     }
 
 more_of : (c : goal.After-counted) → Longer (Cut c.args.len) c.args.self.now.tape c.counted.new.self.tape

@@ -35,7 +35,8 @@ raise-requires-clause-legal g c =
     let seen = told.stays.seen ∙ first.seen ∙ ap (λ l. l.seat.view.seen) (sym first.locked) ∙ sym told.stays_locked.seen in
     let legal = legal_with c.args.self.now g.S.Sign.scheme c.know_down.new.locked.seat c.know_down.new.locked.book c.accept.new.self c.args.event told.home (c.in-Ok.ensures.new c.if-receipt.true)
     mid.view.seen seen in
-    subst (λ (n : NodeView g.row.S.Denot). (base : State) → IsBase g.S.Sign.scheme n base → IsLegalAfter (node_of g.S.Sign.scheme n.setting) base (events mid.view.seen ++ g.C.Call.event ∷ [])) (sym c.self.view_is)
+    subst (λ (n : NodeView g.row.S.Denot). (base : State) → IsBase g.S.Sign.scheme n base
+    → IsLegalAfter (node_of g.S.Sign.scheme n.setting) base (events mid.view.seen ++ g.C.Call.event ∷ [])) (sym c.self.view_is)
     (λ base at. subst (λ (e : Event). IsLegalAfter (node_of g.S.Sign.scheme c.args.self.now.setting) base (events mid.view.seen ++ e ∷ [])) (sym c.requires.call) (legal base at))
 
 pub returns-then-receipt-clause-home : goal.returns-then-receipt-clause-home
@@ -107,4 +108,5 @@ raise-requires-clause-seen g c =
     let first = c.see_all.ensures in
     let told = c.know_down.ensures in
     let seen = told.stays.seen ∙ first.seen ∙ ap (λ l. l.seat.view.seen) (sym first.locked) ∙ sym told.stays_locked.seen in
-    ap length seen ∙ sym (length-map c.know_down.new.locked.seat.view.seen (λ one. one.event)) ∙ sym (told.home.stands told.home.somewhere.0 told.home.somewhere.1).accepted ∙ sym c.accepted-count.ensures.value
+    ap length seen ∙ sym (length-map c.know_down.new.locked.seat.view.seen (λ one. one.event))
+    ∙ sym (told.home.stands told.home.somewhere.0 told.home.somewhere.1).accepted ∙ sym c.accepted-count.ensures.value

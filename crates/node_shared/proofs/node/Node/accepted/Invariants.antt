@@ -5,4 +5,7 @@ use Rattle.validator.specs.Standing.{AreAtSound}
 use Rattle.node_shared.proofs.node.Node.accepted.Given as goal
 
 abbrev pub ghosts-look : goal.ghosts-look
-ghosts-look g a = record { judged = λ events. (base : State) → AreAtSound (node_of g.S.Sign.scheme a.self.now.key.setting) a.self.now.key.tables base → IsLegalAfter (node_of g.S.Sign.scheme a.self.now.key.setting) base events }
+ghosts-look g a = record {
+  judged = λ events. (base : State) → AreAtSound (node_of g.S.Sign.scheme a.self.now.key.setting) a.self.now.key.tables base
+      → IsLegalAfter (node_of g.S.Sign.scheme a.self.now.key.setting) base events;
+}

@@ -18,5 +18,6 @@ returns-clause-learned g c =
       seen = told.seen;
       within = told.durable_seen;
       own = told.own c.requires.of.numbered;
-      legal = subst (λ (n : NodeView g.row.S.Denot). (base : State) → IsBase g.S.Sign.scheme n base → IsLegalAfter (node_of g.S.Sign.scheme n.setting) base (events later.view.durable)) c.self.view_is told.judged;
+      legal = subst (λ (n : NodeView g.row.S.Denot). (base : State) → IsBase g.S.Sign.scheme n base
+          → IsLegalAfter (node_of g.S.Sign.scheme n.setting) base (events later.view.durable)) c.self.view_is told.judged;
     }

@@ -11,7 +11,8 @@ settle-requires g c =
 pub returns-clause-home : goal.returns-clause-home
 returns-clause-home g c =
     home_settled c.args.self.now g.S.Sign.scheme c.args.locked.now.seat c.args.locked.now.book c.args.flush.now c.requires.home c.requires.tied
-    c.args.synced c.requires.group c.requires.checkpoint c.settle.new.self _ (search rules) (ap (λ b. b.down) c.settle.ensures.rest) (ap (λ b. b.rewriting) c.settle.ensures.rest) c.settle.ensures.stands (search rules) (search rules) (search rules)
+    c.args.synced c.requires.group c.requires.checkpoint c.settle.new.self _ (search rules) (ap (λ b. b.down) c.settle.ensures.rest)
+    (ap (λ b. b.rewriting) c.settle.ensures.rest) c.settle.ensures.stands (search rules) (search rules) (search rules)
 
 pub returns-clause-settles : goal.returns-clause-settles
 returns-clause-settles g c =

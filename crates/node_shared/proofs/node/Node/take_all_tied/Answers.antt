@@ -30,7 +30,8 @@ returns-clause-takes g c = record {
         c.take_all.new.self c.in_ok-snapshot.snapshot c.in_ok-snapshot.ensures.taken c.in_ok-snapshot.ensures.stands c.in_ok-snapshot.ensures.checkpoint),
     refl,
   );
-  checkpoint = subst (λ (n : ℕ). IsCheckpointAfter g.S.Sign.scheme c.args.self.now (taken_by (record c.args.flush.now { taken = n; rewriting = true })) c.in_ok-snapshot.snapshot) (sym c.taken-flush.ensures)
+  checkpoint = subst (λ (n : ℕ). IsCheckpointAfter g.S.Sign.scheme c.args.self.now
+      (taken_by (record c.args.flush.now { taken = n; rewriting = true })) c.in_ok-snapshot.snapshot) (sym c.taken-flush.ensures)
       (checkpoint_all c.args.self.now g.S.Sign.scheme c.args.locked.now.seat c.args.locked.now.book c.args.flush.now c.requires.home c.requires.tied
       c.take_all.new.self c.in_ok-snapshot.snapshot c.in_ok-snapshot.ensures.taken c.in_ok-snapshot.ensures.stands c.in_ok-snapshot.ensures.checkpoint);
   err = tt;

@@ -14,7 +14,8 @@ returns-clause-tied g c = λ so.
     let seen = c.see_all.ensures in
     let locked = seen.locked ∙ known.locked in
     let counts = c.counts_as.ensures so in
-    tied_with c.args.self.now g.S.Sign.scheme c.args.locked.now.seat c.args.locked.now.book c.requires.home c.see_all.new.seat c.args.flush.now.settled c.args.flush.now.taken c.args.flush.now.rewriting
+    tied_with c.args.self.now g.S.Sign.scheme c.args.locked.now.seat c.args.locked.now.book c.requires.home c.see_all.new.seat c.args.flush.now.settled
+    c.args.flush.now.taken c.args.flush.now.rewriting
     seen.looked.of_node
     (seen.seen ∙ ap (λ l. l.seat.view.seen) known.locked) (seen.looked.durable ∙ known.durable)
     (begins_trans _ _ _ (subst (λ l. Begins l c.know_all.new.seat.view.seen) (sym seen.looked.durable) known.learned.within) seen.looked.more)

@@ -20,7 +20,8 @@ returns-in-Err-take_event g c =
     let other : c.in-Err-take_event.fault ≢ errors.Memory = search rules in
     record {
       config = refl;
-      taken = λ before has. failed g.S.Sign.scheme was.config.now (record { bytes = c.args.bytes.now; gate = c.args.place }) was.alone was.first c.requires before c.in-Ok.validator c.in-Err-take_event.fault
+      taken = λ before has. failed g.S.Sign.scheme was.config.now (record { bytes = c.args.bytes.now; gate = c.args.place }) was.alone was.first c.requires before
+          c.in-Ok.validator c.in-Err-take_event.fault
           (subst (λ (reached : Result (ValidatorView g.row.S.Denot) JournalError). HasReplayed g.S.Sign.scheme was.config.now was.first was.alone reached before) c.in-Ok.is has)
           other c.in-Err-take_event.ensures.err;
     }
