@@ -26,7 +26,7 @@ pub fn support_is_honest()
     ensures { SupportIsHonest }
 {}
 
-/// What is tolerated leaves a quorum over.
+/// If members who weigh what is tolerated are taken away, the others still weigh a quorum.
 pub fn tolerated_leave_quorum()
     ensures { ToleratedLeaveQuorum }
 {}

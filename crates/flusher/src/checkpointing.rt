@@ -55,9 +55,11 @@ impl<D: Disk> Flusher<D> {
         ensures cause { TellsFault FlushError.Device (D.device.faults (spare_disk (journal_of self.old))) (D.device.faults (rewritten_disk result (journal_of self.new))) result }
         ensures untouched { untouched_disk result (journal_of self.new) ≡ disk_of (journal_of self.old) }
 
-        // With what a stop at any moment leaves of the spare area, the journal has what was settled, or all that the checkpoint took.
-        // Whatever it had before that stays as it was.
+        // A stop at any moment may leave the spare area half written. With that area the journal has what was settled, or all that the
+        // checkpoint took.
         ensures any_moment { IsErrOf result FlushError.Down ⊎ AtEachMoment D.device (spare_disk (journal_of self.old)) (rewritten_disk result (journal_of self.new)) (λ left. HoldsEither S.scheme node.now (settled_in self.old) (taken_in self.new) (areas_of D.device (journal_of self.old)) (areas_with D.device (journal_of self.old) left)) }
+        // Let the journal have held the settled events after some state. After Ok it holds, after the same state, all that the checkpoint
+        // took.
         ensures earlier { OnOk result (KeepsEarlier S.scheme node.now (settled_in self.old) (settled_in self.new) (areas_of D.device (journal_of self.old)) (areas_of D.device (journal_of self.new))) }
     {
         if self.down {

@@ -225,7 +225,7 @@ is_all_written endings.Output = false
 is_all_written (endings.Journal error) = false
 is_all_written other = true
 
--- the ending reports a failed allocation, or a fault of the journal, which is reported with priority
+-- the ending reports a failed allocation; or it reports a fault of the journal, which goes first if there are both
 abbrev pub IsOfLoss : Ending → Type 0
 IsOfLoss ending = (ending ≡ endings.Memory) ⊎ ((error : JournalError) × (ending ≡ endings.Journal error))
 

@@ -64,11 +64,14 @@ pub fn reopen_store<'a, S: Sign, D: Disk>(
 /// checkpoint.
 ///
 /// # Errors
-/// In this order: `Device` or `Memory`, where a disk or an allocation fails; `Damaged` with the first place of damage; `ConfigMismatch`,
-/// where the first record is another configuration than the node's own; `Damaged` with the gate of the first record of the checkpoint's
-/// state that is at fault, or with the first gate where only all of them together are; `Damaged` with the gate of the first record after
-/// them that is no event, fails the checks, or isn't new; `Full` where a journal in the first version has no room for its checkpoint. Both
-/// disks are handed back.
+/// Both disks are handed back. The first of these is reported:
+/// - `Device` or `Memory`: a disk or an allocation failed.
+/// - `Damaged`, with the first place at which the groups of records are damaged.
+/// - `ConfigMismatch`: the first record is another configuration than the node's own.
+/// - `Damaged`, for the records of the checkpoint's state: with the gate of the first one that is at fault; or, where each of them is sound
+///   by itself and all of them together are not, with the first gate of the area.
+/// - `Damaged`, for the records after these: with the gate of the first one that is no event, fails the checks, or isn't new.
+/// - `Full`: a journal in the first version has no room for its checkpoint.
 pub fn reopen_pair<'a, S: Sign, D: Disk>(
     alloc: Global,
     config: &'a Config<S>,

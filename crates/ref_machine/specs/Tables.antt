@@ -50,7 +50,7 @@ headers_in headers round = find (of_round round) headers
 abbrev pub counted_in : List Vote → ℕ → ℕ → Option Vote
 counted_in votes round voter = find (counts_for round voter) votes
 
--- a vote, if it is by this member on the own header of a round
+-- this vote, where it is by this member on the own header of a round, and otherwise none
 abbrev pub vote_if : Vote → ℕ → ℕ → Option Vote
 vote_if vote round voter = if counts_for round voter vote then Some vote else None
 

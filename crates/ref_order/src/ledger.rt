@@ -1,4 +1,4 @@
-//! What the order is made of.
+//! The ledger, which is what the order is computed from: the committee, the certificates and the coins.
 
 ghost use Rattle.std.specs.Prelude.{◌≡◌, ◌<◌, IfOk};
 ghost use Rattle.spec_model.specs.Ordering.{reaches_in, size_in};

@@ -1,5 +1,5 @@
-//! What a validator has ordered, up to which round, and what it voted for. These calls have long contracts, which every further statement
-//! of a calling function makes more expensive to prove; so one small function makes them.
+//! What a validator has ordered, up to which round, and what it voted for. The calls that answer this have long contracts, and each
+//! statement beside such a call makes its function more expensive to prove. So they stand in small functions of their own.
 
 use sigface::HashSign;
 use validator::Validator;
