@@ -58,8 +58,7 @@ impl<D: Disk> Flusher<D> {
         // A stop at any moment may leave the spare area half written. With that area the journal has what was settled, or all that the
         // checkpoint took.
         ensures any_moment { IsErrOf result FlushError.Down ⊎ AtEachMoment D.device (spare_disk (journal_of self.old)) (rewritten_disk result (journal_of self.new)) (λ left. HoldsEither S.scheme node.now (settled_in self.old) (taken_in self.new) (areas_of D.device (journal_of self.old)) (areas_with D.device (journal_of self.old) left)) }
-        // Let the journal have held the settled events after some state. After Ok it holds, after the same state, all that the checkpoint
-        // took.
+        // If the journal had, from some state on, what was settled before the call, then it has from the same state on what is settled now.
         ensures earlier { OnOk result (KeepsEarlier S.scheme node.now (settled_in self.old) (settled_in self.new) (areas_of D.device (journal_of self.old)) (areas_of D.device (journal_of self.new))) }
     {
         if self.down {

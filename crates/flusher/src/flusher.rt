@@ -107,8 +107,8 @@ impl<D: Disk> Flusher<D> {
         ensures spare { spare_of (journal_of self.new) ≡ spare_of (journal_of self.old) }
 
         // What a stop at any moment leaves has what was settled, with or without the group. Once the group is settled, it always has it.
-        // Whatever the journal had before that stays as it was.
         ensures any_moment { IsErrOf result FlushError.Down ⊎ AtEachMoment D.device (disk_of (journal_of self.old)) (disk_of (journal_of self.new)) (λ left. HoldsEither S.scheme node.now (settled_in self.old) (taken_in self.new) (areas_of D.device (journal_of self.old)) (areas_at D.device (journal_of self.old) left)) }
+        // If the journal had, from some state on, what was settled before the call, then it has from the same state on what is settled now.
         ensures earlier { OnOk result (KeepsEarlier S.scheme node.now (settled_in self.old) (settled_in self.new) (areas_of D.device (journal_of self.old)) (areas_of D.device (journal_of self.new))) }
     {
         if self.down {

@@ -21,9 +21,10 @@ pub record Flushes {S D : Type 0} (scheme : Scheme S) (device : Disks D) (node :
   pub not_settled : OnErr result (settled_in later ≡ settled_in before)
   -- where an allocation fails, the call takes nothing
   pub memory : IsErrOf result Memory → (journal_of later ≡ journal_of before) × (taken_in later ≡ settled_in before)
-  -- a stop at any moment of the call leaves what was settled, or what was taken; whatever the journal had before that stays as it was
+  -- a stop at any moment of the call leaves what was settled, or what was taken
   pub any_moment : IsErrOf result Down
       ⊎ AtEachMomentOn device (HoldsEither scheme node (settled_in before) (taken_in later) (areas_of device (journal_of before))) (store_of (journal_of before)) (store_of (journal_of later))
+  -- if the journal had, from some state on, what was settled before the call, then it has from the same state on what is settled now
   pub earlier : OnOk result (KeepsEarlier scheme node (settled_in before) (settled_in later) (areas_of device (journal_of before)) (areas_of device (journal_of later)))
   -- the error is Device exactly where one of the disks has failed
   pub cause : TellsFault Device (faults_in device (store_of (journal_of before))) (faults_in device (store_of (journal_of later))) result

@@ -37,7 +37,7 @@ pub record FlushesOnce {S D : Type 0} (scheme : Scheme S) (device : Device D) (r
       → (journal_of later.flusher ≡ journal_of before.flusher) × (settled_in later.flusher ≡ settled_in before.flusher) × (taken_in later.flusher ≡ settled_in later.flusher)
   -- the result is how many records the round settled
   pub count : IfOk result (λ count. IsCountOf (point_of before.flusher) (point_of later.flusher) count)
-  -- whatever the journal had before stays as it was
+  -- if the journal had, from some state on, what was settled before the call, then it has from the same state on what is settled now
   pub earlier : is_down later.flusher ≡ false
       → KeepsEarlier scheme before.node (settled_in before.flusher) (settled_in later.flusher) (areas_of device (journal_of before.flusher)) (areas_of device (journal_of later.flusher))
   pub any_moment : is_down before.flusher ≡ false

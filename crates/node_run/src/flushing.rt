@@ -91,7 +91,7 @@ fn flush_pending<S: Sign, D: Disk, R: Wait>(
     ensures others { (result.output ≡ false) × (result.input ≡ false) }
     ensures node { rounds.new.node ≡ rounds.old.node }
     ensures more { Begins (settled_in rounds.old.flusher) (settled_in rounds.new.flusher) }
-    // Whatever the journal had before stays as it was.
+    // If the journal had, from some state on, what was settled before the call, then it has from the same state on what is settled now.
     ensures earlier { is_down rounds.new.flusher ≡ false → KeepsEarlier S.scheme rounds.old.node (settled_in rounds.old.flusher) (settled_in rounds.new.flusher) (areas_of D.device (journal_of rounds.old.flusher)) (areas_of D.device (journal_of rounds.new.flusher)) }
     ensures any_moment { is_down rounds.old.flusher ≡ false → AtEachMomentOn D.device (HoldsMore S.scheme rounds.old.node (settled_in rounds.old.flusher) (areas_of D.device (journal_of rounds.old.flusher))) (store_of (journal_of rounds.old.flusher)) (store_of (journal_of rounds.new.flusher)) }
     ensures at_end { is_down rounds.old.flusher ≡ false → LeavesSettled S.scheme D.device rounds.old.node rounds.old.flusher (settled_in rounds.new.flusher) (store_of (journal_of rounds.new.flusher)) }
