@@ -308,8 +308,8 @@ impl<D: Disk> Journal<D> {
         ensures records { OnOk result (stands_in (areas_of D.device self.new) ≡ stands_as (other_side (side_in self.old)) (generation_in self.old + 1) snapshot) }
         ensures synced { IfOk result (λ synced. synced ≡ snapshot) }
 
-        // With what a stop at any moment of the call leaves of the spare area, both areas are read as the earlier records, or as the
-        // checkpoint.
+        // A stop at any moment of the call may leave the spare area half written. The two areas are then read as the earlier records, or as
+        // the checkpoint.
         ensures any_moment { AtEachMoment D.device (spare_disk self.old) (rewritten_disk result self.new) (StandsAsOrAfter D.device self.old snapshot) }
 
         // The disk that was read so far is untouched, whatever the result.

@@ -39,7 +39,8 @@ pub record IsConfigured {S : Type 0} (scheme : Scheme S) (setting : ConfigView S
   pub shape : shaped_version first.bytes ≡ Some version
   pub own : own_fault (node_of scheme setting) first ≡ None
 
--- the configuration came, a head in its group, and then records of a checkpoint's state, with these gates
+-- the records so far: the configuration, a head in the same group, and then records of a checkpoint's state. These are the gates of all
+-- but the head.
 pub record IsLoadingTo {S : Type 0} (scheme : Scheme S) (setting : ConfigView S) (records : List Record) (loading : LoadingView S) (gates : List ℕ) : Type 0 where
   pub first : Record
   pub head : Record

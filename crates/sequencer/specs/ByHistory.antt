@@ -57,8 +57,8 @@ pub record OrdersAre (node : Node) (before later : History) (graph : DagView) : 
   pub each : (front rest : List Certificate) (c : Certificate) → newer (ledger_at node later) (last_wave (ledger_at node before)) ≡ front ++ c ∷ rest
       → OrdersAs node later graph (last_or (last_leader_at node before) front) c
 
--- where the DAG holds enough, and marks from the floor on exactly what the last leader of the earlier history reaches, it orders as the
--- history does
+-- The DAG orders what the later history orders, under two conditions: it holds what that history holds, from a low enough round on; and
+-- its marked certificates, from the floor on, are exactly those that the last leader of the earlier history reaches.
 abbrev pub OrdersByHistory : Type 0
 OrdersByHistory = (node : Node) (before more : History) (low : ℕ) (graph : DagView) (last : Option ℕ) → HoldsHistory node before more low graph last
     → IsMarkedPast graph (floor node before) (last_leader_at node before) → OrdersAre node before (before ++ more) graph
