@@ -97,7 +97,7 @@ known_header_outputs tables sign header =
 abbrev pub certified_decision : Certificate → Vote → Result Answer Refusal
 certified_decision held vote = if same_digest (header_digest held.header) vote.header then Ok Known else Err CertConflict
 
--- the decision where none is held
+-- the decision where no own certificate of the vote's round is held
 abbrev pub open_decision : Tables → Vote → Result Answer Refusal
 open_decision tables vote = if has_voted_in tables.headers vote.round vote.voter.0 then Ok Known else Ok New
 

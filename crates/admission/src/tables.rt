@@ -142,7 +142,7 @@ impl<'a> Tables<'a> {
         &self.sequencer
     }
 
-    /// The digest of the header that has the vote of an author and round; an own header has the own one.
+    /// The digest of the header of this author and round that the node has voted for. The node's own header counts as voted for.
     pub fn voted(&self, author: Author, round: Round) -> Option<Digest>
         ensures { result ≡ voted_by self.now author round }
     {

@@ -85,7 +85,7 @@ impl Drop for Switch {
     }
 }
 
-// The identity of its words, which is the same for its clones.
+// The identity of the memory that a switch shares with its clones.
 impl Model for Switch {
     ghost use Rattle.diskmodel.specs.declared.switch.SwitchView.{SwitchView};
     ghost use Rattle.std.specs.Arc.{arc_value};

@@ -29,8 +29,8 @@ pub fn groups_stand()
     ensures short { (bytes : List ℕ) → length bytes < 2 → stands bytes ≡ Ok [] }
 {}
 
-/// Bytes, at least two, are damaged at a place exactly where groups after open gates end there, and the open gate there has no whole group
-/// after it.
+/// Two bytes or more are damaged at a place exactly where whole groups, each after an open gate, fill the bytes before that place, and the
+/// gate at the place is open too but has no whole group after it.
 pub fn damage_is_found()
     ensures { (bytes : List ℕ) (place : ℕ) → AreBytes bytes → (stands bytes ≡ Err place) ↔ IsDamagedAt bytes place }
 {}

@@ -81,7 +81,7 @@ pub enum Kind {
 /// How much of a kind of work is to be done. Without the work only its preparation is done.
 #[derive(Clone, Copy)]
 pub struct Task {
-    /// The kind.
+    /// The kind of work.
     pub kind: Kind,
     /// The allocator.
     pub alloc: Global,

@@ -68,7 +68,7 @@ impl<K, L: Law<K>> Words<K, L> {
         unreachable!()
     }
 
-    /// Reads until the seat knows all settled events, which are `count`. What another seat knows as settled is then among them.
+    /// Reads until the seat knows all settled events, of which there are `count`. What another seat knows as settled is then among them.
     pub fn cover<R: Wait>(&self, rt: &R, seat: &mut Seat, other: &mut Seat, count: u64)
         requires seat { (seat.old.table ≡ self.now.table) × (seat.old.view.live ≡ true) }
         requires other { (other.old.table ≡ self.now.table) × (other.old.view.live ≡ true) }

@@ -10,7 +10,7 @@ use Rattle.wire.specs.declared.keys.Signature.{Signature}
 abbrev pub first_half : Key → Digest → List ℕ
 first_half key digest = sha256 (0x53 ∷ key.0 ++ digest.0)
 
--- the last 32 bytes: the same after the letter T
+-- the last 32 bytes of a signature: the digest of the letter T, the key and what is signed
 abbrev pub second_half : Key → Digest → List ℕ
 second_half key digest = sha256 (0x54 ∷ key.0 ++ digest.0)
 
@@ -18,6 +18,6 @@ second_half key digest = sha256 (0x54 ∷ key.0 ++ digest.0)
 abbrev pub pair_signature : Key → Digest → Signature
 pair_signature key digest = record { 0 = first_half key digest ++ second_half key digest }
 
--- a signature is that one
+-- a signature is the good one
 abbrev pub is_pair_signature : Key → Digest → Signature → Bool
 is_pair_signature key digest signature = bytes_eq (pair_signature key digest).0 signature.0

@@ -168,7 +168,7 @@ pub record HasHeaders (party : Party) (signed : ℕ → Digest → Bool) : Type 
   pub given : (member : ℕ) → party.honest member ≡ true → (digest : Digest) → signed member digest ≡ true
       → WasVoted party member digest
 
--- a header is in what was settled, or in one of two histories at some moment
+-- a header is in the settled history of an honest member, or in one of these two histories
 abbrev pub IsToldAt : Party → History → History → HeaderBody → Type 0
 IsToldAt party history also body = IsTold party body ⊎ Contains (bodies_in history) body ⊎ Contains (bodies_in also) body
 

@@ -31,15 +31,15 @@ parent_reference_bytes p = to_be_bytes w16 p.author.0 ++ p.certificate.0
 abbrev pub vote_entry_bytes : VoteEntry → List ℕ
 vote_entry_bytes v = to_be_bytes w16 v.voter.0 ++ v.signature.0
 
--- the batches after their count
+-- the batches of a header: their count, and then each
 abbrev pub batches_bytes : List BatchReference → List ℕ
 batches_bytes batches = to_be_bytes w16 (length batches) ++ flat_map batch_reference_bytes batches
 
--- the parents after their count
+-- the parents of a header: their count, and then each
 abbrev pub parents_bytes : List ParentReference → List ℕ
 parents_bytes parents = to_be_bytes w16 (length parents) ++ flat_map parent_reference_bytes parents
 
--- the votes of a certificate after their count
+-- the votes of a certificate: their count, and then each
 abbrev pub votes_bytes : List VoteEntry → List ℕ
 votes_bytes votes = to_be_bytes w16 (length votes) ++ flat_map vote_entry_bytes votes
 

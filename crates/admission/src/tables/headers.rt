@@ -105,7 +105,7 @@ impl<'a> Tables<'a> {
         }
     }
 
-    // What a header of this digest puts out that was accepted before: the own one that is held, or the vote.
+    // What a header of this digest puts out that was accepted before: the own header that is held, or the vote.
     fn known_header<S: Sign>(
         &self,
         alloc: Global,
