@@ -141,8 +141,8 @@ TwoGroupsSettle = (node : Node) (moves : List Move) (world : World) (count more 
     → FitsGroup (map record_of (group_to world count)) → FitsGroup (map record_of (group_to (with_group world count) more))
     → (next : World) × Leads node world (two_in_flight count more) next × HasSettledGroups node world more next
 
--- Device calls in a row are those of appends: at most four for each group that isn't durable, of which the first four are the calls by
--- which a journal adds the first such group. From the world after these four the law says the same of the next group.
+-- Device calls in a row are those of appends. There are at most four for each group that isn't durable. The first four of all are the
+-- calls by which a journal adds the first such group. From the world after these four the law says the same of the next group.
 abbrev pub AppendsMakeCalls : Type 0
 AppendsMakeCalls = (node : Node) (world next : World) (count : ℕ) → world.phase ≡ not_begun → Leads node world (device_calls count) next
     → (count ≤ 4 * length (undurable_in world)) × (count ≤ 4 → next.calls ≡ world.calls ++ take count (append_calls (length (content_in world)) (group_in world)))

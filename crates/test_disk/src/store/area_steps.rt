@@ -10,8 +10,8 @@ pub enum Left {
     Read,
     /// What the last sync left.
     Synced,
-    /// This length; and of the places that may hold any byte, those that are a multiple of `every` hold this byte, and the others hold what
-    /// a read gives there, or the last sync.
+    /// An area of this length. Of the places that a stop may leave with any byte, those that are a multiple of `every` hold this byte. The
+    /// others hold what a read gives there, or else what the last sync left.
     Torn { byte: u8, every: u64, len: u64 },
 }
 
