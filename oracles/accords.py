@@ -32,12 +32,12 @@ TITLE = """\
 #
 # accords begins a case of these. committee DEPTH STAKE,.. is the committee. made WORD .. has the headers of the histories that
 # follow, each by its round, its author and the authors of its parents: 3.1.0.1.2 is the header of author 1 in round 3 over those of
-# the authors 0, 1 and 2 in round 2. A letter b behind an author is another header in the same slot. first MEMBER WORD .. is a history
+# the authors 0, 1 and 2 in round 2. A letter b after an author is another header in the same slot. first MEMBER WORD .. is a history
 # of a member: 3.1 takes the certificate of author 1 in round 3, m3.1 makes the own header of round 3 and takes votes on it until
 # they are a quorum, and c17 takes the coin of the next wave with the value 17. Whose votes stand under a certificate differs with
 # the member who takes it. next MEMBER WORD .. is another history, and is answered what it and the one before it have in common.
-# Of each order the line has the length, and behind `of` the first four bytes of the SHA-256 of its digests, one behind the other.
-# counts is answered how many such pairs there were behind the counts before it."""
+# Of each order the line has the length, and after `of` the first four bytes of the SHA-256 of its digests, one after the other.
+# counts is answered how many such pairs there were after the counts before it."""
 
 
 class Member(Node):
@@ -230,7 +230,7 @@ class World:
 # ---- a pair that is written
 
 def replayed(number, depth, committee, history):
-    """The member behind a history, and whether each event was new."""
+    """The member after a history, and whether each event was new."""
     member, legal = Member(number, depth, committee), True
     member.history = history
     for kind, what in history:

@@ -43,7 +43,7 @@ def head(generation):
 
 
 def sized(records):
-    """A group behind its gate, without the gate after it."""
+    """A group after its gate, without the gate after it."""
     body = b"".join(u32(len(record)) + record for record in records)
     return u32(len(body)) + body
 
@@ -83,7 +83,7 @@ def rewriting(file):
 # ---- how files are read
 
 class Damaged(Exception):
-    """No whole group stands behind the open gate at this place of a file."""
+    """No whole group stands after the open gate at this place of a file."""
 
 
 def split(body):
@@ -99,7 +99,7 @@ def split(body):
 
 
 def group_at(file, place):
-    """The records behind the gate at a place, and the place of the next gate."""
+    """The records after the gate at a place, and the place of the next gate."""
     size = int.from_bytes(file[place + 1:place + 5], "big")
     end = place + 5 + size
     if len(file) < place + 5 or not 0 < size <= MAX_BODY or end >= len(file):
@@ -424,7 +424,7 @@ def openings(cases):
     cases.inputs("nothing and nothing", b"", b"")
     cases.inputs("one byte and nothing", b"\xff", b"")
     cases.inputs("nothing and one byte", b"", b"\x37")
-    cases.inputs("a closed gate with a byte behind it, and a closed gate", b"\0\x99", b"\0")
+    cases.inputs("a closed gate with a byte after it, and a closed gate", b"\0\x99", b"\0")
     cases.inputs("a damaged first group, and nothing", damaged, b"")
     cases.inputs("nothing, and a damaged first group", b"", damaged)
     cases.inputs("two damaged first groups", damaged, damaged)
@@ -437,11 +437,11 @@ def openings(cases):
     cases.inputs("generations 1 and 2", one, two)
     cases.inputs("generations 2 and 1", two, one)
     cases.inputs("generations 0 and 1", of_generation(0, *events(3)), one)
-    cases.inputs("the first area isn't read, and keeps what stands behind its last gate", one + torn, two)
-    cases.inputs("the second area isn't read, and keeps what stands behind its last gate", two, one + torn)
+    cases.inputs("the first area isn't read, and keeps what stands after its last gate", one + torn, two)
+    cases.inputs("the second area isn't read, and keeps what stands after its last gate", two, one + torn)
     cases.inputs("the first area isn't read, and a later group of it is damaged", one[:-1] + damaged, two)
-    cases.inputs("a torn group behind the closed gate of the area that is read, the second one", b"\0", one + torn)
-    cases.inputs("a torn group behind the closed gate of the area that is read, the first one", one + torn, alone)
+    cases.inputs("a torn group after the closed gate of the area that is read, the second one", b"\0", one + torn)
+    cases.inputs("a torn group after the closed gate of the area that is read, the first one", one + torn, alone)
     cases.inputs("a later group of the area that is read is damaged, the second one", one, two[:-1] + damaged)
     cases.inputs("a later group of the area that is read is damaged, the first one", two[:-1] + damaged, one)
     cases.inputs("a later group of one area is damaged, and the first group of the other one", two[:-1] + damaged, damaged)

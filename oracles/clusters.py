@@ -6,7 +6,7 @@
 
 In the first lists four nodes come to one order: that of the certificates c10 to c13 of round 1, and of rounds 2 to 5 those of members
 0, 1 and 2. The leader of wave 1, c11, is supported by c20 alone, which is too few; c30, the leader of wave 2, reaches it. The first list
-goes round by round. In the second a machine stops behind each part of a round. The third is the first, applied at once. The others are drawn from the start values below: any
+goes round by round. In the second a machine stops after each part of a round. The third is the first, applied at once. The others are drawn from the start values below: any
 output may be delivered to any node, early, late or again; calls of a disk fail, and machines stop, with what they haven't settled.
 In the last lists there are three nodes, and a member that shows two faces. Behind each move one of any two orders begins the other.
 What is expected is computed by the plain rules of oracles/histories.py, over all that a node accepted and over what is settled of that.
@@ -83,7 +83,7 @@ class Remembering(histories.Node):
 
 
 class Rules:
-    """What a member's node answers behind what it took. The rules of oracles/histories.py are those of the member OWN there."""
+    """What a member's node answers after what it took. The rules of oracles/histories.py are those of the member OWN there."""
 
     def __init__(self, own, headers, events):
         self.own, self.headers, self.node = own, headers, Remembering()
@@ -184,7 +184,7 @@ class Member:
         self.waiting = [(ticket, output) for ticket, output in self.waiting if ticket > self.synced]
 
     def message(self, number):
-        """The message in an output: with the voter behind a vote's header. A piece of the order is none."""
+        """The message in an output: with the voter after a vote's header. A piece of the order is none."""
         kind, *words = self.outputs[number].split()
         if kind == 'order':
             return None

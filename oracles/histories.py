@@ -9,7 +9,7 @@ START is the value that all is drawn from, DEPTH the committee's depth, EVENTS h
 STAKES, as 3,1,1,1, has a stake for each member; without it there are four members with the stake 1. Member 0 is the
 node. Each event stands with the answer and the outputs that the rules of docs/RULES.md give, as this program computes
 them: it shares nothing with the code of the repository. See docs/SIMULATOR.md for the language. With --play the events stand
-alone, behind a line `validator`, and behind them how often each answer comes and what there is at the end: that is for
+alone, after a line `validator`, and after them how often each answer comes and what there is at the end: that is for
 the tests of the validator.
 With --lines nothing is drawn: the events are those of these lines, with their forms.
 There each 50 events, or EACH, end with a line `sum N`, a running sum over all that was answered and put out, and over what
@@ -375,7 +375,7 @@ class Drawn:
     # ---- the running sum
 
     def sum_up(self, word, outputs):
-        """Adds what an event is answered, and what there is behind it."""
+        """Adds what an event is answered, and what there is after it."""
         self.given += 1
         self.sum.add(bytes([word != 'refused 4 MissingParents']))
         kinds = {'new': b'\0', 'known': b'\1', 'refused': b'\2'}

@@ -249,7 +249,7 @@ def side_listed(files):
 
 
 def list_all(files, start):
-    """The rows of the groups, and the place of an open gate with no whole group behind it, if there is one."""
+    """The rows of the groups, and the place of an open gate with no whole group after it, if there is one."""
     try:
         side = side_listed(files)
     except Damaged as damaged:
@@ -263,7 +263,7 @@ def list_file(file, start):
     place, rows = 0, []
     while len(file) >= 2 and place < len(file):
         gate = "open" if file[place] else "closed"
-        # One group alone, behind an open gate and before a closed one.
+        # One group alone, after an open gate and before a closed one.
         size = 5 + int.from_bytes(file[place + 1:place + 5], "big")
         try:
             if len(file) <= place + size:
@@ -398,7 +398,7 @@ def told(words, files, start=0, as_json=False, rounds=(0, 2 ** 64 - 1)):
 # ---- journals of two files
 
 def in_turn(records):
-    """The groups of one record each, behind open gates."""
+    """The groups of one record each, after open gates."""
     return b"".join(b"\1" + group(record) for record in records)
 
 

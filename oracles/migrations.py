@@ -50,7 +50,7 @@ class Reopening:
             self.error = "3 Damaged %d" % damaged.args
 
     def read(self, records):
-        """The node after a checkpoint's records and the events behind them."""
+        """The node after a checkpoint's records and the events after them."""
         if records and records[0][1] not in self.committee.configurations():
             self.error = "4 ConfigMismatch"
             return
@@ -357,7 +357,7 @@ HEAD = """# crates: opening
 # how many openings of the same disks after that find the same and leave the same areas. open-stopping: the machine stops before
 # each call of the opening and after the last one, and keeps what isn't synced, loses it, or has one byte in its place; how many
 # openings find the same after that. open-cut: from which length of an area on an opening finds what. open-changed: each byte of an
-# area is changed to each other value; how many openings find the same, how many another node, with a sum over what is told of these,
+# area is changed to each other value; how many openings find the same, how many another node, with a sum over what is reported of these,
 # and how many answer what else. open-alone: as open, of the first area as a journal on one disk."""
 
 

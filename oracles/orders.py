@@ -238,7 +238,7 @@ class Drawn(Played):
         full = max(round_ for round_ in range(highest + 1) if node.is_full(round_))
         round_ = full + 1 if not self.one_in(4) else max(1, full + 1 - self.random.randrange(6))
         free = [m for m in committee.members if m not in self.held(round_)]
-        # One member is silent for a while, and makes up for it then: what it makes comes behind later rounds.
+        # One member is silent for a while, and makes up for it then: what it makes comes after later rounds.
         block, place = divmod(full, SILENCE)
         silent = block % len(committee.members)
         if place == 0 and block > self.made_up:
@@ -268,11 +268,11 @@ def drawn(start, depth, stakes, events, counts=False):
 
 
 print("""# crates: dag tusk flatten
-# committee: the stakes of its members, and behind a line what its file has beside them; quorum: its quorum. Each other command
+# committee: the stakes of its members, and after a line what its file has beside them; quorum: its quorum. Each other command
 # begins with a table of its own.
 # play: certificates (the round, the author and the authors of the parents) and coins in the order in which they come to a node;
-# leaders: those of the waves from the floor on. counts: from here on it is told of each leader that is committed how many references
-# are read for it, and how many where it is asked alone behind the one before. These cases are written by oracles/orders.py --segments.""")
+# leaders: those of the waves from the floor on. counts: from here on the answer has, for each leader that is committed, how many references
+# are read for it, and how many where it is asked alone after the one before. These cases are written by oracles/orders.py --segments.""")
 at_once()
 late_supporter()
 reached_leader()

@@ -219,7 +219,7 @@ def version_of(first):
 
 
 def group(records):
-    """A group behind its gate, without the next one."""
+    """A group after its gate, without the next one."""
     text = b''.join(u32(len(one)) + one for one in records)
     return u32(len(text)) + text
 
@@ -233,7 +233,7 @@ class Damaged(Exception):
 
 
 def walk(file):
-    """The records, each with the place of its group's gate, and the place of the closed gate behind them."""
+    """The records, each with the place of its group's gate, and the place of the closed gate after them."""
     place, records = 0, []
     if len(file) < 2:
         return records, 0
@@ -272,7 +272,7 @@ class Setting:
         return (version > 1 or self.stakes == EQUAL) and first == self.configuration(version)
 
     def read(self, records):
-        """The node behind the records, or why there is none."""
+        """The node after the records, or why there is none."""
         if records:
             first, others = records[0][1], records[1:]
             if version_of(first) is None or any(place == 0 for place, _ in others):
@@ -630,8 +630,8 @@ def empty_files(cases):
     cases.opens('an empty file gets the configuration', b'')
     cases.opens('one byte is empty, whatever it is', b'\xff')
     cases.opens('a closed gate is empty', b'\0')
-    cases.opens('what lies behind a closed gate is cut', b'\0\x99')
-    cases.opens('a whole group behind a closed gate is none', with_byte(FIRST_VOTE, 0, 0))
+    cases.opens('what lies after a closed gate is cut', b'\0\x99')
+    cases.opens('a whole group after a closed gate is none', with_byte(FIRST_VOTE, 0, 0))
     cases.opens('the configuration alone', EMPTY)
     cases.opens('another member', b'', Setting(own=3))
     cases.opens('another depth', b'', Setting(depth=7))
@@ -661,13 +661,13 @@ def configurations(cases):
     cases.opens('the same stakes of other members', journal([configuration(stakes=[1, 3, 1, 1])]), weighing)
     cases.opens('stakes that are all 2', journal([configuration(stakes=[2, 2, 2, 2])]))
     cases.opens('damage of the first record comes before that', journal([EVENT]), weighing)
-    cases.opens('damage of an event comes behind it', behind(EVENT, EVENT), Setting(own=1))
+    cases.opens('damage of an event comes after it', behind(EVENT, EVENT), Setting(own=1))
 
 
 def first_version(cases):
     cases.opens('the configuration alone, in the first version', OLD_EMPTY)
     cases.opens('the vote on a header, in the first version', OLD_VOTE)
-    cases.opens('bytes behind a closed gate are cut in the first version too', OLD_VOTE + b'\1\2\3')
+    cases.opens('bytes after a closed gate are cut in the first version too', OLD_VOTE + b'\1\2\3')
     cases.opens('the first version has no stakes', OLD_EMPTY, Setting(stakes=STAKES))
     cases.opens('nor with events', OLD_VOTE, Setting(stakes=STAKES))
     cases.opens('stakes that are all 2 aren\'t all 1', OLD_EMPTY, Setting(stakes=[2, 2, 2, 2]))
@@ -704,8 +704,8 @@ def by_one_supporter():
 
 def events(cases):
     cases.opens('the vote on a header', FIRST_VOTE)
-    cases.opens('bytes behind the closed gate are cut', FIRST_VOTE + b'\1\2\3')
-    cases.opens('a whole group behind the closed gate is cut', FIRST_VOTE + group([record(2, header_message(NAMING))]) + b'\0')
+    cases.opens('bytes after the closed gate are cut', FIRST_VOTE + b'\1\2\3')
+    cases.opens('a whole group after the closed gate is cut', FIRST_VOTE + group([record(2, header_message(NAMING))]) + b'\0')
     cases.opens('its batch comes first', behind(record(2, batch_message(BATCH)), record(2, header_message(NAMING))))
     cases.opens('two events in one group', journal([CONFIG], [record(2, batch_message(BATCH)), record(2, header_message(NAMING))]))
     cases.opens('the order of three rounds', behind(*three_rounds(), record(0, coin_message(1, 0))))
@@ -727,7 +727,7 @@ def events(cases):
         ('a header from another sender', record(2, header_message(Header('z', 3, 1, GENESIS, [])))),
         ('a header of no member', record(4, header_message(Header('z', 4, 1, GENESIS, [])))),
         ('a header over too few', record(2, header_message(Header('z', 2, 1, GENESIS[:2], [])))),
-        ('bytes behind the message', record(2, header_message(NAMING) + b'\0')),
+        ('bytes after the message', record(2, header_message(NAMING) + b'\0')),
         ('a message that is cut short', EVENT[:-1]),
         ('a tag of no kind', with_byte(EVENT, 3, 7)),
         ('a record of no kind', with_byte(EVENT, 0, 2)),
@@ -745,14 +745,14 @@ def groups(cases):
         ('an open gate at the end', b'\1'),
         ('a length that is cut short', b'\1\0\0\0'),
         ('a body that is cut short', b'\1' + group([EVENT])[:-1]),
-        ('no gate behind a group', b'\1' + group([EVENT])),
+        ('no gate after a group', b'\1' + group([EVENT])),
         ('a body without a byte', b'\1' + u32(0) + b'\0'),
         ('a body longer than any', b'\1' + u32(4194305) + b'\0' * 9),
         ('a body that isn\'t whole records', b'\1' + u32(5) + u32(2) + b'\1\0'),
     ]:
         cases.opens(title, EMPTY[:-1] + torn)
     cases.opens('a gate of another value is open', with_byte(FIRST_VOTE, len(EMPTY) - 1, 0x99))
-    cases.opens('a first gate with nothing behind it', b'\1\0')
+    cases.opens('a first gate with nothing after it', b'\1\0')
     cases.opens('a first group that is cut short', b'\1\0\0\0\5\xaa')
 
 
@@ -760,7 +760,7 @@ def failures(cases):
     cases.case('each call on an empty file fails', b'')
     for call, count in [('sync', 1), ('read', 1), ('write', 1), ('sync', 2), ('write', 2), ('sync', 3), ('write', 3), ('sync', 4), ('cut', 1)]:
         cases.fails(call, count)
-    cases.case('each call on a file with bytes behind it fails', FIRST_VOTE + b'\1\2\3')
+    cases.case('each call on a file with bytes after it fails', FIRST_VOTE + b'\1\2\3')
     for call, count in [('sync', 1), ('read', 1), ('cut', 1), ('sync', 2), ('write', 1)]:
         cases.fails(call, count)
     cases.case('each call on another configuration fails', journal([configuration(own=1)]))
@@ -809,7 +809,7 @@ def in_three_ways(cases, title, *commands, setting=Setting()):
 
 
 def scripts(cases):
-    cases.case('a vote leaves behind its flush, and again behind a stop', b'')
+    cases.case('a vote leaves after its flush, and again after a stop', b'')
     cases.tell(EVENT, 'flush', 'stop', EVENT)
     run = cases.drive()
     assert len(run.written) == 230 and run.written[:115] == run.written[115:] and len(run.file) == 361

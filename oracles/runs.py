@@ -222,7 +222,7 @@ def main():
     print('# crates: node_run')
     print('# Runs with checkpoints, as in node_run.cases. pair: the journal is on two disks, and fail counts the calls of both; every: a')
     print('# checkpoint is made after so many bytes; rounds: the reader gives the frames of so many more rounds of the other members. sum: a')
-    print('# run, of whose outputs the number and a sum are told; rewritten: whether the journal was rewritten so often at least, and has fewer')
+    print('# run, of whose outputs the number and a sum are shown; rewritten: whether the journal was rewritten so often at least, and has fewer')
     print('# bytes of events after its checkpoint; areas: how long the area is that is read, and the other one; opened: what a node is opened')
     print('# as. oracles/runs.py has made this file.')
     alone()

@@ -21,28 +21,28 @@ Each move draws its kind, below 64, and a node. Where a kind has nothing to do t
      2  face      a dishonest member is drawn, then a number below 2, and one below 4. It makes a header of the round and the parents of the
                   last header that the node was given as its own: without the first parent if the first number is 1 and there are more than
                   three, and with the batch x or y if the second is 2 or 3. The node is given it
-     2  show      a number below 6 is drawn. Of the dishonest members' headers the one with so many behind it, or else the first, is given
+     2  show      a number below 6 is drawn. Of the dishonest members' headers the one with so many after it, or else the first, is given
      1  batch     the batch x or y of member 3, drawn below 2, is given
-     2  vote      a dishonest member is drawn, and a number below 6: of the honest members' headers the one with so many behind it, or else
+     2  vote      a dishonest member is drawn, and a number below 6: of the honest members' headers the one with so many after it, or else
                   the first, gets the member's vote, which its author is given
      3  gathered  a dishonest member is drawn, and a number below 6. Of the headers on which honest members gave out votes that make a quorum
-                  with those of the dishonest ones, the one with so many behind it, or else the first, is certified by all these votes. The
+                  with those of the dishonest ones, the one with so many after it, or else the first, is certified by all these votes. The
                   node is given it from that member
-     1  forged    a number below 3 and one below 6 are drawn. Of all headers the one with so many behind it, or else the first, is given
+     1  forged    a number below 3 and one below 6 are drawn. Of all headers the one with so many after it, or else the first, is given
                   itself, a vote on it of an honest member that is drawn, or a certificate of all members: without good signatures
      4  coin      a number below 4 is drawn. If it is 0 a wave below 5 is drawn, else it is the node's next. The node is given its coin
      1  fault     a call of a round is drawn. Where the node is up and has anything pending it flushes, and the call fails
      1  stop      the node stops
 
 A flush of a node that is down is one number below 2 before: if that is 0 the node stops. A stop draws what it leaves of the disk. A
-node's next wave is 1 when it is opened, and 1 more behind each coin that it takes, up to 4.
+node's next wave is 1 when it is opened, and 1 more after each coin that it takes, up to 4.
 
 A node wants each header, certificate and vote that another one puts out, but votes only on its own headers, and each of them once. What it
 takes it wants no more, until a stop loses it: then it wants what it had taken since the last round that settled, its own headers too. What
 it refuses it wants no more until it is put out again; but it still wants what it refuses for want of parents or batches, or since it is
 down. A header that is made again is the one that was made before.
 
-The sum is FNV-1a of 64 bits over all lines `KIND: ANSWER`, and behind each schedule over the digests of each node's order.
+The sum is FNV-1a of 64 bits over all lines `KIND: ANSWER`, and after each schedule over the digests of each node's order.
 """
 import collections
 
@@ -132,7 +132,7 @@ class Schedule:
         return [(node + more) % self.nodes for more in range(self.nodes)]
 
     def near_last(self, number, holds):
-        """Of the headers of which this holds the one with so many behind it, or else the first."""
+        """Of the headers of which this holds the one with so many after it, or else the first."""
         found = [header for header in self.made if holds(header)][-number - 1:]
         return found[0] if found else None
 

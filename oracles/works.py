@@ -177,7 +177,7 @@ class Coins:
         self.ordered, self.held = set(), {}
 
     def take(self, made):
-        """What the coin behind this round adds to the order, if there is one."""
+        """What the coin after this round adds to the order, if there is one."""
         self.held.update({(one.round, one.author): one for one in made})
         round_ = made[0].round
         if round_ < 3 or round_ % 2 == 0:
@@ -191,7 +191,7 @@ def add_order(fold, start, digests):
 
 
 def take_round(fold, coins, made):
-    """The certificates of a round, and the coin behind it."""
+    """The certificates of a round, and the coin after it."""
     fold.add_bytes(*[one.certificate for one in made])
     found = coins.take(made)
     if found:
@@ -384,7 +384,7 @@ def run(count):
 
 
 def behind(count, size=70):
-    """Certificates behind rounds without a coin."""
+    """Certificates after rounds without a coin."""
     fold, left = Fold(), MEMBERS * size + count
     for _, made in rounds():
         for one in made[:left]:

@@ -31,7 +31,7 @@ CONFIGURATION = 14 + 7 * 36
 
 
 def group(lengths):
-    """How long a group of such records is behind its gate, the closed gate behind it among it."""
+    """How long a group of such records is after its gate, the closed gate after it among it."""
     return 4 + sum(4 + length for length in lengths) + 1
 
 

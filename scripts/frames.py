@@ -110,7 +110,7 @@ def certificate(body, voters):
 
 
 def body_len(message):
-    """The length of the header's body that a header or a certificate begins with, behind its tag."""
+    """The length of the header's body that a header or a certificate begins with, after its tag."""
     (batches,) = struct.unpack(">H", message[11:13])
     (parents,) = struct.unpack(">H", message[13 + 34 * batches:15 + 34 * batches])
     return 14 + 34 * (batches + parents)

@@ -41,7 +41,7 @@ def environment(every):
 
 
 def parts(content):
-    """What stands behind each length in some bytes, as far as it is whole."""
+    """What stands after each length in some bytes, as far as it is whole."""
     at = 0
     while at + LENGTH_BYTES <= len(content):
         end = at + LENGTH_BYTES + int.from_bytes(content[at:at + LENGTH_BYTES], "big")

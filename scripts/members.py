@@ -12,7 +12,7 @@ import frames
 WRONG_TAG, MARK = 0xFF, "unread 4 BadTag"
 # What a node says of a header that came before what it names, which is given again.
 AGAIN = {"refused 4 MissingParents", "refused 5 MissingBatch"}
-# What a node says of a header behind its round, and of a coin before its turn: in a healthy committee there are these, too.
+# What a node says of a header after its round, and of a coin before its turn: in a healthy committee there are these, too.
 EARLY = {"refused 11 CoinOutOfTurn", "refused 12 CoinEarly"}
 USUAL = AGAIN | EARLY | {"refused 3 TooOld"}
 
