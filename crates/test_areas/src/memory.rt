@@ -158,7 +158,6 @@ fn opens_one(alloc: Global, areas: &Areas) -> Result<bool, AllocError> {
 
 /// Whether an allocation failed and the disks are as they were. If it was an allocation of a disk itself, that is a failure of the device,
 /// and the disks need not be as before.
-/// leaves what it may.
 fn has_left(areas: &Areas, first: &MemDisk, second: &MemDisk, answer: &str) -> bool {
     let is_same = first.bytes() == areas.first.as_slice()
         && second.bytes() == areas.second.as_slice();
