@@ -11,12 +11,12 @@ pub fn quorums_overlap()
     ensures { QuorumsOverlap }
 {}
 
-/// A quorum of a committee shares a member with all who are enough for support.
+/// A quorum of a committee shares a member with any members who weigh enough for support.
 pub fn quorum_meets_support()
     ensures { QuorumMeetsSupport }
 {}
 
-/// What weighs something holds of some member.
+/// If the members for whom something holds weigh more than 0, there is such a member.
 pub fn some_if_weighs()
     ensures { SomeIfWeighs }
 {}
@@ -41,7 +41,7 @@ pub fn quorums_share_honest()
     ensures { QuorumsShareHonest }
 {}
 
-/// Where the faulty members weigh no more than is tolerated, one of all who are enough for support isn't faulty.
+/// Where the faulty members weigh no more than is tolerated, any members who weigh enough for support include one who isn't faulty.
 pub fn support_has_honest()
     ensures { SupportHasHonest }
 {}

@@ -36,21 +36,21 @@ impl MemberSet {
         self.bits |= 1 << member.0;
     }
 
-    /// Puts all of another set into the set.
+    /// Adds the members of another set.
     pub fn unite(&mut self, more: &MemberSet)
         ensures { (member : ℕ) → has self.new member ≡ (has self.old member || has more.now member) }
     {
         self.bits |= more.bits;
     }
 
-    /// Takes all out of the set but those of another one.
+    /// Keeps only the members that another set has too.
     pub fn retain(&mut self, others: &MemberSet)
         ensures { (member : ℕ) → has self.new member ≡ (has self.old member && has others.now member) }
     {
         self.bits &= others.bits;
     }
 
-    /// Takes all of another set out of the set.
+    /// Removes the members of another set.
     pub fn remove_all(&mut self, others: &MemberSet)
         ensures { (member : ℕ) → has self.new member ≡ (has self.old member && not (has others.now member)) }
     {

@@ -125,7 +125,7 @@ impl Switch {
         ensures { count ≡ 0 → IsOk result }
     {
         if count == 0 {
-            // A count of 0 sets nothing, so the answer names a place that no word has.
+            // A count of 0 sets nothing. The answer's place is past the last word, so that revoking it changes nothing.
             return Ok(Told {
                 call,
                 place: MAX_SWITCHED,

@@ -49,7 +49,7 @@ pub fn start<'a, S: Sign, D: Disk>(
     // rewritten.
     ensures disks { IfOk result (λ started. IsReadIn (node_of S.scheme config.now) D.device store (journal_of started.2)) }
     ensures newest { IfOk result (λ started. IsSome (spare_of (journal_of started.2)) → IsNewest (areas_of D.device (journal_of started.2))) }
-    // The disks then have a journal of the node at each state that the areas stood for.
+    // For each state for which the areas stood before the call, the disks now have a journal of the node at this state.
     ensures kept { let node = node_of S.scheme config.now in IfOk result (λ started. KeepsStatesIn node (areas_in D.device store) (areas_of D.device (journal_of started.2))) }
 
     // What the errors say, and what a stop at any moment of the opening may leave.

@@ -46,7 +46,7 @@ pub fn reopen<'a, S: Sign, D: Disk>(
 
     // This state is kept of a legal history, and the bytes stand for it.
     ensures stands_for { IfOk result (λ opened. StandsForAt (node_of S.scheme config.now) (D.device.content disk) opened.0.tables) }
-    // The disk then has a journal of the node at each state that the bytes stood for.
+    // For each state for which the bytes stood before the call, the disk now has a journal of the node at this state.
     ensures kept { IfOk result (λ opened. KeepsStates (node_of S.scheme config.now) (D.device.content disk) (D.device.content (disk_of opened.1))) }
     // One of these states is the validator's.
     ensures holds { IfOk result (λ opened. HoldsAt (node_of S.scheme config.now) (D.device.content (disk_of opened.1)) opened.0.tables) }

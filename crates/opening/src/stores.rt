@@ -45,7 +45,7 @@ pub fn reopen_store<'a, S: Sign, D: Disk>(
 
     // The areas stand for this state.
     ensures stands_for { IfOk result (λ opened. StandsForIn (node_of S.scheme config.now) (areas_in D.device store) opened.0.tables) }
-    // The disks then have a journal of the node at each state that the areas stood for.
+    // For each state for which the areas stood before the call, the disks now have a journal of the node at this state.
     ensures kept { IfOk result (λ opened. KeepsStatesIn (node_of S.scheme config.now) (areas_in D.device store) (areas_of D.device opened.1)) }
     // One of these states is the validator's.
     ensures holds { IfOk result (λ opened. HoldsIn (node_of S.scheme config.now) (areas_of D.device opened.1) opened.0.tables) }
@@ -92,7 +92,7 @@ pub fn reopen_pair<'a, S: Sign, D: Disk>(
 
     // The areas stand for this state.
     ensures stands_for { IfOk result (λ opened. StandsForIn (node_of S.scheme config.now) (pair (D.device.content first) (D.device.content second)) opened.0.tables) }
-    // The disks then have a journal of the node at each state that the areas stood for.
+    // For each state for which the areas stood before the call, the disks now have a journal of the node at this state.
     ensures kept { IfOk result (λ opened. KeepsStatesIn (node_of S.scheme config.now) (pair (D.device.content first) (D.device.content second)) (areas_of D.device opened.1)) }
     // One of these states is the validator's.
     ensures holds { IfOk result (λ opened. HoldsIn (node_of S.scheme config.now) (areas_of D.device opened.1) opened.0.tables) }

@@ -38,7 +38,7 @@ pub fn orders_by_history()
     flatten::each_follows();
 }
 
-/// Listed certificates have the same last committed wave as slots that hold just these above the genesis.
+/// A list of certificates has the same last committed wave as slots that hold just these in the rounds above 0.
 pub fn listed_is_enough()
     ensures { ListedIsEnough }
 {}

@@ -261,7 +261,7 @@ impl<'c> Playing<'c> {
         }
     }
 
-    /// The event for the reference implementation, as long as that takes events.
+    /// The event, for the reference implementation. None once that has taken as many events as it takes at most.
     fn beside_event(&self, sender: Author, message: &Message) -> Result<Option<Event>, FormError> {
         if !self.beside.goes_on() {
             return Ok(None);
