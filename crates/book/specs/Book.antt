@@ -38,7 +38,8 @@ pub record BookView (S : Type 0) : Type 0 where
   pub settled : ℕ
   -- the rewriting in flight, if there is one, by how many of the accepted records it settles
   pub rewriting : Option ℕ
-  -- the length of the order after the settled records, and its later lengths, each with the ticket from which on it has them
+  -- the length of the order after the settled records; and each greater length that it gets by later records, with the ticket from which on
+  -- it has that length
   pub ordered : ℕ
   pub reached : List Reached
   -- whether the book is down, for example because a device call failed

@@ -12,7 +12,7 @@ use std::mem;
 use std::sync::{Mutex, Wait};
 use wire::{Author, Message, Output};
 
-/// A message in flight, which is that of an output. Contracts see it with its sender.
+/// The message of an output, in flight to its receivers. Contracts see it with its sender.
 #[derive(Drop)]
 pub(crate) struct Envelope {
     sender: Author,

@@ -2,12 +2,12 @@
 
 use crate::ending::Ending;
 
-/// A command.
+/// A command, by what it prints.
 #[derive(Clone, Copy, Debug, PartialEq, Eq)]
 pub(crate) enum Command {
     /// The journal's summary.
     Verify,
-    /// Each event.
+    /// Each record.
     List,
     /// Each vote that was given.
     Votes,

@@ -82,7 +82,7 @@ impl Events {
         })
     }
 
-    /// Whether a round is at its end, and at least so many rounds are complete.
+    /// Whether the current round is at its end, and at least this many rounds are complete.
     pub fn are_over(&self, rounds: u64) -> bool {
         self.place >= self.len && self.rounds.number >= rounds
     }

@@ -84,7 +84,7 @@ pub fn events_of(task: Task, committee: &Committee, step: Step) -> Result<Events
 }
 
 impl Task {
-    // How many events make so many pieces.
+    // How many events a step takes in order to do the task's number of pieces.
     fn events(self, step: Step) -> u64 {
         match step {
             // After each odd round except the first a wave ends, with its coin.

@@ -114,7 +114,7 @@ impl<I: Read + Drop> Input<I> {
     }
 }
 
-// The bodies of the frames that a piece completes, and why no more come, if none do.
+// The bodies of the frames that a piece completes; and if no frames come after them, the reason.
 fn cut(alloc: Global, frames: &mut FrameReader, piece: &[u8]) -> (Vec<Vec<u8>>, Option<End>)
     ensures { Cuts frames.old piece.now (bodies_bytes result.0.items) frames.new result.1 }
 {

@@ -215,9 +215,9 @@ impl<'n, 'a, S: Sign> Intake<'n, 'a, S> {
         }
     }
 
-    // Submits what the validator proposes, if that is due. It stays due where an allocation failed, and after a new own header, which adds
-    // no certificate that another one may wait for. The mark of a failed allocation is set only where no event of the caller's was
-    // accepted, and stays set.
+    // Submits what the validator proposes, if a proposal is due. It stays due where an allocation failed, and after a new own header. Such
+    // a header makes no waiting certificate due, since it adds no certificate. The mark of a failed allocation is set only where no event
+    // of the caller's was accepted, and stays set.
     fn propose<R: Wait>(&mut self, rt: &R)
         ensures memory { self.new.was_refused_memory ≢ self.old.was_refused_memory → self.new.caller.seat.view.mine ≡ self.old.caller.seat.view.mine }
         ensures stays { self.old.was_refused_memory ≡ true → self.new.was_refused_memory ≡ true }
@@ -235,9 +235,9 @@ impl<'n, 'a, S: Sign> Intake<'n, 'a, S> {
         }
     }
 
-    // A waiting certificate that is ready, if one may be: where the floor has risen over the lowest round in which one waits, the first
-    // ready one of that round; otherwise the first of the lowest round that is due and has one. The rounds below it stop being due, and
-    // all do where no certificate is ready.
+    // Takes out a waiting certificate that is ready, if there is one. If the floor has risen over the lowest round in which any waits, it
+    // is the first ready one of that round. Otherwise it is the first ready one of the lowest round that is due and has a ready one; the
+    // due rounds below that round stop being due. Where none is ready, no round is due any more.
     fn next_ready<R: Wait>(&mut self, rt: &R) -> Option<Checked>
         ensures idle { self.old.due.waiting ≡ Waiting.Nothing → (result ≡ None) × (self.new ≡ self.old) }
         ensures some { IfSome result (λ event. TakesOne event self.old.waiters self.new.waiters self.old.due self.new.due) }
@@ -267,7 +267,7 @@ impl<'n, 'a, S: Sign> Intake<'n, 'a, S> {
         None
     }
 
-    // The first of a round that waits and is ready.
+    // Takes out the first certificate that waits in this round and is ready.
     fn ready_of<R: Wait>(&mut self, rt: &R, round: u64) -> Option<Checked>
         ensures due { self.new.due ≡ self.old.due }
         ensures some { IfSome result (λ event. IsTakenOut event round self.old.waiters self.new.waiters) }

@@ -33,9 +33,9 @@ impl Fault {
 /// How a checkpoint is made.
 #[derive(Clone, Copy)]
 pub enum Made {
-    /// From all records at once.
+    /// All its records are given at once.
     Whole,
-    /// Record by record, each in two parts.
+    /// Its records are given one after the other, each in two parts.
     Draft,
 }
 

@@ -209,7 +209,7 @@ impl<'a> Trial<'a> {
         Ok(())
     }
 
-    // Stops an opening after a stop, at this call. Gives whether the call was made.
+    // Stops the machine again, at this device call of the opening that follows a first stop. Gives whether that opening made the call.
     fn stop_opening(
         &self,
         done: usize,

@@ -36,7 +36,7 @@ impl Drop for Grip {
 }
 
 impl Grip {
-    /// A grip that sets no call to fail, and with which a stop leaves what a read gives.
+    /// A grip with which no call is set to fail, and a stop leaves of the disk the bytes that a read would give.
     pub fn new(alloc: Global) -> Result<Grip, AllocError> {
         Ok(Grip {
             alloc,
@@ -68,7 +68,7 @@ impl Grip {
     }
 }
 
-/// A list of so many grips.
+/// This many grips.
 pub fn new_grips(alloc: Global, count: u16) -> Result<Vec<Grip>, AllocError> {
     let mut grips = Vec::new(alloc);
     for _ in 0..count {
@@ -77,7 +77,7 @@ pub fn new_grips(alloc: Global, count: u16) -> Result<Vec<Grip>, AllocError> {
     Ok(grips)
 }
 
-/// An empty disk for each of the first so many grips.
+/// An empty disk for each of the first `count` grips.
 pub fn disks_of(alloc: Global, grips: &[Grip], count: usize) -> Result<Vec<GrippedDisk>, AllocError>
     ensures { IfOk result (λ disks. All (λ disk. ⟦<GrippedDisk as Disk>⟧.device.content disk ≡ []) disks.items) }
 {

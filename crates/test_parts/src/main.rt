@@ -87,7 +87,8 @@ fn main(rt: HostRuntime) -> ExitCode {
     }
 }
 
-/// Plays the files that the arguments name; gives whether there is one, and each has commands, all answered as expected.
+/// Plays the files that the arguments name. Gives whether at least one was named, each of them has commands, and each command was answered
+/// as expected.
 fn tested(rt: &HostRuntime) -> Result<bool, Ending> {
     let names = names_of(rt, rt.alloc())?;
     let mut right = !names.is_empty();

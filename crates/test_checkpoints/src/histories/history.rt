@@ -84,7 +84,7 @@ impl<'c> History<'c> {
         Ok(())
     }
 
-    /// Gives the event of a line to all validators. Every so many events one more is loaded before.
+    /// Gives the event of a line to all validators. Before the first event, and then after each `BETWEEN` events, one more is loaded.
     fn take(&mut self, line: &str, answer: &mut String) -> Result<(), FormError> {
         if self.events % BETWEEN == 0 {
             self.load(answer)?;

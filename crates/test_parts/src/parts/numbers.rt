@@ -23,7 +23,7 @@ pub fn genesis(alloc: Global, author: u64, answer: &mut String) -> Told {
     show(&written(alloc, &Message::Certificate(certificate))?, answer)
 }
 
-/// Calls each law, and shows the refusals that no case has.
+/// Calls each law, which does nothing, and shows the errors that no case brings about: those of a failed allocation.
 pub fn laws(answer: &mut String) -> Told {
     one_spelling();
     one_body();
