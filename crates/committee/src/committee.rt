@@ -72,16 +72,14 @@ impl Model for Committee {
 impl Committee {
     ghost use Rattle.committee.specs.Charter.{IsCharter};
 
-    /// Reads a committee from the text of a TOML file: a list `members` of keys in 64 digits 0 to 9 and a to
-    /// f, and where they are there the whole numbers `depth` (2 to 1000 rounds, else 50), `workers` (1 to 16,
-    /// else 1) and `batches` (1 to 1048576, else 1048576), and the list `stakes` of whole numbers (1 to 1000000,
-    /// else 1 each), one a member. There are 4 to 31 members, and without `stakes` 3 f + 1. Other keys of the
-    /// file are ignored.
+    /// Reads a committee from the text of a TOML file. The file has a list `members` of keys, each of 64 digits 0 to 9 and a to f. It may
+    /// have the whole numbers `depth` (2 to 1000 rounds; 50 if it is missing), `workers` (1 to 16; 1 if it is missing) and `batches` (1 to
+    /// 1048576; 1048576 if it is missing), and a list `stakes` of a whole number for each member (1 to 1000000; 1 for each if the list is
+    /// missing). There are 4 to 31 members; without `stakes` there are 3f + 1 of them. Other keys of the file are ignored.
     ///
     /// # Errors
-    /// The first that applies: `NotToml`, `BadSize`, `BadKey`, `RepeatedKey`, `BadLimit`, `BadStake`; or
-    /// `Memory`, where an allocation failed, in place of any other answer. A text of white space and comments
-    /// takes no memory.
+    /// The first that applies: `NotToml`, `BadSize`, `BadKey`, `RepeatedKey`, `BadLimit`, `BadStake`; or `Memory`, where an allocation
+    /// failed, in place of any other answer. To read a text that is only white space and comments takes no memory.
     pub fn read(alloc: Global, text: &str) -> Result<Committee, CommitteeError>
         ensures ok { IfOk result (λ committee. answer_to (parse_document text.now) ≡ Ok committee) }
         ensures refused { IfErr result (λ error. error ≢ CommitteeError.Memory → answer_to (parse_document text.now) ≡ Err error) }
@@ -117,7 +115,7 @@ impl Committee {
         self.stakes.get(author.0 as usize).copied()
     }
 
-    /// The stake of all members.
+    /// The sum of all members' stakes.
     pub fn total(&self) -> u64
         ensures value { result ≡ total_of self.now }
         ensures least { MIN_MEMBERS ≤ result }
@@ -197,8 +195,7 @@ impl Committee {
         self.batches
     }
 
-    /// What holds of each committee: its size, that no key stands there twice, its stakes, and its limits. The
-    /// call does nothing.
+    /// What holds of each committee: its size, that no two members have the same key, its stakes, and its limits. The call does nothing.
     pub fn limits_hold(&self)
         ensures { IsCharter self.now }
     {

@@ -15,7 +15,7 @@ pub enum CommitteeError {
     /// The text is no TOML.
     #[error("2 NotToml")]
     NotToml,
-    /// There are no members, or not 4 to 31 of them, or where the file has no stakes not 3 f + 1 of them.
+    /// There is no list of members; or it has fewer than 4 or more than 31; or the file has no stakes, and their number is not 3f + 1.
     #[error("3 BadSize")]
     BadSize,
     /// A member is no key of 64 digits 0 to 9 and a to f.

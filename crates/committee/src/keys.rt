@@ -59,7 +59,7 @@ fn key_of(element: &Value) -> Option<Key>
     }
 }
 
-/// The keys of the members, or `BadKey` where one is none.
+/// The keys of the members, or `BadKey` where an element of the list is no key.
 pub(crate) fn keys_of(alloc: Global, elements: &[Value]) -> Result<Vec<Key>, CommitteeError>
     ensures each { IfOk result (λ _. list_any is_no_key (map view elements.now) ≡ false) }
     ensures keys { IfOk result (λ keys. keys.items ≡ filter_map key_of (map view elements.now)) }
@@ -76,7 +76,7 @@ pub(crate) fn keys_of(alloc: Global, elements: &[Value]) -> Result<Vec<Key>, Com
     Ok(keys)
 }
 
-/// Whether a key stands there twice.
+/// Whether a key occurs twice.
 pub(crate) fn repeats(keys: &[Key]) -> bool
     ensures { result ≡ repeats keys.now }
 {

@@ -1,4 +1,5 @@
-//! What quorums and support of one committee share and weigh, and who among them is honest. The calls do nothing: their contracts are laws.
+//! What two quorums of a committee share, what quorums and support weigh, and that honest members are among them. The calls do nothing:
+//! their contracts are laws.
 
 ghost use Rattle.std.specs.Prelude.{◌≡◌};
 ghost use Rattle.committee.specs.Shared.{QuorumsOverlap, QuorumMeetsSupport, SomeIfWeighs, SupportIsHonest, ToleratedLeaveQuorum, HonestAreQuorum, QuorumsShareHonest, SupportHasHonest, EqualStakes};
@@ -46,7 +47,8 @@ pub fn support_has_honest()
     ensures { SupportHasHonest }
 {}
 
-/// Where each member has the stake 1, they are counted.
+/// Where each member has the stake 1, members weigh as much as there are of them: of 3f + 1 members, 2f + 1 are a quorum, f + 1 are
+/// support, and f are tolerated.
 pub fn equal_stakes()
     ensures { EqualStakes }
 {}

@@ -1,5 +1,5 @@
-//! The committee: its members' keys and stakes and its limits, read from a TOML file, and what those weigh who
-//! decide.
+//! The committee: its members' keys and stakes and its limits, as read from a TOML file; and how much members weigh, which decides what
+//! is a quorum.
 #![tactic(auto)]
 
 mod committee;

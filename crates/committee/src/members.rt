@@ -25,7 +25,7 @@ pub(crate) fn members_in(table: &Table) -> Option<&[Value]>
     }
 }
 
-/// Whether a committee may have so many members: 4 to 31, and without stakes 3 f + 1.
+/// Whether a committee may have this many members: 4 to 31, and where the file has no stakes 3f + 1.
 pub(crate) fn is_size(staked: bool, members: usize) -> bool
     ensures { result ≡ is_size staked members }
 {

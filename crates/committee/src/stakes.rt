@@ -21,10 +21,10 @@ pub const MAX_STAKE: u64 = 1_000_000;
 /// The stake of each member where the file has no stakes.
 pub const DEFAULT_STAKE: u64 = 1;
 
-/// The stake of all members, at most.
+/// The greatest sum of all members' stakes.
 pub const MAX_TOTAL: u64 = MAX_MEMBERS as u64 * MAX_STAKE;
 
-/// Whether the file says the members' stakes, of whatever type.
+/// Whether the file has the key `stakes`, whatever the type of its value.
 pub(crate) fn has_stakes(table: &Table) -> bool
     ensures { result ≡ has_stakes (table_view table.now) }
 {
@@ -72,7 +72,7 @@ fn equal_stakes(alloc: Global, members: usize) -> Result<Vec<u64>, CommitteeErro
     }
 }
 
-/// The stakes of so many members, or `BadStake` where the file doesn't say one for each.
+/// The stakes of this many members, or `BadStake` where the file's value of `stakes` isn't a list of one stake for each.
 pub(crate) fn stakes_in(
     alloc: Global,
     members: usize,
@@ -103,7 +103,7 @@ pub(crate) fn total_of(stakes: &[u64]) -> u64
     total
 }
 
-/// What a quorum weighs at least, of this total.
+/// The least weight of a quorum, where all members weigh this total.
 pub(crate) fn quorum_of(total: u64) -> u64
     requires { total ≤ MAX_TOTAL }
     ensures { result ≡ 2 * total / 3 + 1 }
@@ -111,7 +111,7 @@ pub(crate) fn quorum_of(total: u64) -> u64
     2 * total / 3 + 1
 }
 
-/// The greatest weight that members who aren't honest may have together, of this total: less than a third.
+/// The greatest weight that members who aren't honest may have together, where all members weigh this total: less than a third of it.
 pub(crate) fn tolerated_of(total: u64) -> u64
     requires { 1 ≤ total }
     ensures { result ≡ (total - 1) / 3 }
@@ -119,7 +119,7 @@ pub(crate) fn tolerated_of(total: u64) -> u64
     (total - 1) / 3
 }
 
-/// The least weight of support, of this total: a third or more.
+/// The least weight of support, where all members weigh this total: a third of it or more.
 pub(crate) fn support_of(total: u64) -> u64
     requires { total ≤ MAX_TOTAL }
     ensures { result ≡ (total + 2) / 3 }
@@ -127,7 +127,7 @@ pub(crate) fn support_of(total: u64) -> u64
     (total + 2) / 3
 }
 
-/// Whether one member's stake is a quorum, whose least weight this is.
+/// Whether one member's stake alone reaches the least weight of a quorum.
 pub(crate) fn one_is_quorum(stakes: &[u64], quorum: u64) -> bool
     ensures { result ≡ list_any (λ stake. nat_le quorum stake) stakes.now }
 {

@@ -126,7 +126,7 @@ impl<D: Disk> Flusher<D> {
         Ok(count)
     }
 
-    /// After this it is certain that all that a caller's seat knows as settled is settled here too. Nothing is written.
+    /// After this call the flusher's own seat knows as settled all that the given seat knows as settled. Nothing is written.
     pub fn cover<'a, S: Sign, R: Wait>(&mut self, rt: &R, node: &Node<'a, S>, seat: &mut Seat)
         requires flusher { IsFlusherOf S.scheme D.device node.now self.old }
         requires of { IsOf node.now seat.old }

@@ -18,7 +18,7 @@ use crate::window::read_area;
 use diskmodel::Disk;
 use std::alloc::Global;
 
-// The first bytes of a disk, at most so many.
+// The first `most` bytes of a disk; all of its bytes, if it has fewer.
 fn read_front<D: Disk>(alloc: Global, disk: &mut D, most: u64) -> Result<Vec<u8>, JournalError>
     ensures bytes { IfOk result (λ bytes. bytes.items ≡ take most (D.device.content disk.old)) }
     ensures content { D.device.content disk.new ≡ D.device.content disk.old }

@@ -42,7 +42,8 @@ pub fn written_groups_stand()
     ensures one_more { (groups : List (List (List ℕ))) (group : List (List ℕ)) → file_with (file_bytes groups) group ≡ file_bytes (groups ++ group ∷ []) }
 {}
 
-/// Two areas are together read as an outcome of both disks, if each of them is an outcome of its disk or is read as the same records.
+/// Take two areas. Let each of them be an outcome of its disk, or have the generation and the records of an outcome that isn't damaged.
+/// Then both together are read as some two outcomes of the disks are.
 pub fn both_stand_as_before<D: Disk>()
     ensures { (first second : D) (left right : List ℕ) → IsAsOneOf (D.device.outcome first) left → IsAsOneOf (D.device.outcome second) right → (one : List ℕ) × (other : List ℕ) × D.device.outcome first one × D.device.outcome second other × (stands_in (pair left right) ≡ stands_in (pair one other)) }
 {}

@@ -46,7 +46,8 @@ fn walk(alloc: Global, bytes: &[u8]) -> Result<(Vec<Record>, u64), JournalError>
     walk_from(alloc, bytes, 0)
 }
 
-// As `walk`, for bytes whose first place is `base`; the place of the closed gate counts from there too.
+// As `walk`, for bytes that stand at the place `base`. The records have their places counted with `base`, and the place of the closed gate
+// is counted from `base`.
 fn walk_from(alloc: Global, bytes: &[u8], base: u64) -> Result<(Vec<Record>, u64), JournalError>
     requires some { 0 < length bytes.now }
     requires base { base ≤ SECOND_AREA }

@@ -37,7 +37,7 @@ impl Side {
         }
     }
 
-    // Of two values, one for each side: the one of this side, and then the other one.
+    // Two values are given, one for each side. The one of this side is put first.
     pub(crate) fn before_other<X>(self, first: X, second: X) -> (X, X)
         ensures { result ≡ (on_side self first second, off_side self first second) }
     {

@@ -20,7 +20,7 @@ use std::alloc::{AllocError, Global};
 // A part of a file, from which groups are read, front first.
 #[derive(Drop)]
 pub(crate) struct Window {
-    // The first `read` bytes were read already; the others are the file's, from the next gate on.
+    // The first `read` bytes are no longer needed. The others are those of the file from the next gate on.
     bytes: Vec<u8>,
     read: usize,
     // The place of the next gate, and the length of the file.

@@ -97,7 +97,7 @@ impl<'n, 'a, S: Sign> Caller<'n, 'a, S> {
         self.node.submit(rt, &mut self.seat, event)
     }
 
-    /// The next output that may leave; None where the node is down.
+    /// The next output that may leave. None where there is none, or where the node is down.
     pub fn collect<R: Wait>(&mut self, rt: &R) -> Option<Output>
         ensures stays { StaysWith self.old self.new }
         ensures learned { Learned S.scheme self.old.node self.old.seat self.new.seat }

@@ -136,8 +136,8 @@ impl<'n, 'a, S: Sign, D: Disk> Rounds<'n, 'a, S, D> {
         self.flusher.len(self.node)
     }
 
-    /// After this it is certain that all that a caller knows as settled is settled here too, so what it collected is part of what a stop
-    /// leaves.
+    /// After this call the flusher's seat knows as settled all that this caller knows as settled. So what the caller collected rests on
+    /// records that every stop leaves on the disks.
     pub fn cover<R: Wait>(&mut self, rt: &R, caller: &mut Caller<'n, 'a, S>)
         requires node { caller.old.node ≡ self.old.node }
         ensures node { self.new.node ≡ self.old.node }

@@ -10,7 +10,7 @@ use std::thread::{self, Promise, Scope, Threads};
 
 /// A piece of work for a thread.
 pub(crate) trait Work<R: Wait, X> {
-    /// How a work's result is related to the work.
+    /// How the result of the work is related to the work.
     ghost does: { Self → X → Type 0 };
 
     /// Does the work.
@@ -18,7 +18,7 @@ pub(crate) trait Work<R: Wait, X> {
         ensures { does self result };
 }
 
-// The promise of a thread that did a work.
+// The promise of a thread that did its work.
 struct Done<R, F> {
     runtime: PhantomData<R>,
     work: Snapshot<F>,
@@ -37,8 +37,8 @@ impl<R: Wait, F: Work<R, X>, X> Promise<X> for Done<R, F> {
     ghost kept_by = { λ done result. F.does done.work.value result };
 }
 
-/// Does two works in threads of their own, and the third in this thread. Gives their results once all have ended. None where the first
-/// thread couldn't be made; where the second couldn't, `instead` is done in place of the third work.
+/// Does two pieces of work in threads of their own, and the third, `here`, in this thread. Gives their results once all have ended. The
+/// result is None where the first thread couldn't be made. Where the second couldn't be made, `instead` is done in place of `here`.
 pub(crate) fn do_beside<R, F, G, H, I, X, Y, Z>(
     rt: &R,
     first: F,

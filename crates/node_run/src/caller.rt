@@ -166,7 +166,8 @@ impl<'n, 'a, S: Sign> Caller<'n, 'a, S> {
         Ok(())
     }
 
-    /// After this it is certain that all that this caller knows as settled is settled by the rounds, so what it collected is on the disk.
+    /// After this call the flusher's seat knows as settled all that this caller knows as settled. So what the caller collected rests on
+    /// records that are on the disk.
     pub(crate) fn cover<D: Disk, R: Wait>(&mut self, rt: &R, rounds: &mut Rounds<'n, 'a, S, D>)
         requires node { self.old.node ≡ rounds.old.node }
         ensures stays { StaysAsIs rounds.old.flusher rounds.new.flusher }

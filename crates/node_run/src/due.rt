@@ -5,23 +5,23 @@ ghost use Rattle.node_run.specs.Asking.{Leaves, LacksNothingBelow, nothing_due, 
 
 use wire::{Author, Message, Round};
 
-/// Of which rounds certificates that wait may be ready.
+/// The rounds of which waiting certificates may be ready.
 #[derive(Clone, Copy)]
 pub(crate) enum Waiting {
-    /// Of none.
+    /// No round.
     Nothing,
-    /// Of each round from the lowest on that is below the end, which may be none. Others are ready only where the floor has risen over
-    /// the lowest that waits.
+    /// Each round from `low` on that is below `end`; this may be no round. A waiting certificate of another round is ready only where the
+    /// floor has risen over the lowest round of which one waits.
     Rounds {
-        /// The lowest of the rounds.
+        /// The lowest of these rounds.
         low: u64,
-        /// The round after the highest of them.
+        /// The round after the highest of these rounds.
         end: u64,
     },
 }
 
 impl Waiting {
-    // Those of either.
+    // The rounds of both, and all rounds between them.
     fn and(self, other: Waiting) -> Waiting
         ensures { result ≡ both_waiting self other }
     {
@@ -52,7 +52,7 @@ pub(crate) struct Due {
 }
 
 impl Due {
-    /// What is due of a node of which nothing was asked yet: what it proposes. No certificate waits then.
+    /// What is due at a node that was not asked anything yet: what it proposes. No certificate waits then.
     pub(crate) const fn first() -> Due
         ensures { result ≡ first_due }
     {
@@ -69,7 +69,7 @@ impl Due {
         matches!(self.waiting, Waiting::Nothing) && !self.proposal
     }
 
-    /// What is due in either of the two.
+    /// What is due by either of the two.
     pub(crate) fn and(self, other: Due) -> Due
         ensures { result ≡ both_due self other }
     {
@@ -113,7 +113,7 @@ pub(crate) fn due_after(own: Author, message: &Message) -> Due
     }
 }
 
-// What is due after a certificate of this round entered.
+// What is due after a certificate of this round has entered the DAG.
 fn certificate_due(round: Round) -> Due
     ensures { result ≡ record { waiting = Waiting.Rounds round (suc (suc round)); proposal = true } }
 {
@@ -124,8 +124,8 @@ fn certificate_due(round: Round) -> Due
     }
 }
 
-/// Where the floor has risen over a certificate that waits, it lacks no parents, and neither does one of a lower round. So where the
-/// lowest lacks one, the floor has risen over none.
+/// If the floor has risen over a waiting certificate, neither it nor a certificate of a lower round lacks parents. So if the lowest one
+/// that waits lacks a parent, the floor has risen over none of them.
 pub(crate) fn low_ones_lack_nothing()
     ensures { LacksNothingBelow }
 {}

@@ -80,7 +80,7 @@ impl<'n, 'a, R: Wait, S: Sign, D: Disk + Drop> Work<R, (Faults, Rounds<'n, 'a, S
     }
 }
 
-// The work of the writing thread, which gives back its writer and what it called the node with.
+// The work of the writing thread, which gives back its writer and the caller with which it called the node.
 #[derive(Drop)]
 struct Writing<'n, 'a, S: Sign, W: Write + Drop> {
     caller: Caller<'n, 'a, S>,
@@ -289,8 +289,8 @@ where
     (rounds.into_store(), writer)
 }
 
-// Runs the third work, reading, beside the other two. A function of its own, since the prover searches too long for the lifetimes of all
-// three at once.
+// Does the third piece of work, reading, beside the other two. It is a function of its own because the prover searches too long for the
+// lifetimes of all three at once.
 fn read_beside<R, S, F, G, I, E, C, X, Y>(
     rt: &R,
     first: F,

@@ -127,7 +127,7 @@ impl<'a, S: Sign> Node<'a, S> {
             .catch_up_durable::<Brand, R>(rt, seat, &mut flush.seat, count);
     }
 
-    /// After this it is certain that the flush seat knows as settled whatever the seat knows as settled. Nothing else changes.
+    /// After this call the flush seat knows as settled all that the other seat knows as settled. Nothing else changes.
     pub fn cover<R: Wait>(&self, rt: &R, flush: &mut FlushSeat, seat: &mut Seat)
         requires flush { IsFlushOf self.now flush.old }
         requires of { IsOf self.now seat.old }

@@ -26,7 +26,7 @@ const HEADER_LETTER: u8 = 0x48;
 /// The letter C, which precedes a certificate in what is digested.
 const CERTIFICATE_LETTER: u8 = 0x43;
 
-// In one piece, since one call of the hasher costs as much as a few bytes.
+// The bytes of a reference to a batch, in one array: each call of the hasher costs as much as hashing a few bytes more.
 fn batch_bytes(batch: &BatchReference) -> [u8; 34]
     ensures { result ≡ batch_reference_bytes batch.now }
 {
@@ -36,7 +36,7 @@ fn batch_bytes(batch: &BatchReference) -> [u8; 34]
     bytes
 }
 
-// Feeds the references to batches, without their count.
+// Hashes the references to batches, without their count.
 fn feed_batches(hasher: &mut Sha256, batches: &[BatchReference])
     ensures { (m : List ℕ) → Holds256 hasher.old m → Holds256 hasher.new (m ++ flat_map batch_reference_bytes batches.now) }
 {
@@ -73,7 +73,7 @@ fn slot_bytes(author: Author, round: Round) -> [u8; 11]
     bytes
 }
 
-// Everything that precedes the references to batches, of which there are so many.
+// What is hashed of a header before its references to batches: the letter, author, round, and how many such references there are.
 fn head_bytes(author: Author, round: Round, batches: u16) -> [u8; 13]
     ensures { result ≡ (72 ∷ to_be_bytes w16 author.0 ++ to_be_bytes w64 round) ++ to_be_bytes w16 batches }
 {
@@ -100,7 +100,7 @@ fn body_digest(
     Digest(hasher.finalize())
 }
 
-/// The digest of a batch: of its body, which has its author and its worker too.
+/// The digest of a batch. The body that is digested has the batch's author and worker too.
 pub fn batch_digest(batch: &Batch) -> Digest
     ensures { result.0 ≡ batch_digest_of batch.now }
 {

@@ -1,5 +1,5 @@
-//! The messages of the validators: their types, which keep the limits and the order of every list, their one encoding in bytes, and the
-//! digests.
+//! The messages of the validators: their types, the one encoding of each message in bytes, and the digests. The types keep the limits of
+//! the messages, and the order of every list in them.
 #![tactic(auto)]
 
 mod batch;

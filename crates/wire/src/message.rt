@@ -22,7 +22,7 @@ pub struct BatchAck {
 pub struct Coin {
     /// The wave.
     pub wave: Wave,
-    /// The coin's value, whatever its range.
+    /// The coin's value: any number of eight bytes.
     pub value: u64,
 }
 

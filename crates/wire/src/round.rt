@@ -56,7 +56,7 @@ impl Round {
     }
 }
 
-/// A wave of three rounds, `2w - 1` to `2w + 1`: from 1 to `Wave::MAX`.
+/// A wave, by its number, from 1 to `Wave::MAX`. Wave w has the three rounds `2w - 1`, `2w` and `2w + 1`.
 #[derive(Clone, Copy, Debug, PartialEq, Eq, PartialOrd, Ord, Hash)]
 pub struct Wave {
     number: u64,
