@@ -32,7 +32,7 @@ pub fn limits_in_numbers()
 /// The answer to an event that was accepted, or was known.
 #[derive(Clone, Copy, Debug, PartialEq, Eq)]
 pub struct Receipt {
-    /// How many records were accepted in this run, this event's included if it is new. The event's outputs may leave once so many are
+    /// How many records were accepted in this run, this event's included if it is new. The event's outputs may leave once that many are
     /// settled.
     pub ticket: u64,
     /// Whether the event is new; else it is known.
@@ -381,7 +381,7 @@ impl<'a, S: Sign> Book<'a, S> {
     }
 }
 
-// How many records are settled after so many more were written, or after the rewriting was.
+// How many records are settled after this many more were written, or after the rewriting was.
 fn settled_with(rewriting: Option<u64>, settled: u64, records: u64) -> u64
     requires { rewriting ≡ None → settled + records < 2 ^ 64 }
     ensures { result ≡ settled_to rewriting (settled + records) }

@@ -45,7 +45,7 @@ pub(crate) fn dequeue(queue: &mut VecDeque<Queued>) -> Option<Output>
     output
 }
 
-/// Whether there is a first output, and its ticket is among so many settled records.
+/// Whether there is a first output, and its ticket is among this many settled records.
 pub(crate) fn has_settled_head(queue: &VecDeque<Queued>, settled: u64) -> bool
     requires each { All HasOutput queue.now.items }
     ensures { result ≡ is_some (settled_head settled (queue_of queue.now.items)) }

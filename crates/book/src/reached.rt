@@ -27,7 +27,7 @@ pub(crate) fn note_order(reached: &mut VecDeque<Reached>, ticket: u64, before: u
     }
 }
 
-/// Removes the entries up to so many records, and gives the length of the order there; `first` is the length before the first entry.
+/// Removes the entries up to this many records, and gives the length of the order there; `first` is the length before the first entry.
 pub(crate) fn leave_to(reached: &mut VecDeque<Reached>, count: u64, first: u64) -> u64
     ensures length { result ≡ length_at count first reached.old.items }
     ensures later { (later : ℕ) → count ≤ later → length_at later result reached.new.items ≡ length_at later first reached.old.items }

@@ -49,7 +49,7 @@ where
     }
 }
 
-/// Runs each member in a thread of its own for so many turns, and routes their messages in this thread. On `AllocError` an allocation
+/// Runs each member in a thread of its own for this many turns, and routes their messages in this thread. On `AllocError` an allocation
 /// failed, or a thread couldn't be made.
 pub(crate) fn run_members<'a, R, S, D, V, G>(
     rt: &R,

@@ -33,7 +33,7 @@ impl Reads {
         Reads { number: 0 }
     }
 
-    /// Counts so many more.
+    /// Counts this many more.
     pub(crate) fn add(&mut self, count: u64)
         requires { self.old + count < 2 ^ 64 }
         ensures { self.new ≡ self.old + count }

@@ -184,7 +184,7 @@ pub(crate) fn parents(rows: &VecDeque<Row>, floor: Round, round: u64, author: Au
     }
 }
 
-/// Removes so many rows from the front.
+/// Removes this many rows from the front.
 pub(crate) fn drop_front(rows: &mut VecDeque<Row>, count: usize)
     ensures { rows.new.items ≡ drop count rows.old.items }
 {

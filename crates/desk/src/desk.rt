@@ -219,7 +219,7 @@ impl<'a, S: Sign, D: Disk> Desk<'a, S, D> {
         // The error is Device exactly where the disk has failed.
         ensures cause { TellsFault FlushError.Device (D.device.faults (disk_of self.old.journal)) (D.device.faults (disk_of self.new.journal)) result }
         ensures setting { self.new.book.validator.setting ≡ self.old.book.validator.setting }
-        // In the desk's world so many events are taken, the four device calls are made, and the events are settled.
+        // In the desk's world this many events are taken, the four device calls are made, and the events are settled.
         ensures steps { let node = node_of S.scheme self.old.book.validator.setting in IfOk result (λ count. self.old.book.pending ≢ [] → (world : World) → IsAt node D.device world self.old
             → LeadsTo node D.device world (take_to (length world.settled + count) ∷ device_call ∷ device_call ∷ device_call ∷ device_call ∷ settle ∷ []) self.new) }
         // Where the desk goes down, the events are taken in its world.

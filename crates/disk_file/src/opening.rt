@@ -108,7 +108,7 @@ pub(crate) fn read_on(
     Ok(())
 }
 
-// Reads so many bytes from a place on.
+// Reads this many bytes from a place on.
 fn read_piece(
     file: &File,
     tape: &mut Tape,

@@ -27,7 +27,7 @@ impl Refusals {
         }
     }
 
-    /// Makes room in a list for so many more elements. A failed allocation is counted.
+    /// Makes room in a list for this many more elements. A failed allocation is counted.
     pub fn grow<T>(&mut self, list: &mut Vec<T>, additional: usize) -> Result<(), AllocError>
         ensures items { list.new.items ≡ list.old.items }
         ensures capacity { vec_capacity list.old ≤ vec_capacity list.new }

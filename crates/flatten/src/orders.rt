@@ -34,7 +34,7 @@ fn next_set(
     set
 }
 
-/// The certificates that a leader orders, in at most so many rounds from the leader's downwards: those that it reaches and that are free.
+/// The certificates that a leader orders, in at most this many rounds from the leader's downwards: those that it reaches and that are free.
 /// It ends where none is left. All references of the ordered certificates are read, except in the last of the rounds.
 pub(crate) fn ordered(
     alloc: Global,

@@ -41,7 +41,7 @@ pub(crate) fn free_at(dag: &Dag, top: u64, taken: &[MemberSet], round: u64) -> M
     free
 }
 
-// Adds empty sets until there are so many.
+// Adds empty sets until there are this many.
 fn extend(sets: &mut Vec<MemberSet>, count: usize) -> Result<(), AllocError>
     ensures same { OnOk result ((place author : ℕ) → is_in sets.new.items place author ≡ is_in sets.old.items place author) }
     ensures long { OnOk result (count ≤ vec_len sets.new) }

@@ -13,7 +13,7 @@ use Rattle.wire.specs.declared.limits.TheConstants.{MAX_BATCHES, MAX_PARENTS}
 use Rattle.wire.specs.declared.references.BatchReference.{BatchReference}
 use Rattle.wire.specs.declared.references.ParentReference.{ParentReference}
 
--- the fault of a list that may have at most so many entries, which have to be in strictly ascending order
+-- the fault of a list that may have at most this many entries, which have to be in strictly ascending order
 abbrev pub list_fault : ℕ → ℕ → Bool → Option WireError
 list_fault limit count rises = if nat_lt limit count then Some TooMany else if not rises then Some NotCanonical else None
 

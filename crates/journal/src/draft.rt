@@ -105,7 +105,7 @@ struct LastGroup {
     records: usize,
 }
 
-// Whether a group with so many records and a body of this length has room for a record of this length.
+// Whether a group with this many records and a body of this length has room for a record of this length.
 fn has_room(records: usize, body: usize, len: usize) -> bool
     requires { body + (LENGTH_BYTES + len) < 2 ^ 64 }
     ensures { result ≡ (nat_lt records MAX_GROUP_RECORDS && nat_le (body + (LENGTH_BYTES + len)) MAX_GROUP_BYTES) }

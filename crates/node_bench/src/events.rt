@@ -125,7 +125,7 @@ impl Events {
         Ok((PEER, Message::Batch(batch)))
     }
 
-    // The certificate that so many others of the round precede.
+    // The certificate that this many others of the round precede.
     fn certificate(&self, before: u16) -> Result<(Author, Message), Ending> {
         let author = match self.front {
             Front::Votes => Author(before.saturating_add(1)),

@@ -22,7 +22,7 @@ impl Fold {
         self.value = (self.value ^ number).wrapping_mul(1_099_511_628_211);
     }
 
-    /// Adds the length of bytes, and the first eight bytes where there are so many.
+    /// Adds the length of bytes, and the first eight bytes where there are that many.
     pub fn add_bytes(&mut self, bytes: &[u8]) {
         self.add(bytes.len() as u64);
         if let Some(front) = bytes.first_chunk::<8>() {

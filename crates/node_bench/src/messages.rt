@@ -34,7 +34,7 @@ pub fn small_batch(alloc: Global, author: Author, number: u64) -> Result<Batch, 
     batch(alloc, author, number, SMALL_BYTES)
 }
 
-/// A batch whose body has so many bytes, or up to four less, with a number in its transactions that makes it another one
+/// A batch whose body has this many bytes, or up to four less, with a number in its transactions that makes it another one
 /// than those of other numbers.
 pub fn batch(alloc: Global, author: Author, number: u64, size: u64) -> Result<Batch, Ending> {
     let mut transaction = [FILLING; STRIDE - LENGTH_BYTES];

@@ -29,7 +29,7 @@ pub fn put_batches(task: Task, config: &Config<HashSign>, fold: &mut Fold) -> Re
     Ok(())
 }
 
-// Puts so many batches into a new store that holds as many as the size says.
+// Puts this many batches into a new store that holds as many as the size says.
 fn put_some(
     task: Task,
     config: &Config<HashSign>,

@@ -9,7 +9,7 @@ use opening::reopen_pair;
 use sigface::HashSign;
 use validator::{Config, Validator};
 
-/// Writes a checkpoint of a validator that holds so many batches to a journal on two disks. Without the work only the validator and an
+/// Writes a checkpoint of a validator that holds this many batches to a journal on two disks. Without the work only the validator and an
 /// empty journal are made.
 pub fn write_checkpoint(
     task: Task,
@@ -52,7 +52,7 @@ fn records_of(task: Task, config: &Config<HashSign>) -> Result<Vec<Vec<u8>>, End
     Ok(validator.kept_records()?)
 }
 
-// Gives a validator so many batches of another member.
+// Gives a validator this many batches of another member.
 fn hold_batches(task: Task, validator: &mut Validator<'_, HashSign>) -> Result<(), Ending> {
     let mut events = events_of(task, validator.committee(), Step::Batch)?;
     for _ in 0..task.count {

@@ -14,7 +14,7 @@ const BATCHES: u64 = 1_048_576;
 /// The configuration of the node in the committee of a task.
 ///
 /// # Errors
-/// `Usage` where there is no committee of so many members.
+/// `Usage` where there is no committee of this many members.
 pub fn config_of(task: Task) -> Result<Config<HashSign>, Ending> {
     let file = file_of(task)?;
     let committee = Committee::read(task.alloc, file.as_str())?;

@@ -24,8 +24,8 @@ use wire::Author;
 /// The members whose batches are submitted, each by a thread of its own.
 const MEMBERS: [Author; 3] = [Author(1), Author(2), Author(3)];
 
-/// Three threads submit so many batches each to a node. A fourth thread flushes whenever so many more were accepted, and releases the
-/// outputs. Without the work as many events go through a validator alone.
+/// Three threads each submit the task's number of batches to a node. A fourth thread flushes whenever as many more were accepted as the
+/// size says, and releases the outputs. Without the work as many events go through a validator alone.
 pub fn share_node<R: Threads + Wait + Sync>(
     rt: &R,
     task: Task,
@@ -103,7 +103,7 @@ fn join_all(folds: Vec<Result<Fold, Ending>>, all: &mut Fold) -> Result<(), Endi
     Ok(())
 }
 
-// Rings the bell whenever so many more events were accepted, from all threads together.
+// Submits this thread's batches. Rings the bell whenever as many more events were accepted, from all threads together, as the size says.
 fn submit_batches<S: Sign, R: Wait>(
     rt: &R,
     task: Task,
@@ -154,8 +154,8 @@ fn flush<S: Sign, D: Disk, R: Wait>(
     Ok(count)
 }
 
-/// This thread submits so many batches to a node, flushes whenever as many more were accepted as the size says, and releases the outputs.
-/// Without the work as many batches go through a validator alone.
+/// This thread submits the task's number of batches to a node, flushes whenever as many more were accepted as the size says, and releases
+/// the outputs. Without the work as many batches go through a validator alone.
 pub fn submit_alone<R: Wait>(
     rt: &R,
     task: Task,

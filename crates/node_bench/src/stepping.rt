@@ -30,7 +30,7 @@ pub fn take_all(
     Ok(())
 }
 
-// Gives events to a new validator until there were so many pieces or the validator has to be replaced, and gives how many pieces are left.
+// Gives events to a new validator, until this many pieces are done or the validator has to be replaced. Gives how many pieces are left.
 fn take_some(
     task: Task,
     config: &Config<HashSign>,

@@ -77,8 +77,8 @@ fn records_of(task: Task) -> Result<Vec<Vec<u8>>, AllocError> {
     Ok(records)
 }
 
-/// Sends events through a book, whose records are flushed whenever so many more were accepted. Without the work the same events go through
-/// a validator alone.
+/// Sends events through a book, whose records are flushed whenever as many more were accepted as the size says. Without the work the same
+/// events go through a validator alone.
 pub fn keep_book(task: Task, config: &Config<HashSign>, fold: &mut Fold) -> Result<(), Ending> {
     if !task.is_work {
         let is_work = true;
@@ -181,8 +181,8 @@ fn keep(kept: &mut Vec<u8>, journal: Journal<MemDisk>) -> Result<(), AllocError>
     Ok(())
 }
 
-/// Opens a journal of so many certificates and coins, in groups as long as they may be. Without the work only the journal and its disk are
-/// made.
+/// Opens a journal of this many certificates and coins, in groups as long as they may be. Without the work only the journal and its disk
+/// are made.
 pub fn reopen_journal(
     task: Task,
     config: &Config<HashSign>,

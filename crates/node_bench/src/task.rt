@@ -356,7 +356,7 @@ pub fn task_of(alloc: Global, words: &[String]) -> Option<Task> {
     }
 }
 
-/// The task of so many pieces of a kind, with this size or the kind's default.
+/// The task of this many pieces of a kind, with this size or the kind's default.
 pub fn sized(alloc: Global, word: &str, count: u64, size: Option<u64>) -> Option<Task> {
     let (is_work, name) = match word.strip_prefix(PREPARE) {
         Some(name) => (false, name),

@@ -18,7 +18,7 @@ use wire_read::{FrameReader, decode};
 /// The bytes that one compression takes.
 const BLOCK: &[u8; 64] = b"0123456789abcdefghijklmnopqrstuvwxyzABCDEFGHIJKLMNOPQRSTUVWXYZ-_";
 
-/// Hashes so many blocks of 64 bytes: one compression for each, and one more at the end.
+/// Hashes this many blocks of 64 bytes: one compression for each, and one more at the end.
 pub fn hash(task: Task, fold: &mut Fold) {
     let mut hasher = Sha256::new();
     if task.is_work {

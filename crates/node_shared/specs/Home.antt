@@ -50,8 +50,8 @@ seen_in node base seat = after_all node base (events seat.view.seen)
 abbrev pub durable_in : Node → State → SeatView → State
 durable_in node base seat = after_all node base (events seat.view.durable)
 
--- A flush seat belongs to a node, as its seat does. Its counts are right: of what its seat has seen so many are settled, which the seat
--- knows, and at least as many are taken.
+-- A flush seat belongs to a node, as its seat does. Its counts are right: its seat knows as settled as many events as it counts settled,
+-- and it counts at least as many as taken, all of which its seat has seen.
 pub record IsFlushOf {S : Type 0} (node : NodeView S) (flush : FlushSeat) : Type 0 where
   pub of_node : IsOf node flush.seat
   pub settled : flush.settled ≡ length flush.seat.view.durable

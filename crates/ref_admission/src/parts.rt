@@ -2,7 +2,7 @@
 
 ghost use Rattle.std.specs.Prelude.{◌≡◌, ◌≤◌, length, take};
 
-/// The first items of a list, at most so many.
+/// The first items of a list, at most this many.
 pub fn first_of<T>(list: &[T], most: usize) -> &[T]
     ensures value { result.now ≡ take most list.now }
     ensures few { length result.now ≤ most }

@@ -11,7 +11,7 @@ use Rattle.sigface.specs.Pair.{first_half, second_half, pair_signature}
 length-both : (xs ys : List ℕ) → length (xs ++ ys) ≡ length xs + length ys
 length-both xs ys = grind (arith, common_steps)
 
--- so many bytes followed by so many more
+-- this many bytes, followed by this many more
 both_bytes : (n k : ℕ) (xs ys : List ℕ) → HasBytes n xs → HasBytes k ys → HasBytes (n + k) (xs ++ ys)
 both_bytes n k xs ys front back = record {
   count_is = omega (arith, length-both xs ys, front.count_is, back.count_is);

@@ -30,7 +30,7 @@ impl Drop for Settings {
 }
 
 impl Settings {
-    /// The settings for a committee of this depth, in which a member holds at most so many batches. On `AllocError` an allocation failed.
+    /// The settings for a committee of this depth, in which a member holds at most this many batches. On `AllocError` an allocation failed.
     pub fn new(alloc: Global, depth: u64, batches: u64) -> Result<Settings, AllocError> {
         let file = committee_file(alloc, depth, batches)?;
         let configs = configs_of(alloc, file.as_str())?;

@@ -17,7 +17,7 @@ pub const BATCHES: u64 = 1_048_576;
 /// The number of members in the committee of a script.
 const MEMBERS: u16 = 4;
 
-/// The line of a committee file that lists so many members.
+/// The line of a committee file that lists this many members.
 pub fn member_list(alloc: Global, members: u16) -> Result<String, AllocError> {
     let mut file = String::from_str(alloc, "members = [")?;
     for member in 0..members {

@@ -37,7 +37,7 @@ pub data Phase : Type 0 where
   -- the gate was opened: once that is synced, the group is durable, and the append of the next one can begin
   gate_opened : Phase
 
--- an output that waits until so many events of this run are settled
+-- an output that waits until this many events of this run are settled
 pub record Waiting : Type 0 where
   pub ticket : ℕ
   pub output : Output

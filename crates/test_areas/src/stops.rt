@@ -104,7 +104,7 @@ impl<'a> Trial<'a> {
         Ok(found)
     }
 
-    // The disks after so many calls of the rewriting, with the next one failing.
+    // The disks after this many calls of the rewriting, with the next one failing.
     fn stopped(&self, done: usize) -> Result<Disks, AllocError> {
         let mut text = String::new(self.alloc);
         self.played(done, &mut text)

@@ -90,7 +90,7 @@ pub fn are_alike(left: &MemDisk, right: &MemDisk) -> bool {
     }
 }
 
-/// Appends a group of so many batches of member 2, numbered from this one on, and opens the gate before it.
+/// Appends a group of this many batches of member 2, numbered from this one on, and opens the gate before it.
 pub fn add_batches(area: &mut Vec<u8>, from: u32, count: u32) -> Told {
     if let Some(gate) = area.last_mut() {
         *gate = OPEN;

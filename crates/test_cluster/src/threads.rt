@@ -116,7 +116,7 @@ fn count_of(count: &AtomicU64) -> u64 {
     count.load(Ordering::SeqCst)
 }
 
-/// `circulate TURNS` gives each of four nodes its own header, without flushing it, and lets them run for so many turns, the others from
+/// `circulate TURNS` gives each of four nodes its own header, without flushing it, and lets them run for this many turns, the others from
 /// node 0's second turn on. Shows how many outputs each node then has, and how many of these the others know.
 pub fn circulate<R>(rt: &R, alloc: Global, settings: &Settings, words: &str, answer: &mut String)
 where

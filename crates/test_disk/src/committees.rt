@@ -96,7 +96,7 @@ fn committee_of(
     }
 }
 
-/// Adds the line of a committee file that has the keys of so many members.
+/// Adds the line of a committee file that has the keys of this many members.
 fn put_keys(file: &mut String, count: usize) -> Told {
     file.push_str("members = [")?;
     let mut byte = 0u8;

@@ -76,7 +76,7 @@ impl Cases {
 }
 
 /// The prefix of an argument that ends with a number of events. For the files that are named after it, tables are restored along their
-/// histories, each time after so many events.
+/// histories, each time after this many events.
 const RESTORED_AFTER: &str = "restored-after=";
 
 fn main(rt: HostRuntime) -> ExitCode {
@@ -106,7 +106,7 @@ fn tested(rt: &HostRuntime) -> Result<bool, Ending> {
     Ok(has_enough(rt, events > 0, &counts)? && right)
 }
 
-/// Restores tables along the histories of the file with this name, each time after so many events, and gives whether all were alike.
+/// Restores tables along the histories of the file with this name, each time after this many events, and gives whether all were alike.
 fn are_alike(
     rt: &HostRuntime,
     name: &str,

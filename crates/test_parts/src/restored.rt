@@ -1,5 +1,6 @@
-//! The tests of restoring tables. Each history of a file of cases is played by a member. Whenever it has taken so many events, its tables
-//! are taken apart and restored in a second member; both then take the events up to the next such place, and have to be alike.
+//! The tests of restoring tables. Each history of a file of cases is played by a member. Each time that it has taken a number of events,
+//! which an argument gives, its tables are taken apart and restored in a second member. Both then take the same number of events more, and
+//! have to be alike.
 
 mod alike;
 mod counts;

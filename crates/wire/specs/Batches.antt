@@ -42,7 +42,7 @@ pub record IsBatch (b : BatchView) : Type 0 where
   pub each : All IsTransaction b.transactions
   pub short : body_len b.transactions ≤ MAX_BATCH_BYTES
 
--- so many transactions, each with its length before it
+-- this many transactions, each with its length before it
 unfoldable pub transactions_in : ℕ → List ℕ → List (List ℕ)
 transactions_in zero bytes = []
 transactions_in (suc n) bytes =
@@ -51,7 +51,7 @@ transactions_in (suc n) bytes =
 
 -- ---- how the types keep a batch
 
--- the batch of this author and worker whose body, from its ninth byte on, has so many transactions
+-- the batch of this author and worker whose body, from its ninth byte on, has this many transactions
 abbrev pub contents_of : Author → ℕ → ℕ → List ℕ → BatchView
 contents_of author worker count body = record { author = author; worker = worker; transactions = transactions_in count (drop 8 body) }
 

@@ -10,7 +10,7 @@ use Rattle.wire.specs.declared.keys.Signature.{Signature}
 abbrev pub AreBytes : List ℕ → Type 0
 AreBytes = All (λ byte. byte < 256)
 
--- so many bytes
+-- this many bytes
 pub record HasBytes (count : ℕ) (bytes : List ℕ) : Type 0 where
   pub count_is : length bytes ≡ count
   pub each : AreBytes bytes

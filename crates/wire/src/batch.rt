@@ -125,7 +125,7 @@ impl OpenBatch {
         OpenBatch::with_room(alloc, author, worker, 0)
     }
 
-    /// A batch without transactions, with room for so many bytes of transactions and their lengths, but never for more than a body may
+    /// A batch without transactions, with room for this many bytes of transactions and their lengths, but never for more than a body may
     /// have.
     pub fn with_room(
         alloc: Global,
@@ -155,7 +155,7 @@ impl OpenBatch {
         self.count == 0
     }
 
-    /// Whether the body has room for one more transaction of so many bytes.
+    /// Whether the body has room for one more transaction of this many bytes.
     pub fn has_room(&self, len: usize) -> bool
         ensures { result ≡ has_room self.now.transactions len }
     {

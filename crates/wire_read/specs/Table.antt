@@ -25,7 +25,7 @@ pub data Part : Type 0 where
 
 -- ---- fields
 
--- so many bytes, whatever they are
+-- this many bytes, whatever they are
 abbrev pub bytes : ℕ → Field
 bytes width = record { width = width; fault = λ value. None }
 

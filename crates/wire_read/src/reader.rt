@@ -36,7 +36,7 @@ impl<'a> Reader<'a> {
         self.rest
     }
 
-    /// The next so many bytes. `Short` where there are fewer.
+    /// The next `len` bytes. `Short` where there are fewer.
     pub fn slice(&mut self, len: usize) -> Result<&'a [u8], WireError>
         ensures reads { Gives (λ x. (x.now, self.new)) result (bytes_at len self.old) }
         ensures len { IfOk result (λ x. length x.now ≡ len) }

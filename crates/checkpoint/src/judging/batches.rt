@@ -56,7 +56,7 @@ pub fn sound_batches<S: Sign>(
     Ok(found)
 }
 
-/// What a store holds of a batch after so many others, with its digest, if the batch is sound apart from whether an earlier one has its
+/// What a store holds of a batch after this many others, with its digest, if the batch is sound apart from whether an earlier one has its
 /// digest.
 fn sound_batch<S: Sign>(
     node: &Node<S>,

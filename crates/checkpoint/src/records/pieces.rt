@@ -65,7 +65,7 @@ pub fn coins_record(alloc: Global, coins: &Coins, from: usize) -> Result<Vec<u8>
     Ok(bytes)
 }
 
-/// Adds so many values of the coins, from a place on, to the bytes.
+/// Adds this many values of the coins, from a place on, to the bytes.
 fn put_values(
     bytes: &mut Vec<u8>,
     coins: &Coins,

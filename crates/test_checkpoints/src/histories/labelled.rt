@@ -11,7 +11,7 @@ use wire::{
 /// The number of members whose genesis certificates have labels in every script.
 const LABELLED: u16 = 4;
 
-/// Labels the genesis certificates of so many members.
+/// Labels the genesis certificates of this many members.
 pub fn label_genesis(alloc: Global, labels: &mut Labels, members: u16) -> Result<(), FormError> {
     for member in LABELLED..members {
         let name = format!(in alloc; "g{member}")?;

@@ -91,7 +91,7 @@ impl Headers {
         }
     }
 
-    /// Among the headers of a kind, the place of the one that so many others follow, or else of the first.
+    /// Among the headers of a kind, the place of the one that this many others follow, or else of the first.
     pub fn near_last(&self, which: Which, after: u64) -> Option<usize> {
         let mut found = None;
         let mut left = after;

@@ -9,7 +9,7 @@ use std::alloc::AllocError;
 use validator::Refusal;
 use wire::{Author, Coin, Header, Message, Wave};
 
-/// One in so many of the wanted deliveries is lost.
+/// Of the wanted deliveries one in this many is lost.
 const LOST_ONE_OF: u64 = 64;
 
 /// The calls of a round that may fail, and how the failure is shown.
@@ -29,7 +29,7 @@ const LEAVINGS: [(Leaving, &str); 4] = [
 ];
 
 impl<'a> Schedule<'a> {
-    // The node that is so many places after this one.
+    // The node that is this many places after this one.
     fn after(&self, node: Author, more: u16) -> Author {
         Author(node.0.wrapping_add(more) % self.honest.count())
     }

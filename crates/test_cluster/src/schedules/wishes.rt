@@ -231,7 +231,7 @@ impl Known {
         self.nodes[place(node)].noted.wave = wave.saturating_add(1).min(waves);
     }
 
-    /// Notes that so many outputs of a node were looked at, and that its order had this length.
+    /// Notes that this many outputs of a node were looked at, and that its order had this length.
     pub fn note(&mut self, node: Author, outputs: u64, order: usize) {
         let noted = &mut self.nodes[place(node)].noted;
         noted.outputs = outputs;

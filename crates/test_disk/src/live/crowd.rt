@@ -33,7 +33,7 @@ const ALL: u64 = 3_000;
 // How often the flushing thread flushes before it gives up.
 const TURNS: u64 = 10_000_000;
 
-// On two disks a checkpoint follows every so many rounds; there are at least as many.
+// On two disks a checkpoint is made each time that this many rounds were made. There are at least this many rounds in all.
 const EVERY: u64 = 20;
 
 // The member whose batches a thread submits, and the thread's seat.

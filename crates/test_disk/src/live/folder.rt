@@ -60,7 +60,7 @@ impl Folder {
         self.disk = opened(FileDisk::open(rt, self.alloc, name), answer);
     }
 
-    // Opens a file instead of the disk that is open, and keeps only so many bytes of it in memory.
+    // Opens a file instead of the disk that is open, and keeps only this many bytes of it in memory.
     fn open_front<R: Files<File = File>>(&mut self, rt: &R, rest: &str, answer: &mut String) {
         let (name, count) = parted(rest);
         let keep = count.parse().unwrap_or(0);

@@ -193,8 +193,8 @@ fn flush<'n, 'a, D: Disk + Drop, R: Wait>(
     (flushed, rounds)
 }
 
-// Once the first sync after so many is held, submits two more headers and shows what the node answers meanwhile; then what it answers while
-// the second sync is held. Then everything may go on.
+// Once the first sync after the first `before` syncs is held, submits two more headers and shows what the node answers meanwhile. Shows
+// then what it answers while the next sync is held. After that everything may go on.
 fn submit_more<R: Wait>(
     rt: &R,
     alloc: Global,

@@ -33,8 +33,8 @@ pub fn tell_node<R: Wait>(
     Ok(())
 }
 
-/// Adds whether the journal was rewritten at least so many times, and how many bytes of events follow its checkpoint, if there are at least
-/// so many.
+/// Two words are given. Adds whether the journal was rewritten at least as many times as the first one says, or else how many times; and
+/// whether fewer bytes of events follow its checkpoint than the second one says, or else how many bytes.
 pub fn tell_rewritten(alloc: Global, store: Store<MemDisk>, words: &str, answer: &mut String) {
     let (least, most) = words.split_once(' ').unwrap_or((words, ""));
     let (least, most) = (least.parse().unwrap_or(u64::MAX), most.parse().unwrap_or(0));

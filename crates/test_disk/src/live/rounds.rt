@@ -42,7 +42,7 @@ impl OtherRounds {
         })
     }
 
-    /// The frames of so many more rounds. Each round has a batch of member 1, the headers of the other members, their certificates on top
+    /// The frames of this many more rounds. Each round has a batch of member 1, the headers of the other members, their certificates on top
     /// of those of the round before, and the coin of the wave that ends with it, if one does.
     pub fn next(&mut self, count: u64) -> Result<Vec<u8>, Ending> {
         for _ in 0..count {

@@ -139,7 +139,7 @@ impl Runs {
         }
     }
 
-    // Adds the frames of so many more rounds.
+    // Adds the frames of this many more rounds.
     fn add_rounds(&mut self, words: &str) -> Result<(), Ending> {
         let mut rounds = match self.rounds.take() {
             Some(rounds) => rounds,

@@ -59,7 +59,7 @@ pub struct Taker<'a> {
 }
 
 impl<'a> Taker<'a> {
-    /// A writer with room for so many bytes, which has taken none.
+    /// A writer with room for this many bytes, which has taken none.
     pub fn new(alloc: Global, room: usize, lines: &'a Cell<u64>) -> Taker<'a> {
         Taker {
             bytes: Vec::new(alloc),

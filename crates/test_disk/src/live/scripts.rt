@@ -26,7 +26,7 @@ impl Script {
         }
     }
 
-    /// Adds a line, so many times.
+    /// Adds a line, this many times.
     pub fn add_lines(&mut self, times: u32, line: &str) -> Result<(), AllocError> {
         for _ in 0..times {
             self.bytes.extend_from_slice(line.as_bytes())?;

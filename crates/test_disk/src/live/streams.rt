@@ -30,7 +30,7 @@ impl Clock for NoClock {
 pub enum Step {
     /// The reader gives these bytes.
     Give(Vec<u8>),
-    /// The reader waits until so many bytes were written.
+    /// The reader waits until this many bytes were written.
     Await(usize),
     /// The reader gives these bytes again and again, until a line says that the node is down.
     Repeat(Vec<u8>),
@@ -77,7 +77,7 @@ impl<'t, R: Wait> Steps<'t, R> {
         Steps { rt, seen, steps }
     }
 
-    // Waits until so many bytes were written. Gives no bytes.
+    // Waits until this many bytes were written. Gives no bytes.
     fn wait(&self, count: usize) -> io::Result<Option<usize>>
         ensures { IfOk result (λ given. given ≡ None) }
     {

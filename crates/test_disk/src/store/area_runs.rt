@@ -193,7 +193,7 @@ impl<'l, 'a> Run<'l, 'a> {
         self.go_back(generation as usize, events.len())
     }
 
-    /// Sets the state to that after a checkpoint and so many events.
+    /// Sets the state to that after a checkpoint and this many events.
     fn go_back(&mut self, generation: usize, events: usize) -> Told {
         let base = self.bases.get(generation).copied().unwrap_or(0);
         self.bases.truncate(generation.saturating_add(1));

@@ -8,7 +8,7 @@ use wire::{Author, BATCH_TAG};
 /// The author of the batches.
 const AUTHOR: u8 = 2;
 
-/// Adds so many batches, each with a transaction of so many bytes: its number in four bytes, and then zeros.
+/// Adds this many batches, each with a transaction of this many bytes: its number in four bytes, and then zeros.
 pub fn come_in(alloc: Global, lines: &mut Vec<Line>, count: u32, len: u32) -> Told {
     for number in 0..count {
         let sender = Author(u16::from(AUTHOR));

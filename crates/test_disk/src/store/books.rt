@@ -105,7 +105,7 @@ impl Store<'_> {
         }
     }
 
-    /// Gives the book so many different batches of member 1, whose records have this length; shows the answer to the last.
+    /// Gives the book this many different batches of member 1, whose records have this length; shows the answer to the last.
     pub fn fill(&mut self, count: u64, len: usize, answer: &mut String) -> Told {
         for number in 0..count {
             answer.clear();

@@ -32,7 +32,7 @@ struct Count {
     times: u64,
 }
 
-/// Opens a file with each of these places changed to so many other values at equal distances. Adds how often each answer was given.
+/// Opens a file with each of these places changed to this many other values at equal distances. Adds how often each answer was given.
 pub fn changes(
     alloc: Global,
     config: &Config<HashSign>,

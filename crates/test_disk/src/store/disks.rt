@@ -71,7 +71,7 @@ impl Store<'_> {
         Ok(())
     }
 
-    /// Adds so many bytes from a place on.
+    /// Adds this many bytes from a place on.
     pub fn read(&mut self, place: u64, count: u64, answer: &mut String) -> Told {
         let len = self.disk.bytes().len() as u64;
         if place > len || count > len - place {

@@ -55,7 +55,7 @@ impl<'a> Lists<'a> {
         })
     }
 
-    /// Makes a list of so many steps, from an empty disk on.
+    /// Makes a list of this many steps, from an empty disk on.
     pub fn play(&mut self, steps: u64) -> Told {
         self.disk = disk_with(self.alloc, &[])?;
         self.plain = Plain::new(self.alloc);

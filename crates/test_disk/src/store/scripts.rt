@@ -128,8 +128,8 @@ impl Script<'_> {
         failing_disk(self.alloc, self.file, kind, count)
     }
 
-    /// Adds what is written to a writer that fails after so many bytes, for each number of bytes of the text. A line is added wherever the
-    /// answer changes.
+    /// Adds what is written to a writer that fails after some number of bytes, for each such number up to the length of the text. A line is
+    /// added wherever the answer changes.
     pub fn tell_rooms(&self, text: &[u8], answer: &mut String) -> Told {
         let mut before = String::new(self.alloc);
         for room in 0..=text.len() {
@@ -149,7 +149,7 @@ impl Script<'_> {
         Ok(())
     }
 
-    /// The answer there if the writer takes so many bytes of the text.
+    /// The answer on two disks, if the writer takes this many bytes of the text.
     fn told_room_on_two(&self, room: usize, text: &[u8]) -> Result<String, AllocError> {
         let mut taker = Taker::new(self.alloc, room);
         let mut told = String::new(self.alloc);
@@ -162,7 +162,7 @@ impl Script<'_> {
         Ok(told)
     }
 
-    /// The answer if the writer takes so many bytes of the text.
+    /// The answer if the writer takes this many bytes of the text.
     fn told_room(&self, room: usize, text: &[u8]) -> Result<String, AllocError> {
         let mut taker = Taker::new(self.alloc, room);
         let mut told = String::new(self.alloc);

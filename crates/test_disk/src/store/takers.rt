@@ -14,7 +14,7 @@ pub struct Taker {
 }
 
 impl Taker {
-    /// A writer with room for so many bytes.
+    /// A writer with room for this many bytes.
     pub fn new(alloc: Global, room: usize) -> Taker {
         Taker {
             bytes: Vec::new(alloc),

@@ -49,7 +49,7 @@ impl Worlds {
     }
 }
 
-/// Makes so many lists of so many steps each, and adds their results.
+/// Makes this many lists of this many steps each, and adds their results.
 fn play(mut lists: Lists<'_>, count: u64, steps: u64, answer: &mut String) -> Told {
     for _ in 0..count {
         lists.play(steps)?;

@@ -77,7 +77,7 @@ fn voters_from(node: &Node<HashSign>) -> MemberSet {
     voters
 }
 
-/// The member so many places after another one, where the first member follows the last.
+/// The member this many places after another one, where the first member follows the last.
 fn after(own: u16, place: u16, size: u16) -> u16
     requires { 0 < size }
     ensures { result < size }

@@ -23,7 +23,7 @@ use sim_script::{
 use std::alloc::{AllocError, Global};
 use wire::{Author, Coin, Message, Wave};
 
-/// An output's line, which may be shown once so many events are settled.
+/// An output's line, which may be shown once this many events are settled.
 #[derive(Drop)]
 struct Waiting {
     ticket: usize,

@@ -96,7 +96,7 @@ impl Gathered {
         self.lines.push_str("\n")
     }
 
-    /// Shows how much of the process's memory so many batches of so many transactions take.
+    /// Shows how much of the process's memory this many batches of this many transactions take.
     fn tell_bodies(
         &self,
         rt: &HostRuntime,

@@ -38,7 +38,7 @@ fn count_of(words: &str) -> u16 {
     count
 }
 
-/// Gives labels to the genesis certificates of so many members.
+/// Gives labels to the genesis certificates of this many members.
 pub fn label_genesis(alloc: Global, labels: &mut Labels, members: u16) -> Result<(), FormError> {
     for member in LABELLED..members {
         let name = format!(in alloc; "g{member}")?;

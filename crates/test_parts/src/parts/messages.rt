@@ -142,8 +142,8 @@ fn entries(name: &str, len: usize, is_empty: bool, follows: bool, answer: &mut S
     list(name, &[len as u64, is_empty as u64, follows as u64], answer)
 }
 
-/// Adds a transaction for each length, the first so many of these bytes, as far as the batch has room; shows the batch and gives its
-/// message.
+/// Adds a transaction for each of these lengths, as far as the batch has room. Each transaction has the first of these bytes, as many as
+/// its length says. Shows the batch and gives its message.
 pub fn fill(
     mut open: OpenBatch,
     lens: &[u64],

@@ -88,7 +88,7 @@ fn put_of(
     put(store, digests, batch, answer)
 }
 
-// Puts one batch each of so many workers of a member, and shows how many are held then.
+// Puts one batch each of this many workers of a member, and shows how many are held then.
 fn many(
     alloc: Global,
     store: &mut BatchStore,

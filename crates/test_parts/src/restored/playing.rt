@@ -68,7 +68,7 @@ fn config_of(alloc: Global, setup: &Setup) -> Result<Config<HashSign>, FormError
     }
 }
 
-/// Plays each case of a text, and counts the states at which tables were restored, each time after so many events; gives whether all were
+/// Plays each case of a text, and counts the states at which tables were restored, each time after this many events; gives whether all were
 /// alike. For each case in which something differs, the first such line is shown.
 pub fn play_cases(
     alloc: Global,
@@ -139,7 +139,7 @@ struct Trial<'c> {
     labels: Labels,
     member: Member<'c, HashSign>,
     restored: Member<'c, HashSign>,
-    /// Tables are restored each time after so many events.
+    /// Tables are restored each time after this many events.
     each: u64,
     /// How many events are left until tables are restored again.
     left: u64,
@@ -216,7 +216,7 @@ impl<'c> Trial<'c> {
         self.take(sender, &message, counts)
     }
 
-    /// Gives an event to both members, and gives in what they differ then. Each time after so many events the tables are restored first.
+    /// Gives an event to both members, and gives in what they differ then. Each time after this many events the tables are restored first.
     fn take(
         &mut self,
         sender: Author,

@@ -19,7 +19,7 @@ pub struct Beside {
 }
 
 impl Beside {
-    /// Empty tables of a node, which take at most so many events.
+    /// Empty tables of a node, which take at most this many events.
     pub fn new(alloc: Global, node: Node<HashSign>, most: u64) -> Result<Beside, AllocError> {
         let tables = fresh(alloc, &node)?;
         Ok(Beside {

@@ -37,8 +37,8 @@ fn memory(rt: &HostRuntime) -> u64 {
     pages.parse::<u64>().unwrap_or(0).saturating_mul(PAGE_BYTES)
 }
 
-/// Makes so many own batches, each of so many transactions of the greatest length. Shows whether memory grows by half of the size of their
-/// bodies or more, first where each body is copied, then where a validator takes the batches and all of its outputs are kept.
+/// Makes this many own batches, each of this many transactions of the greatest length. Shows whether memory grows by half of the size of
+/// their bodies or more, first where each body is copied, then where a validator takes the batches and all of its outputs are kept.
 pub fn tell_bodies(
     rt: &HostRuntime,
     committee: Committee,
@@ -80,7 +80,7 @@ fn batches_of(alloc: Global, count: u64, transactions: u64) -> Result<Vec<Batch>
     Ok(batches)
 }
 
-/// An own batch of this transaction, so many times.
+/// An own batch of this transaction, this many times.
 fn batch_of(alloc: Global, transaction: &[u8], count: u64) -> Result<Batch, AllocError> {
     let mut open = OpenBatch::new(alloc, OWN, 0)?;
     for _ in 0..count {
