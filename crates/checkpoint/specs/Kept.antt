@@ -60,7 +60,8 @@ pub record AreOfOthers (own : ℕ) (voted : VotedHeader) : Type 0 where
 
 -- ---- laws
 
--- What the tables hold of a sound state has a checkpoint that a node writes, and that checkpoint is the state.
+-- Of what the tables hold of a sound state a checkpoint is made. It is one that a node may write, and the state that it is read as is that
+-- same state.
 abbrev pub CheckpointIsState : Type 0
 CheckpointIsState = (node : Node) (state : State) (kept : Kept) → IsKeptOf node state kept → All (AreOfOthers node.own.0) kept.headers.items
     → IsWritten node (checkpoint_of kept) × (state_in node (checkpoint_of kept) ≡ state)

@@ -24,7 +24,8 @@ pub use reader::CheckpointReader;
 pub use records::records_of;
 pub use snapshot::snapshot_of;
 
-/// What the tables hold of a sound state has a checkpoint that a node writes, and that checkpoint is the state.
+/// Of what the tables hold of a sound state a checkpoint is made. It is one that a node may write, and the state that it is read as is that
+/// same state.
 pub fn checkpoint_is_state()
     ensures { CheckpointIsState }
 {}

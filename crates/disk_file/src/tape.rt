@@ -120,7 +120,7 @@ impl Tape {
         self.turn::<Brand, ()>(());
     }
 
-    // From now on the record says what the call chooses, which may mention the argument.
+    // From now on the record says what the proof of this call chooses (`N.next`), which may depend on the argument.
     fn turn<N: Turn, T: Copy>(&mut self, _given: T)
         ensures { self.new ≡ N.next }
     {

@@ -49,8 +49,8 @@ fn path_beside(alloc: Global, path: &str) -> Result<String, AllocError> {
     Ok(beside)
 }
 
-/// The bytes of the file that is listed, and the place from which those in it count: the file that is read; or, where that can't be
-/// determined, the one of both that begins with an open gate, or else the first.
+/// The bytes of the file that is listed, and the number from which its places count. If only one of the two files begins with an open gate,
+/// it is that one; if both do, the one that an opening reads; and if neither does, the first.
 ///
 /// # Errors
 /// `Flawed` where both begin with an open gate and it can't be determined which is read; `Memory` where an allocation failed.

@@ -33,7 +33,7 @@ fn main(rt: HostRuntime) -> ExitCode {
     }
 }
 
-/// Plays the files that the arguments name. Gives whether there is one, and all commands had the expected answers.
+/// Plays the files that the arguments name. Gives whether at least one was named, and all commands were answered as expected.
 fn tested(rt: &HostRuntime) -> Result<bool, Ending> {
     let names = names_of(rt, rt.alloc())?;
     let mut right = !names.is_empty();

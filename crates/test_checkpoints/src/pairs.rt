@@ -30,7 +30,7 @@ impl Pair {
         self.areas = Areas::none(self.alloc);
     }
 
-    /// Whether a command is one of these.
+    /// Whether a command of this name is carried out by `obey`.
     pub fn has(&self, name: &str) -> bool {
         match name {
             "first" | "second" | "batches" => true,

@@ -36,7 +36,7 @@ fn main(rt: HostRuntime) -> ExitCode {
     }
 }
 
-/// Plays the files with these names; gives whether there is one, and all commands had the expected answers.
+/// Plays the files with these names. Gives whether there is at least one, and all commands were answered as expected.
 fn tested<R>(rt: &R, settings: &Settings, names: &[String]) -> Result<bool, Ending>
 where
     R: Files<File = File> + Print + AllocGlobal + Threads + Wait + Sync,

@@ -14,16 +14,16 @@ pub fn votes_agree()
     ensures { VotesAgree }
 {}
 
-/// A new own header may be held with the node's vote, since its round is free; so held, and with the rounds up to the floor
-/// forgotten, it makes the table that is at the state after it.
+/// A new own header may be held with the node's vote, since its round is free. The table that holds it so, and from which the rounds up to
+/// the floor are dropped, is at the state after the header.
 pub fn header_comes()
     ensures { HeaderComes }
 {
     floors_agree();
 }
 
-/// A new vote is counted, and completes the certificate that it completes at the state, if it does; counted, and with the
-/// rounds up to the floor forgotten, it makes the table that is at the state after it.
+/// A new vote is counted, and if it completes a certificate at the state, it completes the same one at the table. The table in which it is
+/// counted, and from which the rounds up to the floor are dropped, is at the state after the vote.
 pub fn vote_comes()
     ensures { VoteComes }
 {

@@ -11,7 +11,7 @@ pub fn others_are_ready()
     ensures { OthersAreReady }
 {}
 
-/// Tables have what one sound state has, and of no other.
+/// Tables hold at most one sound state of a node.
 pub fn one_state()
     ensures { OneState }
 {}

@@ -149,8 +149,8 @@ impl<'a> Schedule<'a> {
         self.give_item("any", to, item)
     }
 
-    /// The first node from this one on that has something pending, or is down, flushes; or the first one that proposes a header is given
-    /// that header; or else this node flushes.
+    /// Looks at the nodes from this one on. The first one that has something pending or is down is flushed. If there is none, the first one
+    /// that proposes a header is given that header. If none proposes one, this node is flushed.
     pub fn go_on(&mut self, node: Author) -> Result<Answered, AllocError> {
         if let Some(other) = self.first_unsettled(node) {
             return self.flush(other);

@@ -54,7 +54,7 @@ impl Ordering {
     }
 }
 
-/// Whether a command of this name is one of these.
+/// Whether a command of this name is one of those about a committee, what it assembles, or its order.
 pub fn is_ordering(name: &str) -> bool {
     match name {
         "committee" | "quorum" | "assemble" | "store" | "dag" | "play" => true,
