@@ -41,8 +41,8 @@ ChainsByHistory = (node : Node) (before more : History) (low : ℕ) (graph : Dag
 abbrev pub last_leader_at : Node → History → Option Certificate
 last_leader_at node history = last_or None (committed_at node history)
 
--- a leader is held, it reaches everything that the leader before reaches, everything marked is in that one's history, and the leader orders
--- after it what it orders at the later history
+-- A leader is held. It reaches everything that the leader before it reaches, and every marked certificate is among what the leader before
+-- it reaches. What it orders after that leader is what it orders there at the later history.
 pub record OrdersAs (node : Node) (later : History) (graph : DagView) (previous : Option Certificate) (c : Certificate) : Type 0 where
   pub held : slots_in graph c.header.round c.header.author.0 ≡ Some c
   pub all : HasAllOf graph (leader_held graph (option_map slot_of previous)) c
