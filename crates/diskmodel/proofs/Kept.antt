@@ -6,8 +6,9 @@ use Rattle.diskmodel.specs.declared.call.Call.{Call}
 use Rattle.diskmodel.specs.declared.call.Call.TheVariants.{Wrote, Cut, Synced, Stopped}
 use Rattle.diskmodel.specs.declared.call.Span.{Span}
 use Rattle.diskmodel.specs.Disk.{written}
-use Rattle.diskmodel.specs.Outcomes.{State, AreBytes, CanLeave, IsOutcome, after, all_durable, state}
+use Rattle.diskmodel.specs.Outcomes.{State, AreBytes, CanLeave, IsOutcome, is_written, after, all_durable, state}
 use Rattle.diskmodel.specs.Kept.{Keeps, ReplacesStop, is_stop, ends_in_stop}
+use Rattle.diskmodel.proofs.Spans.{DifferWithin}
 use Rattle.diskmodel.proofs.Calls.{after_all-push, possible_write, possible_cut, possible_durable, unstopped, stopped}
 
 pub state-push : (first : List ℕ) (calls : List Call) (call : Call) → state first (calls ++ call ∷ []) ≡ after (state first calls) call
@@ -43,6 +44,17 @@ durable_possible first calls durable smallest greatest spans content kept = reco
   no_shorter = omega (arith, kept.smallest_is, kept.in_durable);
   no_longer = omega (arith, kept.greatest_is, kept.durable_fits);
 }
+
+-- below the smallest length since the last sync, what a read gives differs from its bytes at most where spans say that they were written
+pub kept_differ : (first : List ℕ) (calls : List Call) (durable : List ℕ) (smallest greatest : ℕ) (spans : List Span) (content : List ℕ)
+    → Keeps first calls durable smallest greatest spans content → DifferWithin spans smallest content durable
+kept_differ first calls durable smallest greatest spans content kept place below none =
+    kept.possible.stays place (omega (arith, below, kept.smallest_is)) (ap (λ (rows : List Span). is_written rows place) kept.spans_are ∙ none)
+    ∙ ap (λ (bytes : List ℕ). slice_index bytes place) kept.durable_is
+
+pub kept_in_content : (first : List ℕ) (calls : List Call) (durable : List ℕ) (smallest greatest : ℕ) (spans : List Span) (content : List ℕ)
+    → Keeps first calls durable smallest greatest spans content → smallest ≤ length content
+kept_in_content first calls durable smallest greatest spans content kept = omega (arith, kept.smallest_is, kept.possible.no_shorter)
 
 pub kept_write : (first : List ℕ) (calls : List Call) (durable : List ℕ) (smallest greatest : ℕ) (spans : List Span) (content : List ℕ) (at : ℕ) (bytes : List ℕ)
     → Keeps first calls durable smallest greatest spans content → AreBytes bytes → at ≤ length content

@@ -4,4 +4,5 @@ pub mod Effects
 pub mod Kept
 pub mod Moments
 pub mod Places
+pub mod Spans
 pub mod Torn

@@ -1,7 +1,8 @@
 //! The record of a disk in memory, and the state that it leads to.
-ghost use Rattle.std.specs.Prelude.{◌≡◌, ◌⊎◌, ℕ, ◌+◌, ◌-◌, ◌<◌, ◌≤◌, ◌↔◌, min, max, Bool, false, List, [], ◌∷◌, ◌++◌, length, take, IsTrue, IfOk, OnOk, OnErr, slice_index, vec_len, vec_capacity};
+ghost use Rattle.std.specs.Prelude.{◌≡◌, ◌⊎◌, ℕ, ◌+◌, ◌-◌, ◌<◌, ◌≤◌, ◌↔◌, min, max, Bool, true, false, IsTrue, IfOk, OnOk, OnErr};
+ghost use Rattle.std.specs.Prelude.{List, [], ◌∷◌, ◌++◌, length, take, slice_index, vec_len, vec_capacity};
 ghost use Rattle.diskmodel.specs.Disk.{written};
-ghost use Rattle.diskmodel.specs.Outcomes.{is_written, state, IsOutcome};
+ghost use Rattle.diskmodel.specs.Outcomes.{holds, is_written, state, IsOutcome};
 ghost use Rattle.diskmodel.specs.Kept.{Keeps, ends_in_stop};
 ghost use Rattle.diskmodel.specs.Refusals.{IsRefused, room_for};
 
@@ -108,6 +109,44 @@ fn overlay(
     let _ = list.extend_from_slice(after);
     list[at..at + within].copy_from_slice(&bytes[..within]);
     Ok(())
+}
+
+/// Copies the bytes that a span holds from one slice to the same places of another, as far as that one goes.
+fn copy_span(into: &mut [u8], from: &[u8], span: &Span)
+    requires { length into.old ≤ length from.now }
+    ensures len { length into.new ≡ length into.old }
+    ensures inside { (place : ℕ) → place < length into.old → holds span.now place ≡ true → slice_index into.new place ≡ slice_index from.now place }
+    ensures outside { (place : ℕ) → holds span.now place ≡ false → slice_index into.new place ≡ slice_index into.old place }
+{
+    let start = into.len().min(span.place as usize);
+    let count = (into.len() - start).min(span.count as usize);
+    into[start..start + count].copy_from_slice(&from[start..start + count]);
+}
+
+/// Copies the bytes that spans hold from one slice to the same places of another, as far as that one goes. At all other places the two are
+/// the same already.
+fn copy_spans(into: &mut [u8], from: &[u8], spans: &[Span])
+    requires shorter { length into.old ≤ length from.now }
+    requires unwritten { (place : ℕ) → place < length into.old → is_written spans.now place ≡ false → slice_index from.now place ≡ slice_index into.old place }
+    ensures { into.new ≡ take (length into.old) from.now }
+{
+    for span in spans {
+        copy_span(into, from, span);
+    }
+}
+
+/// Brings an older copy of the content up to date. It differs at most where it was written since then, and past the smallest length since
+/// then, so nothing else is copied.
+fn catch_up(copy: &mut Vec<u8>, content: &[u8], smallest: usize, spans: &[Span])
+    requires in_copy { smallest ≤ vec_len copy.old }
+    requires in_content { smallest ≤ length content.now }
+    requires room { length content.now ≤ vec_capacity copy.old }
+    requires unwritten { (place : ℕ) → place < smallest → is_written spans.now place ≡ false → slice_index content.now place ≡ slice_index copy.old.items place }
+    ensures { copy.new.items ≡ content.now }
+{
+    copy.truncate(smallest);
+    copy_spans(copy, content, spans);
+    let _ = copy.extend_from_slice(&content[smallest..]);
 }
 
 /// Removes the last call if it is a stop. After that there is room for another stop.
@@ -217,9 +256,11 @@ impl History {
         ensures err { OnErr result (IsAsBefore self.old self.new) }
         ensures refused { OnErr result (IsRefused (room_for (length self.old.content.items)) refusals.old refusals.new) }
     {
-        let durable = copy(self.alloc, &self.content, refusals)?;
+        let more = self.content.len().saturating_sub(self.durable.len());
+        refusals.grow(&mut self.durable, more)?;
         refusals.grow(&mut self.calls, CALL_AND_STOP)?;
-        self.durable = durable;
+        let smallest = self.lengths.smallest;
+        catch_up(&mut self.durable, &self.content, smallest, &self.spans);
         self.lengths = Lengths::only(self.content.len());
         self.spans.clear();
         self.calls.push_reserved(Call::Synced);
