@@ -20,6 +20,9 @@ const COUNT_PLACE: usize = 4;
 /// Bytes of a transaction's length.
 const LENGTH_BYTES: usize = 4;
 
+/// A closed body may keep one in so many bytes of its room spare.
+const SPARE_PART: usize = 8;
+
 /// Transactions that an author's worker gathered, in their order: at most `MAX_TRANSACTION_BYTES` each,
 /// and at most `MAX_BATCH_BYTES` in the body, which is what is sent, stored and digested.
 #[derive(Debug)]
@@ -188,6 +191,7 @@ impl OpenBatch {
             mut body,
         } = self;
         body[COUNT_PLACE..HEAD_BYTES].copy_from_slice(&four_bytes(count));
+        release_spare_room(&mut body);
         match SharedBytes::from_vec(body) {
             Ok(body) => Ok(Batch {
                 author,
@@ -204,6 +208,18 @@ impl OpenBatch {
                 },
             }),
         }
+    }
+}
+
+// Gives back what a body doesn't need of its room, where that is more than an eighth of it: a batch is kept for long. Where no smaller
+// block can be had the body keeps its own, so that nothing fails here.
+fn release_spare_room(body: &mut Vec<u8>)
+    ensures items { body.new.items ≡ body.old.items }
+    ensures capacity { vec_capacity body.new ≤ vec_capacity body.old }
+{
+    let spare = body.capacity() - body.len();
+    if spare > body.capacity() / SPARE_PART {
+        body.shrink_to_fit();
     }
 }
 
