@@ -5,9 +5,10 @@ use Rattle.std.proofs.lemmas.List.{append-nil}
 use Rattle.wire.specs.Lists.{Begins}
 use Rattle.wire.specs.Putting.{Keeps}
 
--- four pieces after what was there
-pub four_pieces : (start a b c d one two three four : List ℕ) → one ≡ start ++ a → two ≡ one ++ b → three ≡ two ++ c → four ≡ three ++ d → four ≡ start ++ (a ++ b ++ c ++ d)
-four_pieces start a b c d one two three four e1 e2 e3 e4 = rw (e4, e3, e2, e1) (simp append_assoc)
+-- a tag and four pieces after what was there
+pub five_pieces : (start : List ℕ) (tag : ℕ) (a b c d one two three four five : List ℕ) → one ≡ start ++ tag ∷ [] → two ≡ one ++ a → three ≡ two ++ b → four ≡ three ++ c → five ≡ four ++ d
+    → five ≡ start ++ tag ∷ (a ++ b ++ c ++ d)
+five_pieces start tag a b c d one two three four five e1 e2 e3 e4 e5 = rw (e5, e4, e3, e2, e1) (simp append_assoc)
 
 -- a tag and two pieces after what was there, the second of them not yet put
 pub tagged_pieces : (start : List ℕ) (tag : ℕ) (a b one two : List ℕ) → one ≡ start ++ tag ∷ [] → two ≡ one ++ a → two ++ b ≡ start ++ tag ∷ (a ++ b)

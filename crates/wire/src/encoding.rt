@@ -1,7 +1,7 @@
 //! Messages as bytes.
 
-ghost use Rattle.std.specs.Prelude.{◌≡◌, ℕ, List, ◌≤◌, ◌+◌, ◌*◌, ◌++◌, ◌∷◌, length, IfOk, OnOk, OnErr};
-ghost use Rattle.wire.specs.declared.limits.TheConstants.{MAX_BATCH_BYTES, MAX_BATCHES, MAX_PARENTS, MAX_VOTES};
+ghost use Rattle.std.specs.Prelude.{◌≡◌, ℕ, List, ◌≤◌, ◌+◌, ◌*◌, ◌++◌, ◌∷◌, length, take, IfOk, OnOk, OnErr};
+ghost use Rattle.wire.specs.declared.limits.TheConstants.{MAX_BATCH_BYTES, MAX_BATCHES, MAX_FRAME_BYTES, MAX_PARENTS, MAX_VOTES};
 ghost use Rattle.wire.specs.Spelling.{batch_reference_bytes, parent_reference_bytes, vote_entry_bytes, batches_bytes, parents_bytes, votes_bytes, header_body, header_body_len, spelling, length_of};
 ghost use Rattle.wire.specs.Putting.{Keeps};
 ghost use Rattle.wire.specs.Fields.{IsDigest, IsSignature};
@@ -80,15 +80,6 @@ pub(crate) fn put_digest(out: &mut Vec<u8>, digest: &Digest) -> Result<(), Alloc
     put_bytes(out, &digest.0)
 }
 
-fn put_signature(out: &mut Vec<u8>, signature: &Signature) -> Result<(), AllocError>
-    ensures bytes { OnOk result (out.new.items ≡ out.old.items ++ signature.now.0) }
-    ensures len { OnOk result (length out.new.items ≡ length out.old.items + 64) }
-    ensures kept { Keeps out.old.items out.new.items }
-{
-    signature.limits_hold();
-    put_bytes(out, &signature.0)
-}
-
 pub(crate) fn put_batch(out: &mut Vec<u8>, batch: &Batch) -> Result<(), AllocError>
     ensures bytes { OnOk result (out.new.items ≡ out.old.items ++ spelling (Message.Batch batch.now)) }
     ensures len { OnOk result (length out.new.items ≡ length out.old.items + length_of (Message.Batch batch.now)) }
@@ -100,6 +91,149 @@ pub(crate) fn put_batch(out: &mut Vec<u8>, batch: &Batch) -> Result<(), AllocErr
     put_bytes(out, batch.body())
 }
 
+// Lengthens bytes by so many, which are then to be written, and gives where these begin: the one test for room of a message. Where the
+// allocation fails all stays as it was.
+fn lengthen(out: &mut Vec<u8>, count: usize) -> Result<usize, AllocError>
+    requires { count ≤ MAX_FRAME_BYTES }
+    ensures place { IfOk result (λ place. place ≡ length out.old.items) }
+    ensures front { OnOk result (take (length out.old.items) out.new.items ≡ out.old.items) }
+    ensures len { OnOk result (length out.new.items ≡ length out.old.items + count) }
+    ensures err { OnErr result (out.new.items ≡ out.old.items) }
+{
+    let place = out.len();
+    out.resize(place + count, 0)?;
+    Ok(place)
+}
+
+// Writes bytes at a place of an area, and gives the place after them. What stands before the place stays.
+#[tactic(auto, using(std::proofs::lemmas::Slice::overwrites))]
+fn write_at(area: &mut [u8], place: usize, bytes: &[u8]) -> usize
+    requires room { place + length bytes.now ≤ length area.old }
+    ensures bytes { take result area.new ≡ take place area.old ++ bytes.now }
+    ensures next { result ≡ place + length bytes.now }
+    ensures len { length area.new ≡ length area.old }
+{
+    let next = place + bytes.len();
+    area[place..next].copy_from_slice(bytes);
+    next
+}
+
+fn write_digest(area: &mut [u8], place: usize, digest: &Digest) -> usize
+    requires room { place + 32 ≤ length area.old }
+    ensures bytes { take result area.new ≡ take place area.old ++ digest.now.0 }
+    ensures next { result ≡ place + 32 }
+    ensures len { length area.new ≡ length area.old }
+{
+    digest.limits_hold();
+    write_at(area, place, &digest.0)
+}
+
+fn write_signature(area: &mut [u8], place: usize, signature: &Signature) -> usize
+    requires room { place + 64 ≤ length area.old }
+    ensures bytes { take result area.new ≡ take place area.old ++ signature.now.0 }
+    ensures next { result ≡ place + 64 }
+    ensures len { length area.new ≡ length area.old }
+{
+    signature.limits_hold();
+    write_at(area, place, &signature.0)
+}
+
+fn write_batch_reference(area: &mut [u8], place: usize, batch: &BatchReference) -> usize
+    requires room { place + 34 ≤ length area.old }
+    ensures bytes { take result area.new ≡ take place area.old ++ batch_reference_bytes batch.now }
+    ensures next { result ≡ place + 34 }
+    ensures len { length area.new ≡ length area.old }
+{
+    let next = write_digest(area, place, &batch.digest);
+    write_at(area, next, &two_bytes(batch.worker))
+}
+
+fn write_batches(area: &mut [u8], place: usize, batches: &BatchReferences) -> usize
+    requires room { place + (2 + 34 * length batches.now) ≤ length area.old }
+    ensures bytes { take result area.new ≡ take place area.old ++ batches_bytes batches.now }
+    ensures next { result ≡ place + (2 + 34 * length batches.now) }
+    ensures len { length area.new ≡ length area.old }
+{
+    let list = batches.as_slice();
+    let mut next = write_at(area, place, &two_bytes(list.len() as u16));
+    for batch in list {
+        next = write_batch_reference(area, next, batch);
+    }
+    next
+}
+
+fn write_parent_reference(area: &mut [u8], place: usize, parent: &ParentReference) -> usize
+    requires room { place + 34 ≤ length area.old }
+    ensures bytes { take result area.new ≡ take place area.old ++ parent_reference_bytes parent.now }
+    ensures next { result ≡ place + 34 }
+    ensures len { length area.new ≡ length area.old }
+{
+    let next = write_at(area, place, &two_bytes(parent.author.0));
+    write_digest(area, next, &parent.certificate)
+}
+
+fn write_parents(area: &mut [u8], place: usize, parents: &ParentReferences) -> usize
+    requires room { place + (2 + 34 * length parents.now) ≤ length area.old }
+    ensures bytes { take result area.new ≡ take place area.old ++ parents_bytes parents.now }
+    ensures next { result ≡ place + (2 + 34 * length parents.now) }
+    ensures len { length area.new ≡ length area.old }
+{
+    let list = parents.as_slice();
+    let mut next = write_at(area, place, &two_bytes(list.len() as u16));
+    for parent in list {
+        next = write_parent_reference(area, next, parent);
+    }
+    next
+}
+
+fn write_vote_entry(area: &mut [u8], place: usize, entry: &VoteEntry) -> usize
+    requires room { place + 66 ≤ length area.old }
+    ensures bytes { take result area.new ≡ take place area.old ++ vote_entry_bytes entry.now }
+    ensures next { result ≡ place + 66 }
+    ensures len { length area.new ≡ length area.old }
+{
+    let next = write_at(area, place, &two_bytes(entry.voter.0));
+    write_signature(area, next, &entry.signature)
+}
+
+fn write_votes(area: &mut [u8], place: usize, votes: &VoteEntries) -> usize
+    requires room { place + (2 + 66 * length votes.now) ≤ length area.old }
+    ensures bytes { take result area.new ≡ take place area.old ++ votes_bytes votes.now }
+    ensures next { result ≡ place + (2 + 66 * length votes.now) }
+    ensures len { length area.new ≡ length area.old }
+{
+    let list = votes.as_slice();
+    let mut next = write_at(area, place, &two_bytes(list.len() as u16));
+    for vote in list {
+        next = write_vote_entry(area, next, vote);
+    }
+    next
+}
+
+// Writes a tag, and the body of a header after it.
+fn write_header_body(area: &mut [u8], place: usize, tag: u8, header: &HeaderBody) -> usize
+    requires room { place + (1 + header_body_len header.now) ≤ length area.old }
+    ensures bytes { take result area.new ≡ take place area.old ++ tag ∷ header_body header.now }
+    ensures next { result ≡ place + (1 + header_body_len header.now) }
+    ensures len { length area.new ≡ length area.old }
+{
+    let author = write_at(area, place, &[tag]);
+    let round = write_at(area, author, &two_bytes(header.author.0));
+    let batches = write_at(area, round, &eight_bytes(header.round.number()));
+    let parents = write_batches(area, batches, &header.batches);
+    write_parents(area, parents, &header.parents)
+}
+
+// The bytes of an acknowledgement, with its tag.
+fn ack_bytes(ack: &BatchAck) -> [u8; ACK_BYTES]
+    ensures { result ≡ spelling (Message.BatchAck ack.now) }
+{
+    let mut bytes = [ACK_TAG; ACK_BYTES];
+    bytes[1..3].copy_from_slice(&two_bytes(ack.author.0));
+    bytes[3..].copy_from_slice(&ack.batch.0);
+    bytes
+}
+
 pub(crate) fn put_ack(out: &mut Vec<u8>, ack: &BatchAck) -> Result<(), AllocError>
     ensures bytes { OnOk result (out.new.items ≡ out.old.items ++ spelling (Message.BatchAck ack.now)) }
     ensures len { OnOk result (length out.new.items ≡ length out.old.items + 35) }
@@ -107,91 +241,17 @@ pub(crate) fn put_ack(out: &mut Vec<u8>, ack: &BatchAck) -> Result<(), AllocErro
     ensures kept { Keeps out.old.items out.new.items }
 {
     ack.limits_hold();
-    put_bytes(out, &[ACK_TAG])?;
-    put_bytes(out, &two_bytes(ack.author.0))?;
-    put_digest(out, &ack.batch)
+    put_bytes(out, &ack_bytes(ack))
 }
 
-fn put_batch_reference(out: &mut Vec<u8>, batch: &BatchReference) -> Result<(), AllocError>
-    ensures bytes { OnOk result (out.new.items ≡ out.old.items ++ batch_reference_bytes batch.now) }
-    ensures len { OnOk result (length out.new.items ≡ length out.old.items + 34) }
-    ensures kept { Keeps out.old.items out.new.items }
+fn write_header(area: &mut [u8], place: usize, header: &Header) -> usize
+    requires room { place + length_of (Message.Header header.now) ≤ length area.old }
+    ensures bytes { take result area.new ≡ take place area.old ++ spelling (Message.Header header.now) }
+    ensures next { result ≡ place + length_of (Message.Header header.now) }
+    ensures len { length area.new ≡ length area.old }
 {
-    put_digest(out, &batch.digest)?;
-    put_bytes(out, &two_bytes(batch.worker))
-}
-
-fn put_batches(out: &mut Vec<u8>, batches: &BatchReferences) -> Result<(), AllocError>
-    ensures bytes { OnOk result (out.new.items ≡ out.old.items ++ batches_bytes batches.now) }
-    ensures len { OnOk result (length out.new.items ≡ length out.old.items + (2 + 34 * length batches.now)) }
-    ensures few { OnOk result (length batches.now ≤ MAX_BATCHES) }
-    ensures kept { Keeps out.old.items out.new.items }
-{
-    let list = batches.as_slice();
-    put_bytes(out, &two_bytes(list.len() as u16))?;
-    for batch in list {
-        put_batch_reference(out, batch)?;
-    }
-    Ok(())
-}
-
-fn put_parent_reference(out: &mut Vec<u8>, parent: &ParentReference) -> Result<(), AllocError>
-    ensures bytes { OnOk result (out.new.items ≡ out.old.items ++ parent_reference_bytes parent.now) }
-    ensures len { OnOk result (length out.new.items ≡ length out.old.items + 34) }
-    ensures kept { Keeps out.old.items out.new.items }
-{
-    put_bytes(out, &two_bytes(parent.author.0))?;
-    put_digest(out, &parent.certificate)
-}
-
-fn put_parents(out: &mut Vec<u8>, parents: &ParentReferences) -> Result<(), AllocError>
-    ensures bytes { OnOk result (out.new.items ≡ out.old.items ++ parents_bytes parents.now) }
-    ensures len { OnOk result (length out.new.items ≡ length out.old.items + (2 + 34 * length parents.now)) }
-    ensures few { OnOk result (length parents.now ≤ MAX_PARENTS) }
-    ensures kept { Keeps out.old.items out.new.items }
-{
-    let list = parents.as_slice();
-    put_bytes(out, &two_bytes(list.len() as u16))?;
-    for parent in list {
-        put_parent_reference(out, parent)?;
-    }
-    Ok(())
-}
-
-fn put_vote_entry(out: &mut Vec<u8>, entry: &VoteEntry) -> Result<(), AllocError>
-    ensures bytes { OnOk result (out.new.items ≡ out.old.items ++ vote_entry_bytes entry.now) }
-    ensures len { OnOk result (length out.new.items ≡ length out.old.items + 66) }
-    ensures kept { Keeps out.old.items out.new.items }
-{
-    put_bytes(out, &two_bytes(entry.voter.0))?;
-    put_signature(out, &entry.signature)
-}
-
-fn put_votes(out: &mut Vec<u8>, votes: &VoteEntries) -> Result<(), AllocError>
-    ensures bytes { OnOk result (out.new.items ≡ out.old.items ++ votes_bytes votes.now) }
-    ensures len { OnOk result (length out.new.items ≡ length out.old.items + (2 + 66 * length votes.now)) }
-    ensures few { OnOk result (length votes.now ≤ MAX_VOTES) }
-    ensures kept { Keeps out.old.items out.new.items }
-{
-    let list = votes.as_slice();
-    put_bytes(out, &two_bytes(list.len() as u16))?;
-    for vote in list {
-        put_vote_entry(out, vote)?;
-    }
-    Ok(())
-}
-
-fn put_header_body(out: &mut Vec<u8>, header: &HeaderBody) -> Result<(), AllocError>
-    ensures bytes { OnOk result (out.new.items ≡ out.old.items ++ header_body header.now) }
-    ensures len { OnOk result (length out.new.items ≡ length out.old.items + header_body_len header.now) }
-    ensures few { OnOk result (header_body_len header.now ≤ 14 + 34 * (MAX_BATCHES + MAX_PARENTS)) }
-    ensures kept { Keeps out.old.items out.new.items }
-{
-    put_bytes(out, &two_bytes(header.author.0))?;
-    put_bytes(out, &eight_bytes(header.round.number()))?;
-    put_batches(out, &header.batches)?;
-    put_parents(out, &header.parents)?;
-    Ok(())
+    let next = write_header_body(area, place, HEADER_TAG, &header.body);
+    write_signature(area, next, &header.signature)
 }
 
 pub(crate) fn put_header(out: &mut Vec<u8>, header: &Header) -> Result<(), AllocError>
@@ -202,9 +262,23 @@ pub(crate) fn put_header(out: &mut Vec<u8>, header: &Header) -> Result<(), Alloc
     ensures kept { Keeps out.old.items out.new.items }
 {
     header.limits_hold();
-    put_bytes(out, &[HEADER_TAG])?;
-    put_header_body(out, &header.body)?;
-    put_signature(out, &header.signature)
+    let place = lengthen(out, header_length(header))?;
+    write_header(out.as_mut_slice(), place, header);
+    Ok(())
+}
+
+fn write_vote(area: &mut [u8], place: usize, vote: &Vote) -> usize
+    requires room { place + 109 ≤ length area.old }
+    ensures bytes { take result area.new ≡ take place area.old ++ spelling (Message.Vote vote.now) }
+    ensures next { result ≡ place + 109 }
+    ensures len { length area.new ≡ length area.old }
+{
+    let header = write_at(area, place, &[VOTE_TAG]);
+    let round = write_digest(area, header, &vote.header);
+    let author = write_at(area, round, &eight_bytes(vote.round.number()));
+    let voter = write_at(area, author, &two_bytes(vote.author.0));
+    let signature = write_at(area, voter, &two_bytes(vote.voter.0));
+    write_signature(area, signature, &vote.signature)
 }
 
 pub(crate) fn put_vote(out: &mut Vec<u8>, vote: &Vote) -> Result<(), AllocError>
@@ -214,12 +288,19 @@ pub(crate) fn put_vote(out: &mut Vec<u8>, vote: &Vote) -> Result<(), AllocError>
     ensures kept { Keeps out.old.items out.new.items }
 {
     vote.limits_hold();
-    put_bytes(out, &[VOTE_TAG])?;
-    put_digest(out, &vote.header)?;
-    put_bytes(out, &eight_bytes(vote.round.number()))?;
-    put_bytes(out, &two_bytes(vote.author.0))?;
-    put_bytes(out, &two_bytes(vote.voter.0))?;
-    put_signature(out, &vote.signature)
+    let place = lengthen(out, VOTE_BYTES)?;
+    write_vote(out.as_mut_slice(), place, vote);
+    Ok(())
+}
+
+fn write_certificate(area: &mut [u8], place: usize, certificate: &Certificate) -> usize
+    requires room { place + length_of (Message.Certificate certificate.now) ≤ length area.old }
+    ensures bytes { take result area.new ≡ take place area.old ++ spelling (Message.Certificate certificate.now) }
+    ensures next { result ≡ place + length_of (Message.Certificate certificate.now) }
+    ensures len { length area.new ≡ length area.old }
+{
+    let next = write_header_body(area, place, CERTIFICATE_TAG, &certificate.header);
+    write_votes(area, next, &certificate.votes)
 }
 
 pub(crate) fn put_certificate(
@@ -233,9 +314,19 @@ pub(crate) fn put_certificate(
     ensures kept { Keeps out.old.items out.new.items }
 {
     certificate.limits_hold();
-    put_bytes(out, &[CERTIFICATE_TAG])?;
-    put_header_body(out, &certificate.header)?;
-    put_votes(out, &certificate.votes)
+    let place = lengthen(out, certificate_length(certificate))?;
+    write_certificate(out.as_mut_slice(), place, certificate);
+    Ok(())
+}
+
+// The bytes of a coin, with its tag.
+fn coin_bytes(coin: &Coin) -> [u8; COIN_BYTES]
+    ensures { result ≡ spelling (Message.Coin coin.now) }
+{
+    let mut bytes = [COIN_TAG; COIN_BYTES];
+    bytes[1..9].copy_from_slice(&eight_bytes(coin.wave.number()));
+    bytes[9..].copy_from_slice(&eight_bytes(coin.value));
+    bytes
 }
 
 fn put_coin(out: &mut Vec<u8>, coin: &Coin) -> Result<(), AllocError>
@@ -243,9 +334,7 @@ fn put_coin(out: &mut Vec<u8>, coin: &Coin) -> Result<(), AllocError>
     ensures len { OnOk result (length out.new.items ≡ length out.old.items + 17) }
     ensures kept { Keeps out.old.items out.new.items }
 {
-    put_bytes(out, &[COIN_TAG])?;
-    put_bytes(out, &eight_bytes(coin.wave.number()))?;
-    put_bytes(out, &eight_bytes(coin.value))
+    put_bytes(out, &coin_bytes(coin))
 }
 
 // The length of a header's body, in bytes.
