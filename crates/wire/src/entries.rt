@@ -1,6 +1,6 @@
 //! Lists with a limit and an order.
 
-ghost use Rattle.std.specs.Prelude.{◌≡◌, ◌<◌, ◌≤◌, ◌++◌, [], ◌∷◌, ℕ, Bool, length, IsTrue, ◌↔◌, OnOk, OnErr};
+ghost use Rattle.std.specs.Prelude.{◌≡◌, ◌<◌, ◌≤◌, ◌++◌, [], ◌∷◌, ℕ, Bool, length, IsTrue, ◌↔◌, IfOk, OnOk, OnErr};
 ghost use Rattle.wire.specs.Rising.{rises, follows, AreEntries};
 
 use std::alloc::{AllocError, Global};
@@ -63,6 +63,15 @@ impl<E: Entry> Entries<E> {
         Entries {
             list: Vec::new(alloc),
         }
+    }
+
+    /// No entries, with room for so many. On `AllocError` an allocation failed.
+    pub fn with_room(alloc: Global, room: usize) -> Result<Entries<E>, AllocError>
+        ensures { IfOk result (λ entries. entries ≡ []) }
+    {
+        Ok(Entries {
+            list: Vec::with_capacity(alloc, room)?,
+        })
     }
 
     /// How many entries there are.

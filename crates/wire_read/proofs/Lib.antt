@@ -1,4 +1,5 @@
 pub mod Entries
+pub mod Rooms
 pub mod Steps
 pub mod Fields
 pub mod EntryLists

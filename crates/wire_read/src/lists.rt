@@ -1,6 +1,6 @@
 //! The lists of headers and certificates. The order is tested as soon as an entry's key is read.
 
-ghost use Rattle.std.specs.Prelude.{◌≡◌, IfOk, IsTrue};
+ghost use Rattle.std.specs.Prelude.{◌≡◌, ◌<◌, ◌≤◌, ◌*◌, length, IfOk, IsTrue};
 ghost use Rattle.wire.specs.References.{batch_follows, parent_follows, vote_follows};
 ghost use Rattle.wire.specs.Reading.{Gives, batch_reference_at, batches_at, parent_reference_at, parents_at, vote_entry_at, votes_at};
 
@@ -10,6 +10,23 @@ use wire::{
     BatchReference, BatchReferences, MAX_BATCHES, MAX_PARENTS, MAX_VOTES, ParentReference,
     ParentReferences, VoteEntries, VoteEntry, WireError,
 };
+
+/// Bytes of a reference to a batch or to a parent.
+const REFERENCE_BYTES: usize = 34;
+
+/// Bytes of a vote.
+const VOTE_BYTES: usize = 66;
+
+// How many entries of this length to make room for: as many as were counted, but no more than the bytes that are left can hold, so that a
+// count alone takes no memory.
+#[tactic(auto, using(crate::proofs::Rooms::has_room))]
+fn room_for(reader: &Reader, count: u16, entry_bytes: usize) -> usize
+    requires { 0 < entry_bytes }
+    ensures counted { result ≤ count }
+    ensures within { result * entry_bytes ≤ length reader.now }
+{
+    (reader.rest().len() / entry_bytes).min(count as usize)
+}
 
 #[tactic(auto, unfolding(wire::specs::Reading::batch_reference_at))]
 fn batch_of(reader: &mut Reader, before: &BatchReferences) -> Result<BatchReference, WireError>
@@ -29,7 +46,7 @@ pub(crate) fn batches_of(alloc: Global, reader: &mut Reader) -> Result<BatchRefe
     ensures { Gives (λ x. (x, reader.new)) result (batches_at reader.old) }
 {
     let count = reader.count_u16(MAX_BATCHES as u16)?;
-    let mut batches = BatchReferences::new(alloc);
+    let mut batches = BatchReferences::with_room(alloc, room_for(reader, count, REFERENCE_BYTES))?;
     for _ in 0..count {
         let batch = batch_of(reader, &batches)?;
         batches.push(batch)?;
@@ -58,7 +75,7 @@ pub(crate) fn parents_of(alloc: Global, reader: &mut Reader) -> Result<ParentRef
     ensures { Gives (λ x. (x, reader.new)) result (parents_at reader.old) }
 {
     let count = reader.count_u16(MAX_PARENTS as u16)?;
-    let mut parents = ParentReferences::new(alloc);
+    let mut parents = ParentReferences::with_room(alloc, room_for(reader, count, REFERENCE_BYTES))?;
     for _ in 0..count {
         let parent = parent_of(reader, &parents)?;
         parents.push(parent)?;
@@ -88,7 +105,7 @@ pub fn votes_of(alloc: Global, reader: &mut Reader) -> Result<VoteEntries, WireE
     ensures { Gives (λ x. (x, reader.new)) result (votes_at reader.old) }
 {
     let count = reader.count_u16(MAX_VOTES as u16)?;
-    let mut votes = VoteEntries::new(alloc);
+    let mut votes = VoteEntries::with_room(alloc, room_for(reader, count, VOTE_BYTES))?;
     for _ in 0..count {
         let vote = vote_of(reader, &votes)?;
         votes.push(vote)?;
