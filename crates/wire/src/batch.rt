@@ -2,7 +2,7 @@
 
 ghost use Rattle.std.specs.Prelude.{◌≡◌, ◌+◌, ◌≤◌, ◌++◌, [], ◌∷◌, length, IsTrue, ◌↔◌, MatchResult, IfOk, OnOk, OnErr, vec_len, vec_capacity};
 ghost use Rattle.wire.specs.declared.limits.TheConstants.{MAX_TRANSACTION_BYTES};
-ghost use Rattle.wire.specs.Batches.{batch_body, body_len, has_room, IsBatch};
+ghost use Rattle.wire.specs.Batches.{batch_body, body_len, contents_of, has_room, IsBatch};
 
 use crate::keys::Author;
 use crate::limits::MAX_BATCH_BYTES;
@@ -56,6 +56,28 @@ impl Model for Batch {
 }
 
 impl Batch {
+    /// The batch of this body, which has this author, this worker and so many transactions. The body is copied once, into a block of its
+    /// length. On `AllocError` an allocation failed.
+    pub fn from_body(
+        alloc: Global,
+        author: Author,
+        worker: u16,
+        count: u32,
+        body: &[u8],
+    ) -> Result<Batch, AllocError>
+        requires fits { IsBatch (contents_of author worker count body.now) }
+        requires spelled { body.now ≡ batch_body (contents_of author worker count body.now) }
+        ensures { IfOk result (λ batch. batch ≡ contents_of author worker count body.now) }
+    {
+        let body = Vec::from_slice(alloc, body)?;
+        Ok(Batch {
+            author,
+            worker,
+            count,
+            body: SharedBytes::from_vec(body)?,
+        })
+    }
+
     /// The author of the batch.
     pub fn author(&self) -> Author
         ensures { result ≡ self.now.author }

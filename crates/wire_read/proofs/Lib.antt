@@ -5,6 +5,7 @@ pub mod Fields
 pub mod EntryLists
 pub mod RisingLists
 pub mod BatchBodies
+pub mod Passing
 pub mod Messages
 pub mod Beginnings
 pub mod Streams

@@ -1,3 +1,4 @@
+pub mod Bodies
 pub mod Frames
 pub mod Headers
 pub mod Table

@@ -1,6 +1,6 @@
 //! Reading fields of fixed size.
 
-ghost use Rattle.std.specs.Prelude.{◌≡◌, ◌≤◌, length, IfOk};
+ghost use Rattle.std.specs.Prelude.{◌≡◌, ◌≤◌, length, take, drop, IfOk};
 ghost use Rattle.std.specs.Int.{w16, w32, w64};
 ghost use Rattle.wire.specs.Reading.{Gives, number_at, bytes_at, author_at, digest_at, signature_at, round_at, wave_at, count_at};
 
@@ -44,9 +44,19 @@ impl<'a> Reader<'a> {
         if self.rest.len() < len {
             return Err(WireError::Short);
         }
+        Ok(self.front(len))
+    }
+
+    // The next so many bytes, which are there.
+    pub(crate) fn front(&mut self, len: usize) -> &'a [u8]
+        requires { len ≤ length self.old }
+        ensures front { result.now ≡ take len self.old }
+        ensures rest { self.new ≡ drop len self.old }
+        ensures len { length result.now ≡ len }
+    {
         let (front, rest) = self.rest.split_at(len);
         self.rest = rest;
-        Ok(front)
+        front
     }
 
     fn array<const N: usize>(&mut self) -> Result<[u8; N], WireError>

@@ -1,21 +1,23 @@
 use Rattle.std.proofs.lemmas.Result.{err_from_is_err_and}
-use Rattle.wire.specs.Reading.{transaction_at, transactions_at}
-use Rattle.wire_read.proofs.Entries.{goes_on, ends, is_done}
+use Rattle.wire_read.proofs.Passing.{begins, passes, stops, passed_all}
 use Rattle.wire_read.proofs.transactions.transactions_of.Goals as goal
 
-pub returns-in_err-transaction-clause-reads : goal.returns-in_err-transaction-clause-reads
-returns-in_err-transaction-clause-reads c =
+pub loop-init : goal.loop-init
+loop-init c = begins c.in_ok-count.count _ c.args.reader.now c.in_ok-count.ensures.reads
+
+pub returns-in_err-transaction : goal.returns-in_err-transaction
+returns-in_err-transaction c =
     let p = err_from_is_err_and c.from_residual-in_err-transaction.result c.from_residual-in_err-transaction.ensures.1 in
-    rw (p.1, p.2) (ends transaction_at c.in_err-transaction.field-0.0 c.in_ok-count.count c.loop.counter c.loop.batch.transactions c.loop.reader (transactions_at c.args.reader.now)
-    c.loop-test.true c.in_err-transaction.ensures.reads c.loop.invariant.so_far)
+    rw (p.1, p.2) (stops c.in_err-transaction.field-0.0 c.in_ok-count.count c.loop.counter c.loop.len c.loop.reader c.args.reader.now c.loop.invariant c.loop-test.true
+    c.in_err-transaction.ensures.reads)
+
+pub transaction_of-requires : goal.transaction_of-requires
+transaction_of-requires c = c.loop.invariant.within
 
 pub loop-preserved : goal.loop-preserved
-loop-preserved c = record {
-  so_far = rw c.in_ok-push.ensures.ok (goes_on transaction_at c.in_ok-count.count c.loop.counter c.loop.batch.transactions c.loop.reader c.in_ok-transaction.transaction.now
-      c.transaction_of.new.reader (transactions_at c.args.reader.now) c.loop-test.true c.in_ok-transaction.ensures.reads c.loop.invariant.so_far);
-  author = rw c.in_ok-push.ensures.ok c.loop.invariant.author;
-  worker = rw c.in_ok-push.ensures.ok c.loop.invariant.worker;
-}
+loop-preserved c =
+    passes c.in_ok-count.count c.loop.counter c.loop.len c.loop.reader c.args.reader.now c.in_ok-transaction.transaction.now c.transaction_of.new.reader c.loop.invariant c.loop-test.true
+    c.in_ok-transaction.ensures.reads c.in_ok-transaction.ensures.room
 
-pub returns-clause-reads : goal.returns-clause-reads
-returns-clause-reads c = is_done transaction_at c.in_ok-count.count c.loop.counter c.loop.batch.transactions c.loop.reader (transactions_at c.args.reader.now) c.loop-test.false c.loop.invariant.so_far
+pub returns : goal.returns
+returns c = passed_all c.in_ok-count.count c.loop.counter c.loop.len c.loop.reader c.args.reader.now c.loop.invariant c.loop-test.false
