@@ -383,6 +383,31 @@ def run(count):
     return fold
 
 
+def proposed(count, members, is_reversed=False):
+    """The bytes of the headers that a node puts out while so many certificates of full rounds enter, each round after the other."""
+    quorum = 2 * members // 3 + 1
+    parents = [(a, Header(a, 0, []).certificate) for a in range(members)]
+    yield Header(0, 1, parents, True).header_bytes
+    for first in range(0, count, members):
+        round_ = first // members + 1
+        made = [Header(a, round_, parents) for a in range(min(members, count - first))]
+        parents = [(one.author, one.certificate) for one in made]
+        if len(made) >= quorum:
+            # It names those that entered first.
+            named = parents[-quorum:] if is_reversed else parents[:quorum]
+            yield Header(0, round_ + 1, named, True).header_bytes
+
+
+def enter(count, members=MEMBERS, is_reversed=False):
+    """What a node writes while certificates enter, by its bytes. It has no line of errors."""
+    told, fold = Fold(), Fold()
+    for header in proposed(count, members, is_reversed):
+        output = u16(0xffff) + header
+        told.add(*(u32(len(output)) + output))
+    fold.add(told.value, Fold().value)
+    return fold
+
+
 def behind(count, size=70):
     """Certificates after rounds without a coin."""
     fold, left = Fold(), MEMBERS * size + count
@@ -452,6 +477,10 @@ LITTLE = [
     ('submit', 1500, submit),
     ('put', 30, put),
     ('run', 20, run),
+    ('waiting', 20, enter),
+    ('waiting-many', 70, lambda n: enter(n, 31)),
+    ('in-order', 40, enter),
+    ('reversed', 40, lambda n: enter(n, MEMBERS, True)),
     # The order of full rounds is the same at each depth.
     ('deep', 70, order),
     ('behind', 80, behind),

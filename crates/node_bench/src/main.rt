@@ -33,7 +33,8 @@ use task::{Kind, Step, Task, WORKS, sized, task_of};
 const USAGE: &str =
     "usage: narwhal-bench [prepare-]WORK COUNT [SIZE], where WORK is hash, decode-FORM, encode-FORM, \
     check-FORM, recheck-FORM, frames, step-header, step-vote, step-certificate, step-batch, order, append, book, reopen, \
-    checkpoint, load, node, submit, put, run, deep, behind or late, and FORM is header, certificate or batch, and but for recheck also vote, ack or coin";
+    checkpoint, load, node, submit, put, run, waiting, waiting-many, in-order, reversed, deep, behind or late, and FORM is header, \
+    certificate or batch, and but for recheck also vote, ack or coin";
 
 fn main(rt: HostRuntime) -> ExitCode {
     match run(&rt) {
@@ -94,7 +95,9 @@ fn digest_of<R: Threads + Wait + Sync>(rt: &R, task: Task) -> Result<u64, Ending
         Kind::Node => sharing::share_node(rt, task, &config, &mut fold),
         Kind::Submit => sharing::submit_alone(rt, task, &config, &mut fold),
         Kind::Put => putting::put_batches(task, &config, &mut fold),
-        Kind::Run => playing::run_stream(rt, task, &config, &mut fold),
+        Kind::Run | Kind::Waiting | Kind::InOrder | Kind::Reversed => playing::run_stream(
+            rt, task, &config, &mut fold,
+        ),
         Kind::Deep => stepping::take_all(task, &config, Step::Round, &mut fold),
         Kind::Behind => lacking::take_after(task, &config, &mut fold),
         Kind::Late => lacking::commit_late(task, &config, &mut fold),

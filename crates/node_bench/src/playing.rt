@@ -5,7 +5,7 @@ use crate::fold::Fold;
 use crate::messages::{PEER, small_batch};
 use crate::rounds::Rounds;
 use crate::storing::empty_disk;
-use crate::task::Task;
+use crate::task::{Kind, Task};
 use crate::working::put_frame;
 use journal::Store;
 use node_run::{CHECKPOINT_BYTES, Ending as RunEnding, Ran, run_over};
@@ -15,13 +15,14 @@ use std::io::{self, Write};
 use std::sync::{Mutex, Wait};
 use std::thread::Threads;
 use validator::Config;
-use wire::{Author, Message, encode};
+use wire::{Author, Message, certificate_digest, encode};
 
 /// The number of the node's member.
 const OWN_NUMBER: &str = "0";
 
-/// A running node reads certificates that wait, as many as the size says, and then `count` small batches of another member. Without the
-/// work it reads the certificates only.
+/// A running node reads certificates that wait, as many as the size says, and then `count` small batches of another member, or `count`
+/// certificates that don't wait. Without the work it reads those that wait only. Other kinds read `count` certificates in order, or in
+/// reversed order, and without the work nothing.
 pub fn run_stream<R: Threads + Wait + Sync>(
     rt: &R,
     task: Task,
@@ -57,26 +58,90 @@ pub fn run_stream<R: Threads + Wait + Sync>(
     Ok(())
 }
 
-// The frames of the certificates, and after them those of the batches.
+// The frames that the node reads.
 fn stream_of(task: Task, config: &Config<HashSign>) -> Result<Vec<u8>, Ending> {
     let mut stream = Vec::new(task.alloc);
     let mut rounds = Rounds::new(task.alloc, config.committee(), true)?;
+    match task.kind {
+        Kind::Waiting => {
+            let frames = certificates_of(task, &mut rounds)?;
+            let mut high = Rounds::new(task.alloc, config.committee(), true)?;
+            // Rounds above those of the others.
+            for _ in 0..rounds.number {
+                high.raise();
+            }
+            put_waiting(&mut stream, task, &mut high)?;
+            put_frames(&mut stream, task, &frames)?;
+        }
+        Kind::InOrder => put_frames(&mut stream, task, &certificates_of(task, &mut rounds)?)?,
+        Kind::Reversed => {
+            let mut frames = certificates_of(task, &mut rounds)?;
+            frames.reverse();
+            put_frames(&mut stream, task, &frames)?;
+        }
+        _ => {
+            put_waiting(&mut stream, task, &mut rounds)?;
+            put_batches(&mut stream, task)?;
+        }
+    }
+    Ok(stream)
+}
+
+fn author_of(task: Task, number: u64) -> Author {
+    Author((number % u64::from(task.members.max(1))) as u16)
+}
+
+// Puts the frames of certificates that wait for ever.
+fn put_waiting(stream: &mut Vec<u8>, task: Task, rounds: &mut Rounds) -> Result<(), Ending> {
     for number in 0..task.size {
-        let author = Author((number % u64::from(task.members.max(1))) as u16);
+        let author = author_of(task, number);
         if author.0 == 0 {
             // The parents stay the genesis certificates, which are parents in round 1 only, so in later rounds these certificates wait.
             rounds.raise();
         }
         let message = Message::Certificate(rounds.certificate(author)?);
-        put_frame(&mut stream, author, &encode(task.alloc, &message)?)?;
+        put_frame(stream, author, &encode(task.alloc, &message)?)?;
     }
+    Ok(())
+}
+
+// Puts the frames of small batches, where there is work.
+fn put_batches(stream: &mut Vec<u8>, task: Task) -> Result<(), Ending> {
     if task.is_work {
         for number in 0..task.count {
             let message = Message::Batch(small_batch(task.alloc, PEER, number)?);
-            put_frame(&mut stream, PEER, &encode(task.alloc, &message)?)?;
+            put_frame(stream, PEER, &encode(task.alloc, &message)?)?;
         }
     }
-    Ok(stream)
+    Ok(())
+}
+
+// Frames of the certificates of full rounds, in their order.
+fn certificates_of(task: Task, rounds: &mut Rounds) -> Result<Vec<Vec<u8>>, Ending> {
+    let mut frames = Vec::new(task.alloc);
+    for number in 0..task.count {
+        let author = author_of(task, number);
+        if author.0 == 0 && number > 0 {
+            rounds.end();
+        }
+        let message = Message::Certificate(rounds.certificate(author)?);
+        let mut frame = Vec::new(task.alloc);
+        put_frame(&mut frame, author, &encode(task.alloc, &message)?)?;
+        frames.push(frame)?;
+        let digest = certificate_digest(&rounds.digest(author)?, rounds.round()?, author);
+        rounds.note(author, digest)?;
+    }
+    Ok(frames)
+}
+
+// Puts these frames, where there is work.
+fn put_frames(stream: &mut Vec<u8>, task: Task, frames: &[Vec<u8>]) -> Result<(), Ending> {
+    if task.is_work {
+        for frame in frames {
+            stream.extend_from_slice(frame)?;
+        }
+    }
+    Ok(())
 }
 
 /// A writer that keeps only a sum over what the node writes.

@@ -70,6 +70,12 @@ pub enum Kind {
     Put,
     /// Batches that a running node reads while certificates wait.
     Run,
+    /// Certificates that a running node takes, beside certificates that wait.
+    Waiting,
+    /// Certificates that a running node reads in their order.
+    InOrder,
+    /// Certificates that a running node reads in the reversed order, so that each waits for its parents.
+    Reversed,
     /// Rounds of all members' certificates, with a coin for each wave, in a committee of a given depth.
     Deep,
     /// Certificates after rounds without a coin.
@@ -174,6 +180,14 @@ const WAITING: Sizes = Sizes {
     members: Some(4),
 };
 
+/// Certificates that wait, in the largest committee.
+const MANY_WAITING: Sizes = Sizes {
+    usual: 16,
+    least: 0,
+    most: 4_096,
+    members: Some(31),
+};
+
 /// The size is the depth: how many rounds below a leader are ordered.
 const DEPTH: Sizes = Sizes {
     usual: 1_000,
@@ -191,7 +205,7 @@ const ROUNDS: Sizes = Sizes {
 };
 
 /// The kinds of work: the word of each, the number of pieces for a run without arguments, and the sizes.
-pub const WORKS: [(&str, Kind, u64, Sizes); 40] = [
+pub const WORKS: [(&str, Kind, u64, Sizes); 44] = [
     ("hash", Kind::Hash, 1_000, NO_SIZE),
     (
         "decode-header",
@@ -339,6 +353,10 @@ pub const WORKS: [(&str, Kind, u64, Sizes); 40] = [
     ("submit", Kind::Submit, 1_500, FLUSH),
     ("put", Kind::Put, 30, HELD),
     ("run", Kind::Run, 20, WAITING),
+    ("waiting", Kind::Waiting, 20, WAITING),
+    ("waiting-many", Kind::Waiting, 70, MANY_WAITING),
+    ("in-order", Kind::InOrder, 40, MEMBERS),
+    ("reversed", Kind::Reversed, 40, MEMBERS),
     ("deep", Kind::Deep, 70, DEPTH),
     ("behind", Kind::Behind, 80, ROUNDS),
     ("late", Kind::Late, 2, ROUNDS),
