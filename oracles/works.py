@@ -190,9 +190,9 @@ def add_order(fold, start, digests):
     fold.add_bytes(*digests)
 
 
-def take_round(fold, coins, made):
-    """The certificates of a round, and the coin after it."""
-    fold.add_bytes(*[one.certificate for one in made])
+def take_round(fold, coins, made, first=0):
+    """The certificates of a round, those of the members from this one on as messages, and the coin after it."""
+    fold.add_bytes(*[one.certificate for one in made[first:]])
     found = coins.take(made)
     if found:
         fold.add_bytes(STAND_IN)
@@ -220,8 +220,7 @@ def few_rounds(first=0):
 def step_votes(count):
     fold, piece = Fold(), 0
     for made in few_rounds(1):
-        fold.add_bytes(made[0].digest)
-        made[0].add_body(fold)
+        propose(fold, made[0])
         for voter in range(1, VOTERS):
             fold.add_bytes(STAND_IN)
             if voter == VOTERS - 1:
@@ -230,6 +229,29 @@ def step_votes(count):
             if piece == count:
                 return fold
         fold.add_bytes(*[one.certificate for one in made[1:]])
+
+
+def propose(fold, own):
+    """The own header, which the node puts out."""
+    fold.add_bytes(own.digest)
+    own.add_body(fold)
+
+
+def certify(fold, own):
+    """The votes that make the own certificate, which the node puts out after the last one."""
+    fold.add_bytes(*[STAND_IN] * (VOTERS - 1))
+    own.add_body(fold)
+
+
+def step_late_votes(count):
+    """A vote on an own header that has its certificate, which the node puts out each time."""
+    fold, own = Fold(), Header(0, 1, genesis())
+    propose(fold, own)
+    certify(fold, own)
+    for _ in range(count):
+        fold.add_bytes(STAND_IN)
+        own.add_body(fold)
+    return fold
 
 
 def step_certificates(count):
@@ -247,6 +269,18 @@ def order(count):
     fold, coins = Fold(), Coins()
     for (_, made), _ in zip(rounds(), range(count)):
         take_round(fold, coins, made)
+    return fold
+
+
+def deep(count):
+    """Rounds of all that a node meets. Nothing of it depends on the depth."""
+    fold, coins = Fold(), Coins()
+    for (_, made), _ in zip(rounds(), range(count)):
+        propose(fold, made[0])
+        for header in made[1:]:
+            fold.add_bytes(header.digest, sign(0, header.certificate))
+        certify(fold, made[0])
+        take_round(fold, coins, made, 1)
     return fold
 
 
@@ -467,6 +501,7 @@ LITTLE = [
     ('step-vote', 40, step_votes),
     ('step-certificate', 80, step_certificates),
     ('step-batch', 3, lambda n: over(batches(n), step_batch)),
+    ('step-late-vote', 20, step_late_votes),
     ('order', 70, order),
     ('append', 2, lambda n: over(range(n), append)),
     ('book', 1500, book),
@@ -481,8 +516,7 @@ LITTLE = [
     ('waiting-many', 70, lambda n: enter(n, 31)),
     ('in-order', 40, enter),
     ('reversed', 40, lambda n: enter(n, MEMBERS, True)),
-    # The order of full rounds is the same at each depth.
-    ('deep', 70, order),
+    ('deep', 70, deep),
     ('behind', 80, behind),
     ('late', 2, late),
 ]

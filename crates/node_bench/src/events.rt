@@ -10,7 +10,7 @@ use committee::Committee;
 use header::{Checked, recheck};
 use sim_script::OWN;
 use std::alloc::Global;
-use wire::{Author, Digest, Message, Vote};
+use wire::{Author, Digest, Message, Vote, certificate_digest};
 
 /// The events of a round that precede its certificates.
 #[derive(Clone, Copy)]
@@ -20,6 +20,8 @@ pub enum Front {
     Headers,
     /// The own header, and as many votes on it as make its certificate, which then doesn't come in itself.
     Votes,
+    /// The own header, those of the others, and votes as above, of which the certificate becomes a parent too.
+    All,
     /// Another member's batches, whose bodies have this many bytes. There is no end to them.
     Batches(u64),
 }
@@ -34,14 +36,15 @@ pub struct Events {
     front: Front,
     // Whether each wave has a coin.
     has_coins: bool,
-    // How many events precede the certificates, and how many there are in all except the coin.
-    front_len: u16,
+    /// How many events of a round precede the certificates.
+    pub front_len: u16,
+    // How many events a round has except the coin.
     len: u16,
     // How many events of the round there were.
     place: u16,
     // How many batches there were.
     batches: u64,
-    // The digest of the last header, which votes are for.
+    // The digest of the last own header, which votes are for.
     header: Digest,
 }
 
@@ -69,6 +72,13 @@ impl Events {
             Front::Headers => (rounds.members.saturating_sub(1), rounds.members),
             // The node's own vote is among those of the voters.
             Front::Votes => (rounds.voters, rounds.members.saturating_sub(1)),
+            Front::All => (
+                rounds
+                    .members
+                    .saturating_add(rounds.voters)
+                    .saturating_sub(1),
+                rounds.members.saturating_sub(1),
+            ),
         };
         Ok(Events {
             rounds,
@@ -87,6 +97,15 @@ impl Events {
         self.place >= self.len && self.rounds.number >= rounds
     }
 
+    /// How many events so many rounds have, with the coins of their waves.
+    pub fn in_rounds(&self, rounds: u64) -> u64 {
+        // After each odd round except the first a wave ends, with its coin.
+        let coins = (rounds.saturating_add(1) / 2).saturating_sub(1);
+        rounds
+            .saturating_mul(u64::from(self.len))
+            .saturating_add(coins)
+    }
+
     /// The next event, tested without signatures.
     pub fn tested(&mut self, committee: &Committee) -> Result<Checked, Ending>
         ensures { IfOk result (λ event. fault_of committee.now accepts_all event ≡ None) }
@@ -95,6 +114,15 @@ impl Events {
         let event = recheck(committee, sender, message)?;
         self.note(event.message(), digest_in(&event))?;
         Ok(event)
+    }
+
+    /// The last member's vote on the own header, which comes after the votes that make its certificate, tested without signatures.
+    pub fn late_vote(&self, committee: &Committee) -> Result<Checked, Ending>
+        ensures { IfOk result (λ event. fault_of committee.now accepts_all event ≡ None) }
+    {
+        let last = self.rounds.members.saturating_sub(1);
+        let (sender, message) = self.vote(Author(last))?;
+        Ok(recheck(committee, sender, message)?)
     }
 
     // The next message, with its sender.
@@ -128,7 +156,7 @@ impl Events {
     // The certificate that this many others of the round precede.
     fn certificate(&self, before: u16) -> Result<(Author, Message), Ending> {
         let author = match self.front {
-            Front::Votes => Author(before.saturating_add(1)),
+            Front::Votes | Front::All => Author(before.saturating_add(1)),
             _ => Author(before),
         };
         let certificate = self.rounds.certificate(author)?;
@@ -140,6 +168,10 @@ impl Events {
         let sender = match (self.front, place) {
             (Front::Votes, 0) => OWN,
             (Front::Votes, _) => return self.vote(Author(place)),
+            (Front::All, _) => match place.checked_sub(self.rounds.members) {
+                None => Author(place),
+                Some(before) => return self.vote(Author(before.saturating_add(1))),
+            },
             _ => Author(place.saturating_add(1)),
         };
         Ok((sender, Message::Header(self.rounds.header(sender)?)))
@@ -162,9 +194,20 @@ impl Events {
             Message::Certificate(certificate) => self
                 .rounds
                 .note(certificate.header.author, digest),
-            Message::Header(_) => {
+            Message::Header(header) if header.body.author == OWN => {
                 self.header = digest;
-                Ok(())
+                self.note_own(digest)
+            }
+            _ => Ok(()),
+        }
+    }
+
+    // Notes the own certificate, which the votes on this header make, where the next round is on top of it too.
+    fn note_own(&mut self, header: Digest) -> Result<(), Ending> {
+        match self.front {
+            Front::All => {
+                let digest = certificate_digest(&header, self.rounds.round()?, OWN);
+                self.rounds.note(OWN, digest)
             }
             _ => Ok(()),
         }

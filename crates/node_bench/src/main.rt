@@ -32,7 +32,7 @@ use task::{Kind, Step, Task, WORKS, sized, task_of};
 /// The error for arguments that ask for nothing.
 const USAGE: &str =
     "usage: narwhal-bench [prepare-]WORK COUNT [SIZE], where WORK is hash, decode-FORM, encode-FORM, \
-    check-FORM, recheck-FORM, frames, step-header, step-vote, step-certificate, step-batch, order, append, book, reopen, \
+    check-FORM, recheck-FORM, frames, step-header, step-vote, step-certificate, step-batch, step-late-vote, order, append, book, reopen, \
     checkpoint, load, node, submit, put, run, waiting, waiting-many, in-order, reversed, deep, behind or late, and FORM is header, \
     certificate or batch, and but for recheck also vote, ack or coin";
 
@@ -87,6 +87,7 @@ fn digest_of<R: Threads + Wait + Sync>(rt: &R, task: Task) -> Result<u64, Ending
         Kind::Message(act, form) => working::work_on(task, &config, act, form, &mut fold),
         Kind::Frames => working::cut_frames(task, &config, &mut fold),
         Kind::Steps(step) => stepping::take_all(task, &config, step, &mut fold),
+        Kind::LateVote => stepping::repeat_vote(task, &config, &mut fold),
         Kind::Append => storing::append_groups(task, &mut fold),
         Kind::Book => storing::keep_book(task, &config, &mut fold),
         Kind::Reopen => storing::reopen_journal(task, &config, &mut fold),
@@ -98,7 +99,7 @@ fn digest_of<R: Threads + Wait + Sync>(rt: &R, task: Task) -> Result<u64, Ending
         Kind::Run | Kind::Waiting | Kind::InOrder | Kind::Reversed => playing::run_stream(
             rt, task, &config, &mut fold,
         ),
-        Kind::Deep => stepping::take_all(task, &config, Step::Round, &mut fold),
+        Kind::Deep => stepping::take_all(task, &config, Step::All, &mut fold),
         Kind::Behind => lacking::take_after(task, &config, &mut fold),
         Kind::Late => lacking::commit_late(task, &config, &mut fold),
     }?;

@@ -20,7 +20,7 @@ pub fn take_all(
     step: Step,
     fold: &mut Fold,
 ) -> Result<(), Ending> {
-    let mut left = task.events(step);
+    let mut left = pieces_of(task, config.committee(), step)?;
     for _ in 0..u64::MAX {
         if left == 0 {
             break;
@@ -71,6 +71,37 @@ fn take_next(
     Ok(is_piece)
 }
 
+/// Steps a vote on an own header that has its certificate, over and over. Without the work the vote is only tested.
+pub fn repeat_vote(task: Task, config: &Config<HashSign>, fold: &mut Fold) -> Result<(), Ending> {
+    let mut validator = Validator::new(task.alloc, config)?;
+    let mut events = events_of(task, config.committee(), Step::Vote)?;
+    let first = Task {
+        is_work: true,
+        ..task
+    };
+    for _ in 0..events.front_len {
+        take_next(first, &mut validator, &mut events, Step::Vote, fold)?;
+    }
+    vote_late(task, &mut validator, &events, fold)
+}
+
+// Steps the last member's vote on the own header, which has its certificate, so often.
+fn vote_late(
+    task: Task,
+    validator: &mut Validator<'_, HashSign>,
+    events: &Events,
+    fold: &mut Fold,
+) -> Result<(), Ending> {
+    for _ in 0..task.count {
+        let event = events.late_vote(validator.committee())?;
+        fold.add_bytes(&digest_in(&event).0);
+        if task.is_work {
+            fold.add_step(&validator.step(event)?);
+        }
+    }
+    Ok(())
+}
+
 /// The events for a kind of step.
 pub fn events_of(task: Task, committee: &Committee, step: Step) -> Result<Events, Ending> {
     let (front, has_coins) = match step {
@@ -79,23 +110,16 @@ pub fn events_of(task: Task, committee: &Committee, step: Step) -> Result<Events
         Step::Certificate => (Front::Nothing, false),
         Step::Batch => (Front::Batches(task.size), false),
         Step::Round => (Front::Nothing, true),
+        Step::All => (Front::All, true),
     };
     Events::new(task.alloc, committee, front, has_coins)
 }
 
-impl Task {
-    // How many events a step takes in order to do the task's number of pieces.
-    fn events(self, step: Step) -> u64 {
-        match step {
-            // After each odd round except the first a wave ends, with its coin.
-            Step::Round => {
-                let coins = (self.count.saturating_add(1) / 2).saturating_sub(1);
-                self.count
-                    .saturating_mul(u64::from(self.members))
-                    .saturating_add(coins)
-            }
-            _ => self.count,
-        }
+// How many pieces a task has: events of its kind, or all events of so many rounds.
+fn pieces_of(task: Task, committee: &Committee, step: Step) -> Result<u64, Ending> {
+    match step {
+        Step::Round | Step::All => Ok(events_of(task, committee, step)?.in_rounds(task.count)),
+        _ => Ok(task.count),
     }
 }
 
@@ -106,7 +130,7 @@ impl Step {
             (Step::Header, Message::Header(_)) => true,
             (Step::Vote, Message::Vote(_)) => true,
             (Step::Certificate, Message::Certificate(_)) => true,
-            (Step::Batch | Step::Round | Step::Event, _) => true,
+            (Step::Batch | Step::Round | Step::All | Step::Event, _) => true,
             _ => false,
         }
     }

@@ -39,6 +39,9 @@ pub enum Step {
     Round,
     /// Events of such rounds, with the others' headers before the certificates.
     Event,
+    /// Such rounds with all that a node meets: its own header, those of the others, the votes that make its certificate, and then the
+    /// certificates of the others.
+    All,
 }
 
 /// A kind of work.
@@ -52,6 +55,8 @@ pub enum Kind {
     Frames,
     /// Steps of a validator.
     Steps(Step),
+    /// Steps of a vote on an own header that has its certificate.
+    LateVote,
     /// Groups of records, made and appended to a journal.
     Append,
     /// Events through a book and a journal.
@@ -76,7 +81,7 @@ pub enum Kind {
     InOrder,
     /// Certificates that a running node reads in the reversed order, so that each waits for its parents.
     Reversed,
-    /// Rounds of all members' certificates, with a coin for each wave, in a committee of a given depth.
+    /// Rounds of all that a node meets, in a committee of a given depth.
     Deep,
     /// Certificates after rounds without a coin.
     Behind,
@@ -205,7 +210,7 @@ const ROUNDS: Sizes = Sizes {
 };
 
 /// The kinds of work: the word of each, the number of pieces for a run without arguments, and the sizes.
-pub const WORKS: [(&str, Kind, u64, Sizes); 44] = [
+pub const WORKS: [(&str, Kind, u64, Sizes); 45] = [
     ("hash", Kind::Hash, 1_000, NO_SIZE),
     (
         "decode-header",
@@ -343,6 +348,7 @@ pub const WORKS: [(&str, Kind, u64, Sizes); 44] = [
         MEMBERS,
     ),
     ("step-batch", Kind::Steps(Step::Batch), 3, BODY),
+    ("step-late-vote", Kind::LateVote, 20, MEMBERS),
     ("order", Kind::Steps(Step::Round), 70, MEMBERS),
     ("append", Kind::Append, 2, GROUP),
     ("book", Kind::Book, 1_500, FLUSH),
