@@ -20,7 +20,7 @@ pub enum Front {
     Headers,
     /// The own header, and as many votes on it as make its certificate, which then doesn't come in itself.
     Votes,
-    /// The own header, those of the others, and votes as above, of which the certificate becomes a parent too.
+    /// The own header, those of the others, and then votes as above. The next round is on top of the own certificate too.
     All,
     /// Another member's batches, whose bodies have this many bytes. There is no end to them.
     Batches(u64),

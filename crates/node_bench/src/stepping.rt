@@ -85,7 +85,7 @@ pub fn repeat_vote(task: Task, config: &Config<HashSign>, fold: &mut Fold) -> Re
     vote_late(task, &mut validator, &events, fold)
 }
 
-// Steps the last member's vote on the own header, which has its certificate, so often.
+// Steps the last member's vote on the own header, which has its certificate by then, as often as the task says.
 fn vote_late(
     task: Task,
     validator: &mut Validator<'_, HashSign>,
