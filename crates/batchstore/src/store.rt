@@ -460,6 +460,14 @@ impl<'a> BatchStore<'a> {
         self.held.at(place)
     }
 
+    /// The same with the batch's digest, which costs no hash.
+    pub fn entry(&self, place: usize) -> Option<(&Digest, &Held)>
+        ensures held { option_map (λ entry. entry.1.now) result ≡ slice_get self.now.held place }
+        ensures digested { IfSome result (λ entry. entry.0.now ≡ digest_of entry.1.now.batch) }
+    {
+        self.held.entry(place)
+    }
+
     /// How many batches are held.
     pub fn len(&self) -> usize
         ensures { result ≡ length self.now.held }

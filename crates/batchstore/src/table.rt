@@ -93,6 +93,17 @@ impl Table {
         }
     }
 
+    // The same with the batch's digest.
+    pub(crate) fn entry(&self, place: usize) -> Option<(&Digest, &Held)>
+        ensures held { option_map (λ entry. entry.1.now) result ≡ slice_get self.now place }
+        ensures digested { IfSome result (λ entry. entry.0.now ≡ digest_of entry.1.now.batch) }
+    {
+        match self.batches.get_index(place) {
+            Some((digest, held)) => Some((digest, held)),
+            None => None,
+        }
+    }
+
     // What is held of the batch with this digest, and its place.
     pub(crate) fn find(&self, digest: &Digest) -> Option<(usize, &Held)>
         ensures held { option_map (λ it. it.1.now) result ≡ found digest.now self.now }
