@@ -70,11 +70,15 @@ def headers():
 
 
 class Remembering(histories.Node):
-    """A node that looks once for what a certificate reaches: the parents of what is held are there."""
+    """A node that looks once for what a certificate reaches, as the parents of what is held are there, and for its round from above."""
 
     def __init__(self):
         super().__init__(DEPTH, histories.Committee([1] * len(MEMBERS)))
         self.pasts = {}
+
+    def round(self):
+        full = (round_ for round_ in range(max(self.certificates)[0], -1, -1) if self.is_full(round_))
+        return 1 + next(full)
 
     def past(self, certificate):
         if certificate.label not in self.pasts:
@@ -85,8 +89,8 @@ class Remembering(histories.Node):
 class Rules:
     """What a member's node answers after what it took. The rules of oracles/histories.py are those of the member OWN there."""
 
-    def __init__(self, own, headers, events):
-        self.own, self.headers, self.node = own, headers, Remembering()
+    def __init__(self, own, headers, events, kind):
+        self.own, self.headers, self.node = own, headers, kind()
         for event in events:
             word, _ = self.take(*event)
             assert word.startswith('new')
@@ -107,7 +111,7 @@ class Rules:
             return self.node.header(header)
         if kind == 'vote':
             return self.node.vote(header, int(words[1]))
-        return self.node.certificate(header, words[1])
+        return self.node.certificate(header, [int(voter) for voter in words[1].split(',')])
 
     def proposal(self):
         histories.OWN = self.own
@@ -120,6 +124,9 @@ class Rules:
 class Member:
     """A node over its runs: what is settled of all that it took, and all that it put out."""
 
+    # What it answers by.
+    kind = Remembering
+
     def __init__(self, own, headers):
         self.own, self.headers, self.settled, self.outputs, self.order = own, headers, [], [], []
         # The messages that it took, but those that a stop lost, or whose outputs it lost.
@@ -128,10 +135,14 @@ class Member:
 
     def begin(self):
         """A run on what is settled."""
-        self.accepted, self.firm = Rules(self.own, self.headers, self.settled), Rules(self.own, self.headers, self.settled)
+        self.accepted, self.firm = self.rules(), self.rules()
         self.pending, self.waiting, self.synced = [], [], 0
         self.failed = None
         self.collect()
+
+    def rules(self):
+        """The rules after what is settled."""
+        return Rules(self.own, self.headers, self.settled, self.kind)
 
     def take_in(self, sender, message):
         if self.failed:
@@ -174,10 +185,13 @@ class Member:
 
     def collect(self):
         """Reads the order, and puts out what waits for nothing any more."""
-        order = self.firm.order()
+        self.see(self.firm.order())
+        self.release()
+
+    def see(self, order):
+        """The order is never taken back."""
         assert order[:len(self.order)] == self.order
         self.order = order
-        self.release()
 
     def release(self):
         self.outputs += [output for ticket, output in self.waiting if ticket <= self.synced]
@@ -266,7 +280,7 @@ class Plan(List):
     """The same moves, which are planned, and applied all at once to a cluster that is opened for them."""
 
     def __init__(self, title, nodes, headers):
-        self.plan, self.forms = [], []
+        self.plan, self.forms, self.answers = [], [], []
         super().__init__(title, nodes, headers)
         self.lines = ['', '== ' + title] + self.forms
 
@@ -282,10 +296,11 @@ class Plan(List):
 
     def tell(self, command, answer):
         self.plan.append('plan ' + command)
+        self.answers += ['> ' + line for line in answer.split('\n')]
 
     def ends(self):
-        """What the nodes have given out in the end."""
-        self.lines += self.plan + ['play %d' % len(self.nodes)]
+        """What the moves were answered, and what the nodes have given out in the end."""
+        self.lines += self.plan + ['play %d' % len(self.nodes)] + self.answers
         for own in self.nodes:
             self.lines += ['order %d' % own, '> ' + ' '.join(['order'] + self.members[own].order)]
             self.lines += ['outputs %d' % own, '> outputs %d' % len(self.members[own].outputs)]

@@ -1,7 +1,8 @@
 -- A cluster that was opened, and the moves that were applied to it.
-use Rattle.std.proofs.Common.{◌≡◌, ◌≢◌, ℕ, List, [], ◌∷◌, ◌++◌, inl, inr, map, Some, None, refl, sym}
+use Rattle.std.proofs.Common.{◌≡◌, ◌≢◌, ℕ, List, [], ◌∷◌, ◌++◌, inl, inr, map, Option, Some, None, Result, refl, sym, ap₂, ◌∙◌}
 use Rattle.std.specs.List.{AllZip}
 use Rattle.std.specs.Prelude.{All}
+use Rattle.std.proofs.lemmas.List.{map-append}
 use Rattle.std.proofs.lemmas.List.Elements.{All-contains}
 use Rattle.header.specs.Checks.{Accepts}
 use Rattle.spec_cluster.specs.Agreement.{RunsAgree}
@@ -11,10 +12,12 @@ use Rattle.spec_model.specs.Nodes.{Node}
 use Rattle.spec_model.specs.Words.{Author, Digest}
 use Rattle.spec_world.specs.Steps.{IsRun}
 use Rattle.validator.specs.Setting.{ConfigView, node_of}
-use Rattle.cluster.specs.Applying.{Stage, ran, IsDone, StagesLead, move_in, IsAmong, BeginsAmong, first_world, ArePlayed}
+use Rattle.cluster.specs.Applying.{Stage, ran, IsDone, StagesLead, AreAnswered, move_in, answer_in, IsAmong, BeginsAmong, first_world, ArePlayed}
 use Rattle.cluster.specs.Cluster.{named}
 use Rattle.cluster.specs.Member.{MemberView, StandsAt, IsOn, IsLongest}
 use Rattle.cluster.specs.Threads.{Act, HasRun}
+use Rattle.cluster.specs.declared.error.ClusterError.{ClusterError}
+use Rattle.cluster.specs.declared.moves.Applied.{Applied}
 use Rattle.cluster.specs.declared.moves.Move.{Move}
 use Rattle.cluster.proofs.Following.{given_orders_agree}
 use Rattle.diskmodel.specs.Disk.{Device}
@@ -26,6 +29,18 @@ module _ {S D : Type 0} (scheme : Scheme S) (device : Device D) (accepts : Accep
       → IsDone scheme device accepts one.before one.doing one.later → StagesLead scheme device accepts first (stages ++ one ∷ []) one.later
   lead_more [] first one lead done = (sym lead, done, refl)
   lead_more (stage ∷ stages) first one lead done = (lead.0, lead.1, lead_more stages stage.later one lead.2 done)
+
+  -- one more move was applied, and answered
+  pub answered_more : (stages : List (Stage S D)) (moves : List Move) (answers : List (Result Applied ClusterError)) → AreAnswered stages moves answers
+      → (one : Stage S D) (move : Move) (answer : Result Applied ClusterError) → move_in one.doing ≡ Some move → answer_in one.doing ≡ Some answer
+      → AreAnswered (stages ++ one ∷ []) (moves ++ move ∷ []) (answers ++ answer ∷ [])
+  answered_more stages moves answers so_far one move answer is said = record {
+    applied = map-append (λ (s : Stage S D). move_in s.doing) stages (one ∷ []) ∙ ap₂ (λ (l : List (Option Move)) (m : Option Move). l ++ m ∷ []) so_far.applied is
+        ∙ sym (map-append (λ (m : Move). Some m) moves (move ∷ []));
+    answered = map-append (λ (s : Stage S D). answer_in s.doing) stages (one ∷ [])
+        ∙ ap₂ (λ (l : List (Option (Result Applied ClusterError))) (a : Option (Result Applied ClusterError)). l ++ a ∷ []) so_far.answered said
+        ∙ sym (map-append (λ (a : Result Applied ClusterError). Some a) answers (answer ∷ []));
+  }
 
   -- members that ran in threads did so by some acts
   pub ran_by : (turns : ℕ) (before later : List (MemberView S D)) → AllZip (HasRun scheme device accepts turns) before later
@@ -71,10 +86,10 @@ module _ {S D : Type 0} (scheme : Scheme S) (device : Device D) (accepts : Accep
       (agree : RunsAgree) where
     pub are_played : (settings : List (ConfigView S)) (first : List (MemberView S D)) → map (λ member. member.setting) first ≡ settings → (disks : List D) → AllZip (IsOn device) disks first
         → All (λ member. IsRun (node_of scheme member.setting) [] (first_world (node_of scheme member.setting))) first → All Begins first → All (λ member. member.desk ≢ None) first
-        → (moves : List Move) (stages : List (Stage S D)) → map (λ stage. move_in stage.doing) stages ≡ map (λ move. Some move) moves → (members : List (MemberView S D))
+        → (moves : List Move) (answers : List (Result Applied ClusterError)) (stages : List (Stage S D)) → AreAnswered stages moves answers → (members : List (MemberView S D))
         → StagesLead scheme device accepts first stages members
-        → ArePlayed scheme device accepts settings disks moves members
-    are_played settings first set_up disks on runs begins up moves stages made members lead = record {
+        → ArePlayed scheme device accepts settings disks moves answers members
+    are_played settings first set_up disks on runs begins up moves answers stages made members lead = record {
       first = first;
       set_up = set_up;
       on = on;

@@ -199,17 +199,27 @@ abbrev pub move_in : Doing → Option Move
 move_in (moved move answer) = Some move
 move_in (ran turns acts) = None
 
--- These moves led to the members from new ones with these settings, which were all there and had given nothing out. Whichever of them are
+-- the answer of the move that was applied, if it was one
+abbrev pub answer_in : Doing → Option (Result Applied ClusterError)
+answer_in (moved move answer) = Some answer
+answer_in (ran turns acts) = None
+
+-- at these stages these moves were applied, with these answers, and nothing else was done
+pub record AreAnswered {S D : Type 0} (stages : List (Stage S D)) (moves : List Move) (answers : List (Result Applied ClusterError)) : Type 0 where
+  pub applied : map (λ stage. move_in stage.doing) stages ≡ map (λ move. Some move) moves
+  pub answered : map (λ stage. answer_in stage.doing) stages ≡ map (λ answer. Some answer) answers
+
+-- These moves led, with these answers, to the members from new ones with these settings, which were all there and had given nothing out. Whichever of them are
 -- honest: if the others weigh no more than is tolerated, the moves were fair, and no two different texts in what honest ones accepted share
 -- a digest, then the orders that the honest ones gave out agree.
 pub record ArePlayed {S D : Type 0} (scheme : Scheme S) (device : Device D) (accepts : Accepts) (settings : List (ConfigView S)) (disks : List D) (moves : List Move)
-    (members : List (MemberView S D)) : Type 0 where
+    (answers : List (Result Applied ClusterError)) (members : List (MemberView S D)) : Type 0 where
   pub first : List (MemberView S D)
   pub set_up : map (λ member. member.setting) first ≡ settings
   pub on : AllZip (IsOn device) disks first
   pub new : All (λ member. (member.desk ≢ None) × (member.out.outputs ≡ []) × (member.out.order ≡ [])) first
   pub stages : List (Stage S D)
-  pub made : map (λ stage. move_in stage.doing) stages ≡ map (λ move. Some move) moves
+  pub made : AreAnswered stages moves answers
   pub lead : StagesLead scheme device accepts first stages members
   pub agree : (cluster : spec.Cluster) (value : ℕ → ℕ) → cluster.accepts ≡ accepts → ((number : Author) → cluster.honest number.0 ≡ true → IsAmong scheme first cluster number)
       → FewFaulty cluster → All (IsFairStage cluster value) stages → HaveNoClashTaken cluster.honest stages → HonestOrdersAgree cluster.honest members

@@ -125,7 +125,8 @@ impl<'a> ClusterCases<'a> {
         Ok(())
     }
 
-    /// `play COUNT` opens a node for each of the first `COUNT` members, and applies the planned moves.
+    /// `play COUNT` opens a node for each of the first `COUNT` members, and applies the planned moves, whose answers it
+    /// shows.
     fn play(&mut self, words: &str, answer: &mut String) -> Told {
         let count = words.parse().unwrap_or(0);
         let Some(configs) = self.settings.first(count) else {
@@ -137,7 +138,12 @@ impl<'a> ClusterCases<'a> {
         }
         let moves = mem::replace(&mut self.plan, Vec::new(self.alloc));
         match Cluster::play(self.alloc, configs, disks, HashVerify, moves) {
-            Ok(cluster) => self.cluster = Some(cluster),
+            Ok((cluster, answers)) => {
+                self.cluster = Some(cluster);
+                for outcome in answers {
+                    tell_move(answer, outcome);
+                }
+            }
             Err(error) => tell_error(answer, error),
         }
         Ok(())
