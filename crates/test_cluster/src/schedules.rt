@@ -4,6 +4,7 @@ mod dishonest;
 mod draws;
 mod headers;
 mod nodes;
+mod premises;
 mod report;
 mod schedule;
 mod wishes;
@@ -70,7 +71,8 @@ fn play(
     number: u64,
     report: &mut Report,
 ) -> Told {
-    let mut schedule = Schedule::new(alloc, settings, honest, task.start.wrapping_add(number))?;
+    let start = task.start.wrapping_add(number);
+    let mut schedule = Schedule::new(alloc, settings, honest, task.depth, start)?;
     move_all(&mut schedule, task.moves, report)?;
     report.end(&schedule);
     Ok(())

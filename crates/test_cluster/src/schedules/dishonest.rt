@@ -1,16 +1,19 @@
-//! What dishonest members do: they make several headers for a round, vote for all, gather the votes that honest members gave out, and send
-//! messages that aren't signed.
+//! What dishonest members do: they make several headers for a round, vote for all, gather votes that honest members gave out, show what
+//! they gathered to one node and not to another, and send what isn't signed.
 
-use super::headers::{Made, Which};
-use super::schedule::{Answered, PACKER, Schedule};
+use super::headers::{Made, QUORUM, Showing, Which};
+use super::nodes::LATER;
+use super::schedule::{Answered, PACKER, Plan, Schedule};
+use super::wishes::{Content, Part, Wish};
 use crate::moves::UNSIGNED;
 use header::make;
 use sim_members::MEMBERS;
 use sim_script::{Proposed, certificate, signer, vote};
 use std::alloc::{AllocError, Global};
+use test_cases::Told;
 use wire::{
-    Author, BatchReference, Certificate, Digest, Header, Message, ParentReference, Vote,
-    batch_digest,
+    Author, BatchReference, Certificate, Digest, Header, Message, ParentReference, Round, Vote,
+    batch_digest, genesis_digest,
 };
 
 /// A digest of no text.
@@ -19,127 +22,298 @@ const NOTHING: Digest = Digest([0; 32]);
 /// From how many of the last headers one is drawn.
 const NEAR: u64 = 6;
 
+/// A delay of many rounds.
+const LONG: u64 = 6;
+
+/// The last round whose certificates come later to the node apart, of a branch.
+const LAST_APART: u64 = 6;
+
 impl<'a> Schedule<'a> {
-    /// A dishonest member makes a header with the parents of a node's last own header, and gives it to the node.
-    pub fn face(&mut self, node: Author) -> Result<Answered, AllocError> {
-        let author = self.draw_dishonest();
-        let less = self.draws.below(2) == 1;
-        let named = self.draws.below(4);
-        match self.new_face(node, author, less, named)? {
-            Some(header) => {
-                let dishonest = self.first_dishonest();
-                let made = self.headers.form(header, dishonest)?;
-                self.give_header("face", node, author, made)
-            }
-            None => self.go_on(node),
+    /// Where a node is given this header as its own, each dishonest member makes a face of its round, if it does.
+    pub fn make_faces(&mut self, own: usize) -> Told {
+        for author in self.honest.count()..MEMBERS {
+            self.make_face(Author(author), own)?;
         }
+        Ok(())
+    }
+
+    fn make_face(&mut self, author: Author, own: usize) -> Told {
+        let drawn = self.draws.below(4);
+        let Some(made) = self.headers.get(own) else {
+            return Ok(());
+        };
+        let round = made.proposed.header.body.round;
+        let number = round.number();
+        let Some(face) = self.face_of(drawn, number, made.author()) else {
+            return Ok(());
+        };
+        if self.headers.has_face(author, number, face) {
+            return Ok(());
+        }
+        let parents = self.parents(number, face, made)?;
+        if parents.len() < QUORUM {
+            return Ok(());
+        }
+        self.form_face(author, round, face, &parents)
+    }
+
+    // The face that is made of a round where this number was drawn, if one is.
+    fn face_of(&self, drawn: u64, round: u64, own: Author) -> Option<u64> {
+        match self.plan {
+            Plan::Drawn => (drawn < 2).then_some(drawn),
+            Plan::Faces => match round % 4 {
+                1 => Some(0),
+                3 => Some(1),
+                _ => Some(drawn % 2),
+            },
+            Plan::Branch => (drawn != 3).then_some(0),
+            Plan::Split => Some(u64::from(own != self.apart)),
+        }
+    }
+
+    // The parents of a face: of members that are split those of the node's own header, else the certificates that are out. Face 1 leaves
+    // one out that leads to a leader. Of fewer than a quorum no face is made.
+    fn parents(
+        &self,
+        round: u64,
+        face: u64,
+        own: &Made,
+    ) -> Result<Vec<ParentReference>, AllocError> {
+        let mut parents = Vec::new(self.alloc);
+        if let Plan::Split = self.plan {
+            parents.extend_from_slice(own.proposed.header.body.parents.as_slice())?;
+        } else {
+            for author in 0..MEMBERS {
+                if let Some(parent) = self.parent_of(Author(author), round, face) {
+                    parents.push(parent)?;
+                }
+            }
+        }
+        if face == 1 {
+            self.leave_one_out(&mut parents, round);
+        }
+        Ok(parents)
+    }
+
+    // The certificate of a member for the parents of a face of this round.
+    fn parent_of(&self, author: Author, round: u64, face: u64) -> Option<ParentReference> {
+        if round == 1 {
+            let certificate = genesis_digest(author);
+            return Some(ParentReference {
+                author,
+                certificate,
+            });
+        }
+        let made = self
+            .headers
+            .certified(author, round.saturating_sub(1), face)?;
+        Some(ParentReference {
+            author,
+            certificate: made.proposed.certificate,
+        })
+    }
+
+    // Leaves the first parent out that leads to a leader. Where there are no more than a quorum that is for the plan of two faces alone,
+    // and then the face isn't made.
+    fn leave_one_out(&self, parents: &mut Vec<ParentReference>, round: u64) {
+        if parents.len() <= QUORUM && !matches!(self.plan, Plan::Faces) {
+            return;
+        }
+        let Some(leader) = self.leader_of(round / 2) else {
+            return;
+        };
+        let found = parents
+            .iter()
+            .position(|parent| self.leads(parent, round, leader));
+        if let Some(place) = found {
+            if place < parents.len() {
+                let _ = parents.remove(place);
+            }
+        }
+    }
+
+    // Whether a parent of a header of a wave's second round is of this author, or of its third names a certificate of that.
+    fn leads(&self, parent: &ParentReference, round: u64, leader: Author) -> bool {
+        if round % 2 == 0 {
+            return parent.author == leader;
+        }
+        match self.made_of(&parent.certificate) {
+            Some(made) => made.names(leader),
+            None => false,
+        }
+    }
+
+    // The header whose certificate has this digest.
+    fn made_of(&self, certificate: &Digest) -> Option<&Made> {
+        self.headers
+            .get(self.headers.find_certificate(certificate)?)
+    }
+
+    fn form_face(
+        &mut self,
+        author: Author,
+        round: Round,
+        face: u64,
+        parents: &Vec<ParentReference>,
+    ) -> Told {
+        let named = match self.plan {
+            Plan::Split => face as usize,
+            _ => self.draws.below(64) as usize,
+        };
+        let showing = self.showing(round.number(), face);
+        let header = self.new_face(author, round, self.named(named), parents.as_slice())?;
+        let dishonest = self.first_dishonest();
+        let batch = (named < self.batches.len()).then_some(named);
+        let made = self.headers.form(header, dishonest, showing, batch)?;
+        for node in 0..self.honest.count() {
+            self.known
+                .offer(Author(node), Wish::of(made, Part::Header))?;
+        }
+        Ok(())
     }
 
     fn new_face(
         &self,
-        node: Author,
         author: Author,
-        less: bool,
-        named: u64,
-    ) -> Result<Option<Header>, AllocError> {
-        let Some(base) = self.own_header(node) else {
-            return Ok(None);
-        };
-        let body = &base.proposed.header.body;
-        let parents = some_parents(body.parents.as_slice(), less);
-        let made = match self.named(named) {
+        round: Round,
+        batch: Option<BatchReference>,
+        parents: &[ParentReference],
+    ) -> Result<Header, AllocError> {
+        let made = match batch {
             Some(batch) => make(
                 self.alloc,
                 &signer(author),
                 author,
-                body.round,
+                round,
                 &[batch],
                 parents,
             ),
-            None => make(
-                self.alloc,
-                &signer(author),
-                author,
-                body.round,
-                &[],
-                parents,
-            ),
+            None => make(self.alloc, &signer(author), author, round, &[], parents),
         };
         match made {
-            Ok(header) => Ok(Some(header)),
+            Ok(header) => Ok(header),
             Err(_) => Err(AllocError),
         }
     }
 
-    fn own_header(&self, node: Author) -> Option<&Made> {
-        self.headers.get(self.known.of(node).own?)
+    // By how many rounds the certificate of a face of this round comes later to the node apart, and to the others.
+    fn showing(&mut self, round: u64, face: u64) -> Showing {
+        let (apart, others) = match self.plan {
+            Plan::Drawn => self.drawn_delays(face),
+            Plan::Faces => match (face, round % 2) {
+                (0, 0) => (1, LONG),
+                (0, _) => (0, 1),
+                (_, 0) => (LONG, 1),
+                _ => (LONG, 0),
+            },
+            Plan::Branch => (
+                (LAST_APART + 1).saturating_sub(round),
+                u64::from(round < LAST_APART),
+            ),
+            Plan::Split => { if face == 0 { (0, LATER) } else { (LATER, 0) } }
+        };
+        Showing {
+            face,
+            apart,
+            others,
+        }
     }
 
-    // The batch that a header names: none, or one of two.
-    fn named(&self, named: u64) -> Option<BatchReference> {
-        let batch = self.batches.get(named.checked_sub(2)? as usize)?;
+    fn drawn_delays(&mut self, face: u64) -> (u64, u64) {
+        let near = self.draws.below(2);
+        let far = if self.draws.below(2) == 0 { LONG } else { 1 };
+        if face == 0 { (near, far) } else { (far, near) }
+    }
+
+    /// The certificate of a dishonest member's header can be gathered: each node wants it, some later.
+    pub fn gather(&mut self, header: usize) -> Told {
+        self.headers.certify(header);
+        let Some(made) = self.headers.get(header) else {
+            return Ok(());
+        };
+        let (round, showing) = (made.round(), made.showing);
+        for node in 0..self.honest.count() {
+            let delay = if Author(node) == self.apart {
+                showing.apart
+            } else {
+                showing.others
+            };
+            let at = round.saturating_add(delay);
+            let wish = Wish {
+                at,
+                ..Wish::of(header, Part::Certificate)
+            };
+            self.known.offer(Author(node), wish)?;
+        }
+        Ok(())
+    }
+
+    // The batch that a header names: one of two, or none.
+    fn named(&self, named: usize) -> Option<BatchReference> {
+        let batch = self.batches.get(named)?;
         Some(BatchReference {
             digest: batch_digest(batch),
             worker: batch.worker(),
         })
     }
 
-    /// A node gets one of the dishonest members' last headers.
+    /// What is given to a node that comes from the member of whom it is: who sends it, and the message.
+    pub fn message_of(
+        &self,
+        content: Option<Content>,
+    ) -> Result<Option<(Author, Message)>, AllocError> {
+        let Some(Content { number, part }) = content else {
+            return Ok(None);
+        };
+        match part {
+            Part::Batch => self.batch_message(number),
+            Part::Header => self.header_message(number),
+            Part::Vote(voter) => Ok(
+                self.vote_of(number, voter)
+                    .map(|(_, vote)| (voter, Message::Vote(vote))),
+            ),
+            Part::Certificate => Ok(
+                self.certificate_of(number)?.map(|certificate| (
+                    self.first_dishonest(),
+                    Message::Certificate(certificate),
+                )),
+            ),
+        }
+    }
+
+    fn batch_message(&self, number: usize) -> Result<Option<(Author, Message)>, AllocError> {
+        match self.batches.get(number) {
+            Some(batch) => Ok(Some((PACKER, Message::Batch(batch.share()?)))),
+            None => Ok(None),
+        }
+    }
+
+    fn header_message(&self, header: usize) -> Result<Option<(Author, Message)>, AllocError> {
+        match self.headers.get(header) {
+            Some(made) => Ok(Some((
+                made.author(),
+                Message::Header(made.proposed.header.try_clone()?),
+            ))),
+            None => Ok(None),
+        }
+    }
+
+    /// A node is given one of the dishonest members' last headers.
     pub fn show(&mut self, node: Author) -> Result<Answered, AllocError> {
         let after = self.draws.below(NEAR);
         match self
             .headers
             .near_last(Which::From(self.first_dishonest()), after)
         {
-            Some(header) => self.give_header_of("show", node, header),
+            Some(header) => self.deliver("show", node, Wish::of(header, Part::Header)),
             None => self.go_on(node),
-        }
-    }
-
-    fn give_header_of(
-        &mut self,
-        kind: &'static str,
-        to: Author,
-        header: usize,
-    ) -> Result<Answered, AllocError> {
-        match self.headers.get(header) {
-            Some(made) => {
-                let author = made.author();
-                self.give_header(kind, to, author, header)
-            }
-            None => self.go_on(to),
-        }
-    }
-
-    fn give_header(
-        &mut self,
-        kind: &'static str,
-        to: Author,
-        author: Author,
-        header: usize,
-    ) -> Result<Answered, AllocError> {
-        let message = self.header_message(header)?;
-        self.give(kind, to, author, message, None)
-    }
-
-    /// The message of the header at this place.
-    pub fn header_message(&self, header: usize) -> Result<Message, AllocError> {
-        match self.headers.get(header) {
-            Some(made) => Ok(Message::Header(made.proposed.header.try_clone()?)),
-            None => Err(AllocError),
         }
     }
 
     /// A node gets one of two batches.
     pub fn batch(&mut self, node: Author) -> Result<Answered, AllocError> {
-        let number = self.draws.below(2);
-        match self.batches.get(number as usize) {
-            Some(batch) => {
-                let message = Message::Batch(batch.share()?);
-                self.give("batch", node, PACKER, message, None)
-            }
-            None => self.go_on(node),
-        }
+        let number = self.draws.below(2) as usize;
+        self.deliver("batch", node, Wish::of(number, Part::Batch))
     }
 
     /// The author of one of the honest members' last headers gets a dishonest member's vote for it.
@@ -149,8 +323,10 @@ impl<'a> Schedule<'a> {
         let found = self
             .headers
             .near_last(Which::Below(self.first_dishonest()), after);
-        match found.and_then(|header| self.vote_of(header, voter)) {
-            Some((author, vote)) => self.give("vote", author, voter, Message::Vote(vote), None),
+        match found.and_then(|header| Some((header, self.author_of(header)?))) {
+            Some((header, author)) => {
+                self.deliver("vote", author, Wish::of(header, Part::Vote(voter)))
+            }
             None => self.go_on(node),
         }
     }
@@ -163,29 +339,10 @@ impl<'a> Schedule<'a> {
 
     /// A node gets the certificate of one of the last headers that have enough votes.
     pub fn gathered(&mut self, node: Author) -> Result<Answered, AllocError> {
-        let sender = self.draw_dishonest();
         let after = self.draws.below(NEAR);
         match self.headers.near_last(Which::Gathered, after) {
-            Some(header) => self.give_gathered(node, sender, header),
+            Some(header) => self.deliver("gathered", node, Wish::of(header, Part::Certificate)),
             None => self.go_on(node),
-        }
-    }
-
-    fn give_gathered(
-        &mut self,
-        to: Author,
-        sender: Author,
-        header: usize,
-    ) -> Result<Answered, AllocError> {
-        match self.certificate_of(header)? {
-            Some(certificate) => self.give(
-                "gathered",
-                to,
-                sender,
-                Message::Certificate(certificate),
-                None,
-            ),
-            None => self.go_on(to),
         }
     }
 
@@ -265,14 +422,6 @@ impl<'a> Schedule<'a> {
         };
         let certificate = certified(self.alloc, &proposed, "0,1,2,3")?;
         Ok(Some((PACKER, Message::Certificate(certificate))))
-    }
-}
-
-// All parents, or all without the first where more than a quorum is there.
-fn some_parents(parents: &[ParentReference], less: bool) -> &[ParentReference] {
-    match parents {
-        [_, rest @ ..] if less && rest.len() >= 3 => rest,
-        _ => parents,
     }
 }
 

@@ -9,9 +9,11 @@ pub struct Draws {
 }
 
 impl Draws {
-    /// The state before the first number.
+    /// Before the first number of the schedule of this start value.
     pub fn from(start: u64) -> Draws {
-        Draws { state: start }
+        Draws {
+            state: start.wrapping_mul(11_400_714_819_323_198_485) % (1 << 48),
+        }
     }
 
     /// A number below this one.

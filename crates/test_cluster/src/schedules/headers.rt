@@ -1,18 +1,49 @@
-//! The headers that were made, in order, and who gave out votes on them.
+//! The headers that were made, by their places, who gave out votes on them, and whose certificates are out.
 
 use sim_members::MEMBERS;
 use sim_script::Proposed;
 use std::alloc::{AllocError, Global};
 use wire::{Author, Digest, Header, certificate_digest, header_digest};
 
-/// How many members are a quorum.
-const QUORUM: usize = 3;
+/// Members that are a quorum.
+pub const QUORUM: usize = 3;
+
+/// Parents of a header at most.
+pub const PARENTS: usize = MEMBERS as usize;
+
+/// How a dishonest member shows a header's certificate.
+#[derive(Clone, Copy)]
+pub struct Showing {
+    /// Which of its faces the header is of. A header of an honest member is of none.
+    pub face: u64,
+    /// By how many rounds the certificate comes later to the node apart, and to the others.
+    pub apart: u64,
+    pub others: u64,
+}
+
+impl Showing {
+    /// That of a header of an honest member.
+    pub fn honest() -> Showing {
+        Showing {
+            face: u64::MAX,
+            apart: 0,
+            others: 0,
+        }
+    }
+}
 
 /// A header, with the members whose votes on it may be used: an honest member's only once it was given out.
 #[derive(Drop)]
 pub struct Made {
     pub proposed: Proposed,
+    pub showing: Showing,
+    /// The batch that it names, by its number.
+    pub batch: Option<usize>,
     voters: [bool; MEMBERS as usize],
+    // The places of its parents, but for those of the genesis.
+    parents: [Option<usize>; PARENTS],
+    // Whether its certificate was put out, or can be gathered.
+    certified: bool,
 }
 
 impl Made {
@@ -20,9 +51,34 @@ impl Made {
         self.proposed.header.body.author
     }
 
-    /// Whether the vote of a member may be used.
+    pub fn round(&self) -> u64 {
+        self.proposed.header.body.round.number()
+    }
+
+    /// Whether a member's vote may be taken.
     pub fn is_voter(&self, member: u16) -> bool {
         self.voters.get(member as usize).copied().unwrap_or(false)
+    }
+
+    /// Whether votes that may be taken are a quorum.
+    pub fn is_gathered(&self) -> bool {
+        self.voters.iter().filter(|vote| **vote).count() >= QUORUM
+    }
+
+    /// The place of a parent.
+    pub fn parent(&self, place: usize) -> Option<usize> {
+        *self.parents.get(place)?
+    }
+
+    /// Whether a parent is of this author.
+    pub fn names(&self, author: Author) -> bool {
+        let parents = self.proposed.header.body.parents.as_slice();
+        parents.iter().any(|parent| parent.author == author)
+    }
+
+    // Whether it is a member's of a round.
+    fn is_of(&self, author: Author, round: u64) -> bool {
+        self.author() == author && self.round() == round
     }
 }
 
@@ -64,22 +120,49 @@ impl Headers {
             .position(|made| made.proposed.digest == *digest)
     }
 
-    /// Adds a header, unless it was made before, and gives its place. The votes of members from `dishonest` on may be used at once.
-    pub fn form(&mut self, header: Header, dishonest: Author) -> Result<usize, AllocError> {
+    /// The place of the header whose certificate has this digest.
+    pub fn find_certificate(&self, digest: &Digest) -> Option<usize> {
+        self.list
+            .iter()
+            .position(|made| made.proposed.certificate == *digest)
+    }
+
+    /// Adds a header, unless it was made before, and gives its place. Votes of the members from this one on may be taken.
+    pub fn form(
+        &mut self,
+        header: Header,
+        dishonest: Author,
+        showing: Showing,
+        batch: Option<usize>,
+    ) -> Result<usize, AllocError> {
         let (digest, certificate) = digests_of(&header);
         if let Some(place) = self.find(&digest) {
             return Ok(place);
         }
         let place = self.list.len();
+        let parents = self.places_of(&header);
         self.list.push(Made {
             proposed: Proposed {
                 header,
                 digest,
                 certificate,
             },
+            showing,
+            batch,
             voters: voters_from(dishonest),
+            parents,
+            certified: false,
         })?;
         Ok(place)
+    }
+
+    // The places of the parents of a header.
+    fn places_of(&self, header: &Header) -> [Option<usize>; PARENTS] {
+        let mut places = [None; PARENTS];
+        for (place, parent) in places.iter_mut().zip(header.body.parents.as_slice()) {
+            *place = self.find_certificate(&parent.certificate);
+        }
+        places
     }
 
     /// Notes that a member gave out its vote on a header.
@@ -91,7 +174,33 @@ impl Headers {
         }
     }
 
-    /// Among the headers of a kind, the place of the one that this many others follow, or else of the first.
+    /// Notes that the certificate of a header was put out, or can be gathered.
+    pub fn certify(&mut self, place: usize) {
+        if let Some(made) = self.list.get_mut(place) {
+            made.certified = true;
+        }
+    }
+
+    /// Whether a member made this face of a round.
+    pub fn has_face(&self, author: Author, round: u64, face: u64) -> bool {
+        self.list.iter().any(|made| made.is_of(author, round) && made.showing.face == face)
+    }
+
+    /// A member's header of a round whose certificate is out: where there are several the last one of this face, or else the first.
+    pub fn certified(&self, author: Author, round: u64, face: u64) -> Option<&Made> {
+        let mut found = None;
+        for made in self.list.iter() {
+            if made.certified
+                && made.is_of(author, round)
+                && (found.is_none() || made.showing.face == face)
+            {
+                found = Some(made);
+            }
+        }
+        found
+    }
+
+    /// Of the headers of a kind the place of the one that has so many after it, or else of the first.
     pub fn near_last(&self, which: Which, after: u64) -> Option<usize> {
         let mut found = None;
         let mut left = after;
@@ -125,6 +234,6 @@ fn is_one(made: &Made, which: Which) -> bool {
         Which::Any => true,
         Which::Below(member) => made.author() < member,
         Which::From(member) => made.author() >= member,
-        Which::Gathered => made.voters.iter().filter(|vote| **vote).count() >= QUORUM,
+        Which::Gathered => made.is_gathered(),
     }
 }

@@ -1,9 +1,10 @@
 //! What nodes get of what they want, and what their hosts do.
 
+use super::headers::Showing;
 use super::schedule::{Answered, Schedule, WAVES};
-use super::wishes::Item;
+use super::wishes::{Content, Part, Source, Wish};
 use crate::disks::Leaving;
-use cluster::{Applied, Move};
+use cluster::{Applied, ClusterError, Move};
 use diskmodel::CallKind;
 use std::alloc::AllocError;
 use validator::Refusal;
@@ -12,7 +13,13 @@ use wire::{Author, Coin, Header, Message, Wave};
 /// Of the wanted deliveries one in this many is lost.
 const LOST_ONE_OF: u64 = 64;
 
-/// The calls of a round that may fail, and how the failure is shown.
+/// Of what a node is ready for one of the first so many is drawn.
+const FIRST: usize = 6;
+
+/// More rounds than there are.
+pub const LATER: u64 = 1000;
+
+/// The calls of a round that fail, and how a failure is told.
 const CALLS: [(CallKind, u64, &str); 4] = [
     (CallKind::Write, 1, "fault write 1"),
     (CallKind::Sync, 1, "fault sync 1"),
@@ -34,67 +41,128 @@ impl<'a> Schedule<'a> {
         Author(node.0.wrapping_add(more) % self.honest.count())
     }
 
-    /// The first node from this one on that wants anything gets some of it.
+    /// The first node from this one on that is ready for anything that it wants is given one of the first of that.
     pub fn want(&mut self, node: Author) -> Result<Answered, AllocError> {
-        let Some(to) = self.first_wanting(node) else {
+        let Some(to) = self.first_ready(node, 0) else {
             return self.go_on(node);
         };
-        let wants = self.known.wants(to);
-        match self.draws.place(wants) {
-            Some(wanted) => self.give_wanted(to, wanted),
+        let ready = self.count_ready(to);
+        match self.draws.place(ready) {
+            Some(number) => self.give_ready(to, 0, number),
             None => self.go_on(node),
         }
     }
 
-    fn first_wanting(&self, node: Author) -> Option<Author> {
-        for more in 0..self.honest.count() {
-            let other = self.after(node, more);
-            if self.known.wants(other) > 0 {
+    // The first node from this one on that is ready for anything, or will be so many rounds later.
+    fn first_ready(&self, node: Author, more: u64) -> Option<Author> {
+        for next in 0..self.honest.count() {
+            let other = self.after(node, next);
+            if self.ready_place(other, more, 0).is_some() {
                 return Some(other);
             }
         }
         None
     }
 
-    fn give_wanted(&mut self, to: Author, wanted: usize) -> Result<Answered, AllocError> {
-        let Some(item) = self.known.wanted(to, wanted) else {
-            return self.go_on(to);
-        };
-        if self.draws.below(LOST_ONE_OF) == 0 {
-            self.known.answered(to, wanted, false);
-            self.lost = self.lost.saturating_add(1);
-            return self.go_on(to);
+    // For how much a node is ready, up to how much is drawn from.
+    fn count_ready(&self, node: Author) -> usize {
+        let mut count = 0;
+        for place in 0..self.known.wants(node) {
+            if count < FIRST && self.is_ready(node, place, 0) {
+                count += 1;
+            }
         }
-        let answered = self.give_item("wanted", to, item)?;
-        if !is_still_wanted(&answered) {
-            let refused = !matches!(answered.outcome, Ok(Applied::Took { .. }));
-            self.known.answered(to, wanted, refused);
+        count
+    }
+
+    // The place of what a node is ready for that has so many before it.
+    fn ready_place(&self, node: Author, more: u64, before: usize) -> Option<usize> {
+        if self.known.of(node).down || u64::from(node.0) == self.deaf {
+            return None;
+        }
+        let mut left = before;
+        for place in 0..self.known.wants(node) {
+            if self.is_ready(node, place, more) {
+                if left == 0 {
+                    return Some(place);
+                }
+                left -= 1;
+            }
+        }
+        None
+    }
+
+    // Whether a node may take what it wants at this place, as far as is known, so many rounds later.
+    fn is_ready(&self, node: Author, place: usize, more: u64) -> bool {
+        let Some(wish) = self.known.wanted(node, place) else {
+            return false;
+        };
+        match wish.content {
+            Some(Content { number, part }) => match part {
+                Part::Batch => true,
+                Part::Vote(_) => self.known.waits_for_votes(node, number),
+                _ => {
+                    wish.at <= self.known.of(node).round.saturating_add(more)
+                        && self.has_all(node, number)
+                }
+            },
+            None => false,
+        }
+    }
+
+    fn has_all(&self, node: Author, header: usize) -> bool {
+        match self.headers.get(header) {
+            Some(made) => self.known.has_all(node, made),
+            None => false,
+        }
+    }
+
+    // Gives a node what it is ready for that has so many before it.
+    fn give_ready(&mut self, to: Author, more: u64, before: usize) -> Result<Answered, AllocError> {
+        let Some(place) = self.ready_place(to, more, before) else {
+            return self.flush(to);
+        };
+        match self.known.take_out(to, place) {
+            Some(wish) => self.give_wanted(to, wish),
+            None => self.flush(to),
+        }
+    }
+
+    fn give_wanted(&mut self, to: Author, wish: Wish) -> Result<Answered, AllocError> {
+        if self.draws.below(LOST_ONE_OF) == 0 {
+            let at = self.known.of(to).round.saturating_add(1);
+            self.known.put_back(to, Wish { at, ..wish })?;
+            self.lost = self.lost.saturating_add(1);
+            return self.flush(to);
+        }
+        let answered = self.deliver("wanted", to, wish)?;
+        if is_still_wanted(&answered) {
+            self.known.put_back(to, wish)?;
+        } else if !matches!(answered.outcome, Ok(Applied::Took { .. })) {
+            self.known.forget(to, wish);
         }
         Ok(answered)
     }
 
-    fn give_item(
+    /// Delivers something to a node. Where there is no such thing the node flushes.
+    pub fn deliver(
         &mut self,
         kind: &'static str,
         to: Author,
-        item: Item,
+        wish: Wish,
     ) -> Result<Answered, AllocError> {
-        match item {
-            Item::Own(header) => self.give_own(kind, to, header),
-            Item::Output { node, output, .. } => {
-                self.make(kind, to, Move::Deliver { node, output, to }, Some(item))
+        match wish.source {
+            Source::Output { node, output } => {
+                if let Some(given) = self.cluster.output(node, output) {
+                    self.premises.test_output(to, given)?;
+                }
+                self.make(kind, to, Move::Deliver { node, output, to }, Some(wish))
             }
+            Source::Member => match self.message_of(wish.content)? {
+                Some((sender, message)) => self.give(kind, to, sender, message, Some(wish)),
+                None => self.flush(to),
+            },
         }
-    }
-
-    fn give_own(
-        &mut self,
-        kind: &'static str,
-        node: Author,
-        header: usize,
-    ) -> Result<Answered, AllocError> {
-        let message = self.header_message(header)?;
-        self.give(kind, node, node, message, Some(Item::Own(header)))
     }
 
     /// Gives a message to a node.
@@ -104,14 +172,15 @@ impl<'a> Schedule<'a> {
         to: Author,
         sender: Author,
         message: Message,
-        item: Option<Item>,
+        wish: Option<Wish>,
     ) -> Result<Answered, AllocError> {
+        self.premises.test(to, &message)?;
         let step = Move::Give {
             to,
             sender,
             message,
         };
-        self.make(kind, to, step, item)
+        self.make(kind, to, step, wish)
     }
 
     // Makes a move that gives something to a node.
@@ -120,11 +189,16 @@ impl<'a> Schedule<'a> {
         kind: &'static str,
         node: Author,
         step: Move,
-        item: Option<Item>,
+        wish: Option<Wish>,
     ) -> Result<Answered, AllocError> {
         let outcome = self.cluster.apply(step);
         if let Ok(Applied::Took { new: true, .. }) = outcome {
-            self.known.take(node, item)?;
+            self.known.take(node, wish)?;
+        }
+        if is_there(&outcome) {
+            if let Some(content) = wish.and_then(|wish| wish.content) {
+                self.known.get(node, content)?;
+            }
         }
         Ok(Answered {
             kind,
@@ -141,24 +215,47 @@ impl<'a> Schedule<'a> {
             return self.go_on(to);
         }
         let output = self.draws.below(outputs);
-        let item = Item::Output {
-            node,
-            output,
-            content: None,
+        let wish = Wish {
+            content: self.content_of(node, output),
+            source: Source::Output { node, output },
+            at: 0,
         };
-        self.give_item("any", to, item)
+        self.deliver("any", to, wish)
     }
 
-    /// Looks at the nodes from this one on. The first one that has something pending or is down is flushed. If there is none, the first one
-    /// that proposes a header is given that header. If none proposes one, this node is flushed.
+    /// The first node from this one on that proposes a header is given that, or the first that has anything pending, or is down, flushes,
+    /// or else the first is given what it wants.
     pub fn go_on(&mut self, node: Author) -> Result<Answered, AllocError> {
-        if let Some(other) = self.first_unsettled(node) {
-            return self.flush(other);
+        if let Some((other, header)) = self.first_proposing(node)? {
+            return self.hand_in(other, header);
         }
-        match self.first_proposing(node)? {
-            Some((other, header)) => self.hand_in(other, header),
+        match self.first_unsettled(node) {
+            Some(other) => self.flush(other),
+            None => self.give_first(node),
+        }
+    }
+
+    // The first node is given the first that it is ready for. Where there is none no node is deaf any more, and it may be what the node is
+    // ready for later. Where nobody wants anything the node flushes.
+    fn give_first(&mut self, node: Author) -> Result<Answered, AllocError> {
+        if let Some(to) = self.first_ready(node, 0) {
+            return self.give_ready(to, 0, 0);
+        }
+        self.deaf = u64::MAX;
+        match self.first_later(node) {
+            Some((to, more)) => self.give_ready(to, more, 0),
             None => self.flush(node),
         }
+    }
+
+    // The first node that is ready for anything, or will be as soon as it can be, with how many rounds later that is.
+    fn first_later(&self, node: Author) -> Option<(Author, u64)> {
+        for more in [0, 1, LATER] {
+            if let Some(to) = self.first_ready(node, more) {
+                return Some((to, more));
+            }
+        }
+        None
     }
 
     fn first_unsettled(&self, node: Author) -> Option<Author> {
@@ -175,6 +272,9 @@ impl<'a> Schedule<'a> {
     fn first_proposing(&self, node: Author) -> Result<Option<(Author, Header)>, AllocError> {
         for more in 0..self.honest.count() {
             let other = self.after(node, more);
+            if self.known.of(other).down {
+                continue;
+            }
             if let Ok(Some(header)) = self.cluster.propose(other) {
                 return Ok(Some((other, header)));
             }
@@ -182,12 +282,15 @@ impl<'a> Schedule<'a> {
         Ok(None)
     }
 
-    // A node gets the header that it proposes.
+    // A node is given the header that it proposes, and the dishonest members make theirs.
     fn hand_in(&mut self, node: Author, header: Header) -> Result<Answered, AllocError> {
+        let round = round_of(&header);
         let dishonest = self.first_dishonest();
-        let made = self.headers.form(header, dishonest)?;
-        self.known.hand_in(node, made);
-        self.give_own("own", node, made)
+        let showing = Showing::honest();
+        let made = self.headers.form(header, dishonest, showing, None)?;
+        self.known.hand_in(node, made, round);
+        self.make_faces(made)?;
+        self.deliver("own", node, Wish::of(made, Part::Header))
     }
 
     fn flush(&mut self, node: Author) -> Result<Answered, AllocError> {
@@ -245,17 +348,40 @@ impl<'a> Schedule<'a> {
 
     /// A node gets a coin.
     pub fn coin(&mut self, node: Author) -> Result<Answered, AllocError> {
-        let wave = if self.draws.below(4) == 0 {
-            1 + self.draws.below(WAVES)
-        } else {
-            self.known.of(node).wave
-        };
+        if self.draws.below(16) == 0 {
+            let wave = 1 + self.draws.below(WAVES);
+            return self.toss(node, wave);
+        }
+        match self.first_tossing(node) {
+            Some(other) => {
+                let wave = self.known.of(other).wave;
+                self.toss(other, wave)
+            }
+            None => self.want(node),
+        }
+    }
+
+    // The first node from this one on whose round is the fourth of its next wave, or greater.
+    fn first_tossing(&self, node: Author) -> Option<Author> {
+        for more in 0..self.honest.count() {
+            let other = self.after(node, more);
+            let noted = self.known.of(other);
+            if noted.wave <= WAVES
+                && noted.wave.saturating_mul(2).saturating_add(2) <= noted.round
+            {
+                return Some(other);
+            }
+        }
+        None
+    }
+
+    fn toss(&mut self, node: Author, wave: u64) -> Result<Answered, AllocError> {
         let Some(coin) = self.coin_of(wave) else {
-            return self.go_on(node);
+            return self.flush(node);
         };
         let answered = self.give("coin", node, node, Message::Coin(coin), None)?;
         if let Ok(Applied::Took { .. }) = answered.outcome {
-            self.known.toss(node, wave, WAVES);
+            self.known.toss(node, wave);
         }
         Ok(answered)
     }
@@ -267,10 +393,22 @@ impl<'a> Schedule<'a> {
     }
 }
 
-// Whether a node still wants what it was given: it lacks something for it, or is down.
+fn round_of(header: &Header) -> u64 {
+    header.body.round.number()
+}
+
+// Whether a node still wants what it was given: it lacks a parent, or is down.
 fn is_still_wanted(answered: &Answered) -> bool {
     matches!(
         answered.outcome,
-        Ok(Applied::Refused(Refusal::Down | Refusal::MissingParents | Refusal::MissingBatch))
+        Ok(Applied::Refused(Refusal::Down | Refusal::MissingParents))
+    )
+}
+
+// Whether a node has what it was given, or needs it no more.
+fn is_there(outcome: &Result<Applied, ClusterError>) -> bool {
+    matches!(
+        outcome,
+        Ok(Applied::Took { .. } | Applied::Refused(Refusal::TooOld))
     )
 }

@@ -23,7 +23,16 @@ pub struct Report {
     growths: u64,
     longest: usize,
     grown: u64,
+    /// In how many of these all premises of agreement hold.
+    fair: u64,
+    /// In how many schedules came to pass what is marked.
+    unlike: u64,
+    skipped: u64,
+    dishonest: u64,
+    risen: u64,
     wrong: u64,
+    /// The start value of the first schedule in which something was wrong.
+    first_wrong: Option<u64>,
 }
 
 impl Report {
@@ -40,7 +49,13 @@ impl Report {
             growths: 0,
             longest: 0,
             grown: 0,
+            fair: 0,
+            unlike: 0,
+            skipped: 0,
+            dishonest: 0,
+            risen: 0,
             wrong: 0,
+            first_wrong: None,
         }
     }
 
@@ -82,9 +97,12 @@ impl Report {
         increase(&mut self.growths);
     }
 
-    /// Counts that of two orders neither is a prefix of the other.
-    pub fn disagree(&mut self) {
+    /// Of two orders none begins the other, or one was taken back, in the schedule of this start value.
+    pub fn go_wrong(&mut self, start: u64) {
         increase(&mut self.wrong);
+        if self.first_wrong.is_none() {
+            self.first_wrong = Some(start);
+        }
     }
 
     /// Counts the result of a schedule.
@@ -99,9 +117,12 @@ impl Report {
                 self.sum = added(self.sum, &digest.0);
             }
         }
-        if any {
-            increase(&mut self.grown);
-        }
+        count_if(&mut self.grown, any);
+        count_if(&mut self.fair, any && schedule.premises.hold());
+        count_if(&mut self.unlike, schedule.marks.unlike);
+        count_if(&mut self.skipped, schedule.marks.skipped);
+        count_if(&mut self.dishonest, schedule.marks.dishonest);
+        count_if(&mut self.risen, schedule.marks.risen);
     }
 
     /// Shows the whole report.
@@ -116,8 +137,25 @@ impl Report {
         tell_count(answer, "growths of orders", self.growths);
         tell_count(answer, "longest order", self.longest as u64);
         tell_count(answer, "schedules with orders", self.grown);
+        tell_count(answer, "of these with all premises of agreement", self.fair);
+        tell_count(
+            answer,
+            "schedules with orders of unlike length",
+            self.unlike,
+        );
+        tell_count(answer, "schedules with waves skipped", self.skipped);
+        tell_count(answer, "schedules with dishonest leaders", self.dishonest);
+        tell_count(answer, "schedules with floors risen", self.risen);
         tell_count(answer, "sum", self.sum);
-        tell_count(answer, "wrong", self.wrong);
+        self.tell_wrong(answer);
+    }
+
+    fn tell_wrong(&self, answer: &mut String) {
+        let wrong = self.wrong;
+        let _ = match self.first_wrong {
+            Some(start) => writeln!(answer, "wrong {wrong}, first in the schedule from {start}"),
+            None => writeln!(answer, "wrong {wrong}"),
+        };
     }
 }
 
@@ -127,6 +165,12 @@ fn tell_count(answer: &mut String, name: &str, count: u64) {
 
 fn increase(count: &mut u64) {
     *count = count.saturating_add(1);
+}
+
+fn count_if(count: &mut u64, holds: bool) {
+    if holds {
+        increase(count);
+    }
 }
 
 // FNV-1a of 64 bits.

@@ -4,8 +4,9 @@ ghost use Rattle.std.specs.Prelude.{◌<◌, ◌≤◌};
 
 use super::draws::Draws;
 use super::headers::Headers;
+use super::premises::Premises;
 use super::report::Report;
-use super::wishes::{Content, Known, Part};
+use super::wishes::{BATCHES, Content, Known, Part, Source, Wish};
 use crate::disks::{Grip, GrippedDisk, disks_of, new_grips};
 use cluster::{Applied, Cluster, ClusterError};
 use sigface::{HashSign, HashVerify};
@@ -14,8 +15,11 @@ use std::alloc::{AllocError, Global};
 use test_cases::Told;
 use wire::{Author, Batch, Digest, MAX_TRANSACTION_BYTES, OpenBatch, Output, header_digest};
 
-/// How many waves have coins.
-pub const WAVES: u64 = 4;
+/// Waves that have coins.
+pub const WAVES: u64 = 8;
+
+/// After so many moves another node may be deaf.
+const STRETCH: u64 = 32;
 
 /// The author of the batches that nodes are given.
 pub const PACKER: Author = Author(MEMBERS - 1);
@@ -39,7 +43,62 @@ impl Honest {
     }
 }
 
-/// A move that was made: its kind, its node, and the answer.
+/// What the dishonest members want to do.
+#[derive(Clone, Copy)]
+pub enum Plan {
+    /// What is drawn.
+    Drawn,
+    /// They show one face to the node apart, and one to the others.
+    Faces,
+    /// They make a branch that the node apart doesn't see for long.
+    Branch,
+    /// There is one more of them than is tolerated, and they split the honest members.
+    Split,
+}
+
+impl Plan {
+    fn of(honest: Honest, start: u64) -> Plan {
+        match honest {
+            Honest::Two => Plan::Split,
+            Honest::Three => match start % 8 {
+                0 => Plan::Drawn,
+                1..=4 => Plan::Faces,
+                _ => Plan::Branch,
+            },
+        }
+    }
+
+    // The value of a coin where this one is drawn.
+    fn value(self, start: u64, drawn: u64) -> u64 {
+        let last = u64::from(MEMBERS - 1);
+        match self {
+            Plan::Faces => {
+                if drawn < last && start % 2 == 0 {
+                    drawn
+                } else {
+                    last
+                }
+            }
+            Plan::Branch => drawn % 3,
+            _ => drawn,
+        }
+    }
+}
+
+/// What came to pass in a schedule.
+#[derive(Clone, Copy)]
+pub struct Marks {
+    /// Two nodes had orders of unlike length, and none was empty.
+    pub unlike: bool,
+    /// A node committed a wave, skipped one, and committed a later one.
+    pub skipped: bool,
+    /// A dishonest member's certificate was committed as a leader.
+    pub dishonest: bool,
+    /// A floor rose by more than one at once.
+    pub risen: bool,
+}
+
+/// A move that was made: its kind, the node that moved, and what was answered.
 #[derive(Clone, Copy)]
 pub struct Answered {
     pub kind: &'static str,
@@ -54,13 +113,24 @@ pub struct Schedule<'a> {
     pub cluster: Cluster<'a, HashSign, GrippedDisk, HashVerify>,
     pub grips: Vec<Grip>,
     pub honest: Honest,
+    pub start: u64,
+    pub depth: u64,
+    pub plan: Plan,
     pub draws: Draws,
+    /// The node that the dishonest members set apart.
+    pub apart: Author,
+    /// The number of the node that is given nothing that it wants.
+    pub deaf: u64,
+    /// How many moves were made.
+    moves: u64,
     pub coins: [u64; WAVES as usize],
     pub batches: Vec<Batch>,
     pub headers: Headers,
     pub known: Known,
+    pub premises: Premises,
     /// How many deliveries were lost.
     pub lost: u64,
+    pub marks: Marks,
 }
 
 impl<'a> Schedule<'a> {
@@ -69,28 +139,42 @@ impl<'a> Schedule<'a> {
         alloc: Global,
         settings: &'a Settings,
         honest: Honest,
+        depth: u64,
         start: u64,
     ) -> Result<Schedule<'a>, AllocError> {
         let grips = new_grips(alloc, honest.count())?;
         let cluster = opened(alloc, settings, &grips)?;
+        let plan = Plan::of(honest, start);
         let mut draws = Draws::from(start);
-        let coins = [
-            draws.below(8),
-            draws.below(8),
-            draws.below(8),
-            draws.below(8),
-        ];
+        let apart = Author(draws.below(u64::from(honest.count())) as u16);
+        let mut coins = [0; WAVES as usize];
+        for coin in coins.iter_mut() {
+            *coin = plan.value(start, draws.below(8));
+        }
         Ok(Schedule {
             alloc,
             cluster,
             grips,
             honest,
+            start,
+            depth,
+            plan,
             draws,
+            apart,
+            deaf: u64::MAX,
+            moves: 0,
             coins,
             batches: batches(alloc)?,
             headers: Headers::new(alloc),
-            known: Known::new(alloc),
+            known: known(alloc, honest)?,
+            premises: Premises::new(alloc, honest.count()),
             lost: 0,
+            marks: Marks {
+                unlike: false,
+                skipped: false,
+                dishonest: false,
+                risen: false,
+            },
         })
     }
 
@@ -99,31 +183,37 @@ impl<'a> Schedule<'a> {
         let answered = self.step()?;
         report.count(&answered)?;
         let node = answered.node;
-        if self.look(node)? {
+        let before = self.known.ordered(node);
+        self.look(node)?;
+        if before < self.order(node).len() {
             report.grow();
         }
-        if !self.agree() {
-            report.disagree();
+        let kept = self.follow(node, before)?;
+        if !kept || !self.agree() {
+            report.go_wrong(self.start);
         }
         Ok(())
     }
 
     // Draws a move, and makes it.
     fn step(&mut self) -> Result<Answered, AllocError> {
-        let kind = self.draws.below(64);
+        if self.moves % STRETCH == 0 {
+            self.deaf = self.draws.below(8);
+        }
+        self.moves = self.moves.saturating_add(1);
+        let kind = self.draws.below(128);
         let node = self.draw_node();
         match kind {
-            0..=26 => self.want(node),
-            27..=34 => self.any(node),
-            35..=46 => self.go_on(node),
-            47..=48 => self.face(node),
-            49..=50 => self.show(node),
-            51 => self.batch(node),
-            52..=53 => self.vote(node),
-            54..=56 => self.gathered(node),
-            57 => self.forged(node),
-            58..=61 => self.coin(node),
-            62 => self.fault(node),
+            0..=85 => self.want(node),
+            86..=87 => self.any(node),
+            88..=97 => self.go_on(node),
+            98 => self.show(node),
+            99 => self.batch(node),
+            100 => self.vote(node),
+            101 => self.gathered(node),
+            102 => self.forged(node),
+            103..=125 => self.coin(node),
+            126 => self.fault(node),
             _ => self.stop(node),
         }
     }
@@ -144,27 +234,51 @@ impl<'a> Schedule<'a> {
         Author(first + self.draws.below(u64::from(MEMBERS - first)) as u16)
     }
 
-    // Looks at what a node put out since the last look. Gives whether its order has grown.
-    fn look(&mut self, node: Author) -> Result<bool, AllocError> {
-        let before = self.known.of(node);
+    // Looks at what a node put out since it was last looked at.
+    fn look(&mut self, node: Author) -> Told {
         let outputs = self.cluster.outputs(node).unwrap_or(0);
-        for output in before.outputs..outputs {
+        for output in self.known.of(node).outputs..outputs {
             self.look_at(node, output)?;
         }
-        let length = self.order(node).len();
-        self.known.note(node, outputs, length);
-        Ok(before.order < length)
+        self.known.note_outputs(node, outputs);
+        Ok(())
     }
 
     fn look_at(&mut self, node: Author, output: u64) -> Told {
-        match self.content_of(node, output) {
-            Some((digest, part)) => self.offer(node, output, &digest, part),
-            None => Ok(()),
+        if let Some(given) = self.cluster.output(node, output) {
+            self.premises.note(node, given)?;
+        }
+        let Some(content) = self.content_of(node, output) else {
+            return Ok(());
+        };
+        let wish = Wish {
+            content: Some(content),
+            source: Source::Output { node, output },
+            at: 0,
+        };
+        match content.part {
+            Part::Vote(voter) => self.look_at_vote(wish, content.number, voter),
+            Part::Certificate => {
+                self.headers.certify(content.number);
+                self.known.get(node, content)?;
+                self.offer_to_others(node, wish)
+            }
+            _ => {
+                self.offer_to_others(node, wish)?;
+                self.offer_votes(node, content.number)
+            }
         }
     }
 
-    // The header to which an output belongs, and as which part of it.
-    fn content_of(&self, node: Author, output: u64) -> Option<(Digest, Part)> {
+    // What an output has: a part of a header.
+    pub fn content_of(&self, node: Author, output: u64) -> Option<Content> {
+        let (digest, part) = self.part_of(node, output)?;
+        let number = self.headers.find(&digest)?;
+        Some(Content { number, part })
+    }
+
+    // The header that an output is of, and which part of it.
+    fn part_of(&self, node: Author, output: u64) -> Option<(Digest, Part)> {
         match self.cluster.output(node, output)? {
             Output::Header(header) => Some((header_digest(&header.body), Part::Header)),
             Output::Certificate(certificate) => {
@@ -175,35 +289,44 @@ impl<'a> Schedule<'a> {
         }
     }
 
-    // An output is now wanted by all other nodes; a vote only by the header's author, if that has a node.
-    fn offer(&mut self, node: Author, output: u64, digest: &Digest, part: Part) -> Told {
-        let Some(header) = self.headers.find(digest) else {
-            return Ok(());
-        };
-        let content = Content { header, part };
-        if let Part::Vote(voter) = part {
-            self.headers.add_vote(header, voter);
-            return self.offer_to_author(node, output, content);
+    // A vote is wanted by the header's author, if that has a node. A dishonest member gathers those on its own headers.
+    fn look_at_vote(&mut self, wish: Wish, header: usize, voter: Author) -> Told {
+        self.headers.add_vote(header, voter);
+        match self.author_of(header) {
+            Some(author) if author < self.first_dishonest() => self.known.offer(author, wish),
+            Some(_) if self.is_gathered(header) => self.gather(header),
+            _ => Ok(()),
         }
+    }
+
+    fn is_gathered(&self, header: usize) -> bool {
+        match self.headers.get(header) {
+            Some(made) => made.is_gathered(),
+            None => false,
+        }
+    }
+
+    // A header and a certificate are wanted by all others.
+    fn offer_to_others(&mut self, node: Author, wish: Wish) -> Told {
         for other in 0..self.honest.count() {
             if Author(other) != node {
-                self.known.offer(Author(other), node, output, content)?;
+                self.known.offer(Author(other), wish)?;
             }
         }
         Ok(())
     }
 
-    fn offer_to_author(&mut self, node: Author, output: u64, content: Content) -> Told {
-        match self.author_of(content.header) {
-            Some(author) if author < self.first_dishonest() => {
-                self.known.offer(author, node, output, content)
-            }
-            _ => Ok(()),
+    // The dishonest members' votes on a node's own header are wanted by the node.
+    fn offer_votes(&mut self, node: Author, header: usize) -> Told {
+        for voter in self.honest.count()..MEMBERS {
+            self.known
+                .offer(node, Wish::of(header, Part::Vote(Author(voter))))?;
         }
+        Ok(())
     }
 
-    // The author of the header at this place.
-    fn author_of(&self, header: usize) -> Option<Author> {
+    /// The author of the header at this place.
+    pub fn author_of(&self, header: usize) -> Option<Author> {
         Some(self.headers.get(header)?.author())
     }
 
@@ -212,7 +335,77 @@ impl<'a> Schedule<'a> {
         self.cluster.given_order(node).unwrap_or(&[])
     }
 
-    // Whether of any two nodes' orders one is a prefix of the other.
+    // Looks at a node's order, of which so much was there before. Says whether it began with what it was before.
+    fn follow(&mut self, node: Author, before: usize) -> Result<bool, AllocError> {
+        let committed = self.known.of(node).committed;
+        for place in before..self.order(node).len() {
+            if let Some(wave) = self.wave_led(node, place) {
+                self.note_leader(node, wave);
+            }
+        }
+        let floor = self.floor(committed);
+        if floor.saturating_add(1) < self.floor(self.known.of(node).committed) {
+            self.marks.risen = true;
+        }
+        let order = self.order(node).to_vec(self.alloc)?;
+        let kept = self.known.follow(node, order);
+        if self.is_unlike() {
+            self.marks.unlike = true;
+        }
+        Ok(kept)
+    }
+
+    // The wave that a node committed with the certificate at this place of its order, if it did.
+    fn wave_led(&self, node: Author, place: usize) -> Option<u64> {
+        let made = self.headers.get(self.headers.find_certificate(self.order(node).get(place)?)?)?;
+        let wave = made.round().saturating_add(1) / 2;
+        if made.round() % 2 == 1
+            && self.leader_of(wave) == Some(made.author())
+            && self.known.of(node).committed < wave
+        {
+            return Some(wave);
+        }
+        None
+    }
+
+    fn note_leader(&mut self, node: Author, wave: u64) {
+        let before = self.known.of(node).committed;
+        if 0 < before && before.saturating_add(1) < wave {
+            self.marks.skipped = true;
+        }
+        if let Some(leader) = self.leader_of(wave) {
+            if leader >= self.first_dishonest() {
+                self.marks.dishonest = true;
+            }
+        }
+        self.known.commit(node, wave);
+    }
+
+    /// The author of the leader of a wave, if that has a coin.
+    pub fn leader_of(&self, wave: u64) -> Option<Author> {
+        let value = *self.coins.get(wave.checked_sub(1)? as usize)?;
+        Some(Author((value % u64::from(MEMBERS)) as u16))
+    }
+
+    // The floor where this is the greatest wave that is committed.
+    fn floor(&self, wave: u64) -> u64 {
+        wave.saturating_mul(2)
+            .saturating_sub(1)
+            .saturating_sub(self.depth)
+    }
+
+    // Whether two nodes have orders of unlike length, and none is empty.
+    fn is_unlike(&self) -> bool {
+        let nodes = self.honest.count();
+        (0..nodes).any(|one| (0..one).any(|other| self.are_unlike(Author(one), Author(other))))
+    }
+
+    fn are_unlike(&self, one: Author, other: Author) -> bool {
+        let (one, other) = (self.known.ordered(one), self.known.ordered(other));
+        0 < one && 0 < other && one != other
+    }
+
+    // Whether of any two nodes' orders one begins the other.
     fn agree(&self) -> bool {
         let nodes = self.honest.count();
         (0..nodes).all(|one| (0..one).all(|other| self.begin_alike(Author(one), Author(other))))
@@ -242,6 +435,17 @@ fn opened<'a>(
         Ok(cluster) => Ok(cluster),
         Err(_) => Err(AllocError),
     }
+}
+
+// What is known of new nodes: each wants all batches.
+fn known(alloc: Global, honest: Honest) -> Result<Known, AllocError> {
+    let mut known = Known::new(alloc);
+    for node in 0..honest.count() {
+        for number in 0..BATCHES {
+            known.offer(Author(node), Wish::of(number, Part::Batch))?;
+        }
+    }
+    Ok(known)
 }
 
 // The batches that can be named.

@@ -2,36 +2,63 @@
 
 ghost use Rattle.std.specs.Prelude.{◌<◌};
 
+use super::headers::{Made, PARENTS};
 use std::alloc::Global;
+use std::mem;
 use test_cases::Told;
-use wire::Author;
+use wire::{Author, Digest};
 
 /// The greatest number of nodes.
 const NODES: usize = 3;
 
-/// What is given to a node.
+/// Batches that a node can be given.
+pub const BATCHES: usize = 2;
+
+/// Votes that make a certificate of a header, with its author's own.
+const VOTES: u64 = 2;
+
+// That a node took the certificate of a header, or needs it no more.
+const HAS: u8 = 128;
+
+/// What is given to a node, if that is known, from where, and the round of the node from which on.
 #[derive(Clone, Copy)]
-pub enum Item {
-    /// The node's own header at this place.
-    Own(usize),
-    /// An output of another node, with its content, if that is known.
-    Output {
-        node: Author,
-        output: u64,
-        content: Option<Content>,
-    },
+pub struct Wish {
+    pub content: Option<Content>,
+    pub source: Source,
+    pub at: u64,
 }
 
-/// The content of an output: a part of the header at this place.
+impl Wish {
+    /// A part of a header, or a batch, from the member of whom it is.
+    pub fn of(number: usize, part: Part) -> Wish {
+        Wish {
+            content: Some(Content { number, part }),
+            source: Source::Member,
+            at: 0,
+        }
+    }
+}
+
+/// From where a node is given something.
+#[derive(Clone, Copy)]
+pub enum Source {
+    /// From the member of whom it is.
+    Member,
+    /// From a node that put it out under this number.
+    Output { node: Author, output: u64 },
+}
+
+/// A part of the header of this place, or the batch of this number.
 #[derive(Clone, Copy)]
 pub struct Content {
-    pub header: usize,
+    pub number: usize,
     pub part: Part,
 }
 
-/// A part of what belongs to a header.
+/// A part of a header's way, or a batch.
 #[derive(Clone, Copy)]
 pub enum Part {
+    Batch,
     Header,
     Certificate,
     /// The vote of a member on the header.
@@ -39,14 +66,16 @@ pub enum Part {
 }
 
 impl Part {
-    // A bit for each part.
+    // A bit for each part of a header's way.
     fn bit(self) -> u8 {
         match self {
+            Part::Batch => 0,
             Part::Header => 1,
             Part::Certificate => 2,
             Part::Vote(Author(0)) => 4,
             Part::Vote(Author(1)) => 8,
-            Part::Vote(_) => 16,
+            Part::Vote(Author(2)) => 16,
+            Part::Vote(_) => 32,
         }
     }
 }
@@ -59,21 +88,30 @@ pub struct Noted {
     pub down: bool,
     /// The wave of the next coin that the node is given.
     pub wave: u64,
-    /// How many of the node's outputs were looked at.
+    // The same when it settled last.
+    settled_wave: u64,
+    /// How many outputs were looked at.
     pub outputs: u64,
-    /// The length of its order at the last look.
-    pub order: usize,
-    /// The last header that the node was given as its own.
+    /// The greatest wave that it committed.
+    pub committed: u64,
+    /// The last header that it was given as its own, and its round.
     pub own: Option<usize>,
+    pub round: u64,
+    // How many votes it took since, or since it stopped.
+    voted: u64,
 }
 
 /// What a node wants, and what it accepted since it last settled.
 #[derive(Drop)]
 pub struct Wishes {
-    wanted: Vec<Item>,
-    unsettled: Vec<Item>,
-    // For each header the parts that the node was offered so far.
-    offered: Vec<u8>,
+    wanted: Vec<Wish>,
+    unsettled: Vec<Wish>,
+    // Of each header the parts that were wanted or taken, and whether the certificate is there.
+    headers: Vec<u8>,
+    // Which batches are there.
+    batches: [bool; BATCHES],
+    // The order that it gave out.
+    order: Vec<Digest>,
     noted: Noted,
 }
 
@@ -83,82 +121,168 @@ impl Wishes {
         Wishes {
             wanted: Vec::new(alloc),
             unsettled: Vec::new(alloc),
-            offered: Vec::new(alloc),
+            headers: Vec::new(alloc),
+            batches: [false; BATCHES],
+            order: Vec::new(alloc),
             noted: Noted {
                 pending: 0,
                 down: false,
                 wave: 1,
+                settled_wave: 1,
                 outputs: 0,
-                order: 0,
+                committed: 0,
                 own: None,
+                round: 0,
+                voted: 0,
             },
         }
     }
 
-    // The node wants what another node put out, unless it was offered that before.
-    fn offer(&mut self, node: Author, output: u64, content: Content) -> Told {
-        for _ in self.offered.len()..content.header.saturating_add(1) {
-            self.offered.push(0)?;
-        }
-        let Some(offered) = self.offered.get_mut(content.header) else {
+    // It wants this, unless it was offered that.
+    fn offer(&mut self, wish: Wish) -> Told {
+        let Some(content) = wish.content else {
             return Ok(());
         };
-        let bit = content.part.bit();
-        if *offered & bit == 0 {
-            *offered |= bit;
-            self.wanted.push(Item::Output {
-                node,
-                output,
-                content: Some(content),
-            })?;
+        if let Part::Batch = content.part {
+            self.wanted.push(wish)?;
+            return Ok(());
+        }
+        if self.mark(content.number, content.part.bit())? {
+            self.wanted.push(wish)?;
         }
         Ok(())
     }
 
-    // The node accepted something new.
-    fn take(&mut self, item: Option<Item>) -> Told {
+    // Sets a bit of a header. Says whether it was not set.
+    fn mark(&mut self, header: usize, bit: u8) -> Result<bool, std::alloc::AllocError> {
+        for _ in self.headers.len()..header.saturating_add(1) {
+            self.headers.push(0)?;
+        }
+        let Some(marks) = self.headers.get_mut(header) else {
+            return Ok(false);
+        };
+        let is_new = *marks & bit == 0;
+        *marks |= bit;
+        Ok(is_new)
+    }
+
+    // Clears a bit of a header.
+    fn clear(&mut self, header: usize, bit: u8) {
+        if let Some(marks) = self.headers.get_mut(header) {
+            *marks &= !bit;
+        }
+    }
+
+    // It took something new.
+    fn take(&mut self, wish: Option<Wish>) -> Told {
         self.noted.pending = self.noted.pending.saturating_add(1);
-        if let Some(item) = item {
-            self.unsettled.push(item)?;
+        let Some(wish) = wish else {
+            return Ok(());
+        };
+        self.unsettled.push(wish)?;
+        if let Some(Part::Vote(_)) = wish.content.map(|content| content.part) {
+            self.noted.voted = self.noted.voted.saturating_add(1);
         }
         Ok(())
     }
 
-    // The node no longer wants what it wanted at this place. What it refused can be offered again.
-    fn answered(&mut self, place: usize, refused: bool) {
+    // It has a certificate or a batch.
+    fn get(&mut self, content: Content) -> Told {
+        match content.part {
+            Part::Certificate => {
+                self.mark(content.number, HAS)?;
+            }
+            Part::Batch => self.set_batch(content.number, true),
+            _ => {}
+        }
+        Ok(())
+    }
+
+    // A stop lost this.
+    fn lose(&mut self, content: Content) {
+        match content.part {
+            Part::Certificate => self.clear(content.number, HAS),
+            Part::Batch => self.set_batch(content.number, false),
+            _ => {}
+        }
+    }
+
+    fn set_batch(&mut self, number: usize, there: bool) {
+        if let Some(batch) = self.batches.get_mut(number) {
+            *batch = there;
+        }
+    }
+
+    // Whether it has all that a header names.
+    fn has_all(&self, made: &Made) -> bool {
+        self.has_batch(made.batch) && (0..PARENTS).all(|place| self.has_parent(made, place))
+    }
+
+    fn has_batch(&self, batch: Option<usize>) -> bool {
+        match batch {
+            Some(number) => self.batches.get(number).copied().unwrap_or(false),
+            None => true,
+        }
+    }
+
+    fn has_parent(&self, made: &Made, place: usize) -> bool {
+        match made.parent(place) {
+            Some(header) => self.headers.get(header).copied().unwrap_or(0) & HAS != 0,
+            None => true,
+        }
+    }
+
+    // Whether it waits for votes on this header.
+    fn waits_for_votes(&self, header: usize) -> bool {
+        self.noted.own == Some(header) && self.noted.voted < VOTES
+    }
+
+    // Takes out what it wants at this place.
+    fn take_out(&mut self, place: usize) -> Option<Wish> {
         if place < self.wanted.len() {
-            let item = self.wanted.remove(place);
-            if refused {
-                self.forget(item);
-            }
+            return Some(self.wanted.remove(place));
         }
+        None
     }
 
-    fn forget(&mut self, item: Item) {
-        if let Item::Output {
-            content: Some(content),
-            ..
-        } = item
-        {
-            if let Some(offered) = self.offered.get_mut(content.header) {
-                *offered &= !content.part.bit();
-            }
-        }
-    }
-
-    // The node settled what it had accepted.
+    // It settled what it had taken.
     fn settle(&mut self) {
         self.noted.pending = 0;
+        self.noted.settled_wave = self.noted.wave;
         self.unsettled.clear();
     }
 
-    // The node was stopped and opened again: it wants what it had accepted since it last settled.
+    // It was stopped and opened again: it wants what it had taken since it settled last before all else.
     fn reopen(&mut self) -> Told {
-        self.wanted.extend_from_slice(&self.unsettled)?;
-        self.settle();
+        self.lose_all();
+        self.unsettled.append(&mut self.wanted)?;
+        mem::swap(&mut self.unsettled, &mut self.wanted);
+        self.unsettled.clear();
+        self.noted.pending = 0;
         self.noted.down = false;
-        self.noted.wave = 1;
+        self.noted.wave = self.noted.settled_wave;
+        self.noted.voted = 0;
         Ok(())
+    }
+
+    fn lose_all(&mut self) {
+        for place in 0..self.unsettled.len() {
+            if let Some(content) = self.unsettled.get(place).and_then(|wish| wish.content) {
+                self.lose(content);
+            }
+        }
+    }
+
+    // Its order is this now. Says whether it began with what it was before.
+    fn follow(&mut self, order: Vec<Digest>) -> bool {
+        let kept = self.order.len() <= order.len()
+            && self
+                .order
+                .iter()
+                .zip(order.iter())
+                .all(|(one, other)| one == other);
+        self.order = order;
+        kept
     }
 }
 
@@ -187,23 +311,51 @@ impl Known {
     }
 
     /// What a node wants at this place.
-    pub fn wanted(&self, node: Author, wanted: usize) -> Option<Item> {
+    pub fn wanted(&self, node: Author, wanted: usize) -> Option<Wish> {
         self.nodes[place(node)].wanted.get(wanted).copied()
     }
 
-    /// A node wants what another one put out, unless it was offered that before.
-    pub fn offer(&mut self, to: Author, node: Author, output: u64, content: Content) -> Told {
-        self.nodes[place(to)].offer(node, output, content)
+    /// A node wants this, unless it was offered that.
+    pub fn offer(&mut self, node: Author, wish: Wish) -> Told {
+        self.nodes[place(node)].offer(wish)
     }
 
-    /// A node accepted something new.
-    pub fn take(&mut self, node: Author, item: Option<Item>) -> Told {
-        self.nodes[place(node)].take(item)
+    /// A node took something new.
+    pub fn take(&mut self, node: Author, wish: Option<Wish>) -> Told {
+        self.nodes[place(node)].take(wish)
     }
 
-    /// A node no longer wants what it wanted at this place. What it refused can be offered again.
-    pub fn answered(&mut self, node: Author, wanted: usize, refused: bool) {
-        self.nodes[place(node)].answered(wanted, refused);
+    /// A node has this, if it is a certificate or a batch.
+    pub fn get(&mut self, node: Author, content: Content) -> Told {
+        self.nodes[place(node)].get(content)
+    }
+
+    /// Whether a node has all that a header names.
+    pub fn has_all(&self, node: Author, made: &Made) -> bool {
+        self.nodes[place(node)].has_all(made)
+    }
+
+    /// Whether a node waits for votes on this header, which is its own.
+    pub fn waits_for_votes(&self, node: Author, header: usize) -> bool {
+        self.nodes[place(node)].waits_for_votes(header)
+    }
+
+    /// What a node wants at this place is taken out.
+    pub fn take_out(&mut self, node: Author, wanted: usize) -> Option<Wish> {
+        self.nodes[place(node)].take_out(wanted)
+    }
+
+    /// A node wants this after all else.
+    pub fn put_back(&mut self, node: Author, wish: Wish) -> Told {
+        self.nodes[place(node)].wanted.push(wish)?;
+        Ok(())
+    }
+
+    /// What a node refused can be offered again.
+    pub fn forget(&mut self, node: Author, wish: Wish) {
+        if let Some(content) = wish.content {
+            self.nodes[place(node)].clear(content.number, content.part.bit());
+        }
     }
 
     /// A node settled what it had accepted.
@@ -221,21 +373,38 @@ impl Known {
         self.nodes[place(node)].reopen()
     }
 
-    /// A node was given this header as its own.
-    pub fn hand_in(&mut self, node: Author, header: usize) {
-        self.nodes[place(node)].noted.own = Some(header);
-    }
-
-    /// A node accepted the coin of this wave, of `waves` waves.
-    pub fn toss(&mut self, node: Author, wave: u64, waves: u64) {
-        self.nodes[place(node)].noted.wave = wave.saturating_add(1).min(waves);
-    }
-
-    /// Notes that this many outputs of a node were looked at, and that its order had this length.
-    pub fn note(&mut self, node: Author, outputs: u64, order: usize) {
+    /// A node was given this header of this round as its own.
+    pub fn hand_in(&mut self, node: Author, header: usize, round: u64) {
         let noted = &mut self.nodes[place(node)].noted;
-        noted.outputs = outputs;
-        noted.order = order;
+        noted.own = Some(header);
+        noted.round = round;
+        noted.voted = 0;
+    }
+
+    /// A node took the coin of this wave.
+    pub fn toss(&mut self, node: Author, wave: u64) {
+        let noted = &mut self.nodes[place(node)].noted;
+        noted.wave = noted.wave.max(wave.saturating_add(1));
+    }
+
+    /// So many outputs of a node were looked at.
+    pub fn note_outputs(&mut self, node: Author, outputs: u64) {
+        self.nodes[place(node)].noted.outputs = outputs;
+    }
+
+    /// A node committed this wave.
+    pub fn commit(&mut self, node: Author, wave: u64) {
+        self.nodes[place(node)].noted.committed = wave;
+    }
+
+    /// How long the order of a node was.
+    pub fn ordered(&self, node: Author) -> usize {
+        self.nodes[place(node)].order.len()
+    }
+
+    /// The order of a node is this now. Says whether it began with what it was before.
+    pub fn follow(&mut self, node: Author, order: Vec<Digest>) -> bool {
+        self.nodes[place(node)].follow(order)
     }
 }
 
