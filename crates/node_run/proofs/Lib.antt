@@ -5,6 +5,7 @@ mod Proposed
 mod Brought
 mod Flushed
 mod Opened
+mod Asked
 mod Asking
 mod Moments
 mod Once

@@ -1,3 +1,4 @@
+pub mod Asked
 pub mod Asking
 pub mod Bringing
 pub mod Ends

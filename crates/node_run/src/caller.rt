@@ -131,6 +131,7 @@ impl<'n, 'a, S: Sign> Caller<'n, 'a, S> {
     ) -> Result<Taken, Rejection>
         ensures stays { StaysWith self.old self.new }
         ensures handles { HandlesAgain S.scheme self.old.node (fault_of self.old.setting.charter accepts_all event) event self.old self.new result }
+        ensures seen { Begins self.old.seat.view.seen self.new.seat.view.seen }
     {
         let sender = event.sender();
         let event = recheck(self.node.config().committee(), sender, event.into_message())?;
@@ -142,6 +143,7 @@ impl<'n, 'a, S: Sign> Caller<'n, 'a, S> {
         ensures stays { StaysWith self.old self.new }
         ensures proposed { IfOk result (λ new. IsProposed S.scheme self.old.node self.old self.new new) }
         ensures memory { OnErr result (self.new.seat.view.mine ≡ self.old.seat.view.mine) }
+        ensures seen { Begins self.old.seat.view.seen self.new.seat.view.seen }
     {
         let Some(header) = self.node.propose(rt)? else {
             return Ok(false);
@@ -194,6 +196,7 @@ fn submit<S: Sign, R: Wait>(
     requires { fault_of node.old.setting.charter accepts_all event ≡ None }
     ensures stays { StaysWith node.old node.new }
     ensures submitted { IsSubmitted S.scheme node.old.node event node.old node.new result }
+    ensures seen { Begins node.old.seat.view.seen node.new.seat.view.seen }
 {
     let receipt = node.submit(rt, event)?;
     if receipt.new {

@@ -1,13 +1,15 @@
 //! What is done with the frames.
 
-ghost use Rattle.std.specs.Prelude.{◌≡◌, ◌≢◌, [], true, false, None, Ok, IfOk, IfErr, IfSome, IfNone, OnOk, OnErr};
+ghost use Rattle.std.specs.Prelude.{◌≡◌, ◌≢◌, ◌≤◌, ◌<◌, ℕ, [], true, false, None, Ok, IfOk, IfErr, IfSome, IfNone, OnOk, OnErr, All, ◌+◌, slice_get};
 ghost use Rattle.header.specs.Checks.{fault_of, accepts_all};
 ghost use Rattle.header.specs.Digested.{certificate_digest_in};
 ghost use Rattle.node_io.specs.Makers.{fresh_makers};
 ghost use Rattle.sigface.specs.Pair.{is_pair_signature};
 ghost use Rattle.node.specs.Callers.{StaysWith};
 ghost use Rattle.wire.specs.declared.message.Message.TheVariants as message;
-ghost use Rattle.waiter.specs.Rounds.{none_waits};
+ghost use Rattle.waiter.specs.Rounds.{held, none_waits};
+ghost use Rattle.wire.specs.Lists.{Begins};
+ghost use Rattle.node_run.specs.Asked.{AsksEach, AsksWhatWasDue, GoesThrough, OnlyAsks, WasAsked};
 ghost use Rattle.node_run.specs.Asking.{IsDueAfter, IsTakenOut, TakesOne, nothing_due, first_due};
 ghost use Rattle.node_run.specs.Bringing.{Brings, BringsAgain, CantWait, Enters, own_batch};
 ghost use Rattle.node_run.specs.Ends.{told_of_wait};
@@ -23,7 +25,7 @@ use std::alloc::{AllocError, Global};
 use std::io::Write;
 use std::sync::Wait;
 use validator::Refusal;
-use waiter::{MAX_WAITING, WaitRefusal, Waiters};
+use waiter::{WaitRefusal, Waiters};
 use wire::{Author, Batch, Message};
 
 /// Handles what frames bring.
@@ -74,6 +76,8 @@ impl<'n, 'a, S: Sign> Intake<'n, 'a, S> {
     /// Takes what a frame of this body brings, and writes a line for each refusal.
     pub(crate) fn take<R: Wait, E: Write>(&mut self, rt: &R, body: &[u8], errors: &mut E)
         ensures mark { self.old.was_refused_memory ≡ true → self.new.was_refused_memory ≡ true }
+        // Between two frames no waiting certificate is due.
+        ensures rests { self.old.due.waiting ≡ Waiting.Nothing → self.new.due.waiting ≡ Waiting.Nothing }
     {
         match self.answer(rt, body) {
             Ok(true) => self.follow(rt, errors),
@@ -86,6 +90,8 @@ impl<'n, 'a, S: Sign> Intake<'n, 'a, S> {
     /// is asked only what may have another answer than before, or what could not be answered because an allocation failed.
     pub(crate) fn follow<R: Wait, E: Write>(&mut self, rt: &R, errors: &mut E)
         ensures idle { self.old.due ≡ nothing_due → self.new ≡ self.old }
+        ensures rests { self.new.due.waiting ≡ Waiting.Nothing }
+        ensures through { GoesThrough S.scheme self.old.caller.node self.old.due.waiting self.new.due.waiting self.old.waiters self.new.waiters self.old.caller self.new.caller }
         ensures mark { self.old.was_refused_memory ≡ true → self.new.was_refused_memory ≡ true }
     {
         if !self.due.is_nothing() {
@@ -93,25 +99,43 @@ impl<'n, 'a, S: Sign> Intake<'n, 'a, S> {
         }
     }
 
-    // Asks the node what is due, as long as that yields a certificate that is ready.
+    // Asks the node what is due, as long as that yields a certificate that is ready. After that no waiting certificate is due.
     fn ask<R: Wait, E: Write>(&mut self, rt: &R, errors: &mut E)
+        ensures stays { StaysWith self.old.caller self.new.caller }
+        ensures rests { self.new.due.waiting ≡ Waiting.Nothing }
+        ensures through { GoesThrough S.scheme self.old.caller.node self.old.due.waiting self.new.due.waiting self.old.waiters self.new.waiters self.old.caller self.new.caller }
+        ensures seen { Begins self.old.caller.seat.view.seen self.new.caller.seat.view.seen }
         ensures mark { self.old.was_refused_memory ≡ true → self.new.was_refused_memory ≡ true }
     {
-        for _ in 0..=MAX_WAITING {
-            self.propose(rt);
-            let Some(event) = self.next_ready(rt) else {
-                return;
-            };
-            if let Err(told) = self.take_ready(rt, event) {
-                write_line(errors, told);
-            }
+        'asking: while self.go_on(rt, errors) {}
+    }
+
+    // Submits what the validator proposes, if that is due, and then one certificate that has waited and is ready. Gives whether there was
+    // one.
+    fn go_on<R: Wait, E: Write>(&mut self, rt: &R, errors: &mut E) -> bool
+        ensures stays { StaysWith self.old.caller self.new.caller }
+        ensures rests { result ≡ false → self.new.due.waiting ≡ Waiting.Nothing }
+        ensures count { result ≡ true → self.new.waiters.count + 1 ≡ self.old.waiters.count }
+        ensures through { GoesThrough S.scheme self.old.caller.node self.old.due.waiting self.new.due.waiting self.old.waiters self.new.waiters self.old.caller self.new.caller }
+        ensures seen { Begins self.old.caller.seat.view.seen self.new.caller.seat.view.seen }
+        ensures mark { self.old.was_refused_memory ≡ true → self.new.was_refused_memory ≡ true }
+    {
+        self.propose(rt);
+        let Some(event) = self.next_ready(rt) else {
+            return false;
+        };
+        if let Err(told) = self.take_ready(rt, event) {
+            write_line(errors, told);
         }
+        true
     }
 
     // Submits a certificate that has waited. Gives whether it is a new record, after which only what it may have changed becomes due.
     fn take_ready<R: Wait>(&mut self, rt: &R, event: Checked) -> Result<bool, Rejection>
         ensures due { IsDueAfter self.old.caller.setting.own event.message self.old.due self.new.due result }
         ensures waiters { self.new.waiters ≡ self.old.waiters }
+        ensures stays { StaysWith self.old.caller self.new.caller }
+        ensures seen { Begins self.old.caller.seat.view.seen self.new.caller.seat.view.seen }
         ensures again { BringsAgain S.scheme self.old.caller.node (fault_of self.old.caller.setting.charter accepts_all event) event self.old.caller self.new.caller result }
         ensures mark { self.new.was_refused_memory ≡ self.old.was_refused_memory }
     {
@@ -125,8 +149,9 @@ impl<'n, 'a, S: Sign> Intake<'n, 'a, S> {
         Ok(is_new)
     }
 
-    // Whether a frame with this body brought a new record.
+    // Whether a frame with this body brought a new record. Otherwise nothing more is due.
     fn answer<R: Wait>(&mut self, rt: &R, body: &[u8]) -> Result<bool, Rejection>
+        ensures due { result ≢ Ok true → self.new.due ≡ self.old.due }
         ensures mark { self.new.was_refused_memory ≡ self.old.was_refused_memory }
     {
         match request_of(self.alloc, body)? {
@@ -152,6 +177,7 @@ impl<'n, 'a, S: Sign> Intake<'n, 'a, S> {
         ensures mark { self.new.was_refused_memory ≡ self.old.was_refused_memory }
         ensures stays { StaysWith self.old.caller self.new.caller }
         ensures none { batch ≡ None → (result ≡ Ok false) × (self.new ≡ self.old) }
+        ensures other { result ≢ Ok true → self.new.due ≡ self.old.due }
         ensures due { IfSome batch (λ given. IsDueAfter self.old.caller.setting.own (message.Batch given) self.old.due self.new.due result) }
         ensures some { IfSome batch (λ given. Brings S.scheme self.old.caller.node (fault_of self.old.caller.setting.charter is_pair_signature (own_batch self.old.caller.setting.own given)) (own_batch self.old.caller.setting.own given) self.old.caller self.new.caller self.old.waiters self.new.waiters result) }
     {
@@ -224,6 +250,9 @@ impl<'n, 'a, S: Sign> Intake<'n, 'a, S> {
         ensures idle { self.old.due.proposal ≡ false → self.new ≡ self.old }
         ensures asked { self.old.due.proposal ≡ true → self.new.due.proposal ≡ false → IsProposed S.scheme self.old.caller.node self.old.caller self.new.caller false }
         ensures waiting { self.new.due.waiting ≡ self.old.due.waiting }
+        ensures waiters { self.new.waiters ≡ self.old.waiters }
+        ensures with { StaysWith self.old.caller self.new.caller }
+        ensures seen { Begins self.old.caller.seat.view.seen self.new.caller.seat.view.seen }
     {
         if !self.due.proposal {
             return;
@@ -242,28 +271,76 @@ impl<'n, 'a, S: Sign> Intake<'n, 'a, S> {
         ensures idle { self.old.due.waiting ≡ Waiting.Nothing → (result ≡ None) × (self.new ≡ self.old) }
         ensures some { IfSome result (λ event. TakesOne event self.old.waiters self.new.waiters self.old.due self.new.due) }
         ensures none { IfNone result ((self.new.waiters ≡ self.old.waiters) × (self.new.due.waiting ≡ Waiting.Nothing)) }
+        ensures count { IfSome result (λ _. self.new.waiters.count + 1 ≡ self.old.waiters.count) }
+        ensures asks { AsksWhatWasDue S.scheme self.old.caller.node self.old.due.waiting self.new.due.waiting self.old.waiters self.old.caller self.new.caller }
+        ensures only { OnlyAsks self.old.caller self.new.caller }
         ensures proposal { self.new.due.proposal ≡ self.old.due.proposal }
         ensures mark { self.new.was_refused_memory ≡ self.old.was_refused_memory }
     {
         let Waiting::Rounds { low, end } = self.due.waiting else {
             return None;
         };
-        if let Some((lowest, first)) = self.waiters.lowest() {
-            let is_due = low <= lowest && lowest < end;
-            if !is_due && self.caller.is_ready(rt, first) {
-                let found = self.ready_of(rt, lowest);
-                if found.is_some() {
-                    return found;
-                }
-            }
-            for round in low.max(lowest)..end {
-                if let Some(found) = self.ready_of(rt, round) {
-                    self.due.waiting = Waiting::Rounds { low: round, end };
-                    return Some(found);
-                }
+        let Some(lowest) = self.lowest_round() else {
+            self.due.waiting = Waiting::Nothing;
+            return None;
+        };
+        if let Some(found) = self.ready_outside(rt, lowest, low, end) {
+            return Some(found);
+        }
+        let Some((round, found)) = self.ready_from(rt, low.max(lowest), end) else {
+            self.due.waiting = Waiting::Nothing;
+            return None;
+        };
+        self.due.waiting = Waiting::Rounds { low: round, end };
+        Some(found)
+    }
+
+    // The lowest round in which a certificate waits.
+    fn lowest_round(&self) -> Option<u64>
+        ensures some { IfSome result (λ round. held self.now.waiters round ≢ []) }
+        ensures least { IfSome result (λ round. (other : ℕ) → other < round → held self.now.waiters other ≡ []) }
+        ensures none { IfNone result ((round : ℕ) → held self.now.waiters round ≡ []) }
+    {
+        let (round, _) = self.waiters.lowest()?;
+        Some(round)
+    }
+
+    // Where a round isn't among those that are due, asks about its first certificate. If that is ready, takes the first ready one of the
+    // round.
+    fn ready_outside<R: Wait>(&mut self, rt: &R, round: u64, low: u64, end: u64) -> Option<Checked>
+        ensures due { self.new.due ≡ self.old.due }
+        ensures some { IfSome result (λ event. IsTakenOut event round self.old.waiters self.new.waiters) }
+        ensures none { IfNone result (self.new.waiters ≡ self.old.waiters) }
+        ensures count { IfSome result (λ _. self.new.waiters.count + 1 ≡ self.old.waiters.count) }
+        ensures asked { IfNone result ((low ≤ round → round < end → ⊥) → IfSome (slice_get (held self.old.waiters round) 0) (WasAsked S.scheme self.old.caller.node self.old.caller self.new.caller)) }
+        ensures only { OnlyAsks self.old.caller self.new.caller }
+        ensures mark { self.new.was_refused_memory ≡ self.old.was_refused_memory }
+    {
+        if low <= round && round < end {
+            return None;
+        }
+        if !self.is_ready_at(rt, round, 0) {
+            return None;
+        }
+        self.ready_of(rt, round)
+    }
+
+    // The first ready certificate of the lowest of these rounds that has one, with its round. Each one before it was asked about.
+    fn ready_from<R: Wait>(&mut self, rt: &R, low: u64, end: u64) -> Option<(u64, Checked)>
+        ensures due { self.new.due ≡ self.old.due }
+        ensures some { IfSome result (λ found. IsTakenOut found.1 found.0 self.old.waiters self.new.waiters × (low ≤ found.0) × (found.0 < end)) }
+        ensures none { IfNone result (self.new.waiters ≡ self.old.waiters) }
+        ensures count { IfSome result (λ _. self.new.waiters.count + 1 ≡ self.old.waiters.count) }
+        ensures passed { IfSome result (λ found. AsksEach S.scheme self.old.caller.node low found.0 self.old.waiters self.old.caller self.new.caller) }
+        ensures asked { IfNone result (AsksEach S.scheme self.old.caller.node low end self.old.waiters self.old.caller self.new.caller) }
+        ensures only { OnlyAsks self.old.caller self.new.caller }
+        ensures mark { self.new.was_refused_memory ≡ self.old.was_refused_memory }
+    {
+        for round in low..end {
+            if let Some(found) = self.ready_of(rt, round) {
+                return Some((round, found));
             }
         }
-        self.due.waiting = Waiting::Nothing;
         None
     }
 
@@ -272,11 +349,29 @@ impl<'n, 'a, S: Sign> Intake<'n, 'a, S> {
         ensures due { self.new.due ≡ self.old.due }
         ensures some { IfSome result (λ event. IsTakenOut event round self.old.waiters self.new.waiters) }
         ensures none { IfNone result (self.new.waiters ≡ self.old.waiters) }
+        ensures count { IfSome result (λ _. self.new.waiters.count + 1 ≡ self.old.waiters.count) }
+        ensures asked { IfNone result (All (WasAsked S.scheme self.old.caller.node self.old.caller self.new.caller) (held self.old.waiters round)) }
+        ensures only { OnlyAsks self.old.caller self.new.caller }
         ensures mark { self.new.was_refused_memory ≡ self.old.was_refused_memory }
     {
-        let caller = &mut self.caller;
-        self.waiters
-            .next_ready_of(round, |event| caller.is_ready(rt, event))
+        for place in 0..self.waiters.count_of(round) {
+            if self.is_ready_at(rt, round, place) {
+                return self.waiters.take_of(round, place);
+            }
+        }
+        None
+    }
+
+    // Whether the waiting certificate of a round at this place is ready.
+    fn is_ready_at<R: Wait>(&mut self, rt: &R, round: u64, place: usize) -> bool
+        ensures same { self.new ≡ record self.old { caller = self.new.caller } }
+        ensures only { OnlyAsks self.old.caller self.new.caller }
+        ensures asked { result ≡ false → IfSome (slice_get (held self.old.waiters round) place) (WasAsked S.scheme self.old.caller.node self.old.caller self.new.caller) }
+    {
+        match self.waiters.nth_of(round, place) {
+            Some(event) => self.caller.is_ready(rt, event),
+            None => false,
+        }
     }
 }
 

@@ -1,5 +1,5 @@
 -- What the map says of those that wait.
-use Rattle.std.proofs.Common.{◌≡◌, ℕ, zero, suc, Bool, true, false, cond, List, [], ◌∷◌, ◌++◌, Option, Some, None, refl, sym, ap, subst, ◌∙◌, arith, is_some, take, drop, slice_get}
+use Rattle.std.proofs.Common.{◌≡◌, ℕ, zero, suc, Bool, true, false, cond, List, [], ◌∷◌, ◌++◌, Option, Some, None, refl, sym, ap, subst, ◌∙◌, arith, is_some, take, drop, slice_get, length, ◌≤◌}
 use Rattle.std.specs.Prelude.{remove}
 use Rattle.std.specs.Fn.{Mut, CalledAt}
 use Rattle.std.specs.List.{AllByRecursion}
@@ -96,6 +96,17 @@ pub parted : (events : List Event) (place : ℕ) (event : Event) → slice_get e
 parted [] place event at = absurd cc
 parted (first ∷ rest) zero event at = let same : first ≡ event = cc in ap (λ (e : Event). e ∷ rest) same
 parted (first ∷ rest) (suc place) event at = ap (λ (l : List Event). first ∷ l) (parted rest place event at)
+
+-- as many stand before a place as its number says, and none stands beyond the last
+pub front_len : (events : List Event) (place : ℕ) (event : Event) → slice_get events place ≡ Some event → length (take place events) ≡ place
+front_len [] place event at = absurd cc
+front_len (first ∷ rest) zero event at = refl
+front_len (first ∷ rest) (suc place) event at = ap suc (front_len rest place event at)
+
+pub beyond : (entries : List (Digest × Event)) (place : ℕ) → slice_get entries place ≡ None → length (values_of entries) ≤ place
+beyond [] place none = omega arith
+beyond (first ∷ rest) zero none = absurd cc
+beyond (first ∷ rest) (suc place) none = let few = beyond rest place none in omega (arith, few)
 
 module _ {F : Type 0} (closure : Mut F (Bor Event × Unit {0}) Bool) where
   -- one more is asked of, with the answer no

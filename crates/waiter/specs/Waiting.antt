@@ -1,5 +1,5 @@
 -- Which certificates wait, and which of them is ready.
-use Rattle.std.specs.Prelude.{◌≡◌, List, ◌∷◌, ◌++◌, Bool, true, false, Any}
+use Rattle.std.specs.Prelude.{◌≡◌, ℕ, length, List, ◌∷◌, ◌++◌, Bool, true, false, Any}
 use Rattle.std.specs.Fn.{Mut, CalledAt}
 use Rattle.std.specs.List.{FoldsTo}
 use Rattle.wire.specs.Events.{Event}
@@ -9,6 +9,14 @@ use denote.Ref.{Bor}
 -- a certificate of the same digest waits already
 abbrev pub Waits : List Event → Event → Type 0
 Waits waiting event = Any (λ (other : Event). certificate_digest_in other.message ≡ certificate_digest_in event.message) waiting
+
+-- the event at this place was taken out, and the others keep their order
+pub record IsTakenAt (old : List Event) (place : ℕ) (event : Event) (new : List Event) : Type 0 where
+  pub front : List Event
+  pub back : List Event
+  pub stood : old ≡ front ++ event ∷ back
+  pub left : new ≡ front ++ back
+  pub before : length front ≡ place
 
 module _ {F : Type 0} (closure : Mut F (Bor Event × Unit {0}) Bool) where
   -- asked about each of these events in turn, the closure says no

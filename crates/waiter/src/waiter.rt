@@ -6,7 +6,7 @@ ghost use Rattle.wire.specs.Events.{Event};
 ghost use Rattle.header.specs.Digested.{certificate_digest_in};
 ghost use Rattle.indexmap.specs.IndexMap.{values};
 ghost use Rattle.waiter.specs.declared.waiter.TheConstants.{MAX_WAITING};
-ghost use Rattle.waiter.specs.Waiting.{Waits, AnswersNo, IsFirstReady};
+ghost use Rattle.waiter.specs.Waiting.{Waits, IsTakenAt, AnswersNo, IsFirstReady};
 
 use crate::refusal::WaitRefusal;
 use header::Checked;
@@ -102,11 +102,29 @@ impl Waiter {
         self.waiting.is_empty()
     }
 
-    /// The first waiting certificate.
-    pub fn first(&self) -> Option<&Checked>
-        ensures { option_copied result ≡ slice_get self.now 0 }
+    /// How many certificates wait.
+    pub fn len(&self) -> usize
+        ensures { result ≡ length self.now }
     {
-        let (_, checked) = self.waiting.get_index(0)?;
+        self.waiting.len()
+    }
+
+    /// The certificate at this place in the order of offering, counted from 0; None where fewer wait.
+    pub fn nth(&self, place: usize) -> Option<&Checked>
+        ensures { option_copied result ≡ slice_get self.now place }
+    {
+        let (_, checked) = self.waiting.get_index(place)?;
+        Some(checked)
+    }
+
+    /// Removes and gives the certificate at this place, counted from 0; None where fewer wait. The others keep their order. The call
+    /// allocates no memory.
+    pub fn take(&mut self, place: usize) -> Option<Checked>
+        ensures taken { IfSome result (λ checked. IsTakenAt self.old place checked self.new) }
+        ensures none { IfNone result (self.new ≡ self.old) }
+        ensures beyond { IfNone result (length self.old ≤ place) }
+    {
+        let (_, checked) = self.waiting.shift_remove_index(place)?;
         Some(checked)
     }
 

@@ -1,11 +1,11 @@
 //! The waiting certificates by their rounds.
 
-ghost use Rattle.std.specs.Prelude.{◌≡◌, ◌≢◌, ◌≤◌, ◌<◌, ◌++◌, ◌∷◌, ◌↔◌, ◌+◌, [], ℕ, Some, None, Ok, true, false, List, IfSome, IfNone, IfErr, OnOk, OnErr, IsErrOf};
+ghost use Rattle.std.specs.Prelude.{◌≡◌, ◌≢◌, ◌≤◌, ◌<◌, ◌++◌, ◌∷◌, ◌↔◌, ◌+◌, [], ℕ, Some, None, Ok, true, false, List, IfSome, IfNone, IfErr, OnOk, OnErr, IsErrOf, length, option_copied, slice_get};
 ghost use Rattle.wire.specs.Events.{Event};
 ghost use Rattle.waiter.specs.declared.waiter.TheConstants.{MAX_WAITING};
 ghost use Rattle.header.specs.Digested.{certificate_digest_in};
 ghost use Rattle.waiter.specs.Rounds.{HeldWith, IsWithOne, NoneIsEmpty, WaitsThere, held, held_in, none_waits, round_of, waiting_in};
-ghost use Rattle.waiter.specs.Waiting.{Waits, AnswersNo, IsFirstReady};
+ghost use Rattle.waiter.specs.Waiting.{Waits, IsTakenAt};
 
 use crate::refusal::WaitRefusal;
 use crate::waiter::{MAX_WAITING, Waiter};
@@ -95,25 +95,40 @@ impl Waiters {
         ensures none { IfNone result ((round : ℕ) → held self.now round ≡ []) }
     {
         let (round, waiter) = self.rounds.first_key_value()?;
-        let first = waiter.first()?;
+        let first = waiter.nth(0)?;
         Some((*round, first))
     }
 
-    /// Asks about each certificate of a round in turn whether it is ready, and removes and gives the first that is. The call allocates no
-    /// memory.
-    pub fn next_ready_of<F: FnMut(&Checked) -> bool>(
-        &mut self,
-        round: u64,
-        ready: F,
-    ) -> Option<Checked>
-        requires { F.IsAlwaysCallable ready }
-        ensures first { IfSome result (λ checked. IsFirstReady F.FnMut ready (held self.old round) checked (held self.new round)) }
+    /// How many certificates of a round wait.
+    pub fn count_of(&self, round: u64) -> usize
+        ensures { result ≡ length (held self.now round) }
+    {
+        match self.rounds.get(&round) {
+            Some(waiter) => waiter.len(),
+            None => 0,
+        }
+    }
+
+    /// The waiting certificate of a round at this place in the order of offering, counted from 0; None where fewer wait.
+    pub fn nth_of(&self, round: u64, place: usize) -> Option<&Checked>
+        ensures { option_copied result ≡ slice_get (held self.now round) place }
+    {
+        match self.rounds.get(&round) {
+            Some(waiter) => waiter.nth(place),
+            None => None,
+        }
+    }
+
+    /// Removes and gives the waiting certificate of a round at this place, counted from 0; None where fewer wait. The others keep their
+    /// order. The call allocates no memory.
+    pub fn take_of(&mut self, round: u64, place: usize) -> Option<Checked>
+        ensures taken { IfSome result (λ checked. IsTakenAt (held self.old round) place checked (held self.new round)) }
         ensures others { (other : ℕ) → other ≢ round → held self.new other ≡ held self.old other }
         ensures count { IfSome result (λ _. self.new.count + 1 ≡ self.old.count) }
-        ensures asked { IfNone result ((last : F) × AnswersNo F.FnMut ready (held self.old round) last) }
         ensures none { IfNone result (self.new ≡ self.old) }
+        ensures beyond { IfNone result (length (held self.old round) ≤ place) }
     {
-        let found = take_ready(&mut self.rounds, round, ready)?;
+        let found = take_at(&mut self.rounds, round, place)?;
         self.count -= 1;
         Some(found)
     }
@@ -169,23 +184,18 @@ fn add(
     Ok(())
 }
 
-// Removes and gives the first certificate of a round that is ready. A round without certificates is removed too.
-fn take_ready<F: FnMut(&Checked) -> bool>(
-    rounds: &mut BTreeMap<u64, Waiter>,
-    round: u64,
-    ready: F,
-) -> Option<Checked>
-    requires callable { F.IsAlwaysCallable ready }
+// Removes and gives the certificate of a round at this place. A round without certificates is removed too.
+fn take_at(rounds: &mut BTreeMap<u64, Waiter>, round: u64, place: usize) -> Option<Checked>
     requires kept { NoneIsEmpty rounds.old.entries }
-    ensures first { IfSome result (λ checked. IsFirstReady F.FnMut ready (held_in rounds.old.entries round) checked (held_in rounds.new.entries round)) }
+    ensures taken { IfSome result (λ checked. IsTakenAt (held_in rounds.old.entries round) place checked (held_in rounds.new.entries round)) }
     ensures others { (other : ℕ) → other ≢ round → held_in rounds.new.entries other ≡ held_in rounds.old.entries other }
     ensures count { IfSome result (λ _. waiting_in rounds.new.entries + 1 ≡ waiting_in rounds.old.entries) }
-    ensures asked { IfNone result ((last : F) × AnswersNo F.FnMut ready (held_in rounds.old.entries round) last) }
     ensures kept { NoneIsEmpty rounds.new.entries }
     ensures none { IfNone result (rounds.new.entries ≡ rounds.old.entries) }
+    ensures beyond { IfNone result (length (held_in rounds.old.entries round) ≤ place) }
 {
     let waiter = rounds.get_mut(&round)?;
-    let found = waiter.next_ready(ready)?;
+    let found = waiter.take(place)?;
     if waiter.is_empty() {
         rounds.remove(&round);
     }

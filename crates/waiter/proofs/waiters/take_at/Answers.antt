@@ -8,20 +8,20 @@ use Rattle.std.proofs.lemmas.Map.Steps.{set_value_same}
 use Rattle.std.proofs.lemmas.Map.Views.{All-map-remove_entry, All-values-set_value}
 use Rattle.wire.specs.Events.{Event}
 use Rattle.waiter.specs.Rounds.{NoneIsEmpty, held_in, waiting_in}
-use Rattle.waiter.specs.Waiting.{AnswersNo}
 use Rattle.waiter.proofs.ByRound.{told, if_none, removed_same}
-use Rattle.waiter.proofs.waiters.take_ready.Goals as goal
-use Rattle.waiter.proofs.waiters.take_ready.Goals.{then-is_empty+in-Some-1, then-is_empty+in-None-1, else-is_empty}
+use Rattle.waiter.proofs.waiters.take_at.Goals as goal
+use Rattle.waiter.proofs.waiters.take_at.Goals.{then-is_empty+in-Some-1, then-is_empty+in-None-1, else-is_empty}
 
-pub returns-in_err-waiter-clause-asked : goal.returns-in_err-waiter-clause-asked
-returns-in_err-waiter-clause-asked g c =
+pub returns-in_err-waiter-clause-beyond : goal.returns-in_err-waiter-clause-beyond
+returns-in_err-waiter-clause-beyond c =
     let none : held_in c.args.rounds.now.entries c.args.round ≡ [] = ap told (sym c.in_err-waiter.ensures.value) in
-    if_none c.from_residual.result (c.args.ready, subst (λ (l : List Event). AnswersNo g.F.FnMut c.args.ready l c.args.ready) (sym none) refl)
+    let few = ap (λ (l : List Event). length l) none in
+    if_none c.from_residual.result (omega (arith, few))
 
 pub returns-in_err-found-clause-kept : goal.returns-in_err-found-clause-kept
-returns-in_err-found-clause-kept g c =
+returns-in_err-found-clause-kept c =
     let old = c.args.rounds.now in
-    let later = c.next_ready.new.self in
+    let later = c.take.new.self in
     let test = is_at (nat_cmp c.args.round) in
     let writes = c.get_mut.follows.holds later in
     let mid = (c.get_mut.follows.lender later).entries in
@@ -31,25 +31,32 @@ returns-in_err-found-clause-kept g c =
     c.requires.kept
 
 pub returns-in_err-found-clause-none : goal.returns-in_err-found-clause-none
-returns-in_err-found-clause-none g c =
+returns-in_err-found-clause-none c =
     let old = c.args.rounds.now in
-    let later = c.next_ready.new.self in
+    let later = c.take.new.self in
     let test = is_at (nat_cmp c.args.round) in
     let writes = c.get_mut.follows.holds later in
     let there = sym {a = Some c.in_ok-waiter.waiter.now} c.in_ok-waiter.ensures.value in
     if_none c.from_residual-in_err-found.result
     (writes.0 ∙ ap (set_value test old.entries) c.in_err-found.ensures.none ∙ set_value_same test old.entries c.in_ok-waiter.waiter.now there)
 
+pub returns-in_err-found-clause-beyond : goal.returns-in_err-found-clause-beyond
+returns-in_err-found-clause-beyond c =
+    let here : held_in c.args.rounds.now.entries c.args.round ≡ c.in_ok-waiter.waiter.now = sym (ap told c.in_ok-waiter.ensures.value) in
+    let many = ap (λ (l : List Event). length l) here in
+    let few = c.in_err-found.ensures.beyond in
+    if_none c.from_residual-in_err-found.result (omega (arith, many, few))
+
 pub returns-clause-count : goal.returns-clause-count
-returns-clause-count g c =
+returns-clause-count c =
     let old = c.args.rounds.now in
-    let later = c.next_ready.new.self in
+    let later = c.take.new.self in
     let events = c.in_ok-waiter.waiter.now in
     let there = c.in_ok-waiter.ensures.value in
     let test = is_at (nat_cmp c.args.round) in
     let writes = c.get_mut.follows.holds later in
     let mid = (c.get_mut.follows.lender later).entries in
-    let first = c.in_ok-found.ensures.first in
+    let first = c.in_ok-found.ensures.taken in
     let before : length events ≡ length first.front + suc (length first.back) = ap (λ (l : List Event). length l) first.stood ∙ length-append first.front (c.in_ok-found.found ∷ first.back) in
     let after : length later ≡ length first.front + length first.back = ap (λ (l : List Event). length l) first.left ∙ length-append first.front first.back in
     let sums = sum_by-set_value (λ (l : List Event). length l) test old.entries events later (sym {a = Some events} there) in
@@ -72,9 +79,9 @@ returns-clause-count g c =
     ]
 
 pub returns-clause-kept : goal.returns-clause-kept
-returns-clause-kept g c =
+returns-clause-kept c =
     let old = c.args.rounds.now in
-    let later = c.next_ready.new.self in
+    let later = c.take.new.self in
     let test = is_at (nat_cmp c.args.round) in
     let writes = c.get_mut.follows.holds later in
     let mid = (c.get_mut.follows.lender later).entries in
