@@ -32,7 +32,14 @@ pub begins : (count : ℕ) (rest bytes : List ℕ) → count_at w32 MAX_TRANSACT
 unfolding transactions_at
 begins count rest bytes h =
     let all : count - 0 ≡ count = omega arith in
-    record { transactions = []; counted = refl; among = omega arith; len = refl; within = omega arith; left = subst (λ (n : ℕ). more_at transaction_at n [] rest ≡ transactions_at bytes) (sym all) (rw h refl) }
+    record {
+      transactions = [];
+      counted = refl;
+      among = omega arith;
+      len = refl;
+      within = omega arith;
+      left = subst (λ (n : ℕ). more_at transaction_at n [] rest ≡ transactions_at bytes) (sym all) (rw h refl);
+    }
 
 pub passes : (count counter so_far : ℕ) (here bytes t rest : List ℕ) → Passed count counter so_far here bytes → counter < count → transaction_after so_far here ≡ Ok (t, rest)
     → so_far + (4 + length t) ≤ MAX_BATCH_BYTES → Passed count (counter + 1) (so_far + (4 + length t)) rest bytes
