@@ -89,7 +89,8 @@ abbrev pub FlushIsSteps : Type 0 → Type 0
 FlushIsSteps S = (node : Node) (moves : List Move) (world : World) (before later : BookView S) (old new : List ℕ) (count : ℕ) → IsNode node → IsRun node moves world → IsOf node world before
     → world.groups ≡ [] → Flushes node before later old new count → FlushesThere node world (length world.settled + count) old new later
 
--- a round that takes the book down: the group is taken and stays in flight; any device calls before the failure come after that
+-- A round that takes the book down takes a group, which is one step of the world, and the group stays in flight. The device calls that the
+-- round made before it failed are further steps of the world, after this one.
 abbrev pub FailIsAStep : Type 0 → Type 0
 FailIsAStep S = (node : Node) (world : World) (before later : BookView S) → IsOf node world before → (down : GoesDown node before later) → TakesAfter node world down.group later
 

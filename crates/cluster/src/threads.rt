@@ -69,7 +69,8 @@ where
     )
 }
 
-// Starts a thread for the last job, and then in the same way for the jobs before it. After that the work of this thread is done.
+// Starts a thread for the last job, and then in the same way threads for the jobs before it. Once all are started, this thread calls
+// `beside`, and then it waits for the results of the others.
 fn run_each<'s, E, R, O, J, X, B>(
     scope: &Scope<'s, E>,
     rt: &'s R,

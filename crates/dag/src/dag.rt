@@ -393,7 +393,7 @@ impl<'a> Dag<'a> {
         }
     }
 
-    /// Whether the certificate in a slot is marked.
+    /// Whether a slot holds a certificate that is marked, as those are that a committed leader reaches.
     pub fn is_marked(&self, round: Round, author: Author) -> bool
         ensures { result ≡ marked_in self.now round author.0 }
     {

@@ -34,8 +34,8 @@ pub fn small_batch(alloc: Global, author: Author, number: u64) -> Result<Batch, 
     batch(alloc, author, number, SMALL_BYTES)
 }
 
-/// A batch whose body has this many bytes, or up to four less, with a number in its transactions that makes it another one
-/// than those of other numbers.
+/// A batch whose body has this many bytes, or up to four less. The number stands in its transactions, so batches of different numbers
+/// differ.
 pub fn batch(alloc: Global, author: Author, number: u64, size: u64) -> Result<Batch, Ending> {
     let mut transaction = [FILLING; STRIDE - LENGTH_BYTES];
     transaction[..8].copy_from_slice(&number.to_be_bytes());

@@ -88,7 +88,8 @@ where
     }
 }
 
-// Whether each gate was passed once, raised its flag and found the other one raised.
+// Runs two nodes in threads for one turn, each with a gate that raises a flag and waits for the flag of the other gate. Gives whether each
+// gate was passed once, and found the other flag raised.
 fn have_met<R>(rt: &R, alloc: Global, settings: &Settings) -> Result<bool, ClusterError>
 where
     R: Threads + Wait + Sync,

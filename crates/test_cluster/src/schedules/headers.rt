@@ -14,7 +14,8 @@ pub const PARENTS: usize = MEMBERS as usize;
 /// How a dishonest member shows a header's certificate.
 #[derive(Clone, Copy)]
 pub struct Showing {
-    /// Which of its faces the header is of. A header of an honest member is of none.
+    /// Which face this header is: a dishonest member can make two headers for one round, its faces 0 and 1, and show them to different
+    /// nodes. A header of an honest member is no face, and has `u64::MAX` here.
     pub face: u64,
     /// By how many rounds the certificate comes later to the node apart, and to the others.
     pub apart: u64,

@@ -24,7 +24,7 @@ pub enum Kind {
     Batched,
     /// A header of round 0.
     Low,
-    /// A vote on a header of this node, which has none.
+    /// A vote on a header of this node. The node has made no header, so it refuses the vote.
     Vote,
 }
 

@@ -76,7 +76,7 @@ impl<'a> Side<'a> {
         ledger(self.played, &self.decided.certificates, &self.decided.coins)
     }
 
-    /// Whether a leader up to the last one that is directly committed isn't committed.
+    /// Whether a wave was skipped: fewer leaders are committed than there are waves up to the last one whose leader has enough support.
     fn skips(&self) -> bool {
         (self.decided.leaders.len() as u64) < last_wave(&self.ledger())
     }

@@ -112,7 +112,7 @@ fn write_added(answer: &mut String, added: &Result<Added, DagRefusal>) -> Told {
     }
 }
 
-// Changes the DAG, or looks at it.
+// Runs the command of this name with these numbers: it changes the DAG, or asks the DAG something and writes the answer.
 fn change(
     alloc: Global,
     dag: &mut Dag,

@@ -209,8 +209,8 @@ impl<'a> Playing<'a> {
         Ok(())
     }
 
-    // Shows how many references are read for each leader: those that its prefix of the chain adds, and those that are read if it is asked
-    // only after the leader before it.
+    // Shows for each leader of a chain how many references to parents are read, counted in two ways: how many more a `Lengthening` of the
+    // chain up to this leader reads than one of the chain before it, and how many `segment_counted` reads for this leader alone.
     fn tell_reads(
         &self,
         chain: &[(Round, Author)],
