@@ -17,7 +17,7 @@ use Rattle.spec_machine.specs.Machine.{answered}
 use Rattle.admission.specs.Answers.{IsAnswer, RefusesAs, is_new_step}
 use Rattle.admission.specs.declared.step.Step.{Step}
 use Rattle.admission.specs.declared.step.Step.TheVariants as step
-use Rattle.admission.specs.Decisions.{told, is_new_decision}
+use Rattle.admission.specs.Decisions.{reported, is_new_decision}
 use Rattle.admission.specs.Standing.{Meets}
 use Rattle.admission.specs.declared.tables.answer.Answer.{Answer}
 use Rattle.admission.specs.declared.tables.answer.Answer.TheVariants.{New, Known}
@@ -33,14 +33,14 @@ comes_of node state event tables came meets new = record { node_is = meets.node_
 same_refusal : (one other : Refusal) → ◌≡◌ {A = Admission} (admission.Refused one) (admission.Refused other) → one ≡ other
 same_refusal one other is = cc
 
-pub refused_answer : (answer : Admission) (new known : List Output) (decision : Result Answer Refusal) (refusal : Refusal) → answer ≡ told new known decision
+pub refused_answer : (answer : Admission) (new known : List Output) (decision : Result Answer Refusal) (refusal : Refusal) → answer ≡ reported new known decision
     → decision ≡ Err refusal → IsAnswer answer (Err refusal)
-refused_answer answer new known decision refusal is decided = inr (is ∙ ap (told new known) decided)
+refused_answer answer new known decision refusal is decided = inr (is ∙ ap (reported new known) decided)
 
-pub refused_refuses : (answer : Admission) (new known : List Output) (decision : Result Answer Refusal) (refusal : Refusal) → answer ≡ told new known decision
+pub refused_refuses : (answer : Admission) (new known : List Output) (decision : Result Answer Refusal) (refusal : Refusal) → answer ≡ reported new known decision
     → decision ≡ Err refusal → RefusesAs answer (Err refusal)
 refused_refuses answer new known decision refusal is decided other refused =
-    ap (λ r. Err r) (same_refusal refusal other (sym (is ∙ ap (told new known) decided) ∙ refused))
+    ap (λ r. Err r) (same_refusal refusal other (sym (is ∙ ap (reported new known) decided) ∙ refused))
 
 -- ---- known events
 
@@ -80,19 +80,19 @@ went (Ok found) result ok err new holds = holds
 went (Err e) result ok err new holds = absurd (true≢false (sym new ∙ ap is_new_step err))
 
 -- an answer that is told is new only where the decision is
-told_new : (new known : List Output) (decision : Result Answer Refusal) → is_new (told new known decision) ≡ true → told new known decision ≡ admission.New new
-told_new new known (Ok New) is = refl
-told_new new known (Ok Known) is = absurd (true≢false (sym is))
-told_new new known (Err refusal) is = absurd (true≢false (sym is))
+reported_new : (new known : List Output) (decision : Result Answer Refusal) → is_new (reported new known decision) ≡ true → reported new known decision ≡ admission.New new
+reported_new new known (Ok New) is = refl
+reported_new new known (Ok Known) is = absurd (true≢false (sym is))
+reported_new new known (Err refusal) is = absurd (true≢false (sym is))
 
-pub new_is_told : (answer : Admission) (new known : List Output) (decision : Result Answer Refusal) → answer ≡ told new known decision → is_new answer ≡ true → answer ≡ admission.New new
-new_is_told answer new known decision is new_there = is ∙ told_new new known decision (ap is_new (sym is) ∙ new_there)
+pub new_is_reported : (answer : Admission) (new known : List Output) (decision : Result Answer Refusal) → answer ≡ reported new known decision → is_new answer ≡ true → answer ≡ admission.New new
+new_is_reported answer new known decision is new_there = is ∙ reported_new new known decision (ap is_new (sym is) ∙ new_there)
 
 -- it is new just where the decision is
-told_is_new : (new known : List Output) (decision : Result Answer Refusal) → is_new_decision decision ≡ is_new (told new known decision)
-told_is_new new known (Ok New) = refl
-told_is_new new known (Ok Known) = refl
-told_is_new new known (Err refusal) = refl
+reported_is_new : (new known : List Output) (decision : Result Answer Refusal) → is_new_decision decision ≡ is_new (reported new known decision)
+reported_is_new new known (Ok New) = refl
+reported_is_new new known (Ok Known) = refl
+reported_is_new new known (Err refusal) = refl
 
-pub newness_is_told : (answer : Admission) (new known : List Output) (decision : Result Answer Refusal) → answer ≡ told new known decision → is_new_decision decision ≡ is_new answer
-newness_is_told answer new known decision is = told_is_new new known decision ∙ ap is_new (sym is)
+pub newness_is_reported : (answer : Admission) (new known : List Output) (decision : Result Answer Refusal) → answer ≡ reported new known decision → is_new_decision decision ≡ is_new answer
+newness_is_reported answer new known decision is = reported_is_new new known decision ∙ ap is_new (sym is)

@@ -14,34 +14,34 @@ use Rattle.header.specs.declared.admission.Admission.TheVariants.{New, Known, Re
 use Rattle.header.specs.declared.refusal.Refusal.{Refusal}
 use Rattle.header.specs.declared.refusal.Refusal.TheVariants as refusal
 use Rattle.spec_machine.specs.Machine.{answered, grown, is_missing_parents, is_ready}
-use Rattle.admission.specs.Decisions.{told, lacks_parents}
+use Rattle.admission.specs.Decisions.{reported, lacks_parents}
 use Rattle.admission.specs.Standing.{has_parents, OthersAreReady}
 use Rattle.admission.specs.declared.tables.answer.Answer.{Answer}
 use Rattle.admission.specs.declared.tables.answer.Answer.TheVariants as answer
 
 -- what is told lacks a parent where the decision does
-told_missing : (new known : List Output) (decision : Result Answer Refusal) → is_missing_parents (told new known decision) ≡ lacks_parents decision
-told_missing new known (Ok answer.New) = refl
-told_missing new known (Ok answer.Known) = refl
-told_missing new known (Err refusal.Memory) = refl
-told_missing new known (Err refusal.Down) = refl
-told_missing new known (Err refusal.TooOld) = refl
-told_missing new known (Err refusal.MissingParents) = refl
-told_missing new known (Err refusal.MissingBatch) = refl
-told_missing new known (Err refusal.Equivocation) = refl
-told_missing new known (Err refusal.CertConflict) = refl
-told_missing new known (Err refusal.DigestClash) = refl
-told_missing new known (Err refusal.AlreadyProposed) = refl
-told_missing new known (Err refusal.NotOurs) = refl
-told_missing new known (Err refusal.CoinOutOfTurn) = refl
-told_missing new known (Err refusal.CoinEarly) = refl
-told_missing new known (Err refusal.CoinConflict) = refl
-told_missing new known (Err refusal.StoreFull) = refl
+reported_missing : (new known : List Output) (decision : Result Answer Refusal) → is_missing_parents (reported new known decision) ≡ lacks_parents decision
+reported_missing new known (Ok answer.New) = refl
+reported_missing new known (Ok answer.Known) = refl
+reported_missing new known (Err refusal.Memory) = refl
+reported_missing new known (Err refusal.Down) = refl
+reported_missing new known (Err refusal.TooOld) = refl
+reported_missing new known (Err refusal.MissingParents) = refl
+reported_missing new known (Err refusal.MissingBatch) = refl
+reported_missing new known (Err refusal.Equivocation) = refl
+reported_missing new known (Err refusal.CertConflict) = refl
+reported_missing new known (Err refusal.DigestClash) = refl
+reported_missing new known (Err refusal.AlreadyProposed) = refl
+reported_missing new known (Err refusal.NotOurs) = refl
+reported_missing new known (Err refusal.CoinOutOfTurn) = refl
+reported_missing new known (Err refusal.CoinEarly) = refl
+reported_missing new known (Err refusal.CoinConflict) = refl
+reported_missing new known (Err refusal.StoreFull) = refl
 
-pub ready_is_told : (node : Node) (state : State) (event : Event) (new known : List Output) (decision : Result Answer Refusal) → answered node state event ≡ told new known decision
+pub ready_is_reported : (node : Node) (state : State) (event : Event) (new known : List Output) (decision : Result Answer Refusal) → answered node state event ≡ reported new known decision
     → not (lacks_parents decision) ≡ is_ready node state event
-ready_is_told node state event new known decision is =
-    ap not (sym (told_missing new known decision)) ∙ ap (λ a. not (is_missing_parents a)) (sym is)
+ready_is_reported node state event new known decision is =
+    ap not (sym (reported_missing new known decision)) ∙ ap (λ a. not (is_missing_parents a)) (sym is)
 
 -- ---- messages without parents
 

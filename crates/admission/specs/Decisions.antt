@@ -26,10 +26,10 @@ use Rattle.admission.specs.declared.tables.answer.Answer.{Answer}
 use Rattle.admission.specs.declared.tables.answer.Answer.TheVariants.{New, Known}
 
 -- the answer of admission for a decision: a new event has the first outputs, a known one the second
-abbrev pub told : List Output → List Output → Result Answer Refusal → Admission
-told new known (Ok New) = admission.New new
-told new known (Ok Known) = admission.Known known
-told new known (Err refusal) = admission.Refused refusal
+abbrev pub reported : List Output → List Output → Result Answer Refusal → Admission
+reported new known (Ok New) = admission.New new
+reported new known (Ok Known) = admission.Known known
+reported new known (Err refusal) = admission.Refused refusal
 
 -- the decision is that a parent is missing
 abbrev pub lacks_parents : Result Answer Refusal → Bool

@@ -132,9 +132,9 @@ ends_in_last items front group others last parts packed same =
     ends_with (all_records front) group others last (sym (records_after front group) ∙ ap all_records (sym parts) ∙ same) (omega (arith, fits.some))
 
 -- whether there are no groups tells whether there are no records
-pub empty_tells : (items : List (List (List ℕ))) (view : List (List ℕ)) (len : ℕ) (result : Bool) → len ≡ length items → result ≡ eqb len 0 → ArePacked items → all_records items ≡ view
+pub empty_reports : (items : List (List (List ℕ))) (view : List (List ℕ)) (len : ℕ) (result : Bool) → len ≡ length items → result ≡ eqb len 0 → ArePacked items → all_records items ≡ view
     → (IsTrue result ↔ (view ≡ []))
-empty_tells items view len result long is packed same = (
+empty_reports items view len result long is packed same = (
   λ yes. sym same ∙ ap all_records (nil_from_length items (sym long ∙ eqb-true len 0 (sym is ∙ yes))),
   λ none. is ∙ eq-eqb len 0 (long ∙ ap length (none_packed items packed (same ∙ none))),
 )

@@ -44,9 +44,9 @@ impl<'a, S: Sign> Model for OwnBook<'a, S> {
 
 impl<'a, S: Sign> OwnBook<'a, S> {
     ghost use Rattle.std.specs.Prelude.{◌≡◌, ◌≢◌, ◌⊎◌, ◌↔◌, ◌+◌, ◌<◌, ◌≤◌, ◌==◌, ◌&&◌, not, drop, false, is_some, if◌then◌else◌, IsNone, ◌++◌, ◌∷◌, [], List, ℕ, length, true, Some, None, Ok, IfOk, IfErr, IfSome, IsSome, OnOk, OnErr, IsErrOf, IsTrue};
-    ghost use Rattle.diskmodel.specs.Disk.{AtEachMoment, TellsFault};
+    ghost use Rattle.diskmodel.specs.Disk.{AtEachMoment, ReportsFault};
     ghost use Rattle.header.specs.Checks.{fault_of, accepts_all};
-    ghost use Rattle.journal.specs.Areas.{tells};
+    ghost use Rattle.journal.specs.Areas.{reports};
     ghost use Rattle.journal.specs.Journal.{disk_of, spare_of, IsAlive};
     ghost use Rattle.journal.specs.Pairs.{HaveKeptPlaces, generation_in, spare_disk, rewritten_disk, untouched_disk};
     ghost use Rattle.journal.specs.declared.layout.TheConstants.{CLOSED};
@@ -182,7 +182,7 @@ impl<'a, S: Sign> OwnBook<'a, S> {
         ensures dead { IsErrOf result FlushError.Device → ¬ IsAlive D.device journal.new }
         ensures spare { spare_of journal.new ≡ spare_of journal.old }
         // The error is Device exactly where the disk has failed.
-        ensures cause { TellsFault FlushError.Device (D.device.faults (disk_of journal.old)) (D.device.faults (disk_of journal.new)) result }
+        ensures cause { ReportsFault FlushError.Device (D.device.faults (disk_of journal.old)) (D.device.faults (disk_of journal.new)) result }
         ensures setting { self.new.validator.setting ≡ self.old.validator.setting }
     {
         if self.is_down() {
@@ -221,7 +221,7 @@ impl<'a, S: Sign> OwnBook<'a, S> {
         requires alive { IsAlive D.device journal.old }
         requires pair { IsSome (spare_of journal.old) }
         // The area that is read has its first group.
-        requires begun { tells (D.device.content (disk_of journal.old)) ≡ Some (Some (generation_in journal.old)) }
+        requires begun { reports (D.device.content (disk_of journal.old)) ≡ Some (Some (generation_in journal.old)) }
         // All accepted events are settled, and the journal is a checkpoint of the state after them.
         ensures settled { IfOk result (λ generation. Checkpoints (node_of S.scheme self.old.validator.setting) D.device self.old self.new journal.old journal.new) }
         ensures answer { IfOk result (λ generation. generation ≡ generation_in journal.new) }
@@ -242,7 +242,7 @@ impl<'a, S: Sign> OwnBook<'a, S> {
         ensures alive { (IsErrOf result FlushError.Device) ⊎ IsAlive D.device journal.new }
         ensures dead { IsErrOf result FlushError.Device → ¬ IsAlive D.device journal.new }
         // The error is Device exactly where the disk that is written has failed.
-        ensures cause { TellsFault FlushError.Device (D.device.faults (spare_disk journal.old)) (D.device.faults (rewritten_disk result journal.new)) result }
+        ensures cause { ReportsFault FlushError.Device (D.device.faults (spare_disk journal.old)) (D.device.faults (rewritten_disk result journal.new)) result }
         ensures setting { self.new.validator.setting ≡ self.old.validator.setting }
     {
         if !self.is_free() {

@@ -1,8 +1,8 @@
 //! A book whose journal is rewritten to a checkpoint.
 
 ghost use Rattle.std.specs.Prelude.{◌≡◌, ◌⊎◌, ◌+◌, None, Some, true, IfOk, OnErr, IsSome, IsErrOf};
-ghost use Rattle.diskmodel.specs.Disk.{AtEachMoment, TellsFault};
-ghost use Rattle.journal.specs.Areas.{tells};
+ghost use Rattle.diskmodel.specs.Disk.{AtEachMoment, ReportsFault};
+ghost use Rattle.journal.specs.Areas.{reports};
 ghost use Rattle.journal.specs.Journal.{disk_of, spare_of, IsAlive};
 ghost use Rattle.journal.specs.Pairs.{HaveKeptPlaces, generation_in, spare_disk, rewritten_disk, untouched_disk};
 ghost use Rattle.validator.specs.Setting.{node_of};
@@ -23,7 +23,7 @@ pub(crate) fn rewrite_to_all<S: Sign, D: Disk>(
 ) -> Result<u64, FlushError>
     requires alive { IsAlive D.device journal.old }
     requires pair { IsSome (spare_of journal.old) }
-    requires begun { tells (D.device.content (disk_of journal.old)) ≡ Some (Some (generation_in journal.old)) }
+    requires begun { reports (D.device.content (disk_of journal.old)) ≡ Some (Some (generation_in journal.old)) }
     requires free { book.old.taken ≡ book.old.settled }
     requires none { book.old.rewriting ≡ None }
     requires stands { StandsSomewhere (node_of S.scheme book.old.validator.setting) book.old }
@@ -39,7 +39,7 @@ pub(crate) fn rewrite_to_all<S: Sign, D: Disk>(
     ensures keeps { OnErr result (HaveKeptPlaces journal.old journal.new) }
     ensures alive { (IsErrOf result FlushError.Device) ⊎ IsAlive D.device journal.new }
     ensures dead { IsErrOf result FlushError.Device → ¬ IsAlive D.device journal.new }
-    ensures cause { TellsFault FlushError.Device (D.device.faults (spare_disk journal.old)) (D.device.faults (rewritten_disk result journal.new)) result }
+    ensures cause { ReportsFault FlushError.Device (D.device.faults (spare_disk journal.old)) (D.device.faults (rewritten_disk result journal.new)) result }
     ensures somewhere { StandsSomewhere (node_of S.scheme book.old.validator.setting) book.new }
     ensures only_down { RewritesOnlyDown book.new }
     ensures setting { book.new.validator.setting ≡ book.old.validator.setting }

@@ -8,7 +8,7 @@ use Rattle.spec_model.specs.Nodes.{Node}
 use Rattle.spec_checkpoint.specs.Data.{KeptBatch}
 use Rattle.spec_checkpoint.specs.Faults.{is_batch_sound, batch_tests}
 use Rattle.spec_checkpoint.specs.Loading.{at_record}
-use Rattle.checkpoint.specs.Judging.{NoneFails, TellsFirst}
+use Rattle.checkpoint.specs.Judging.{NoneFails, ReportsFirst}
 use Rattle.checkpoint.specs.declared.error.LoadError.TheVariants.{Unsound}
 
 -- ---- lists in turn
@@ -62,7 +62,7 @@ fault_here test k all done rest next is none off =
 
 -- so of one in turn
 pub turn_fault : {X : Type 0} (test : X → Bool) (k : ℕ) (all done : List X) (next : X) (place : ℕ) → IsTurn all done next → NoneFails k (map test done) → test next ≡ false → place ≡ k + length done
-    → TellsFirst k (map test all) (Unsound place)
+    → ReportsFirst k (map test all) (Unsound place)
 turn_fault test k all done next place turn none off is =
     λ apart. ap (option_map at_record) (fault_here test k all done (drop (length done + 1) all) next (split_at all done next turn) none off ∙ ap (λ n. Some n) (sym is))
 
@@ -146,7 +146,7 @@ batch_fault node k all done rest next is none off =
 
 pub batch_turn : (node : Node) (k : ℕ) (all done : List KeptBatch) (next : KeptBatch) (place : ℕ) → IsTurn all done next → NoneFails k (batch_tests node [] done) → is_batch_sound node done next
     ≡ false
-    → place ≡ k + length done → TellsFirst k (batch_tests node [] all) (Unsound place)
+    → place ≡ k + length done → ReportsFirst k (batch_tests node [] all) (Unsound place)
 batch_turn node k all done next place turn none off is =
     λ apart. ap (option_map at_record) (batch_fault node k all done (drop (length done + 1) all) next (split_at all done next turn) none off ∙ ap (λ n. Some n) (sym is))
 

@@ -10,7 +10,7 @@ use Rattle.wire.proofs.Transactions.{body_has}
 use Rattle.wire.specs.Batches.{batch_body}
 use Rattle.wire.specs.Fields.{IsDigest}
 use Rattle.wire.specs.References.{AreVotes, IsVoteEntry}
-use Rattle.wire.specs.Spelling.{header_body, vote_entry_bytes, votes_bytes}
+use Rattle.wire.specs.Encoding.{header_body, vote_entry_bytes, votes_bytes}
 use Rattle.journal.specs.Snapshot.{FitsAlone}
 use Rattle.spec_checkpoint.specs.Data.{Checkpoint, IsCanonical, IsKeptBatch, IsKeptCertificate, IsKeptHeader, IsKeptVote, KeptBatch, KeptHeader, KeptVote}
 use Rattle.spec_checkpoint.specs.Records.{COINS_PIECE, ORDER_PIECE, batch_record, certificate_record, coins_record, cut, header_record, order_record, state_records, vote_record}

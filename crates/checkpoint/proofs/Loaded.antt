@@ -24,7 +24,7 @@ kept_is_loaded reading loading node tables records node_is bytes describes =
     let rest : All AreBytes (state_records checkpoint) = All-tail AreBytes first (state_records checkpoint) (subst (All AreBytes) describes.are bytes) in
     let reads : checkpoint_read node (drop 1 records) ≡ Ok checkpoint =
     ap (λ (l : List (List ℕ)). checkpoint_read node (drop 1 l)) describes.are ∙ (reading node (state_records checkpoint) checkpoint rest).1 (describes.written.canonical, refl) in (
-      (loading node records node_is bytes).1 (checkpoint, record { version = Second; can_tell = tt; are = describes.are; written = describes.written; sound = describes.sound }),
+      (loading node records node_is bytes).1 (checkpoint, record { version = Second; can_report = tt; are = describes.are; written = describes.written; sound = describes.sound }),
       λ other so.
           let same = one_read (checkpoint_read node (drop 1 records)) checkpoint other reads so in
           (subst (λ (c : Checkpoint). IsSound node (state_in node c)) same describes.sound, subst (λ (c : Checkpoint). AreAt node (state_in node c) tables) same describes.at),

@@ -5,7 +5,7 @@ use Rattle.std.proofs.Math.Seq.{take-append_seam}
 use Rattle.std.proofs.lemmas.Slice.Eq.{bytes_eq-Decides}
 use Rattle.spec_checkpoint.specs.Faults.{same_body}
 use Rattle.spec_model.specs.Words.{HeaderBody}
-use Rattle.wire.specs.Spelling.{spelling, header_body, votes_bytes}
+use Rattle.wire.specs.Encoding.{encoding, header_body, votes_bytes}
 use Rattle.wire.specs.declared.message.Message.TheVariants as message
 
 -- the beginnings of lists that are one, and end alike
@@ -27,5 +27,5 @@ same_ends xs ys end =
 
 -- the bytes of two certificates without votes are the same where the bodies of their headers are
 pub same_with_votes : (one other : HeaderBody)
-    → bytes_eq (spelling (message.Certificate (record { header = one; votes = [] }))) (spelling (message.Certificate (record { header = other; votes = [] }))) ≡ same_body one other
+    → bytes_eq (encoding (message.Certificate (record { header = one; votes = [] }))) (encoding (message.Certificate (record { header = other; votes = [] }))) ≡ same_body one other
 same_with_votes one other = same_ends (header_body one) (header_body other) (votes_bytes [])

@@ -17,7 +17,7 @@ use Rattle.spec_checkpoint.specs.Faults.{batch_tests, is_vote_sound, is_header_s
 use Rattle.spec_checkpoint.specs.Loading.{LoadFault, at_record, of_whole, unsound}
 use Rattle.spec_checkpoint.specs.Meaning.{listed_floor, state_in}
 use Rattle.spec_checkpoint.specs.Records.{ORDER_PIECE, COINS_PIECE, cut}
-use Rattle.checkpoint.specs.Judging.{NoneFails, TellsFirst, is_vote_sound_at, is_header_sound_at, is_certificate_sound_at, slots_at}
+use Rattle.checkpoint.specs.Judging.{NoneFails, ReportsFirst, is_vote_sound_at, is_header_sound_at, is_certificate_sound_at, slots_at}
 use Rattle.checkpoint.specs.Kept.{certificate_of}
 use Rattle.checkpoint.specs.Reader.{fault_of}
 use Rattle.checkpoint.specs.declared.error.LoadError.{LoadError}
@@ -47,12 +47,12 @@ none_of_all k (false ∷ tests) none = absurd (none-some k (sym none))
 -- ---- errors
 
 -- the first of some faults is what an error tells of
-tells : (one others : Option ℕ) (whole : Option LoadFault) (error : LoadError) → error ≢ Memory → option_map at_record one ≡ fault_of error
+reports : (one others : Option ℕ) (whole : Option LoadFault) (error : LoadError) → error ≢ Memory → option_map at_record one ≡ fault_of error
     → option_or (option_map at_record (option_or one others)) whole ≡ fault_of error
-tells (Some k) others whole error apart is = is
-tells None others whole Memory apart is = absurd (apart refl)
-tells None others whole (Unsound place) apart is = absurd (none-some (at_record place) is)
-tells None others whole UnsoundWhole apart is = absurd (none-some of_whole is)
+reports (Some k) others whole error apart is = is
+reports None others whole Memory apart is = absurd (apart refl)
+reports None others whole (Unsound place) apart is = absurd (none-some (at_record place) is)
+reports None others whole UnsoundWhole apart is = absurd (none-some of_whole is)
 
 -- a leader is there where a wave is
 pub same_some : (last : Option (ℕ × Author)) (wave : Option ℕ) → option_map (λ (slot : ℕ × Author). slot.0) last ≡ option_map (λ w. 2 * w - 1) wave → is_some last ≡ is_some wave
@@ -136,25 +136,25 @@ module _ (node : Node) (checkpoint : Checkpoint) (list : List Digested) (same : 
   found = ap (λ o. option_or (option_map at_record o) whole) parted
 
   module _ (error : LoadError) (apart : error ≢ Memory) where
-    pub batches_fault : TellsFirst of_batches batches error → unsound node checkpoint ≡ fault_of error
-    batches_fault is = found ∙ tells (position_from not of_batches batches) _ whole error apart (is apart)
+    pub batches_fault : ReportsFirst of_batches batches error → unsound node checkpoint ≡ fault_of error
+    batches_fault is = found ∙ reports (position_from not of_batches batches) _ whole error apart (is apart)
 
-    pub votes_fault : NoneFails of_batches batches → TellsFirst of_votes votes error → unsound node checkpoint ≡ fault_of error
+    pub votes_fault : NoneFails of_batches batches → ReportsFirst of_votes votes error → unsound node checkpoint ≡ fault_of error
     votes_fault one is =
         found
         ∙ ap (λ o. option_or (option_map at_record (option_or o (option_or (position_from not of_votes votes) (option_or (position_from not of_headers headers) (option_or
         (position_from not of_certificates certificates) None))))) whole) one
-        ∙ tells (position_from not of_votes votes) _ whole error apart (is apart)
+        ∙ reports (position_from not of_votes votes) _ whole error apart (is apart)
 
-    pub headers_fault : NoneFails of_batches batches → NoneFails of_votes votes → TellsFirst of_headers headers error → unsound node checkpoint ≡ fault_of error
+    pub headers_fault : NoneFails of_batches batches → NoneFails of_votes votes → ReportsFirst of_headers headers error → unsound node checkpoint ≡ fault_of error
     headers_fault one two is =
         found
         ∙ ap (λ o. option_or (option_map at_record (option_or o (option_or (position_from not of_votes votes) (option_or (position_from not of_headers headers) (option_or
         (position_from not of_certificates certificates) None))))) whole) one
         ∙ ap (λ o. option_or (option_map at_record (option_or o (option_or (position_from not of_headers headers) (option_or (position_from not of_certificates certificates) None)))) whole) two
-        ∙ tells (position_from not of_headers headers) _ whole error apart (is apart)
+        ∙ reports (position_from not of_headers headers) _ whole error apart (is apart)
 
-    pub certificates_fault : NoneFails of_batches batches → NoneFails of_votes votes → NoneFails of_headers headers → TellsFirst of_certificates certificates error → unsound node checkpoint
+    pub certificates_fault : NoneFails of_batches batches → NoneFails of_votes votes → NoneFails of_headers headers → ReportsFirst of_certificates certificates error → unsound node checkpoint
         ≡ fault_of error
     certificates_fault one two three is =
         found
@@ -162,7 +162,7 @@ module _ (node : Node) (checkpoint : Checkpoint) (list : List Digested) (same : 
         (position_from not of_certificates certificates) None))))) whole) one
         ∙ ap (λ o. option_or (option_map at_record (option_or o (option_or (position_from not of_headers headers) (option_or (position_from not of_certificates certificates) None)))) whole) two
         ∙ ap (λ o. option_or (option_map at_record (option_or o (option_or (position_from not of_certificates certificates) None))) whole) three
-        ∙ tells (position_from not of_certificates certificates) _ whole error apart (is apart)
+        ∙ reports (position_from not of_certificates certificates) _ whole error apart (is apart)
 
   module _ (one : NoneFails of_batches batches) (two : NoneFails of_votes votes) (three : NoneFails of_headers headers) (four : NoneFails of_certificates certificates) where
     none_at_all : position_from not 1 (record_tests node checkpoint) ≡ None

@@ -26,8 +26,8 @@ abbrev pub NoneFails : ℕ → List Bool → Type 0
 NoneFails first tests = position_from not first tests ≡ None
 
 -- an error, unless an allocation failed, reports the first test that fails; the first of all tests is that of the record at this place
-abbrev pub TellsFirst : ℕ → List Bool → LoadError → Type 0
-TellsFirst first tests error = error ≢ Memory → option_map at_record (position_from not first tests) ≡ fault_of error
+abbrev pub ReportsFirst : ℕ → List Bool → LoadError → Type 0
+ReportsFirst first tests error = error ≢ Memory → option_map at_record (position_from not first tests) ≡ fault_of error
 
 -- ---- the tests, given a floor and slots; with those of a checkpoint they are the tests of its records
 

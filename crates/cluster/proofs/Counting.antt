@@ -2,9 +2,9 @@
 use Rattle.std.proofs.Common.{◌≡◌, [], Ok, ◌∙◌, arith}
 use Rattle.journal.proofs.Walks.{stands_short}
 use Rattle.opening.specs.Decoded.{decoded}
-use Rattle.opening.proofs.Telling.{decoded_records, journal_nil}
+use Rattle.opening.proofs.Reporting.{decoded_records, journal_nil}
 use Rattle.spec_machine.specs.Machine.{fresh}
 use Rattle.spec_model.specs.Nodes.{Node}
 
-pub told_nothing : (node : Node) → decoded node [] ≡ Ok (fresh node)
-told_nothing node = decoded_records node [] [] (stands_short [] (omega arith)) ∙ journal_nil node
+pub reported_nothing : (node : Node) → decoded node [] ≡ Ok (fresh node)
+reported_nothing node = decoded_records node [] [] (stands_short [] (omega arith)) ∙ journal_nil node

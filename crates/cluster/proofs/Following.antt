@@ -8,8 +8,8 @@ use Rattle.committee.specs.Charter.{Charter, IsCharter}
 use Rattle.spec_world.proofs.Scripts.{leads_join}
 use Rattle.header.specs.Checks.{Accepts, fault_of}
 use Rattle.spec_accord.specs.Accord.{Agree}
-use Rattle.spec_accord.specs.Members.{HaveNoClash, IsTold, bodies_in}
-use Rattle.spec_accord.proofs.Telling.{bodies_within}
+use Rattle.spec_accord.specs.Members.{HaveNoClash, IsReported, bodies_in}
+use Rattle.spec_accord.proofs.Reporting.{bodies_within}
 use Rattle.spec_cluster.specs.Agreement.{AreAgreed, RunsAgree, GaveIt}
 use Rattle.spec_cluster.specs.Cluster.{Cluster, Worlds, AreMembers, HaveRun}
 use Rattle.spec_cluster.specs.Premises.{party_of, FewFaulty, NoTwoTexts, NoForgery, ComesFair}
@@ -571,16 +571,16 @@ module _ {S D : Type 0} (scheme : Scheme S) (device : Device D) (cluster : Clust
   no_clash_settled : AreMembers cluster → (worlds : Worlds) → HaveRun cluster (ComesWithin worlds) worlds
       → HaveNoClash (λ body. Contains (bodies_in events) body) → NoTwoTexts cluster worlds
   no_clash_settled are_members worlds have none = record {
-    headers = λ one other told told' same. none.headers one other (inside one told) (inside other told') same;
-    certificates = λ one other told told' same. none.certificates one other (inside one told) (inside other told') same;
-    both = λ one other told told' same. none.both one other (inside one told) (inside other told') same;
+    headers = λ one other reported reported' same. none.headers one other (inside one reported) (inside other reported') same;
+    certificates = λ one other reported reported' same. none.certificates one other (inside one reported) (inside other reported') same;
+    both = λ one other reported reported' same. none.both one other (inside one reported) (inside other reported') same;
   }
     where
       settled : (member : ℕ) → cluster.honest member ≡ true → (event : Event) → Contains (settled_in (worlds member)) event → Contains events event
       settled member honest event there = (settled_came cluster (ComesWithin worlds) are_members worlds have member honest event there).1
 
-      inside : (body : HeaderBody) → IsTold (party_of cluster worlds) body → Contains (bodies_in events) body
-      inside body told = bodies_within (settled_in (worlds told.member)) events (settled told.member told.honest) body told.told
+      inside : (body : HeaderBody) → IsReported (party_of cluster worlds) body → Contains (bodies_in events) body
+      inside body reported = bodies_within (settled_in (worlds reported.member)) events (settled reported.member reported.honest) body reported.reported
 
   pub orders_agree_within : RunsAgree → AreMembers cluster → FewFaulty cluster → (members : List (MemberView S D)) → AreAt members
       → HaveNoClash (λ body. Contains (bodies_in events) body) → HonestOrdersAgree cluster.honest members

@@ -34,7 +34,7 @@ put_out_same node world next out same was = record {
   outputs = ap outputs_in same ∙ was.outputs;
   order = record {
     given = elim was.order.given [ inl none ↦ inl none | inr some ↦ inr (some.0, subst (λ (l : List Given). Contains l some.0) (sym same) some.1, some.2) ];
-    begins = λ one other there told. was.order.begins one other (subst (λ (l : List Given). Contains l one) same there) told;
+    begins = λ one other there reported. was.order.begins one other (subst (λ (l : List Given). Contains l one) same there) reported;
   };
 }
 
@@ -228,7 +228,7 @@ begins_at {S} {D} node device member desk has outputs order at = record {
   at = λ one same. subst (IsAt node device (first_world node)) (some_is desk one (sym has ∙ same)) at;
   out = record {
     outputs = sym outputs;
-    order = record { given = inl order; begins = λ one other there told. absurd (omega (arith, there.1)) };
+    order = record { given = inl order; begins = λ one other there reported. absurd (omega (arith, there.1)) };
   };
 }
 

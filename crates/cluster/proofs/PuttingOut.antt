@@ -56,7 +56,7 @@ module _ (node : Node) (moves : List Move) (world next : World) (sound : IsNode 
           outputs = ap outputs_in given ∙ outputs_push world.given one ∙ append-nil (outputs_in world.given) ∙ was.outputs ∙ sym outputs;
           order = record {
             given = inr (one, last, ap (λ (l : List Digest). Some l) (sym is));
-            begins = λ some other there told. subst (Begins other) (sym whole) (given_begins node moves next sound run some other there told);
+            begins = λ some other there reported. subst (Begins other) (sym whole) (given_begins node moves next sound run some other there reported);
           };
         };
         whole = whole;
@@ -83,7 +83,7 @@ module _ (node : Node) (moves : List Move) (world next : World) (sound : IsNode 
                 some.2 ∙ ap (λ (l : List Digest). Some l) (sym is),
               )
             ];
-            begins = λ some other there told. subst (Begins other) (sym whole) (given_begins node moves next sound run some other there told);
+            begins = λ some other there reported. subst (Begins other) (sym whole) (given_begins node moves next sound run some other there reported);
           };
         };
         whole = whole;

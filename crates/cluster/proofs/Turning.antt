@@ -184,7 +184,7 @@ module _ {S D : Type 0} (node : Node) (device : Device D) where
   pub opened_same : (one other : List ℕ) (desk : DeskView S D) → decoded node other ≡ decoded node one → IsOpened node device (alone other) desk → IsOpened node device (alone one) desk
   opened_same one other desk same opened = record {
     state = opened.state;
-    told_first = sym same ∙ opened.told_first;
+    decoded_first = sym same ∙ opened.decoded_first;
     up = opened.up;
     alive = opened.alive;
     begun = opened.begun;

@@ -9,7 +9,7 @@ use Rattle.book.specs.Checkpoints.{CanBeWritten, Checkpoints, GoesDownRewriting,
 use Rattle.book.specs.Steps as steps
 use Rattle.book.specs.Steps.{CanWrite}
 use Rattle.diskmodel.specs.Disk.{Device}
-use Rattle.journal.specs.Areas.{Areas, alone, pair_of, stands_at, stands_in, tells, moved, base_of, other_side, head_record}
+use Rattle.journal.specs.Areas.{Areas, alone, pair_of, stands_at, stands_in, reports, moved, base_of, other_side, head_record}
 use Rattle.journal.specs.Configuration.{shaped_version}
 use Rattle.journal.specs.Format.{kept_at, all_kept, sized_body, stands}
 use Rattle.journal.specs.Journal.{disk_of, spare_of, IsAlive, IsAlivePair}
@@ -22,7 +22,7 @@ use Rattle.journal.specs.declared.side.Side.{Side}
 use Rattle.journal.specs.declared.side.Side.TheVariants.{First, Second}
 use Rattle.journal.specs.declared.spare.Spare.{Spare}
 use Rattle.journal.specs.declared.version.Version.TheVariants as versions
-use Rattle.journal.proofs.Telling.{at_rest_older, both_older}
+use Rattle.journal.proofs.Reporting.{at_rest_older, both_older}
 use Rattle.diskmodel.specs.Outcomes.{AreBytes}
 use Rattle.spec_checkpoint.specs.Meaning as checkpoint
 use Rattle.spec_checkpoint.specs.Records.{state_records}
@@ -189,15 +189,15 @@ none_at Second file none = ap (moved (base_of Second)) none
 
 configured_by : {D : Type 0} (device : Device D) (disk : D) (spare : Option (Spare D)) → IsSome spare → (file : List ℕ) → file ≡ device.content disk
     → IfSome spare (IsAlivePair device disk)
-    → tells file ≡ Some (Some (option_map_or (λ s. s.generation) spare 0))
+    → reports file ≡ Some (Some (option_map_or (λ s. s.generation) spare 0))
     → (one : Record) (records : List Record)
     → stands_in (option_map_or (λ s. pair_of s.side (device.content disk) (device.content (option_map_or (λ s. s.disk) spare disk))) spare (alone (device.content disk))) ≡ Ok (one ∷ records)
     → stands file ≢ Ok []
-configured_by {D} device disk None some file is both told one records reads none = absurd (no_spare (Spare D) some)
-configured_by device disk (Some spare) some file is both told one records reads none =
+configured_by {D} device disk None some file is both reported one records reads none = absurd (no_spare (Spare D) some)
+configured_by device disk (Some spare) some file is both reported one records reads none =
     let other = device.content spare.disk in
     let here : stands_in (pair_of spare.side file other) ≡ Ok [] =
-    both_older spare.side spare.generation file other told (at_rest_older spare.generation other both.at_rest) ∙ none_at spare.side file none in
+    both_older spare.side spare.generation file other reported (at_rest_older spare.generation other both.at_rest) ∙ none_at spare.side file none in
     empty_not (sym (ap (λ (l : List ℕ). stands_in (pair_of spare.side l other)) is ∙ reads) ∙ here)
   where
     empty_not : ◌≡◌ {A = Result (List Record) ℕ} (Ok (one ∷ records)) (Ok []) → ⊥

@@ -4,10 +4,10 @@ use Rattle.std.specs.Prelude.{All}
 use Rattle.std.specs.Option.{option_and_then}
 use Rattle.std.proofs.lemmas.Bool.{cases_eq, le-ltb, cond-false}
 use Rattle.std.proofs.lemmas.List.Elements.{All-nil, All-cons, All-append, All-head, All-weaker}
-use Rattle.journal.specs.Areas.{generation_of, tells}
+use Rattle.journal.specs.Areas.{generation_of, reports}
 use Rattle.journal.specs.Format.{body_at, group_of, kept_at, kept, walk, scan, only_records, stands}
 use Rattle.journal.specs.declared.record.Record.{Record}
-use Rattle.journal.proofs.Telling.{tells_first}
+use Rattle.journal.proofs.Reporting.{reports_first}
 use Rattle.journal.proofs.Walks.{Found, goes, closed_is, stands_short}
 
 -- a gate at this place or after it
@@ -44,7 +44,7 @@ walk_from (b ∷ rest) place zero found walked = elim (cases_eq b 0) [
 record HasFirstGroup (file : List ℕ) (records : List Record) : Type 0 where
   group : List (List ℕ)
   later : List Record
-  told : tells file ≡ Some (generation_of group)
+  reported : reports file ≡ Some (generation_of group)
   are : records ≡ kept 0 group ++ later
   after : All IsLater later
 
@@ -83,7 +83,7 @@ first_group (gate ∷ byte ∷ rest) records is some =
           record {
             group = on.records;
             later = on.more.0;
-            told = tells_first gate (byte ∷ rest) is_open (omega arith) ∙ ap Some (decoded_group (byte ∷ rest) on.body on.records on.at_body on.is_group);
+            reported = reports_first gate (byte ∷ rest) is_open (omega arith) ∙ ap Some (decoded_group (byte ∷ rest) on.body on.records on.at_body on.is_group);
             are = sym walked.2 ∙ ap (λ (f : Found). f.0) on.is;
             after = All-weaker (IsFrom 1) IsLater (λ one less. omega (arith, less)) on.more.0 (walk_from (byte ∷ rest) 1 (4 + length on.body) on.more on.on);
           }
@@ -110,15 +110,15 @@ one_first (bytes ∷ one) (more ∷ other) p q after also same =
     (λ i. head i ∷ tail i)
 
 -- Areas tell the same of which one stands for the records of the other, or for these with later ones.
-pub tells_alike : (file left : List ℕ) (records more : List Record) → stands file ≡ Ok records → stands left ≡ Ok (records ++ more) → 1 ≤ length records → All IsLater more
-    → tells left ≡ tells file
-tells_alike file left records more is also some after =
+pub reports_alike : (file left : List ℕ) (records more : List Record) → stands file ≡ Ok records → stands left ≡ Ok (records ++ more) → 1 ≤ length records → All IsLater more
+    → reports left ≡ reports file
+reports_alike file left records more is also some after =
     let one = first_group file records is some in
     let other = first_group left (records ++ more) also (long records some) in
     let parts : kept 0 one.group ++ (one.later ++ more) ≡ kept 0 other.group ++ other.later =
     sym (append_assoc (kept 0 one.group) one.later more) ∙ ap (λ (l : List Record). l ++ more) (sym one.are) ∙ other.are in
     let same : one.group ≡ other.group = one_first one.group other.group (one.later ++ more) other.later (All-append IsLater one.later more one.after after) other.after parts in
-    other.told ∙ ap (λ (g : List (List ℕ)). Some (generation_of g)) (sym same) ∙ sym one.told
+    other.reported ∙ ap (λ (g : List (List ℕ)). Some (generation_of g)) (sym same) ∙ sym one.reported
   where
     long : (l : List Record) → 1 ≤ length l → 1 ≤ length (l ++ more)
     long [] none = absurd (omega (arith, none))

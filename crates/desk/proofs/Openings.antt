@@ -23,7 +23,7 @@ use Rattle.opening.specs.Stages.{IsDecodedThroughout}
 use Rattle.opening.proofs.Opened.{no_refusal}
 use Rattle.opening.specs.PairReplayed.{version_in}
 use Rattle.opening.specs.Renewing.{HasBegun, IsNewest}
-use Rattle.opening.specs.Decoded.{decoded, decoded_in, Tells, IsDecodedAsOneOf, KeepsRecords, StandsAt}
+use Rattle.opening.specs.Decoded.{decoded, decoded_in, Reports, IsDecodedAsOneOf, KeepsRecords, StandsAt}
 use Rattle.spec_machine.proofs.AfterAll.{after_none}
 use Rattle.spec_model.specs.Nodes.{Node, IsNode}
 use Rattle.spec_world.specs.Runs.{AreKeys}
@@ -34,7 +34,7 @@ use Rattle.validator.specs.Setting.{ConfigView, node_of}
 use Rattle.validator.specs.Standing.{AreAtSound}
 use Rattle.desk.specs.Desk.{DeskView, IsOpened, IsNotOpened}
 use Rattle.desk.specs.Disks.{AreReadAs, IsOnAsMany}
-use Rattle.desk.proofs.Reading.{over, areas_over, areas_alone, as_decoded, told_of, configured_in}
+use Rattle.desk.proofs.Reading.{over, areas_over, areas_alone, as_decoded, decoded_of, configured_in}
 use Rattle.desk.proofs.Standing.{left_durable}
 
 -- the validator of an opening stands at some state of its own setting
@@ -54,7 +54,7 @@ opened_of node device before tables one journal at stands_at queue up free small
     let read_as : AreReadAs node (areas_of device journal) (book.settled_in node (book.run_on at.state)) = reads (book.settled_in node (book.run_on at.state)) state in
     record {
       state = at.state;
-      told_first = at.is_read;
+      decoded_first = at.is_read;
       up = up;
       alive = alive;
       begun = begun;
@@ -82,7 +82,7 @@ pub held_as : {D : Type 0} (node : Node) (device : Device D) (journal : Journal 
     → (IsSome (spare_of journal) → IsNewest (areas_of device journal)) → (state : State) → decoded_in node (areas_of device journal) ≡ Ok state → AreReadAs node (areas_of device journal) state
 held_as node device journal tables held newest state is =
     as_decoded node state (areas_of device journal) is
-    (subst (Holds node (areas_of device journal)) (ok_is held.state state (sym held.told_as ∙ is)) held.holds)
+    (subst (Holds node (areas_of device journal)) (ok_is held.state state (sym held.decoded_as ∙ is)) held.holds)
     (λ two. newest (two_of device (spare_of journal) (device.content (disk_of journal)) (subst IsPair (areas_over device journal) two)))
 
 -- and of one disk by its bytes alone
@@ -93,9 +93,9 @@ decoded_as_one {D} node device journal one state is =
     subst (λ (a : Areas). AreReadAs node a state) (sym are) (subst (λ (a : Areas). decoded_in node a ≡ Ok state) are is)
 
 -- the bytes of one disk are told as they were
-pub same_told : {D : Type 0} (node : Node) (device : Device D) (journal : Journal D) → spare_of journal ≡ None → {read : Result State JournalError}
+pub same_reported : {D : Type 0} (node : Node) (device : Device D) (journal : Journal D) → spare_of journal ≡ None → {read : Result State JournalError}
     → decoded node (device.content (disk_of journal)) ≡ read → decoded_in node (areas_of device journal) ≡ read
-same_told node device journal one same = ap (decoded_in node) (areas_alone device journal one) ∙ same
+same_reported node device journal one same = ap (decoded_in node) (areas_alone device journal one) ∙ same
 
 -- an opening says on how many disks it is
 pub as_many : {D : Type 0} (node : Node) (device : Device D) (store : Store D) (journal : Journal D) → IsReadIn node device store journal → IsOnAsMany (areas_in device store) journal
@@ -111,7 +111,7 @@ module _ {S D : Type 0} (node : Node) (device : Device D) (desk : DeskView S D) 
   pub opening_desk : {V : Type 0} (validator : V) (disk : D) → IsOpening {T = V × Journal D} node device (λ opened. disk_of opened.1) disk (Ok (validator, journal))
       → IsOpening {T = DeskView S D} node device (λ d. disk_of d.journal) disk (Ok desk)
   opening_desk validator disk at = record {
-    tells = tt;
+    reports = tt;
     never_full = tt;
     cause = (ap (λ (j : Journal D). device.faults (disk_of j)) same ∙ at.cause.0, tt);
     any_moment = subst (λ (j : Journal D). AtEachMoment device disk (disk_of j) (IsDecodedAsOneOf node (device.outcome disk))) (sym same) at.any_moment;
@@ -122,7 +122,7 @@ module _ {S D : Type 0} (node : Node) (device : Device D) (desk : DeskView S D) 
   pub opening_desk_on : {V : Type 0} (validator : V) (store : Store D) → IsOpeningOn {T = V × Journal D} node device (λ opened. store_of opened.1) store (Ok (validator, journal))
       → IsOpeningOn {T = DeskView S D} node device (λ d. store_of d.journal) store (Ok desk)
   opening_desk_on validator store at = record {
-    tells = tt;
+    reports = tt;
     full = tt;
     cause = (ap (λ (j : Journal D). faults_in device (store_of j)) same ∙ at.cause.0, tt);
     any_moment = subst (λ (j : Journal D). IsDecodedThroughout node device store (store_of j)) (sym same) at.any_moment;
@@ -149,11 +149,11 @@ not_full node device (Two first second) state is full =
 
 -- what is read as a state is refused only where memory or a disk fails
 pub never_refused : {D : Type 0} (node : Node) (device : Device D) (store : Store D) (state : State) (error : JournalError) → IsNode node → AreKeys node
-    → AreReadAs node (areas_in device store) state → (error ≢ errors.Device → error ≢ errors.Full → Tells error (decoded_in node (areas_in device store)))
+    → AreReadAs node (areas_in device store) state → (error ≢ errors.Device → error ≢ errors.Full → Reports error (decoded_in node (areas_in device store)))
     → (error ≡ errors.Full → IsFullIn node device store) → IsNoRefusal error
-never_refused node device store state error sound keys is tells full =
-    no_refusal error state (decoded_in node (areas_in device store)) (told_of node state (areas_in device store) sound (λ two. keys) is)
-    (λ other. tells other (λ lacks. not_full node device store state is (full lacks)))
+never_refused node device store state error sound keys is reports full =
+    no_refusal error state (decoded_in node (areas_in device store)) (decoded_of node state (areas_in device store) sound (λ two. keys) is)
+    (λ other. reports other (λ lacks. not_full node device store state is (full lacks)))
 
 -- an opening that failed
 pub not_opened_of : {T D : Type 0} (node : Node) (device : Device D) (disk_in : T → D) (disk : D) (failed : Failed JournalError D)
@@ -161,7 +161,7 @@ pub not_opened_of : {T D : Type 0} (node : Node) (device : Device D) (disk_in : 
     → ((one : D) (t : ℕ) (c : List ℕ) → t ≤ device.clock one → device.outcome one c → device.outcome_since one t c)
     → IsNotOpened node failed.error (device.content disk) (device.outcome disk) (device.outcome failed.disk)
 not_opened_of node device disk_in disk failed at counts = record {
-  tells = at.tells;
+  reports = at.reports;
   never_full = at.never_full;
   left = λ found left. at.any_moment.each found (counts failed.disk (device.clock disk) found at.any_moment.later left);
   keeps = λ found left. at.keeps.each found (counts failed.disk (device.clock disk) found at.keeps.later left);
@@ -175,7 +175,7 @@ nothing_taken node base one at = at.taken ∙ sym at.settled
 pub stopped_of : (node : Node) (error : JournalError) (found : List ℕ) (before possible left : List ℕ → Type 0)
     → ((bytes : List ℕ) → possible bytes → before bytes) → IsNotOpened node error found possible left → IsNotOpened node error found before left
 stopped_of node error found before possible left fewer one = record {
-  tells = one.tells;
+  reports = one.reports;
   never_full = one.never_full;
   left = λ bytes may. let is = one.left bytes may in (is.0, fewer is.0 is.1, is.2);
   keeps = λ bytes may. elim (one.keeps bytes may) [ inl is ↦ inl (fewer bytes is) | inr is ↦ inr (is.0, fewer is.0 is.1, is.2) ];

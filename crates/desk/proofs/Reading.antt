@@ -5,7 +5,7 @@ use Rattle.std.specs.Option.{option_map_or}
 use Rattle.std.proofs.lemmas.List.{length-map, map-append}
 use Rattle.std.proofs.lemmas.List.Elements.{All-nil, All-cons}
 use Rattle.diskmodel.specs.Disk.{Device, LeavesOnly}
-use Rattle.journal.specs.Areas.{Areas, alone, pair, pair_of, base_of, moved_by, tells, stands_in, stands_at, IsAtRest}
+use Rattle.journal.specs.Areas.{Areas, alone, pair, pair_of, base_of, moved_by, reports, stands_in, stands_at, IsAtRest}
 use Rattle.journal.specs.Configuration.{shaped_version}
 use Rattle.journal.specs.Format.{kept_at, kept, stands}
 use Rattle.journal.specs.Journal.{disk_of, spare_of, EndsClosed, IsAlive, IsAlivePair, with_group, stands_with}
@@ -15,11 +15,11 @@ use Rattle.journal.specs.declared.layout.TheConstants.{CLOSED, OPEN}
 use Rattle.journal.specs.declared.record.Record.{Record}
 use Rattle.journal.specs.declared.spare.Spare.{Spare}
 use Rattle.journal.specs.declared.version.Version.TheVariants.{Second}
-use Rattle.journal.proofs.Telling.{at_rest_older, both_older, tells_short}
+use Rattle.journal.proofs.Reporting.{at_rest_older, both_older, reports_short}
 use Rattle.opening.specs.Decoded.{decoded, decoded_in}
 use Rattle.opening.proofs.PairLaws.{what_stands_is_decoded_in}
 use Rattle.opening.proofs.Longer.{decoded_more}
-use Rattle.opening.proofs.Telling.{decoded_same}
+use Rattle.opening.proofs.Reporting.{decoded_same}
 use Rattle.spec_machine.specs.After.{after_all, IsLegalAfter}
 use Rattle.spec_machine.proofs.AfterAll.{after_is_kept, legal_after}
 use Rattle.spec_model.specs.Admitting.{IsLegal}
@@ -34,7 +34,7 @@ use Rattle.spec_world.proofs.Recovering.{holds_same, holds_after, some_record, a
 use Rattle.spec_world.proofs.Standing.{pair_is}
 use Rattle.opening.specs.Renewing.{HasBegun, IsNewest}
 use Rattle.desk.specs.Disks.{AreHeld, AreReadAs, MayLeave, of_one, of_two}
-use Rattle.desk.proofs.FirstGroups.{IsLater, tells_alike}
+use Rattle.desk.proofs.FirstGroups.{IsLater, reports_alike}
 
 -- ---- the bytes of all disks, by those of the one that is written to
 
@@ -47,7 +47,7 @@ IsDurableBeside device spare = IfSome spare (λ s. LeavesOnly (device.content s.
 
 -- and the one that is written to, which has these bytes, is read
 pub record IsRead {D : Type 0} (device : Device D) (file : List ℕ) (spare : Spare D) : Type 0 where
-  pub told : tells file ≡ Some (Some spare.generation)
+  pub reported : reports file ≡ Some (Some spare.generation)
   pub at_rest : IsAtRest spare.generation (device.content spare.disk)
 
 abbrev pub IsReadBeside : {D : Type 0} → Device D → List ℕ → Option (Spare D) → Type 0
@@ -86,9 +86,9 @@ pub durable_beside : {D : Type 0} (device : Device D) (journal : Journal D) → 
 durable_beside device journal alive = durable_by device (disk_of journal) (spare_of journal) alive.pair
 
 read_by : {D : Type 0} (device : Device D) (disk : D) (spare : Option (Spare D)) → IfSome spare (IsAlivePair device disk)
-    → (IsSome spare → tells (device.content disk) ≡ Some (Some (option_map_or (λ s. s.generation) spare 0))) → IsReadBeside device (device.content disk) spare
+    → (IsSome spare → reports (device.content disk) ≡ Some (Some (option_map_or (λ s. s.generation) spare 0))) → IsReadBeside device (device.content disk) spare
 read_by device disk None both begun = tt
-read_by device disk (Some spare) both begun = record { told = begun refl; at_rest = both.at_rest }
+read_by device disk (Some spare) both begun = record { reported = begun refl; at_rest = both.at_rest }
 
 pub read_beside : {D : Type 0} (device : Device D) (journal : Journal D) → IsAlive device journal → HasBegun device journal → IsReadBeside device (device.content (disk_of journal)) (spare_of journal)
 read_beside device journal alive begun = read_by device (disk_of journal) (spare_of journal) alive.pair begun
@@ -99,10 +99,10 @@ open_gate bytes same = cc
 
 -- a journal that has more than one closed gate has its first group
 begun_by : {D : Type 0} (device : Device D) (disk : D) (spare : Option (Spare D)) → IfSome spare (IsAlivePair device disk) → (device.content disk ≡ CLOSED ∷ [] → ⊥)
-    → IsSome spare → tells (device.content disk) ≡ Some (Some (option_map_or (λ s. s.generation) spare 0))
+    → IsSome spare → reports (device.content disk) ≡ Some (Some (option_map_or (λ s. s.generation) spare 0))
 begun_by {D} device disk None both more some = absurd (no_spare (Spare D) some)
 begun_by device disk (Some spare) both more some = elim both.of_generation [
-  | inl told ↦ told
+  | inl reported ↦ reported
   | inr new ↦ absurd (more new.empty)
 ]
 
@@ -118,7 +118,7 @@ none_some one same = cc
 -- and that isn't a closed gate alone
 pub not_shut : {D : Type 0} (device : Device D) (journal : Journal D) → HasBegun device journal → IsSome (spare_of journal) → device.content (disk_of journal) ≢ CLOSED ∷ []
 not_shut device journal begun two shut =
-    none_some (Some (generation_in journal)) (sym (ap tells shut ∙ tells_short (CLOSED ∷ []) (omega arith)) ∙ begun two)
+    none_some (Some (generation_in journal)) (sym (ap reports shut ∙ reports_short (CLOSED ∷ []) (omega arith)) ∙ begun two)
 
 -- two areas are read as what they hold
 pub as_held : (node : Node) (state : State) (areas : Areas) → IsPair areas → AreReadAs node areas state → AreHeld node areas state
@@ -131,13 +131,13 @@ as_read node state (pair first second) two is = is
 
 -- areas that are told as a state, and are a journal at it, are read as it
 pub as_decoded : (node : Node) (state : State) (areas : Areas) → decoded_in node areas ≡ Ok state → Holds node areas state → (IsPair areas → IsNewest areas) → AreReadAs node areas state
-as_decoded node state (alone bytes) told_as held newest = told_as
-as_decoded node state (pair first second) told_as held newest = record { holds = held; newest = newest tt }
+as_decoded node state (alone bytes) decoded_as held newest = decoded_as
+as_decoded node state (pair first second) decoded_as held newest = record { holds = held; newest = newest tt }
 
 -- and what they are read as they are told as
-pub told_of : (node : Node) (state : State) (areas : Areas) → IsNode node → (IsPair areas → AreKeys node) → AreReadAs node areas state → decoded_in node areas ≡ Ok state
-told_of node state (alone bytes) sound keys is = is
-told_of node state (pair first second) sound keys is = what_stands_is_decoded_in node (pair first second) state sound (keys tt) (as_journal is.holds)
+pub decoded_of : (node : Node) (state : State) (areas : Areas) → IsNode node → (IsPair areas → AreKeys node) → AreReadAs node areas state → decoded_in node areas ≡ Ok state
+decoded_of node state (alone bytes) sound keys is = is
+decoded_of node state (pair first second) sound keys is = what_stands_is_decoded_in node (pair first second) state sound (keys tt) (as_journal is.holds)
 
 -- where a journal has records, so has the disk that is read
 configured_by : {D : Type 0} (device : Device D) (disk : D) (spare : Option (Spare D)) → IsReadBeside device (device.content disk) spare
@@ -146,7 +146,7 @@ unfolding stands_in
 configured_by device disk None read some none = some none
 configured_by device disk (Some spare) read some none =
     let other = device.content spare.disk in
-    some (both_older spare.side spare.generation (device.content disk) other read.told (at_rest_older spare.generation other read.at_rest) ∙ at_side spare.side (device.content disk) [] none)
+    some (both_older spare.side spare.generation (device.content disk) other read.reported (at_rest_older spare.generation other read.at_rest) ∙ at_side spare.side (device.content disk) [] none)
 
 pub configured_in : {D : Type 0} (device : Device D) (journal : Journal D) → IsAlive device journal → HasBegun device journal → stands_in (areas_of device journal) ≢ Ok []
     → stands (device.content (disk_of journal)) ≢ Ok []
@@ -229,18 +229,18 @@ module _ {D : Type 0} (device : Device D) (file left : List ℕ) (ends : EndsClo
   abbrev gate : ℕ
   gate = length file - 1
 
-  same_tells : stands left ≡ stands file → tells left ≡ tells file
-  same_tells same = tells_alike file left has.records [] has.stand (same ∙ has.stand ∙ ap Ok (sym (append-nil has.records))) has.some (All-nil IsLater)
+  same_reports : stands left ≡ stands file → reports left ≡ reports file
+  same_reports same = reports_alike file left has.records [] has.stand (same ∙ has.stand ∙ ap Ok (sym (append-nil has.records))) has.some (All-nil IsLater)
 
-  pub more_tells : 2 ≤ length file → (group : List (List ℕ)) → stands left ≡ stands_with file group → tells left ≡ tells file
-  more_tells long group with_it =
-      tells_alike file left has.records (kept gate group) has.stand
+  pub more_reports : 2 ≤ length file → (group : List (List ℕ)) → stands left ≡ stands_with file group → reports left ≡ reports file
+  more_reports long group with_it =
+      reports_alike file left has.records (kept gate group) has.stand
       (with_it ∙ ap (with_group gate group) has.stand) has.some (kept_later gate group (omega (arith, long)))
 
-  reads_same : (spare : Spare D) → IsRead device file spare → tells left ≡ tells file
+  reads_same : (spare : Spare D) → IsRead device file spare → reports left ≡ reports file
       → stands_in (pair_of spare.side left (device.content spare.disk)) ≡ stands_at spare.side left
   reads_same spare read same =
-      both_older spare.side spare.generation left (device.content spare.disk) (same ∙ read.told) (at_rest_older spare.generation (device.content spare.disk) read.at_rest)
+      both_older spare.side spare.generation left (device.content spare.disk) (same ∙ read.reported) (at_rest_older spare.generation (device.content spare.disk) read.at_rest)
 
   -- bytes that stand for the same are read as the same
   pub read_same : (node : Node) (state : State) (spare : Option (Spare D)) → IsReadBeside device file spare → stands left ≡ stands file → AreReadAs node (over device spare file) state
@@ -248,9 +248,9 @@ module _ {D : Type 0} (device : Device D) (file left : List ℕ) (ends : EndsClo
   read_same node state None read same is = decoded_same node left file same ∙ is
   read_same node state (Some spare) read same is =
       let other = device.content spare.disk in
-      let before = both_older spare.side spare.generation file other read.told (at_rest_older spare.generation other read.at_rest) in
+      let before = both_older spare.side spare.generation file other read.reported (at_rest_older spare.generation other read.at_rest) in
       let alike : stands_in (pair_of spare.side left other) ≡ stands_in (pair_of spare.side file other) =
-      reads_same spare read (same_tells same) ∙ same_at spare.side file left same ∙ sym before in
+      reads_same spare read (same_reports same) ∙ same_at spare.side file left same ∙ sym before in
       let held = as_held node state (pair_of spare.side file other) (pair_is spare.side file other) is in
       as_read node state (pair_of spare.side left other) (pair_is spare.side left other) (record {
         holds = holds_same node (pair_of spare.side file other) (pair_of spare.side left other) state held.holds (λ two. pair_is spare.side left other) alike;
@@ -263,8 +263,8 @@ module _ {D : Type 0} (device : Device D) (file left : List ℕ) (ends : EndsClo
   read_after node state more None long read with_it legal is = decoded_more node file left state configured is more with_it legal
   read_after node state more (Some spare) long read with_it legal is =
       let other = device.content spare.disk in
-      let before = both_older spare.side spare.generation file other read.told (at_rest_older spare.generation other read.at_rest) in
-      let later = reads_same spare read (more_tells long (map record_of more) with_it) in
+      let before = both_older spare.side spare.generation file other read.reported (at_rest_older spare.generation other read.at_rest) in
+      let later = reads_same spare read (more_reports long (map record_of more) with_it) in
       let held = as_held node state (pair_of spare.side file other) (pair_is spare.side file other) is in
       let base = base_of spare.side in
       let group = map record_of more in

@@ -7,7 +7,7 @@ use Rattle.journal.specs.Areas.{Areas, alone, pair, pair_of}
 use Rattle.journal.specs.Journal.{disk_of, spare_of, IsAlive}
 use Rattle.journal.specs.Pairs.{areas_in, areas_of, two, store_of}
 use Rattle.journal.specs.Spares.{by_area}
-use Rattle.journal.specs.Stores.{TellsFaultsBack}
+use Rattle.journal.specs.Stores.{ReportsFaultsBack}
 use Rattle.journal.specs.declared.error.Failed.{Failed}
 use Rattle.journal.specs.declared.journal.Journal.{Journal}
 use Rattle.journal.specs.declared.side.Side.{Side}
@@ -47,10 +47,10 @@ may_leave device journal store same areas may =
 
 -- which of them have failed is counted from any moment since which none has
 pub faults_from : {S T E : Type 0} (faults : S → ℕ) (disks_in : T → S) (error : E) (one other : S) → faults other ≡ faults one → (result : Result T (Failed E S))
-    → TellsFaultsBack faults disks_in error other result → TellsFaultsBack faults disks_in error one result
-faults_from faults disks_in error one other same (Ok given) tells = (tells.0 ∙ same, tt)
-faults_from faults disks_in error one other same (Err failed) tells =
-    (tt, (λ is. subst (λ (n : ℕ). n < faults failed.disk) same (tells.1.0 is), λ not. tells.1.1 not ∙ same))
+    → ReportsFaultsBack faults disks_in error other result → ReportsFaultsBack faults disks_in error one result
+faults_from faults disks_in error one other same (Ok given) reports = (reports.0 ∙ same, tt)
+faults_from faults disks_in error one other same (Err failed) reports =
+    (tt, (λ is. subst (λ (n : ℕ). n < faults failed.disk) same (reports.1.0 is), λ not. reports.1.1 not ∙ same))
 
 -- what holds in any case holds of an error
 pub on_err : {T E : Type 0} (result : Result T E) (X : Type 0) → X → IfErr result (λ error. X)

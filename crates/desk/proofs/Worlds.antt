@@ -44,9 +44,9 @@ use Rattle.desk.proofs.Found.{none_taken, IsFoundAgain}
 use Rattle.desk.proofs.Stops.{stop_found}
 use Rattle.desk.proofs.Runs.{leads_one}
 use Rattle.spec_world.proofs.Scripts.{leads_join, run_more}
-use Rattle.opening.proofs.Telling.{decoded_records, journal_nil}
+use Rattle.opening.proofs.Reporting.{decoded_records, journal_nil}
 use Rattle.journal.proofs.Walks.{stands_short}
-use Rattle.desk.proofs.Reading.{over, same_spare, told_of}
+use Rattle.desk.proofs.Reading.{over, same_spare, decoded_of}
 use Rattle.desk.proofs.Standing.{read_with, configured_with, left_durable}
 use Rattle.diskmodel.specs.Disk.{Device}
 
@@ -297,7 +297,7 @@ module _ {S D : Type 0} (node : Node) (device : Device D) where
       → (on : Opened) (history : History) → IsLegal node history → decoded_in node before ≡ Ok (kept_in node history) → world ≡ run_on on history world.given
       → (IsSome (spare_of desk.journal) → IsBeside world desk.journal) → IsAt node device world desk
   opened_at before desk sound opened moves world run on history legal is same beside =
-      let first : opened.state ≡ kept_in node history = ok_is opened.state (kept_in node history) (sym opened.told_first ∙ is) in
+      let first : opened.state ≡ kept_in node history = ok_is opened.state (kept_in node history) (sym opened.decoded_first ∙ is) in
       let runs : book.run_on opened.state ≡ steps.run_of node world = ap book.run_on first ∙ sym (ap (steps.run_of node) same) in
       let of : IsOf node device (steps.run_of node world) desk = subst (λ (r : book.Run). IsOf node device r desk) runs opened.is_of in
       record {
@@ -345,8 +345,8 @@ module _ {S D : Type 0} (node : Node) (device : Device D) where
       let found = areas_in after.next in
       let moves = after.calls ++ restart found ∷ [] in
       let run = run_more node is.moves after.calls world after.next is.run after.leads in
-      let told_as = told_of node (kept_in node after.history) areas is.sound (λ two. (keys two).0) after.reads in
-      let to = restarts areas desk is.sound keys opened (is.moves ++ after.calls) after.next run after.history told_as after.found in
+      let decoded_as = decoded_of node (kept_in node after.history) areas is.sound (λ two. (keys two).0) after.reads in
+      let to = restarts areas desk is.sound keys opened (is.moves ++ after.calls) after.next run after.history decoded_as after.found in
       let by = λ (calls : List Move) (same : after.calls ≡ calls). ap (λ (l : List Move). l ++ restart found ∷ []) same in (
         moves,
         (found, elim after.are [ inl none ↦ inl (by [] none) | inr some ↦ inr (elim some [ inl four ↦ inl (by (device_calls 4) four) | inr eight ↦ inr (by (spare_calls 8) eight) ]) ]),
@@ -362,12 +362,12 @@ module _ {S D : Type 0} (node : Node) (device : Device D) where
       → (desk : DeskView S D) → IsOpened node device (alone bytes) desk → (moves : List Move) × IsStop world moves × LeadsTo node device world moves desk
   stops_alone world before is one bytes may desk opened = stops world before is (alone bytes) (λ two. absurd two) (of_one bytes one may refl) desk opened
 
-told_nothing : StartsFresh → (node : Node) → decoded node [] ≡ Ok (kept_in node [])
-told_nothing starts node = decoded_records node [] [] (stands_short [] (omega arith)) ∙ journal_nil node ∙ ap Ok (sym (starts node))
+reported_nothing : StartsFresh → (node : Node) → decoded node [] ≡ Ok (kept_in node [])
+reported_nothing starts node = decoded_records node [] [] (stands_short [] (omega arith)) ∙ journal_nil node ∙ ap Ok (sym (starts node))
 
 -- a desk that was opened on an empty disk is at the world that begins there
 pub begins : {S D : Type 0} → StartsFresh → (node : Node) (device : Device D) (desk : DeskView S D) → IsNode node → AreKeys node → IsOpened node device (alone []) desk
     → IsAt node device (run_on (alone_on (first_bytes node)) [] []) desk
 begins {S} {D} starts node device desk sound keys opened =
     opened_at node device (alone []) desk sound opened [] (run_on (alone_on (first_bytes node)) [] []) (runs_begin node sound keys) (alone_on (first_bytes node)) []
-    (record { sound = sound; taken = All-nil (IsTaken node); new = refl }) (told_nothing starts node) refl (λ some. absurd (not_two desk.journal opened.disks some))
+    (record { sound = sound; taken = All-nil (IsTaken node); new = refl }) (reported_nothing starts node) refl (λ some. absurd (not_two desk.journal opened.disks some))

@@ -11,7 +11,7 @@ use Rattle.journal.specs.declared.error.JournalError.TheVariants as errors
 use Rattle.journal.specs.declared.error.JournalError.TheVariants.{Full}
 use Rattle.journal.specs.declared.journal.Journal.{Journal}
 use Rattle.opening.specs.Renewing.{HasBegun}
-use Rattle.opening.specs.Decoded.{decoded, decoded_in, Tells, IsDecodedAsOneOf, KeepsRecords}
+use Rattle.opening.specs.Decoded.{decoded, decoded_in, Reports, IsDecodedAsOneOf, KeepsRecords}
 use Rattle.spec_machine.specs.After.{after_all}
 use Rattle.spec_model.specs.Nodes.{Node}
 use Rattle.spec_model.specs.States.{State}
@@ -54,7 +54,7 @@ pub record IsOf {S D : Type 0} (node : Node) (device : Device D) (run : book.Run
 -- rewriting in flight
 pub record IsOpened {S D : Type 0} (node : Node) (device : Device D) (before : Areas) (desk : DeskView S D) : Type 0 where
   pub state : State
-  pub told_first : decoded_in node before ≡ Ok state
+  pub decoded_first : decoded_in node before ≡ Ok state
   pub up : desk.book.down ≡ false
   pub alive : IsAlive device desk.journal
   pub begun : HasBegun device desk.journal
@@ -68,7 +68,7 @@ pub record IsOpened {S D : Type 0} (node : Node) (device : Device D) (before : A
 -- decodes to what an outcome from before does, and is one byte for byte, or has the records of one, or only the configuration where these
 -- are none.
 pub record IsNotOpened (node : Node) (error : JournalError) (before : List ℕ) (possible outcome : List ℕ → Type 0) : Type 0 where
-  pub tells : error ≢ errors.Device → Tells error (decoded node before)
+  pub reports : error ≢ errors.Device → Reports error (decoded node before)
   pub never_full : error ≢ Full
   pub left : (bytes : List ℕ) → outcome bytes → IsDecodedAsOneOf node possible bytes
   pub keeps : (bytes : List ℕ) → outcome bytes → KeepsRecords node possible bytes

@@ -45,9 +45,9 @@ impl<'a, S: Sign, D: Disk> Model for Desk<'a, S, D> {
 
 impl<'a, S: Sign, D: Disk> Desk<'a, S, D> {
     ghost use Rattle.std.specs.Prelude.{◌≡◌, ◌≢◌, ◌⊎◌, ◌↔◌, ◌+◌, ◌^◌, ◌<◌, ◌≤◌, ◌∷◌, [], ◌++◌, List, ℕ, length, drop, not, true, false, is_some, None, Ok, IfOk, IfErr, IfSome, IsSome, OnOk, OnErr, IsErrOf, IsTrue, if◌then◌else◌};
-    ghost use Rattle.diskmodel.specs.Disk.{AtEachMoment, TellsFault};
+    ghost use Rattle.diskmodel.specs.Disk.{AtEachMoment, ReportsFault};
     ghost use Rattle.header.specs.Checks.{fault_of, accepts_all};
-    ghost use Rattle.journal.specs.Journal.{disk_of, spare_of, TellsFaultBack, IsAlive};
+    ghost use Rattle.journal.specs.Journal.{disk_of, spare_of, ReportsFaultBack, IsAlive};
     ghost use Rattle.journal.specs.Pairs.{HaveKeptPlaces, areas_in, generation_in, side_in, spare_disk, rewritten_disk, untouched_disk, store_of};
     ghost use Rattle.journal.specs.Spares.{by_area};
     ghost use Rattle.book.specs.Checkpoints.{Checkpoints, FindsNoRoomToRewrite, FailsToRewrite, StandsAsOrForAll};
@@ -217,7 +217,7 @@ impl<'a, S: Sign, D: Disk> Desk<'a, S, D> {
         ensures spare { spare_of self.new.journal ≡ spare_of self.old.journal }
         ensures accepted { self.new.book.accepted ≡ self.old.book.accepted }
         // The error is Device exactly where the disk has failed.
-        ensures cause { TellsFault FlushError.Device (D.device.faults (disk_of self.old.journal)) (D.device.faults (disk_of self.new.journal)) result }
+        ensures cause { ReportsFault FlushError.Device (D.device.faults (disk_of self.old.journal)) (D.device.faults (disk_of self.new.journal)) result }
         ensures setting { self.new.book.validator.setting ≡ self.old.book.validator.setting }
         // In the desk's world this many events are taken, the four device calls are made, and the events are settled.
         ensures steps { let node = node_of S.scheme self.old.book.validator.setting in IfOk result (λ count. self.old.book.pending ≢ [] → (world : World) → IsAt node D.device world self.old
@@ -259,7 +259,7 @@ impl<'a, S: Sign, D: Disk> Desk<'a, S, D> {
         ensures alive { OnOk result (IsAlive D.device self.new.journal) }
         ensures accepted { self.new.book.accepted ≡ self.old.book.accepted }
         // The error is Device exactly where the disk that is written has failed.
-        ensures cause { TellsFault FlushError.Device (D.device.faults (spare_disk self.old.journal)) (D.device.faults (rewritten_disk result self.new.journal)) result }
+        ensures cause { ReportsFault FlushError.Device (D.device.faults (spare_disk self.old.journal)) (D.device.faults (rewritten_disk result self.new.journal)) result }
         ensures setting { self.new.book.validator.setting ≡ self.old.book.validator.setting }
         // In the desk's world, if the node's keys have 32 bytes each, all is taken, the eight device calls of a rewriting are made, and all
         // is settled.
@@ -389,9 +389,9 @@ impl<'a, S: Sign, D: Disk> Desk<'a, S, D> {
 impl<'a, S: Sign, D: StopDisk> Desk<'a, S, D> {
     ghost use Rattle.std.specs.Prelude.{◌≡◌, ◌≢◌, ◌<◌, List, ℕ, None, IfOk, IfErr, Err};
     ghost use Rattle.journal.specs.Areas.{Areas, alone};
-    ghost use Rattle.journal.specs.Journal.{disk_of, spare_of, TellsFaultBack};
+    ghost use Rattle.journal.specs.Journal.{disk_of, spare_of, ReportsFaultBack};
     ghost use Rattle.journal.specs.Pairs.{store_of, areas_in};
-    ghost use Rattle.journal.specs.Stores.{faults_in, TellsFaultsBack};
+    ghost use Rattle.journal.specs.Stores.{faults_in, ReportsFaultsBack};
     ghost use Rattle.validator.specs.Setting.{node_of};
     ghost use Rattle.spec_world.specs.Steps.{Move};
     ghost use Rattle.spec_world.specs.World.{World};
@@ -417,7 +417,7 @@ impl<'a, S: Sign, D: StopDisk> Desk<'a, S, D> {
         // In the desk's world the machine stops, and what that left is opened.
         ensures steps { let node = node_of S.scheme config.now in IfOk result (λ next. (world : World) → IsAt node D.device world self.entry
             → (moves : List Move) × IsStop world moves × LeadsTo node D.device world moves next) }
-        ensures cause { TellsFaultBack D.device (λ next. disk_of next.journal) JournalError.Device (disk_of self.entry.journal) result }
+        ensures cause { ReportsFaultBack D.device (λ next. disk_of next.journal) JournalError.Device (disk_of self.entry.journal) result }
     {
         let mut disk = self.into_disk();
         disk.stop();
@@ -441,7 +441,7 @@ impl<'a, S: Sign, D: StopDisk> Desk<'a, S, D> {
         // In the desk's world the machine stops, and what that left is opened.
         ensures steps { let node = node_of S.scheme config.now in IfOk result (λ next. (world : World) → IsAt node D.device world self.entry
             → (moves : List Move) × IsStop world moves × LeadsTo node D.device world moves next) }
-        ensures cause { TellsFaultsBack (faults_in D.device) (λ next. store_of next.journal) JournalError.Device (store_of self.entry.journal) result }
+        ensures cause { ReportsFaultsBack (faults_in D.device) (λ next. store_of next.journal) JournalError.Device (store_of self.entry.journal) result }
     {
         config.keys_hold();
         spec_world::histories_begin_on_two();

@@ -35,8 +35,8 @@ with_counts counts Cut now = record counts { cut = now }
 with_counts counts Sync now = record counts { sync = now }
 
 -- with the count-th next call of this kind set to fail too
-abbrev pub telling : Counts → CallKind → ℕ → Counts
-telling counts call count = with_counts counts call (counts_for counts call ++ count ∷ [])
+abbrev pub reporting : Counts → CallKind → ℕ → Counts
+reporting counts call count = with_counts counts call (counts_for counts call ++ count ∷ [])
 
 -- each count is one less, and those that reach 0 are removed
 abbrev pub lowered : List ℕ → List ℕ

@@ -47,8 +47,8 @@ pub record HasCause {T : Type 0} (before now : ℕ) (result : Result T DiskFault
   pub none : OnOk result (now ≡ before)
 
 -- A call that has other errors too gives this error exactly where the disk has failed since.
-abbrev pub TellsFault : {T E : Type 0} → E → ℕ → ℕ → Result T E → Type 0
-TellsFault device before now result = OnOk result (now ≡ before) × IfErr result (λ error. (error ≡ device → before < now) × (error ≢ device → now ≡ before))
+abbrev pub ReportsFault : {T E : Type 0} → E → ℕ → ℕ → Result T E → Type 0
+ReportsFault device before now result = OnOk result (now ≡ before) × IfErr result (λ error. (error ≡ device → before < now) × (error ≢ device → now ≡ before))
 
 -- this call is recorded after the earlier ones; if it failed it may be recorded or not
 pub record Makes {T : Type 0} (call : Call) (result : Result T DiskFault) (old new : List Call) : Type 0 where

@@ -29,7 +29,7 @@ fn count_down(counts: &mut Vec<u64>) -> bool
 }
 
 impl Countdowns {
-    ghost use Rattle.diskmodel.specs.Countdowns.{no_counts, counts_of, counts_for, telling, counting};
+    ghost use Rattle.diskmodel.specs.Countdowns.{no_counts, counts_of, counts_for, reporting, counting};
 
     /// No call is set to fail. The call allocates no memory.
     pub fn none(alloc: Global) -> Countdowns
@@ -45,7 +45,7 @@ impl Countdowns {
 
     /// Sets the count-th next call of this kind to fail too.
     pub fn tell(&mut self, call: CallKind, count: u64) -> Result<(), AllocError>
-        ensures told { OnOk result (counts_of self.new ≡ telling (counts_of self.old) call count) }
+        ensures told { OnOk result (counts_of self.new ≡ reporting (counts_of self.old) call count) }
         ensures err { OnErr result (counts_of self.new ≡ counts_of self.old) }
     {
         match call {

@@ -37,7 +37,7 @@ impl Drop for MemDisk {
 }
 
 impl MemDisk {
-    ghost use Rattle.diskmodel.specs.Countdowns.{no_counts, counts_for, telling, counting};
+    ghost use Rattle.diskmodel.specs.Countdowns.{no_counts, counts_for, reporting, counting};
     ghost use Rattle.diskmodel.specs.Memory.{first_of, calls_of, state_of, content_of, CanStopAt, choice_of, told_of, switch_of, choosing, IsUndisturbed};
 
     /// A disk with these bytes, all of them synced.
@@ -118,7 +118,7 @@ impl MemDisk {
     /// # Errors
     /// An allocation failed; then no call was set to fail.
     pub fn fail(&mut self, call: CallKind, count: u64) -> Result<(), AllocError>
-        ensures told { OnOk result (told_of self.new ≡ telling (told_of self.old) call count) }
+        ensures told { OnOk result (told_of self.new ≡ reporting (told_of self.old) call count) }
         ensures err { OnErr result (told_of self.new ≡ told_of self.old) }
         ensures undisturbed { IsUndisturbed self.old self.new }
         ensures no_fault { self.new.faults.count ≡ self.old.faults.count }

@@ -1,4 +1,4 @@
-pub mod Telling
+pub mod Reporting
 pub mod Reading
 pub mod Adding
 pub mod Checkpointed

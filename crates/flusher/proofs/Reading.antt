@@ -7,7 +7,7 @@ use Rattle.std.proofs.lemmas.List.{append-nil, length-map}
 use Rattle.std.proofs.lemmas.Option.{none-some}
 use Rattle.std.proofs.lemmas.List.Elements.{All-nil, All-cons}
 use Rattle.diskmodel.specs.Disk.{Device, LeavesOnly}
-use Rattle.journal.specs.Areas.{Areas, alone, base_of, moved_by, pair_of, tells, chosen, stands_in, stands_at}
+use Rattle.journal.specs.Areas.{Areas, alone, base_of, moved_by, pair_of, reports, chosen, stands_in, stands_at}
 use Rattle.journal.specs.Format.{kept_at, kept, stands}
 use Rattle.journal.specs.Journal.{disk_of, spare_of, with_group, stands_with, EndsClosed, IsAlive, IsAlivePair, IsNewPair, IsBeforeOrAfter}
 use Rattle.journal.specs.Pairs.{areas_of, areas_with, spare_disk, side_in, generation_in}
@@ -16,14 +16,14 @@ use Rattle.journal.specs.declared.record.Record.{Record}
 use Rattle.journal.specs.declared.side.Side.{Side}
 use Rattle.journal.specs.declared.side.Side.TheVariants.{First, Second}
 use Rattle.journal.specs.declared.spare.Spare.{Spare}
-use Rattle.journal.proofs.Telling.{tells_short, by_telling, both_older, at_rest_older}
+use Rattle.journal.proofs.Reporting.{reports_short, by_reporting, both_older, at_rest_older}
 use Rattle.journal.proofs.Walks.{stands_short}
 use Rattle.spec_model.specs.Nodes.{Node}
 use Rattle.spec_model.specs.States.{State}
 use Rattle.spec_world.specs.World.{IsPair, Holds}
 use Rattle.spec_world.proofs.Recovering.{ok_is, at_side, some_record}
 use Rattle.flusher.specs.Rounds.{areas_at}
-use Rattle.flusher.proofs.Telling.{tells_as}
+use Rattle.flusher.proofs.Reporting.{reports_as}
 
 module _ {D : Type 0} (device : Device D) where
   -- what stands beside a live disk, with these bytes on that
@@ -75,20 +75,20 @@ module _ {D : Type 0} (device : Device D) where
 
   -- ---- a journal at a state isn't new
 
-  none_chosen : (live other : List ℕ) → tells live ≡ None → tells other ≡ None → stands_in (pair_of First live other) ≡ Ok []
+  none_chosen : (live other : List ℕ) → reports live ≡ None → reports other ≡ None → stands_in (pair_of First live other) ≡ Ok []
   unfolding chosen
-  none_chosen live other none also = by_telling live other None None none also
+  none_chosen live other none also = by_reporting live other None None none also
 
   new_is_empty : (side : Side) (live other : List ℕ) (generation : ℕ) → IsNewPair live other side generation → stands_in (pair_of side live other) ≡ Ok []
   new_is_empty side live other generation new =
       ap (λ (s : Side). stands_in (pair_of s live other)) new.first
-      ∙ none_chosen live other (tells_short live (omega (arith, ap length new.empty))) (tells_short other (omega (arith, new.other_short)))
+      ∙ none_chosen live other (reports_short live (omega (arith, ap length new.empty))) (reports_short other (omega (arith, new.other_short)))
 
   begun_beside : (node : Node) (state_held : State) (spare : Option (Spare D)) (live : D) → IfSome spare (IsAlivePair device live) → Holds node (beside spare (device.content live)) state_held
-      → IfSome spare (λ s. tells (device.content live) ≡ Some (Some s.generation))
+      → IfSome spare (λ s. reports (device.content live) ≡ Some (Some s.generation))
   begun_beside node state_held None live pair held = tt
   begun_beside node state_held (Some spare) live pair held = elim pair.of_generation [
-    | inl told ↦ told
+    | inl reported ↦ reported
     | inr new ↦
         let none = ok_is held.journal.records [] (sym held.journal.stands_for
         ∙ new_is_empty spare.side (device.content live) (device.content spare.disk) spare.generation new) in
@@ -97,51 +97,51 @@ module _ {D : Type 0} (device : Device D) where
 
   -- so its area tells the generation
   pub begun : (node : Node) (state_held : State) (journal : Journal D) → IsAlive device journal → Holds node (areas_of device journal) state_held
-      → IfSome (spare_of journal) (λ s. tells (device.content (disk_of journal)) ≡ Some (Some s.generation))
+      → IfSome (spare_of journal) (λ s. reports (device.content (disk_of journal)) ≡ Some (Some s.generation))
   begun node state_held journal alive held =
       begun_beside node state_held (spare_of journal) (disk_of journal) alive.pair (subst (λ (a : Areas). Holds node a state_held) (sym (areas_here journal)) held)
 
-  told_generation : (spare : Option (Spare D)) (file : List ℕ) → IsSome spare → IfSome spare (λ s. tells file ≡ Some (Some s.generation))
-      → tells file ≡ Some (Some (option_map_or (λ (s : Spare D). s.generation) spare 0))
-  told_generation None file some told = absurd (cc)
-  told_generation (Some spare) file some told = told
+  reported_generation : (spare : Option (Spare D)) (file : List ℕ) → IsSome spare → IfSome spare (λ s. reports file ≡ Some (Some s.generation))
+      → reports file ≡ Some (Some (option_map_or (λ (s : Spare D). s.generation) spare 0))
+  reported_generation None file some reported = absurd (cc)
+  reported_generation (Some spare) file some reported = reported
 
-  pub tells_generation : (node : Node) (state_held : State) (journal : Journal D) → IsSome (spare_of journal) → IsAlive device journal → Holds node (areas_of device journal) state_held
-      → tells (device.content (disk_of journal)) ≡ Some (Some (generation_in journal))
-  tells_generation node state_held journal some alive held =
-      told_generation (spare_of journal) (device.content (disk_of journal)) some (begun node state_held journal alive held)
+  pub reports_generation : (node : Node) (state_held : State) (journal : Journal D) → IsSome (spare_of journal) → IsAlive device journal → Holds node (areas_of device journal) state_held
+      → reports (device.content (disk_of journal)) ≡ Some (Some (generation_in journal))
+  reports_generation node state_held journal some alive held =
+      reported_generation (spare_of journal) (device.content (disk_of journal)) some (begun node state_held journal alive held)
 
   -- and isn't one closed gate
   pub not_new : (node : Node) (state_held : State) (journal : Journal D) → IsSome (spare_of journal) → IsAlive device journal → Holds node (areas_of device journal) state_held
       → device.content (disk_of journal) ≡ 0 ∷ [] → ⊥
   not_new node state_held journal some alive held empty =
-      none-some (Some (generation_in journal)) (sym (tells_short (device.content (disk_of journal)) (omega (arith, ap length empty))) ∙ tells_generation node state_held journal some alive held)
+      none-some (Some (generation_in journal)) (sym (reports_short (device.content (disk_of journal)) (omega (arith, ap length empty))) ∙ reports_generation node state_held journal some alive held)
 
   -- ---- what is read
 
-  read_beside : (spare : Option (Spare D)) (live : D) (left : List ℕ) → IfSome spare (IsAlivePair device live) → IfSome spare (λ s. tells left ≡ Some (Some s.generation))
+  read_beside : (spare : Option (Spare D)) (live : D) (left : List ℕ) → IfSome spare (IsAlivePair device live) → IfSome spare (λ s. reports left ≡ Some (Some s.generation))
       → stands_in (beside spare left) ≡ stands_at (side_on spare) left
   unfolding stands_in
-  read_beside None live left pair told = refl
-  read_beside (Some spare) live left pair told =
-      both_older spare.side spare.generation left (device.content spare.disk) told (at_rest_older spare.generation (device.content spare.disk) pair.at_rest)
+  read_beside None live left pair reported = refl
+  read_beside (Some spare) live left pair reported =
+      both_older spare.side spare.generation left (device.content spare.disk) reported (at_rest_older spare.generation (device.content spare.disk) pair.at_rest)
 
-  told_too : (spare : Option (Spare D)) (file left : List ℕ) → tells left ≡ tells file → IfSome spare (λ s. tells file ≡ Some (Some s.generation))
-      → IfSome spare (λ s. tells left ≡ Some (Some s.generation))
-  told_too None file left same told = tt
-  told_too (Some spare) file left same told = same ∙ told
+  reported_too : (spare : Option (Spare D)) (file left : List ℕ) → reports left ≡ reports file → IfSome spare (λ s. reports file ≡ Some (Some s.generation))
+      → IfSome spare (λ s. reports left ≡ Some (Some s.generation))
+  reported_too None file left same reported = tt
+  reported_too (Some spare) file left same reported = same ∙ reported
 
   module _ (node : Node) (state_held : State) (journal : Journal D) (alive : IsAlive device journal) (held : Holds node (areas_of device journal) state_held) where
     abbrev file : List ℕ
     file = device.content (disk_of journal)
 
-    reads_telling : (left : List ℕ) → tells left ≡ tells file → stands_in (areas_at device journal left) ≡ stands_at (side_in journal) left
-    reads_telling left same =
-        read_beside (spare_of journal) (disk_of journal) left alive.pair (told_too (spare_of journal) file left same (begun node state_held journal alive held))
+    reads_reporting : (left : List ℕ) → reports left ≡ reports file → stands_in (areas_at device journal left) ≡ stands_at (side_in journal) left
+    reads_reporting left same =
+        read_beside (spare_of journal) (disk_of journal) left alive.pair (reported_too (spare_of journal) file left same (begun node state_held journal alive held))
 
     -- the records of the area that is read
     pub reads_file : stands_in (areas_of device journal) ≡ stands_at (side_in journal) file
-    reads_file = ap stands_in (sym (areas_here journal)) ∙ reads_telling file refl
+    reads_file = ap stands_in (sym (areas_here journal)) ∙ reads_reporting file refl
 
     some_records : 1 ≤ length alive.ends_closed.records
     some_records =
@@ -152,7 +152,7 @@ module _ {D : Type 0} (device : Device D) where
     -- what stands for the same or for more in later groups is read from it
     reads_more : (left : List ℕ) (more : List Record) → stands left ≡ Ok (alive.ends_closed.records ++ more) → All (λ (one : Record). 0 < one.gate) more
         → stands_in (areas_at device journal left) ≡ stands_at (side_in journal) left
-    reads_more left more is after = reads_telling left (tells_as file left alive.ends_closed.records more alive.ends_closed.stands_for is some_records after)
+    reads_more left more is after = reads_reporting left (reports_as file left alive.ends_closed.records more alive.ends_closed.stands_for is some_records after)
 
     pub reads_same : (left : List ℕ) → stands left ≡ stands file → stands_in (areas_at device journal left) ≡ stands_at (side_in journal) left
     reads_same left same =

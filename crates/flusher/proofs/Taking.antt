@@ -22,7 +22,7 @@ use Rattle.book.specs.declared.own.error.FlushError.{FlushError}
 use Rattle.book.specs.declared.own.error.FlushError.TheVariants as errors
 use Rattle.book.specs.declared.own.error.FlushError.TheVariants.{Full, Down}
 use Rattle.sigface.specs.Scheme.{Scheme}
-use Rattle.flusher.specs.Rounds.{journal_of, is_down, taken_in, records_after, TakesLongest, TakesAll, GoesDown, HasNoRoom, TellsRoomToRewrite}
+use Rattle.flusher.specs.Rounds.{journal_of, is_down, taken_in, records_after, TakesLongest, TakesAll, GoesDown, HasNoRoom, ReportsRoomToRewrite}
 use Rattle.flusher.specs.declared.flusher.Flusher.{Flusher}
 
 -- a flush seat that took its node down is still the node's
@@ -157,11 +157,11 @@ stays_up before later count up still = record {
 }
 
 -- what a checkpoint that was taken tells of the room for it
-pub tells_room : {S D : Type 0} (scheme : Scheme S) (node : NodeView S) (before later : Flusher D) (result : Result ℕ FlushError) (records : List (List ℕ))
+pub reports_room : {S D : Type 0} (scheme : Scheme S) (node : NodeView S) (before later : Flusher D) (result : Result ℕ FlushError) (records : List (List ℕ))
     (taken : List Marked) → taken_in later ≡ taken
     → IsCheckpointAfter scheme node taken records → IsErrOf result Full ↔ HasNoRoomFor (journal_of before) records
-    → (IsErrOf result Full → journal_of later ≡ journal_of before) → TellsRoomToRewrite scheme node before later result
-tells_room scheme node before later result records taken is checkpoint full same = record {
+    → (IsErrOf result Full → journal_of later ≡ journal_of before) → ReportsRoomToRewrite scheme node before later result
+reports_room scheme node before later result records taken is checkpoint full same = record {
   records = records;
   checkpoint = subst (λ (l : List Marked). IsCheckpointAfter scheme node l records) (sym is) checkpoint;
   full = full;

@@ -133,7 +133,7 @@ pub record GoesDown {D : Type 0} (before later : Flusher D) (result : Result ℕ
 
 -- Of the seat with which the call is made: it is the same seat, it has seen and knows as settled what it did and perhaps more, and if the
 -- call takes the node down, it knows that.
-pub record IsToldOf (before later : SeatView) (result : Result ℕ FlushError) : Type 0 where
+pub record IsReportedOf (before later : SeatView) (result : Result ℕ FlushError) : Type 0 where
   pub same : IsSame before later
   pub more : Begins before.view.seen later.view.seen
   pub more_durable : Begins before.view.durable later.view.durable
@@ -148,7 +148,7 @@ pub record TakesAndSettles {D : Type 0} (seat later_seat : SeatView) (before lat
   pub memory : IsErrOf result Memory → (journal_of later ≡ journal_of before) × (taken_in later ≡ settled_in before)
   pub size : IfOk result (λ count. length (taken_in later) ≡ length (settled_in before) + count)
   pub settled : OnOk result (settled_in later ≡ taken_in later)
-  pub told : OnOk result (later_seat.view.durable ≡ taken_in later)
+  pub reported : OnOk result (later_seat.view.durable ≡ taken_in later)
   pub not_settled : OnErr result (settled_in later ≡ settled_in before)
 
 -- Of a checkpoint: it takes all accepted events, settles them, and the seat then knows that. Where an allocation fails it takes nothing,
@@ -157,19 +157,19 @@ pub record TakesAllAndSettles {D : Type 0} (seat later_seat : SeatView) (before 
   pub takes : IsErrOf result Down ⊎ IsErrOf result Memory ⊎ TakesAll seat.view.seen (settled_in before) (taken_in later)
   pub memory : IsErrOf result Memory → (journal_of later ≡ journal_of before) × (taken_in later ≡ settled_in before)
   pub settled : OnOk result (settled_in later ≡ taken_in later)
-  pub told : OnOk result (later_seat.view.durable ≡ taken_in later)
+  pub reported : OnOk result (later_seat.view.durable ≡ taken_in later)
   pub not_settled : OnErr result (settled_in later ≡ settled_in before)
 
 -- Of a checkpoint that was taken: these records are a checkpoint of all that it took. It reports Full exactly where the journal has no room
 -- for them, and then leaves the journal as it was.
-pub record TellsRoomToRewrite {S D : Type 0} (scheme : Scheme S) (node : NodeView S) (before later : Flusher D) (result : Result ℕ FlushError) : Type 0 where
+pub record ReportsRoomToRewrite {S D : Type 0} (scheme : Scheme S) (node : NodeView S) (before later : Flusher D) (result : Result ℕ FlushError) : Type 0 where
   pub records : List (List ℕ)
   pub checkpoint : IsCheckpointAfter scheme node (taken_in later) records
   pub full : IsErrOf result Full ↔ HasNoRoomFor (journal_of before) records
   pub same : IsErrOf result Full → journal_of later ≡ journal_of before
 
 -- a round reports Full exactly where the journal has no room for what it took, and then leaves the journal as it was
-pub record TellsRoom {D : Type 0} (device : Device D) (before later : Flusher D) (result : Result ℕ FlushError) : Type 0 where
+pub record ReportsRoom {D : Type 0} (device : Device D) (before later : Flusher D) (result : Result ℕ FlushError) : Type 0 where
   pub full : is_down before ≡ false → IsErrOf result Full ↔ HasNoRoom (device.content (disk_of (journal_of before))) (settled_in before) (taken_in later)
   pub same : IsErrOf result Full → journal_of later ≡ journal_of before
 

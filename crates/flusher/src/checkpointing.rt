@@ -2,7 +2,7 @@
 
 ghost use Rattle.std.specs.Prelude.{◌≡◌, ◌⊎◌, ◌↔◌, ◌∷◌, true, false, IfOk, IfErr, IsErrOf, IsSome, OnOk, OnErr};
 ghost use Rattle.book.specs.Checkpoints.{HasNoRoomFor};
-ghost use Rattle.diskmodel.specs.Disk.{AtEachMoment, TellsFault};
+ghost use Rattle.diskmodel.specs.Disk.{AtEachMoment, ReportsFault};
 ghost use Rattle.journal.specs.Journal.{disk_of, spare_of, IsAlive};
 ghost use Rattle.journal.specs.Pairs.{HaveChangedPlaces, HaveKeptPlaces, areas_of, areas_with, generation_in, spare_disk, rewritten_disk, untouched_disk};
 ghost use Rattle.journal.specs.Snapshot.{bytes_for};
@@ -12,7 +12,7 @@ ghost use Rattle.spec_model.specs.States.{State};
 ghost use Rattle.validator.specs.Setting.{node_of};
 ghost use Rattle.node_seats.specs.Views.{events, informed};
 ghost use Rattle.node_shared.specs.Home.{IsBase, IsOf, IsFlushOf, IsCheckpointAfter};
-ghost use Rattle.flusher.specs.Rounds.{journal_of, seat_of, is_down, settled_in, taken_in, IsFlusherOf, HoldsAfter, HoldsEither, KeepsEarlier, GoesDown, IsToldOf, TakesAllAndSettles, TellsRoomToRewrite, IsAtCheckpoint};
+ghost use Rattle.flusher.specs.Rounds.{journal_of, seat_of, is_down, settled_in, taken_in, IsFlusherOf, HoldsAfter, HoldsEither, KeepsEarlier, GoesDown, IsReportedOf, TakesAllAndSettles, ReportsRoomToRewrite, IsAtCheckpoint};
 
 use crate::flusher::Flusher;
 use book::FlushError;
@@ -42,7 +42,7 @@ impl<D: Disk> Flusher<D> {
         ensures flusher { IsFlusherOf S.scheme D.device node.now self.new }
         ensures of { IsOf node.now seat.new }
         ensures down { GoesDown self.old self.new result }
-        ensures told { IsToldOf seat.old seat.new result }
+        ensures reported { IsReportedOf seat.old seat.new result }
         ensures settles { TakesAllAndSettles seat.old seat.new self.old self.new result }
         ensures answer { IfOk result (λ generation. generation ≡ generation_in (journal_of self.new)) }
         // What it took is all that the area which is read then has.
@@ -50,9 +50,9 @@ impl<D: Disk> Flusher<D> {
         // The disks have changed places exactly where the checkpoint succeeded.
         ensures swapped { OnOk result (HaveChangedPlaces (journal_of self.old) (journal_of self.new)) }
         ensures keeps { OnErr result (HaveKeptPlaces (journal_of self.old) (journal_of self.new)) }
-        ensures room { IsErrOf result FlushError.Down ⊎ IsErrOf result FlushError.Memory ⊎ TellsRoomToRewrite S.scheme node.now self.old self.new result }
+        ensures room { IsErrOf result FlushError.Down ⊎ IsErrOf result FlushError.Memory ⊎ ReportsRoomToRewrite S.scheme node.now self.old self.new result }
         // The error is Device exactly where the disk that is written has failed. The other disk is untouched, whatever the result.
-        ensures cause { TellsFault FlushError.Device (D.device.faults (spare_disk (journal_of self.old))) (D.device.faults (rewritten_disk result (journal_of self.new))) result }
+        ensures cause { ReportsFault FlushError.Device (D.device.faults (spare_disk (journal_of self.old))) (D.device.faults (rewritten_disk result (journal_of self.new))) result }
         ensures untouched { untouched_disk result (journal_of self.new) ≡ disk_of (journal_of self.old) }
 
         // A stop at any moment may leave the spare area half written. With that area the journal has what was settled, or all that the
@@ -69,7 +69,7 @@ impl<D: Disk> Flusher<D> {
             Err(_) => return Err(FlushError::Memory),
         };
         let generation = self.rewrite(rt, node, seat, snapshot)?;
-        node.tell_settled(rt, &mut self.seat, seat);
+        node.report_settled(rt, &mut self.seat, seat);
         Ok(generation)
     }
 
@@ -102,11 +102,11 @@ impl<D: Disk> Flusher<D> {
         ensures keeps { OnErr result (HaveKeptPlaces (journal_of self.old) (journal_of self.new)) }
         ensures seat { OnOk result (seat.new ≡ seat.old) }
         ensures seat_err { OnErr result (seat.new ≡ record seat.old { view = informed seat.old.view (seat_of self.new).seat.view }) }
-        ensures told_err { OnErr result ((seat_of self.new).seat.view.down ≡ true) }
+        ensures reported_err { OnErr result ((seat_of self.new).seat.view.down ≡ true) }
         ensures errors { IfErr result (λ error. (error ≡ FlushError.Device) ⊎ (error ≡ FlushError.Full)) }
         ensures full { IsErrOf result FlushError.Full ↔ HasNoRoomFor (journal_of self.old) snapshot }
         ensures full_same { IsErrOf result FlushError.Full → journal_of self.new ≡ journal_of self.old }
-        ensures cause { TellsFault FlushError.Device (D.device.faults (spare_disk (journal_of self.old))) (D.device.faults (rewritten_disk result (journal_of self.new))) result }
+        ensures cause { ReportsFault FlushError.Device (D.device.faults (spare_disk (journal_of self.old))) (D.device.faults (rewritten_disk result (journal_of self.new))) result }
         ensures untouched { untouched_disk result (journal_of self.new) ≡ disk_of (journal_of self.old) }
     {
         match self.journal.rewrite(snapshot) {

@@ -1,7 +1,7 @@
 //! The flusher.
 
 ghost use Rattle.std.specs.Prelude.{◌≡◌, ◌⊎◌, ◌↔◌, ◌+◌, ◌<◌, true, false, length, IfOk, IfErr, IfSome, IsErrOf, IsNone, IsTrue, OnOk, OnErr};
-ghost use Rattle.diskmodel.specs.Disk.{AtEachMoment, TellsFault};
+ghost use Rattle.diskmodel.specs.Disk.{AtEachMoment, ReportsFault};
 ghost use Rattle.journal.specs.Format.{file_with, group_bytes};
 ghost use Rattle.journal.specs.Journal.{disk_of, spare_of, IsAlive};
 ghost use Rattle.journal.specs.Pairs.{areas_of};
@@ -12,7 +12,7 @@ ghost use Rattle.spec_model.specs.States.{State};
 ghost use Rattle.validator.specs.Setting.{node_of};
 ghost use Rattle.node_seats.specs.Views.{events, informed};
 ghost use Rattle.node_shared.specs.Home.{IsBase, IsOf, IsFlushOf, group_of};
-ghost use Rattle.flusher.specs.Rounds.{journal_of, seat_of, is_down, settled_in, taken_in, areas_at, IsFlusherOf, HoldsAfter, HoldsEither, KeepsEarlier, GoesDown, IsToldOf, TakesAndSettles, TellsRoom, StaysAsIs, AddsSettled};
+ghost use Rattle.flusher.specs.Rounds.{journal_of, seat_of, is_down, settled_in, taken_in, areas_at, IsFlusherOf, HoldsAfter, HoldsEither, KeepsEarlier, GoesDown, IsReportedOf, TakesAndSettles, ReportsRoom, StaysAsIs, AddsSettled};
 
 use book::FlushError;
 use diskmodel::Disk;
@@ -95,10 +95,10 @@ impl<D: Disk> Flusher<D> {
         ensures flusher { IsFlusherOf S.scheme D.device node.now self.new }
         ensures of { IsOf node.now seat.new }
         ensures down { GoesDown self.old self.new result }
-        ensures told { IsToldOf seat.old seat.new result }
+        ensures reported { IsReportedOf seat.old seat.new result }
         ensures settles { TakesAndSettles seat.old seat.new self.old self.new result }
-        ensures room { TellsRoom D.device self.old self.new result }
-        ensures cause { TellsFault FlushError.Device (D.device.faults (disk_of (journal_of self.old))) (D.device.faults (disk_of (journal_of self.new))) result }
+        ensures room { ReportsRoom D.device self.old self.new result }
+        ensures cause { ReportsFault FlushError.Device (D.device.faults (disk_of (journal_of self.old))) (D.device.faults (disk_of (journal_of self.new))) result }
         // A round with nothing to take leaves the journal unchanged.
         ensures nothing { IfOk result (λ count. count ≡ 0 → journal_of self.new ≡ journal_of self.old) }
         // Else it adds one group to the area that is read: the records of what it settled.
@@ -122,7 +122,7 @@ impl<D: Disk> Flusher<D> {
             Some(group) => self.add(rt, node, seat, group)?,
             None => 0,
         };
-        node.tell_settled(rt, &mut self.seat, seat);
+        node.report_settled(rt, &mut self.seat, seat);
         Ok(count)
     }
 
@@ -165,12 +165,12 @@ impl<D: Disk> Flusher<D> {
         ensures err { OnErr result ((settled_in self.new ≡ settled_in self.old) × (is_down self.new ≡ true)) }
         ensures seat { OnOk result (seat.new ≡ seat.old) }
         ensures seat_err { OnErr result (seat.new ≡ record seat.old { view = informed seat.old.view (seat_of self.new).seat.view }) }
-        ensures told_err { OnErr result ((seat_of self.new).seat.view.down ≡ true) }
+        ensures reported_err { OnErr result ((seat_of self.new).seat.view.down ≡ true) }
         ensures errors { IfErr result (λ error. (error ≡ FlushError.Device) ⊎ (error ≡ FlushError.Full)) }
         ensures full { IsErrOf result FlushError.Full ↔ (MAX_JOURNAL_BYTES < length (D.device.content (disk_of (journal_of self.old))) + length (group_bytes group)) }
         ensures full_same { IsErrOf result FlushError.Full → journal_of self.new ≡ journal_of self.old }
         ensures spare { spare_of (journal_of self.new) ≡ spare_of (journal_of self.old) }
-        ensures cause { TellsFault FlushError.Device (D.device.faults (disk_of (journal_of self.old))) (D.device.faults (disk_of (journal_of self.new))) result }
+        ensures cause { ReportsFault FlushError.Device (D.device.faults (disk_of (journal_of self.old))) (D.device.faults (disk_of (journal_of self.new))) result }
     {
         let count = group.records_count();
         match self.journal.append(group) {

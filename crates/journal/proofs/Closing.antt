@@ -8,20 +8,20 @@ use Rattle.std.proofs.lemmas.Option.{none-some}
 use Rattle.diskmodel.specs.Disk.{Device, ComesBy, LeavesOnly, AtEachMoment, TimePasses, IsTorn, IsCut}
 use Rattle.journal.specs.declared.record.Record.{Record}
 use Rattle.journal.specs.Format.{body_at, group_of, scan, stands, ScansTo}
-use Rattle.journal.specs.Areas.{generation_of, tells}
+use Rattle.journal.specs.Areas.{generation_of, reports}
 use Rattle.journal.specs.Journal.{IsSameAs}
 use Rattle.journal.proofs.Moments.{from_only}
 use Rattle.journal.proofs.Rewritten.{SoFar, begins, then_left}
 use Rattle.journal.proofs.Sides.{scans_long, short_scans}
 use Rattle.journal.proofs.Stops.{scan_ok, walked}
-use Rattle.journal.proofs.Telling.{tells_short, tells_closed, tells_first, cuts_keep_telling}
+use Rattle.journal.proofs.Reporting.{reports_short, reports_closed, reports_first, cuts_keep_reporting}
 use Rattle.journal.proofs.Walks.{walk_closed, body_stands, body_same}
 
-pub torn_tells : (file left : List ℕ) → length file < 2 → IsTorn 0 1 file left → tells left ≡ tells file
-torn_tells file left short torn = tells_short left (omega (arith, torn.no_longer)) ∙ sym (tells_short file short)
+pub torn_reports : (file left : List ℕ) → length file < 2 → IsTorn 0 1 file left → reports left ≡ reports file
+torn_reports file left short torn = reports_short left (omega (arith, torn.no_longer)) ∙ sym (reports_short file short)
 
-pub cut_tells : (file left : List ℕ) (gate : ℕ) → ScansTo file gate → 2 ≤ length file → IsCut (gate + 1) file left → tells left ≡ tells file
-cut_tells file left gate scans long cut = cuts_keep_telling file left scans.0 gate long (walked file gate scans long) cut
+pub cut_reports : (file left : List ℕ) (gate : ℕ) → ScansTo file gate → 2 ≤ length file → IsCut (gate + 1) file left → reports left ≡ reports file
+cut_reports file left gate scans long cut = cuts_keep_reporting file left scans.0 gate long (walked file gate scans long) cut
 
 module _ {D : Type 0} (device : Device D) where
   -- one call that changes durable bytes
@@ -42,20 +42,20 @@ module _ {D : Type 0} (device : Device D) where
   }
 
 -- an area that tells nothing has no group
-pub shut_scans : (file : List ℕ) → tells file ≡ None → scan file ≡ Ok ([], 0)
+pub shut_scans : (file : List ℕ) → reports file ≡ None → scan file ≡ Ok ([], 0)
 shut_scans [] shut = short_scans [] (omega arith)
 shut_scans (gate ∷ []) shut = short_scans (gate ∷ []) (omega arith)
 shut_scans (gate ∷ byte ∷ rest) shut = elim (cases_eq gate 0) [
   | inl closed ↦ scans_long (gate ∷ byte ∷ rest) (omega arith) ∙ walk_closed 0 gate (byte ∷ rest) closed
-  | inr is_open ↦ absurd (none-some _ (sym shut ∙ tells_first gate (byte ∷ rest) is_open (omega arith)))
+  | inr is_open ↦ absurd (none-some _ (sym shut ∙ reports_first gate (byte ∷ rest) is_open (omega arith)))
 ]
 
-pub shut_stands : (file : List ℕ) → tells file ≡ None → stands file ≡ Ok []
+pub shut_stands : (file : List ℕ) → reports file ≡ None → stands file ≡ Ok []
 shut_stands file shut = scan_ok file ([], 0) (shut_scans file shut)
 
 -- what tells and stands for the same as bytes that stand for records
-pub same_as : (file left : List ℕ) (records : List Record) → stands file ≡ Ok records → stands left ≡ stands file → tells left ≡ tells file → IsSameAs file left
-same_as file left records stand same told = inr (told, (records, stand, same ∙ stand))
+pub same_as : (file left : List ℕ) (records : List Record) → stands file ≡ Ok records → stands left ≡ stands file → reports left ≡ reports file → IsSameAs file left
+same_as file left records stand same reported = inr (reported, (records, stand, same ∙ stand))
 
 pub cut_whole : (len : ℕ) (file : List ℕ) → IsCut len file (take len file)
 cut_whole len file = record { front = take-take len len file (omega arith); no_shorter = omega (arith, length-take len file); no_longer = omega (arith, length-take len file) }
@@ -67,13 +67,13 @@ module _ {D : Type 0} (device : Device D) (old mid new : D) where
 
   -- and then its end is closed
   pub until_closed : (records : List Record) → stands (device.content old) ≡ Ok records → device.content mid ≡ device.content old → AtEachMoment device old mid (IsSameAs (device.content old))
-      → AtEachMoment device mid new (λ left. stands left ≡ stands (device.content mid)) → AtEachMoment device mid new (λ left. tells left ≡ tells (device.content mid))
+      → AtEachMoment device mid new (λ left. stands left ≡ stands (device.content mid)) → AtEachMoment device mid new (λ left. reports left ≡ reports (device.content mid))
       → AtEachMoment device old new (IsSameAs (device.content old))
-  until_closed records stand same so_far standing telling =
+  until_closed records stand same so_far standing reporting =
       let file = device.content old in
       joins device old mid new (IsSameAs file) (IsSameAs file) so_far
-      (both_hold device mid new (λ left. stands left ≡ stands (device.content mid)) (λ left. tells left ≡ tells (device.content mid)) (IsSameAs file) standing telling
-      (λ left one other. same_as file left records stand (one ∙ ap stands same) (other ∙ ap tells same)))
+      (both_hold device mid new (λ left. stands left ≡ stands (device.content mid)) (λ left. reports left ≡ reports (device.content mid)) (IsSameAs file) standing reporting
+      (λ left one other. same_as file left records stand (one ∙ ap stands same) (other ∙ ap reports same)))
       (λ left here. here)
 
 -- ---- the front of an area
@@ -103,15 +103,15 @@ body_front m rest is long =
     ∙ ap body_at whole
 
 -- the first group of an area stands in so many bytes
-pub tells_front : (m : ℕ) (file : List ℕ) → m ≡ 4194309 → tells (take (suc m) file) ≡ tells file
-tells_front m [] is = refl
-tells_front m (gate ∷ rest) is = elim (cases_lt m (length rest)) [
-  | inr within ↦ ap (λ (l : List ℕ). tells (gate ∷ l)) (take_all m rest within)
+pub reports_front : (m : ℕ) (file : List ℕ) → m ≡ 4194309 → reports (take (suc m) file) ≡ reports file
+reports_front m [] is = refl
+reports_front m (gate ∷ rest) is = elim (cases_lt m (length rest)) [
+  | inr within ↦ ap (λ (l : List ℕ). reports (gate ∷ l)) (take_all m rest within)
   | inl longer ↦ elim (cases_eq gate 0) [
-    | inl closed ↦ tells_closed gate (take m rest) closed ∙ sym (tells_closed gate rest closed)
+    | inl closed ↦ reports_closed gate (take m rest) closed ∙ sym (reports_closed gate rest closed)
     | inr is_open ↦
-        tells_first gate (take m rest) is_open (omega (arith, length-take m rest))
+        reports_first gate (take m rest) is_open (omega (arith, length-take m rest))
         ∙ ap (λ (o : Option (List ℕ)). Some (option_and_then (λ body. option_and_then generation_of (group_of body)) o)) (body_front m rest is (omega arith))
-        ∙ sym (tells_first gate rest is_open (omega arith))
+        ∙ sym (reports_first gate rest is_open (omega arith))
   ]
 ]

@@ -15,7 +15,7 @@ mod Shapes
 mod Rewritten
 mod Sides
 pub mod Stops
-pub mod Telling
+pub mod Reporting
 pub mod Walks
 mod Windows
 mod Written

@@ -17,13 +17,13 @@ use Rattle.journal.specs.declared.side.Side.{Side}
 use Rattle.journal.specs.declared.side.Side.TheVariants.{First, Second}
 use Rattle.journal.specs.Journal.{EndsClosed}
 use Rattle.journal.specs.Pairs.{stands_as}
-use Rattle.journal.specs.Areas.{moved, moved_by, stands_at, head_record, head_in, generation_of, tells}
+use Rattle.journal.specs.Areas.{moved, moved_by, stands_at, head_record, head_in, generation_of, reports}
 use Rattle.journal.specs.Snapshot.{has_room, packed_after, packed, checkpoint_groups, bytes_for, FitsAlone, CanPack, BeginsShaped, without_head, read_without_head, records_in, head_place, IsSnapshot}
 use Rattle.journal.proofs.Bytes.{group_read}
 use Rattle.journal.proofs.Written.{their_records, body_here, walk_in_turn, records_written, open_written, written_stand}
 use Rattle.journal.proofs.Walks.{walk_closed}
 use Rattle.journal.proofs.Stops.{ends_at}
-use Rattle.journal.proofs.Telling.{tells_first}
+use Rattle.journal.proofs.Reporting.{reports_first}
 
 -- the records of groups, one after the other
 abbrev pub all_records : List (List (List ℕ)) → List (List ℕ)
@@ -124,10 +124,10 @@ head_back generation some small =
     ap (λ (n : ℕ). cond (eqb n 0) None (Some n)) (from_be_bytes-to_be_bytes_8 generation small) ∙ cond-false (eqb generation 0) None (Some generation) (ne_eqb generation 0 (λ none. omega arith))
 
 -- what an area tells whose first group has these records
-pub tells_group : (gate : ℕ) (records : List (List ℕ)) (rest : List ℕ) → gate ≢ 0 → FitsGroup records → 1 ≤ length rest
-    → tells (gate ∷ sized_body records ++ rest) ≡ Some (generation_of records)
-tells_group gate records rest is_open fits some =
-    tells_first gate (sized_body records ++ rest) is_open (omega arith)
+pub reports_group : (gate : ℕ) (records : List (List ℕ)) (rest : List ℕ) → gate ≢ 0 → FitsGroup records → 1 ≤ length rest
+    → reports (gate ∷ sized_body records ++ rest) ≡ Some (generation_of records)
+reports_group gate records rest is_open fits some =
+    reports_first gate (sized_body records ++ rest) is_open (omega arith)
     ∙ ap (λ (o : Option (List ℕ)). Some (option_and_then (λ body. option_and_then generation_of (group_of body)) o)) (body_here records rest fits some)
     ∙ ap (λ (o : Option (List (List ℕ))). Some (option_and_then generation_of o)) (group_read records fits)
 
@@ -140,11 +140,11 @@ with_head generation configuration some small shaped = of_version (shaped_versio
     of_version None shaped = absurd (cc)
     of_version (Some version) shaped = head_back generation some small
 
-pub checkpoint_tells : (generation : ℕ) (records : List (List ℕ)) → CanPack records → BeginsShaped records → 1 ≤ generation → generation < 2 ^ 64
-    → tells (1 ∷ bytes_for generation records) ≡ Some (Some generation)
-checkpoint_tells generation [] can shaped some small = absurd can
-checkpoint_tells generation (configuration ∷ state) can shaped some small =
-    tells_group 1 (configuration ∷ head_record generation ∷ []) (file_bytes (packed state)) (λ one. omega arith) (first_fits generation configuration can.0)
+pub checkpoint_reports : (generation : ℕ) (records : List (List ℕ)) → CanPack records → BeginsShaped records → 1 ≤ generation → generation < 2 ^ 64
+    → reports (1 ∷ bytes_for generation records) ≡ Some (Some generation)
+checkpoint_reports generation [] can shaped some small = absurd can
+checkpoint_reports generation (configuration ∷ state) can shaped some small =
+    reports_group 1 (configuration ∷ head_record generation ∷ []) (file_bytes (packed state)) (λ one. omega arith) (first_fits generation configuration can.0)
     (omega (arith, length-append (in_turn (map as_written (packed state))) (0 ∷ [])))
     ∙ ap Some (with_head generation configuration some small shaped)
 

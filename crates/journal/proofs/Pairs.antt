@@ -5,34 +5,34 @@ use Rattle.std.proofs.lemmas.List.{take_at}
 use Rattle.diskmodel.specs.Disk.{Device}
 use Rattle.journal.specs.declared.spare.Spare.{Spare}
 use Rattle.journal.specs.Format.{FitsGroup, group_bytes, file_with}
-use Rattle.journal.specs.Areas.{generation_of, tells}
+use Rattle.journal.specs.Areas.{generation_of, reports}
 use Rattle.journal.specs.Journal.{EndsClosed, IsAlivePair}
 use Rattle.journal.proofs.Stops.{closed}
-use Rattle.journal.proofs.Telling.{tells_long, tells_stays}
-use Rattle.journal.proofs.Packing.{tells_group}
+use Rattle.journal.proofs.Reporting.{reports_long, reports_stays}
+use Rattle.journal.proofs.Packing.{reports_group}
 
 -- a group more changes nothing in what a file tells
-pub tells_with : (file : List ℕ) (group : List (List ℕ)) (told : Option ℕ) → EndsClosed file → tells file ≡ Some told → tells (file_with file group) ≡ tells file
-tells_with file group told ends is =
+pub reports_with : (file : List ℕ) (group : List (List ℕ)) (reported : Option ℕ) → EndsClosed file → reports file ≡ Some reported → reports (file_with file group) ≡ reports file
+reports_with file group reported ends is =
     let p = closed file ends in
     let front_is : take (length file - 1) file ≡ p.front =
     ap (λ (l : List ℕ). take (length file - 1) l) p.file_is ∙ take_at p.front (0 ∷ []) (length file - 1) (omega (arith, p.size)) in
-    ap (λ (l : List ℕ). tells (l ++ 1 ∷ group_bytes group)) front_is
-    ∙ tells_stays p.front [] (1 ∷ group_bytes group) p.records (omega (arith, p.size, tells_long file told is)) (omega arith) p.found
-    ∙ ap tells (sym p.file_is)
+    ap (λ (l : List ℕ). reports (l ++ 1 ∷ group_bytes group)) front_is
+    ∙ reports_stays p.front [] (1 ∷ group_bytes group) p.records (omega (arith, p.size, reports_long file reported is)) (omega arith) p.found
+    ∙ ap reports (sym p.file_is)
 
 -- the first group of a file says what it tells
-pub tells_begun : (file : List ℕ) (group : List (List ℕ)) → FitsGroup group → file ≡ 0 ∷ [] → tells (file_with file group) ≡ Some (generation_of group)
-tells_begun file group fits empty =
-    ap (λ (l : List ℕ). tells (file_with l group)) empty ∙ tells_group 1 group (0 ∷ []) (λ one. omega arith) fits (omega arith)
+pub reports_begun : (file : List ℕ) (group : List (List ℕ)) → FitsGroup group → file ≡ 0 ∷ [] → reports (file_with file group) ≡ Some (generation_of group)
+reports_begun file group fits empty =
+    ap (λ (l : List ℕ). reports (file_with l group)) empty ∙ reports_group 1 group (0 ∷ []) (λ one. omega arith) fits (omega arith)
 
 module _ {D : Type 0} (device : Device D) (old new : D) (group : List (List ℕ)) (fits : FitsGroup group) (ends : EndsClosed (device.content old))
     (content : device.content new ≡ file_with (device.content old) group) where
   still_pair : (spare : Spare D) → (device.content old ≡ 0 ∷ [] → generation_of group ≡ Some 0) → IsAlivePair device old spare → IsAlivePair device new spare
   still_pair spare first pair = record {
     of_generation = inl (elim pair.of_generation [
-      | inl told ↦ ap tells content ∙ tells_with (device.content old) group (Some spare.generation) ends told ∙ told
-      | inr begun ↦ ap tells content ∙ tells_begun (device.content old) group fits begun.empty ∙ ap Some (first begun.empty ∙ ap Some (sym begun.lowest))
+      | inl reported ↦ ap reports content ∙ reports_with (device.content old) group (Some spare.generation) ends reported ∙ reported
+      | inr begun ↦ ap reports content ∙ reports_begun (device.content old) group fits begun.empty ∙ ap Some (first begun.empty ∙ ap Some (sym begun.lowest))
     ]);
     at_rest = pair.at_rest;
     durable = pair.durable;

@@ -7,7 +7,7 @@ use Rattle.diskmodel.proofs.Clock.{started, goes_on}
 use Rattle.journal.specs.Areas.{IsAtRest, IsOlder, IsOlderOrNew}
 use Rattle.journal.specs.Journal.{MadeSome}
 use Rattle.journal.proofs.Moments.{from_only}
-use Rattle.journal.proofs.Telling.{at_rest_older, torn_close, torn_cut, torn_fill, torn_open}
+use Rattle.journal.proofs.Reporting.{at_rest_older, torn_close, torn_cut, torn_fill, torn_open}
 
 module _ {D : Type 0} (device : Device D) where
   -- what was left since a first moment, and what is left now

@@ -49,10 +49,10 @@ first_generation bytes = option_and_then (λ body. option_and_then generation_of
 
 -- what the first group of an area says of its generation: None where the first gate isn't open, Some None where the group is damaged,
 -- otherwise Some of Some generation
-unfoldable pub tells : List ℕ → Option (Option ℕ)
-tells [] = None
-tells (gate ∷ []) = None
-tells (gate ∷ byte ∷ rest) = if gate == CLOSED then None else Some (first_generation (byte ∷ rest))
+unfoldable pub reports : List ℕ → Option (Option ℕ)
+reports [] = None
+reports (gate ∷ []) = None
+reports (gate ∷ byte ∷ rest) = if gate == CLOSED then None else Some (first_generation (byte ∷ rest))
 
 -- ---- the area that is read
 
@@ -107,17 +107,17 @@ read_from one other (Ok (Some Second)) = stands_at Second other
 -- what the bytes of a journal are read as: the records of the area that is read, or the first place of damage
 unfoldable pub stands_in : Areas → Result (List Record) ℕ
 stands_in (alone bytes) = stands bytes
-stands_in (pair one other) = read_from one other (chosen (tells one) (tells other))
+stands_in (pair one other) = read_from one other (chosen (reports one) (reports other))
 
 -- ---- a rewriting
 
 -- an area of one byte, or one whose first group is open and of a lower generation
 abbrev pub IsAtRest : ℕ → List ℕ → Type 0
-IsAtRest generation file = (length file ≡ 1) ⊎ ((lower : ℕ) × (tells file ≡ Some (Some lower)) × (lower < generation))
+IsAtRest generation file = (length file ≡ 1) ⊎ ((lower : ℕ) × (reports file ≡ Some (Some lower)) × (lower < generation))
 
 -- an area whose first gate isn't open, or one whose first group is open and of a lower generation
 abbrev pub IsOlder : ℕ → List ℕ → Type 0
-IsOlder generation file = (tells file ≡ None) ⊎ ((lower : ℕ) × (tells file ≡ Some (Some lower)) × (lower < generation))
+IsOlder generation file = (reports file ≡ None) ⊎ ((lower : ℕ) × (reports file ≡ Some (Some lower)) × (lower < generation))
 
 -- an older area, or an open gate and then these bytes
 abbrev pub IsOlderOrNew : ℕ → List ℕ → List ℕ → Type 0

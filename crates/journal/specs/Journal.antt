@@ -10,7 +10,7 @@ use Rattle.journal.specs.declared.journal.Journal.{Journal}
 use Rattle.journal.specs.declared.side.Side.{Side}
 use Rattle.journal.specs.declared.side.Side.TheVariants.{First}
 use Rattle.journal.specs.declared.spare.Spare.{Spare}
-use Rattle.journal.specs.Areas.{tells, IsAtRest}
+use Rattle.journal.specs.Areas.{reports, IsAtRest}
 use Rattle.journal.specs.Format.{group_bytes, kept, walk, stands, ScansTo}
 
 -- the disk to which a journal is written
@@ -27,8 +27,8 @@ disk_after disk_in (Ok given) = disk_in given
 disk_after disk_in (Err failed) = failed.disk
 
 -- A call that takes a disk, and gives it back with its result, gives this error exactly where the disk has failed since.
-abbrev pub TellsFaultBack : {T D E : Type 0} → Device D → (T → D) → E → D → Result T (Failed E D) → Type 0
-TellsFaultBack device disk_in error disk result =
+abbrev pub ReportsFaultBack : {T D E : Type 0} → Device D → (T → D) → E → D → Result T (Failed E D) → Type 0
+ReportsFaultBack device disk_in error disk result =
     IfOk result (λ given. device.faults (disk_in given) ≡ device.faults disk)
     × IfErr result (λ failed. (failed.error ≡ error → device.faults disk < device.faults failed.disk)
     × (failed.error ≢ error → device.faults failed.disk ≡ device.faults disk))
@@ -49,7 +49,7 @@ pub record IsNewPair (live spare : List ℕ) (side : Side) (generation : ℕ) : 
 
 -- Of two disks, the one that is written to has its generation in its first group, unless the pair is new; the spare is at rest and durable.
 pub record IsAlivePair {D : Type 0} (device : Device D) (live : D) (spare : Spare D) : Type 0 where
-  pub of_generation : (tells (device.content live) ≡ Some (Some spare.generation)) ⊎ IsNewPair (device.content live) (device.content spare.disk) spare.side spare.generation
+  pub of_generation : (reports (device.content live) ≡ Some (Some spare.generation)) ⊎ IsNewPair (device.content live) (device.content spare.disk) spare.side spare.generation
   pub at_rest : IsAtRest spare.generation (device.content spare.disk)
   pub durable : LeavesOnly (device.content spare.disk) (device.outcome spare.disk)
 
@@ -104,7 +104,7 @@ StandsAsOneOf outcome left = outcome left ⊎ ((first : List ℕ) × outcome fir
 
 -- two files have the same generation, and are read as the same records
 abbrev pub AreSame : List ℕ → List ℕ → Type 0
-AreSame file left = (tells left ≡ tells file) × HaveSameRecords file left
+AreSame file left = (reports left ≡ reports file) × HaveSameRecords file left
 
 -- what a stop leaves is one of these outcomes byte for byte, or has the generation and the records of one that isn't damaged
 abbrev pub IsAsOneOf : (List ℕ → Type 0) → List ℕ → Type 0

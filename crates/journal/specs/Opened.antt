@@ -5,7 +5,7 @@ use Rattle.journal.specs.Format.{stands}
 use Rattle.journal.specs.declared.spare.Spare.{Spare}
 use Rattle.journal.specs.declared.side.Side.{Side}
 use Rattle.journal.specs.declared.side.Side.TheVariants.{First, Second}
-use Rattle.journal.specs.Areas.{tells, other_side, pair_of, stands_in, IsOlder}
+use Rattle.journal.specs.Areas.{reports, other_side, pair_of, stands_in, IsOlder}
 use Rattle.journal.specs.Journal.{EndsClosed, IsClosedUp, IsAlivePair}
 
 -- of two values, one for each side, the one of this side, and the one of the other side
@@ -18,11 +18,11 @@ off_side side one other = on_side (other_side side) one other
 
 -- the first gate of an area isn't open
 abbrev pub is_shut : List ℕ → Bool
-is_shut file = is_none (tells file)
+is_shut file = is_none (reports file)
 
 -- an area's generation is lower, or its first gate isn't open
 abbrev pub IsLower : ℕ → Option (Option ℕ) → Type 0
-IsLower generation told = (told ≡ None) ⊎ ((lower : ℕ) × (told ≡ Some (Some lower)) × (lower < generation))
+IsLower generation reported = (reported ≡ None) ⊎ ((lower : ℕ) × (reported ≡ Some (Some lower)) × (lower < generation))
 
 -- by the generations of both, this side is read; where neither first gate is open it is the first side, with generation 0
 abbrev pub IsChoice : Side → ℕ → Option (Option ℕ) → Option (Option ℕ) → Type 0
@@ -34,16 +34,16 @@ IsChoice side generation one other =
 -- side, with generation 0
 abbrev pub IsChosen : Side → ℕ → List ℕ → List ℕ → Type 0
 IsChosen side generation live other =
-    ((tells live ≡ Some (Some generation)) × IsOlder generation other)
-    ⊎ ((tells live ≡ None) × (tells other ≡ None) × (side ≡ First) × (generation ≡ 0))
+    ((reports live ≡ Some (Some generation)) × IsOlder generation other)
+    ⊎ ((reports live ≡ None) × (reports other ≡ None) × (side ≡ First) × (generation ≡ 0))
 
 -- The spare area is at rest: one byte where its first gate wasn't open, and otherwise as it was.
 pub record IsRested (file now : List ℕ) : Type 0 where
-  pub told : tells now ≡ tells file
+  pub reported : reports now ≡ reports file
   pub stand : stands now ≡ stands file
-  pub short : tells file ≡ None → length now ≡ 1
-  pub shut : tells file ≡ None → IsClosedUp file now
-  pub kept : (told : Option ℕ) → tells file ≡ Some told → now ≡ file
+  pub short : reports file ≡ None → length now ≡ 1
+  pub shut : reports file ≡ None → IsClosedUp file now
+  pub kept : (reported : Option ℕ) → reports file ≡ Some reported → now ≡ file
 
 -- the spare disk, beside a disk of this side and generation
 abbrev pub spare_with : {D : Type 0} → D → Side → ℕ → Spare D

@@ -5,7 +5,7 @@ use Rattle.journal.specs.declared.error.Failed.{Failed}
 use Rattle.journal.specs.declared.journal.Journal.{Journal}
 use Rattle.journal.specs.declared.store.Store.{Store}
 use Rattle.journal.specs.declared.store.Store.TheVariants.{One, Two}
-use Rattle.journal.specs.Areas.{tells}
+use Rattle.journal.specs.Areas.{reports}
 use Rattle.journal.specs.Journal.{disk_of, spare_of, IsClosedUp, StandsAsOneOf, IsAsOneOf}
 use Rattle.journal.specs.Opened.{on_side, off_side, IsChoice, IsRested}
 use Rattle.journal.specs.Pairs.{spare_disk, side_in, generation_in}
@@ -26,15 +26,15 @@ faults_in device (Two first second) = faults_of_both device (first, second)
 
 -- A call that takes disks, and gives them back with its result, gives this error exactly where one of them has failed since. The first
 -- argument counts how often they have failed.
-abbrev pub TellsFaultsBack : {S T E : Type 0} → (S → ℕ) → (T → S) → E → S → Result T (Failed E S) → Type 0
-TellsFaultsBack faults disks_in error disks result =
+abbrev pub ReportsFaultsBack : {S T E : Type 0} → (S → ℕ) → (T → S) → E → S → Result T (Failed E S) → Type 0
+ReportsFaultsBack faults disks_in error disks result =
     IfOk result (λ given. faults (disks_in given) ≡ faults disks)
     × IfErr result (λ failed. (failed.error ≡ error → faults disks < faults failed.disk) × (failed.error ≢ error → faults failed.disk ≡ faults disks))
 
 -- which of the two disks is read, and its generation, by what their first groups said when they were opened
 abbrev pub IsChosenOf : {D : Type 0} → Device D → D → D → Journal D → Type 0
 IsChosenOf device first second journal =
-    IsChoice (side_in journal) (generation_in journal) (tells (device.content first)) (tells (device.content second))
+    IsChoice (side_in journal) (generation_in journal) (reports (device.content first)) (reports (device.content second))
 
 -- The disk that is read is closed up. The other one is one closed gate where its first gate wasn't open, and otherwise as it was.
 pub record AreClosedUp {D : Type 0} (device : Device D) (first second : D) (journal : Journal D) : Type 0 where

@@ -1,8 +1,8 @@
 //! How the two areas of a journal on two disks are opened.
 
 ghost use Rattle.std.specs.Prelude.{◌≡◌, ◌≢◌, ◌⊎◌, ◌+◌, ℕ, Some, None, Ok, Err, IfOk, IfErr, OnOk, IsErrOf, length, take};
-ghost use Rattle.diskmodel.specs.Disk.{LeavesOnly, AtEachMoment, NoneNew, TellsFault};
-ghost use Rattle.journal.specs.Areas.{tells, chosen, pair, pair_of, stands_at, stands_in};
+ghost use Rattle.diskmodel.specs.Disk.{LeavesOnly, AtEachMoment, NoneNew, ReportsFault};
+ghost use Rattle.journal.specs.Areas.{reports, chosen, pair, pair_of, stands_at, stands_in};
 ghost use Rattle.journal.specs.Format.{stands, FailsAs};
 ghost use Rattle.journal.specs.Reader.{TakesAll};
 ghost use Rattle.journal.specs.Journal.{EndsClosed, IsClosedUp, IsSameAs, IsAsOneOf};
@@ -12,7 +12,7 @@ use crate::error::JournalError;
 use crate::journal::close_end;
 use crate::layout::{SECOND_AREA, WINDOW_BYTES};
 use crate::reader::Reader;
-use crate::reading::tells;
+use crate::reading::reports;
 use crate::side::Side;
 use crate::window::read_area;
 use diskmodel::Disk;
@@ -25,7 +25,7 @@ fn read_front<D: Disk>(alloc: Global, disk: &mut D, most: u64) -> Result<Vec<u8>
     ensures outcomes { NoneNew (D.device.outcome disk.old) (D.device.outcome disk.new) }
     ensures any_moment { AtEachMoment D.device disk.old disk.new (D.device.outcome disk.old) }
     ensures errors { IfErr result (λ error. (error ≡ JournalError.Memory) ⊎ (error ≡ JournalError.Device)) }
-    ensures cause { TellsFault JournalError.Device (D.device.faults disk.old) (D.device.faults disk.new) result }
+    ensures cause { ReportsFault JournalError.Device (D.device.faults disk.old) (D.device.faults disk.new) result }
 {
     let whole = disk.len()?;
     let len = whole.min(most) as usize;
@@ -34,19 +34,19 @@ fn read_front<D: Disk>(alloc: Global, disk: &mut D, most: u64) -> Result<Vec<u8>
     Ok(bytes)
 }
 
-// What the first group of an area says of its generation (`tells`). The area's disk is durable after the call.
-fn told_by<D: Disk>(alloc: Global, disk: &mut D) -> Result<Option<Option<u64>>, JournalError>
-    ensures told { IfOk result (λ told. told ≡ tells (D.device.content disk.old)) }
+// What the first group of an area says of its generation (`reports`). The area's disk is durable after the call.
+fn reported_by<D: Disk>(alloc: Global, disk: &mut D) -> Result<Option<Option<u64>>, JournalError>
+    ensures reported { IfOk result (λ reported. reported ≡ reports (D.device.content disk.old)) }
     ensures content { D.device.content disk.new ≡ D.device.content disk.old }
     ensures durable { OnOk result (LeavesOnly (D.device.content disk.new) (D.device.outcome disk.new)) }
     ensures any_moment { AtEachMoment D.device disk.old disk.new (D.device.outcome disk.old) }
     ensures errors { IfErr result (λ error. (error ≡ JournalError.Memory) ⊎ (error ≡ JournalError.Device)) }
-    ensures cause { TellsFault JournalError.Device (D.device.faults disk.old) (D.device.faults disk.new) result }
+    ensures cause { ReportsFault JournalError.Device (D.device.faults disk.old) (D.device.faults disk.new) result }
 {
     // The gate has to be durable before it is read.
     disk.sync()?;
     let bytes = read_front(alloc, disk, WINDOW_BYTES)?;
-    Ok(tells(alloc, &bytes)?)
+    Ok(reports(alloc, &bytes)?)
 }
 
 // Which area is read, by what both first groups say, and its generation. A new pair begins in the first area.
@@ -88,13 +88,13 @@ fn open_area<D: Disk, R: Reader>(
     ensures len { IfOk result (λ len. len ≡ length (D.device.content disk.new)) }
     ensures records { OnOk result (TakesAll (λ records. R.takes reader.old records reader.new) (stands_at side (D.device.content disk.old))) }
     ensures same { OnOk result (stands (D.device.content disk.new) ≡ stands (D.device.content disk.old)) }
-    ensures tells { OnOk result (tells (D.device.content disk.new) ≡ tells (D.device.content disk.old)) }
+    ensures reports { OnOk result (reports (D.device.content disk.new) ≡ reports (D.device.content disk.old)) }
     ensures content { OnOk result (IsClosedUp (D.device.content disk.old) (D.device.content disk.new)) }
     ensures unchanged { IfErr result (λ error. error ≢ JournalError.Device → D.device.content disk.new ≡ D.device.content disk.old) }
     ensures durable { OnOk result (LeavesOnly (D.device.content disk.new) (D.device.outcome disk.new)) }
     ensures any_moment { AtEachMoment D.device disk.old disk.new (IsSameAs (D.device.content disk.old)) }
     ensures damaged { (place : ℕ) → IsErrOf result (JournalError.Damaged place) → stands_at side (D.device.content disk.old) ≡ Err place }
-    ensures cause { TellsFault JournalError.Device (D.device.faults disk.old) (D.device.faults disk.new) result }
+    ensures cause { ReportsFault JournalError.Device (D.device.faults disk.old) (D.device.faults disk.new) result }
     ensures never_full { IfErr result (λ error. error ≢ JournalError.Full) }
     ensures never_config { IfErr result (λ error. error ≢ JournalError.ConfigMismatch) }
 {
@@ -105,16 +105,16 @@ fn open_area<D: Disk, R: Reader>(
 
 // Leaves one closed gate of an area whose first gate isn't open.
 fn shut_area<D: Disk>(disk: &mut D) -> Result<(), JournalError>
-    requires shut { tells (D.device.content disk.old) ≡ None }
+    requires shut { reports (D.device.content disk.old) ≡ None }
     requires durable { LeavesOnly (D.device.content disk.old) (D.device.outcome disk.old) }
     ensures len { OnOk result (length (D.device.content disk.new) ≡ 1) }
     ensures content { OnOk result (IsClosedUp (D.device.content disk.old) (D.device.content disk.new)) }
-    ensures tells { OnOk result (tells (D.device.content disk.new) ≡ tells (D.device.content disk.old)) }
+    ensures reports { OnOk result (reports (D.device.content disk.new) ≡ reports (D.device.content disk.old)) }
     ensures same { OnOk result (stands (D.device.content disk.new) ≡ stands (D.device.content disk.old)) }
     ensures durable { OnOk result (LeavesOnly (D.device.content disk.new) (D.device.outcome disk.new)) }
     ensures any_moment { AtEachMoment D.device disk.old disk.new (IsSameAs (D.device.content disk.old)) }
     ensures errors { IfErr result (λ error. error ≡ JournalError.Device) }
-    ensures cause { TellsFault JournalError.Device (D.device.faults disk.old) (D.device.faults disk.new) result }
+    ensures cause { ReportsFault JournalError.Device (D.device.faults disk.old) (D.device.faults disk.new) result }
 {
     let len = disk.len()?;
     close_end(disk, len, 0)
@@ -128,7 +128,7 @@ fn rest_area<D: Disk>(disk: &mut D, shut: bool) -> Result<(), JournalError>
     ensures durable { OnOk result (LeavesOnly (D.device.content disk.new) (D.device.outcome disk.new)) }
     ensures any_moment { AtEachMoment D.device disk.old disk.new (IsSameAs (D.device.content disk.old)) }
     ensures errors { IfErr result (λ error. error ≡ JournalError.Device) }
-    ensures cause { TellsFault JournalError.Device (D.device.faults disk.old) (D.device.faults disk.new) result }
+    ensures cause { ReportsFault JournalError.Device (D.device.faults disk.old) (D.device.faults disk.new) result }
 {
     disk.end_reading();
     if shut {
@@ -159,7 +159,7 @@ fn settle<D: Disk, R: Reader>(
     ensures any_moment { AtEachMoment D.device live.old live.new (IsSameAs (D.device.content live.old)) }
     ensures other_moment { AtEachMoment D.device other.old other.new (IsSameAs (D.device.content other.old)) }
     ensures damaged { (place : ℕ) → IsErrOf result (JournalError.Damaged place) → stands_in (pair_of side (D.device.content live.old) (D.device.content other.old)) ≡ Err place }
-    ensures cause { TellsFault JournalError.Device (D.device.faults live.old + D.device.faults other.old) (D.device.faults live.new + D.device.faults other.new) result }
+    ensures cause { ReportsFault JournalError.Device (D.device.faults live.old + D.device.faults other.old) (D.device.faults live.new + D.device.faults other.new) result }
     ensures never_full { IfErr result (λ error. error ≢ JournalError.Full) }
     ensures never_config { IfErr result (λ error. error ≢ JournalError.ConfigMismatch) }
 {
@@ -187,12 +187,12 @@ fn settle_side<D: Disk, R: Reader>(
     second_shut: bool,
     reader: &mut R,
 ) -> Result<Opened, JournalError>
-    requires choice { IsChoice choice.0 choice.1 (tells (D.device.content first.old)) (tells (D.device.content second.old)) }
+    requires choice { IsChoice choice.0 choice.1 (reports (D.device.content first.old)) (reports (D.device.content second.old)) }
     requires first_shut { first_shut ≡ is_shut (D.device.content first.old) }
     requires second_shut { second_shut ≡ is_shut (D.device.content second.old) }
     requires first_durable { LeavesOnly (D.device.content first.old) (D.device.outcome first.old) }
     requires second_durable { LeavesOnly (D.device.content second.old) (D.device.outcome second.old) }
-    ensures chosen { IfOk result (λ opened. IsChoice opened.side opened.generation (tells (D.device.content first.old)) (tells (D.device.content second.old))) }
+    ensures chosen { IfOk result (λ opened. IsChoice opened.side opened.generation (reports (D.device.content first.old)) (reports (D.device.content second.old))) }
     ensures opened { IfOk result (λ opened. AreOpened D.device opened.side opened.generation (on_side opened.side first.old second.old) (off_side opened.side first.old second.old) (on_side opened.side first.new second.new) (off_side opened.side first.new second.new)) }
     ensures records { OnOk result (TakesAll (λ records. R.takes reader.old records reader.new) (stands_in (pair (D.device.content first.old) (D.device.content second.old)))) }
     ensures len { IfOk result (λ opened. opened.len ≡ length (D.device.content (on_side opened.side first.new second.new))) }
@@ -201,7 +201,7 @@ fn settle_side<D: Disk, R: Reader>(
     ensures first_moment { AtEachMoment D.device first.old first.new (IsSameAs (D.device.content first.old)) }
     ensures second_moment { AtEachMoment D.device second.old second.new (IsSameAs (D.device.content second.old)) }
     ensures damaged { (place : ℕ) → IsErrOf result (JournalError.Damaged place) → stands_in (pair (D.device.content first.old) (D.device.content second.old)) ≡ Err place }
-    ensures cause { TellsFault JournalError.Device (D.device.faults first.old + D.device.faults second.old) (D.device.faults first.new + D.device.faults second.new) result }
+    ensures cause { ReportsFault JournalError.Device (D.device.faults first.old + D.device.faults second.old) (D.device.faults first.new + D.device.faults second.new) result }
     ensures never_full { IfErr result (λ error. error ≢ JournalError.Full) }
     ensures never_config { IfErr result (λ error. error ≢ JournalError.ConfigMismatch) }
 {
@@ -240,7 +240,7 @@ pub(crate) fn open_areas<D: Disk, R: Reader>(
     second: &mut D,
     reader: &mut R,
 ) -> Result<Opened, JournalError>
-    ensures chosen { IfOk result (λ opened. IsChoice opened.side opened.generation (tells (D.device.content first.old)) (tells (D.device.content second.old))) }
+    ensures chosen { IfOk result (λ opened. IsChoice opened.side opened.generation (reports (D.device.content first.old)) (reports (D.device.content second.old))) }
     ensures opened { IfOk result (λ opened. AreOpened D.device opened.side opened.generation (on_side opened.side first.old second.old) (off_side opened.side first.old second.old) (on_side opened.side first.new second.new) (off_side opened.side first.new second.new)) }
     ensures records { OnOk result (TakesAll (λ records. R.takes reader.old records reader.new) (stands_in (pair (D.device.content first.old) (D.device.content second.old)))) }
     ensures len { IfOk result (λ opened. opened.len ≡ length (D.device.content (on_side opened.side first.new second.new))) }
@@ -249,19 +249,19 @@ pub(crate) fn open_areas<D: Disk, R: Reader>(
     ensures first_moment { AtEachMoment D.device first.old first.new (IsAsOneOf (D.device.outcome first.old)) }
     ensures second_moment { AtEachMoment D.device second.old second.new (IsAsOneOf (D.device.outcome second.old)) }
     ensures damaged { (place : ℕ) → IsErrOf result (JournalError.Damaged place) → stands_in (pair (D.device.content first.old) (D.device.content second.old)) ≡ Err place }
-    ensures cause { TellsFault JournalError.Device (D.device.faults first.old + D.device.faults second.old) (D.device.faults first.new + D.device.faults second.new) result }
+    ensures cause { ReportsFault JournalError.Device (D.device.faults first.old + D.device.faults second.old) (D.device.faults first.new + D.device.faults second.new) result }
     ensures never_full { IfErr result (λ error. error ≢ JournalError.Full) }
     ensures never_config { IfErr result (λ error. error ≢ JournalError.ConfigMismatch) }
 {
-    let told = told_by(alloc, first)?;
-    let also = told_by(alloc, second)?;
-    let choice = choose(told, also)?;
+    let reported = reported_by(alloc, first)?;
+    let also = reported_by(alloc, second)?;
+    let choice = choose(reported, also)?;
     settle_side(
         alloc,
         choice,
         first,
         second,
-        told.is_none(),
+        reported.is_none(),
         also.is_none(),
         reader,
     )

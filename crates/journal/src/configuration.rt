@@ -1,7 +1,7 @@
 //! The shape of the records in the first group of an area.
 
 ghost use Rattle.std.specs.Prelude.{◌≡◌, ◌*◌, ◌≤◌, length};
-ghost use Rattle.journal.specs.Configuration.{number_of, stakes_size, size_in, has_front, is_configuration as told_configuration, shaped_version as told_version};
+ghost use Rattle.journal.specs.Configuration.{number_of, stakes_size, size_in, has_front, is_configuration as reported_configuration, shaped_version as reported_version};
 ghost use Rattle.journal.specs.Areas.{head_in as spec_head_in};
 
 use crate::version::Version;
@@ -26,7 +26,7 @@ pub const HEAD_BYTES: usize = 9;
 
 /// The version of whose configurations these bytes have the shape, if there is one.
 pub fn shaped_version(bytes: &[u8]) -> Option<Version>
-    ensures { result ≡ told_version bytes.now }
+    ensures { result ≡ reported_version bytes.now }
 {
     if is_configuration(Version::First, bytes) {
         Some(Version::First)
@@ -40,7 +40,7 @@ pub fn shaped_version(bytes: &[u8]) -> Option<Version>
 // Whether bytes have the shape of a configuration: its kind, the version, and the length that its number of members requires.
 #[tactic(auto, unfolding(crate::specs::Configuration::is_configuration))]
 fn is_configuration(version: Version, bytes: &[u8]) -> bool
-    ensures { result ≡ told_configuration version bytes.now }
+    ensures { result ≡ reported_configuration version bytes.now }
 {
     if bytes.len() < SETTINGS_BYTES {
         return false;

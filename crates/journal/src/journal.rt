@@ -1,17 +1,17 @@
 //! A journal on a disk.
 
 ghost use Rattle.std.specs.Prelude.{◌≡◌, ◌≢◌, ◌⊎◌, ◌↔◌, ◌+◌, ◌-◌, ◌^◌, ◌<◌, List, ℕ, ◌++◌, length, Ok, Err, IfOk, IfErr, OnOk, OnErr, IsErrOf, IsSome, IsTrue, Some, None, ◌∷◌, []};
-ghost use Rattle.diskmodel.specs.Disk.{LeavesOnly, AtEachMoment, NoneNew, TellsFault};
+ghost use Rattle.diskmodel.specs.Disk.{LeavesOnly, AtEachMoment, NoneNew, ReportsFault};
 ghost use Rattle.journal.specs.declared.layout.TheConstants.{CLOSED, OPEN, MAX_JOURNAL_BYTES};
 ghost use Rattle.journal.specs.Format.{FitsGroup, group_bytes, stands, file_with, ScansTo};
-ghost use Rattle.journal.specs.Areas.{generation_of, tells, other_side, pair, stands_in, rewrite_calls};
+ghost use Rattle.journal.specs.Areas.{generation_of, reports, other_side, pair, stands_in, rewrite_calls};
 ghost use Rattle.journal.specs.Snapshot.{bytes_for};
 ghost use Rattle.journal.specs.Pairs.{HaveChangedPlaces, HaveKeptPlaces, StandsAsOrAfter, stands_as, spare_disk, side_in, generation_in, areas_of, areas_in, store_of, rewritten_disk, untouched_disk};
 ghost use Rattle.journal.specs.Reader.{TakesAll};
 ghost use Rattle.journal.specs.Opened.{on_side, off_side, spare_with};
 ghost use Rattle.journal.specs.Spares.{by_area};
-ghost use Rattle.journal.specs.Journal.{disk_of, spare_of, disk_after, TellsFaultBack, append_calls, EndsClosed, IsAlive, MadeSome, stands_with, IsClosedUp, IsBeforeOrAfter, StandsAsOneOf, IsAsOneOf};
-ghost use Rattle.journal.specs.Stores.{disks_of, faults_of_both, faults_in, TellsFaultsBack, IsChosenOf, AreClosedUp, IsOpenedOn, OpensAtEachMoment};
+ghost use Rattle.journal.specs.Journal.{disk_of, spare_of, disk_after, ReportsFaultBack, append_calls, EndsClosed, IsAlive, MadeSome, stands_with, IsClosedUp, IsBeforeOrAfter, StandsAsOneOf, IsAsOneOf};
+ghost use Rattle.journal.specs.Stores.{disks_of, faults_of_both, faults_in, ReportsFaultsBack, IsChosenOf, AreClosedUp, IsOpenedOn, OpensAtEachMoment};
 
 use crate::areas::{Opened, open_areas};
 use crate::durable::Durable;
@@ -109,7 +109,7 @@ impl<D: Disk> Journal<D> {
         ensures never_config { IfErr result (λ failed. failed.error ≢ JournalError.ConfigMismatch) }
 
         // The error is Device exactly where the disk has failed.
-        ensures cause { TellsFaultBack D.device (λ opened. disk_of opened.0) JournalError.Device disk result }
+        ensures cause { ReportsFaultBack D.device (λ opened. disk_of opened.0) JournalError.Device disk result }
 
         ensures alone { IfOk result (λ opened. spare_of opened.0 ≡ None) }
     {
@@ -153,7 +153,7 @@ impl<D: Disk> Journal<D> {
         ensures never_config { IfErr result (λ failed. failed.error ≢ JournalError.ConfigMismatch) }
 
         // The error is Device exactly where one of the two disks has failed.
-        ensures cause { TellsFaultsBack (faults_of_both D.device) (λ opened. disks_of opened.0) JournalError.Device (first, second) result }
+        ensures cause { ReportsFaultsBack (faults_of_both D.device) (λ opened. disks_of opened.0) JournalError.Device (first, second) result }
     {
         let mut records = Vec::new(alloc);
         match open_areas(alloc, &mut first, &mut second, &mut records) {
@@ -188,7 +188,7 @@ impl<D: Disk> Journal<D> {
         ensures never_config { IfErr result (λ failed. failed.error ≢ JournalError.ConfigMismatch) }
 
         // The error is Device exactly where one of the disks has failed.
-        ensures cause { TellsFaultsBack (faults_in D.device) store_of JournalError.Device store result }
+        ensures cause { ReportsFaultsBack (faults_in D.device) store_of JournalError.Device store result }
     {
         match store {
             Store::One(mut disk) => match repair(alloc, &mut disk, reader) {
@@ -262,7 +262,7 @@ impl<D: Disk> Journal<D> {
         ensures errors { IfErr result (λ error. (error ≡ JournalError.Device) ⊎ (error ≡ JournalError.Full)) }
 
         // The error is Device exactly where the disk has failed.
-        ensures cause { TellsFault JournalError.Device (D.device.faults (disk_of self.old)) (D.device.faults (disk_of self.new)) result }
+        ensures cause { ReportsFault JournalError.Device (D.device.faults (disk_of self.old)) (D.device.faults (disk_of self.new)) result }
 
         // After `Device` nothing can be appended any more.
         ensures dead { IsErrOf result JournalError.Device → ¬ IsAlive D.device self.new }
@@ -300,7 +300,7 @@ impl<D: Disk> Journal<D> {
         requires pair { IsSome (spare_of self.old) }
 
         // The area that is read has its first group.
-        requires begun { tells (D.device.content (disk_of self.old)) ≡ Some (Some (generation_in self.old)) }
+        requires begun { reports (D.device.content (disk_of self.old)) ≡ Some (Some (generation_in self.old)) }
 
         ensures alive { OnOk result (IsAlive D.device self.new) }
         ensures swapped { OnOk result (HaveChangedPlaces self.old self.new) }
@@ -318,7 +318,7 @@ impl<D: Disk> Journal<D> {
         ensures errors { IfErr result (λ error. (error ≡ JournalError.Device) ⊎ (error ≡ JournalError.Full)) }
 
         // The error is Device exactly where the disk that is written has failed.
-        ensures cause { TellsFault JournalError.Device (D.device.faults (spare_disk self.old)) (D.device.faults (rewritten_disk result self.new)) result }
+        ensures cause { ReportsFault JournalError.Device (D.device.faults (spare_disk self.old)) (D.device.faults (rewritten_disk result self.new)) result }
 
         // After `Device` nothing can be written any more.
         ensures dead { IsErrOf result JournalError.Device → ¬ IsAlive D.device self.new }
@@ -443,7 +443,7 @@ fn write_group<D: Disk>(disk: &mut D, len: u64, group: &Group) -> Result<(), Jou
     ensures durable { OnOk result (LeavesOnly (D.device.content disk.new) (D.device.outcome disk.new)) }
     ensures any_moment { AtEachMoment D.device disk.old disk.new (IsBeforeOrAfter (D.device.content disk.old) group.now) }
     ensures errors { IfErr result (λ error. error ≡ JournalError.Device) }
-    ensures cause { TellsFault JournalError.Device (D.device.faults disk.old) (D.device.faults disk.new) result }
+    ensures cause { ReportsFault JournalError.Device (D.device.faults disk.old) (D.device.faults disk.new) result }
     ensures calls { OnOk result (D.device.calls disk.new ≡ D.device.calls disk.old ++ append_calls len group.now) }
     ensures calls_err { OnErr result (MadeSome (append_calls len group.now) (D.device.calls disk.old) (D.device.calls disk.new)) }
 {
@@ -470,7 +470,7 @@ fn repair<D: Disk, R: Reader>(
     ensures durable { OnOk result (LeavesOnly (D.device.content disk.new) (D.device.outcome disk.new)) }
     ensures any_moment { AtEachMoment D.device disk.old disk.new (StandsAsOneOf (D.device.outcome disk.old)) }
     ensures damaged { (gate : ℕ) → IsErrOf result (JournalError.Damaged gate) → stands (D.device.content disk.old) ≡ Err gate }
-    ensures cause { TellsFault JournalError.Device (D.device.faults disk.old) (D.device.faults disk.new) result }
+    ensures cause { ReportsFault JournalError.Device (D.device.faults disk.old) (D.device.faults disk.new) result }
     ensures never_full { IfErr result (λ error. error ≢ JournalError.Full) }
     ensures never_config { IfErr result (λ error. error ≢ JournalError.ConfigMismatch) }
 {
@@ -493,10 +493,10 @@ pub(crate) fn close_end<D: Disk>(disk: &mut D, len: u64, gate: u64) -> Result<()
     ensures records { OnOk result (stands (D.device.content disk.new) ≡ stands (D.device.content disk.old)) }
     ensures durable { OnOk result (LeavesOnly (D.device.content disk.new) (D.device.outcome disk.new)) }
     ensures any_moment { AtEachMoment D.device disk.old disk.new (λ left. stands left ≡ stands (D.device.content disk.old)) }
-    ensures tells { OnOk result (tells (D.device.content disk.new) ≡ tells (D.device.content disk.old)) }
-    ensures telling { AtEachMoment D.device disk.old disk.new (λ left. tells left ≡ tells (D.device.content disk.old)) }
+    ensures reports { OnOk result (reports (D.device.content disk.new) ≡ reports (D.device.content disk.old)) }
+    ensures reporting { AtEachMoment D.device disk.old disk.new (λ left. reports left ≡ reports (D.device.content disk.old)) }
     ensures errors { IfErr result (λ error. error ≡ JournalError.Device) }
-    ensures cause { TellsFault JournalError.Device (D.device.faults disk.old) (D.device.faults disk.new) result }
+    ensures cause { ReportsFault JournalError.Device (D.device.faults disk.old) (D.device.faults disk.new) result }
 {
     if len < 2 {
         disk.write_at(0, &[CLOSED])?;

@@ -36,7 +36,7 @@ pub use layout::{
     CLOSED, LENGTH_BYTES, MAX_GROUP_BYTES, MAX_GROUP_RECORDS, MAX_JOURNAL_BYTES, OPEN, SECOND_AREA,
 };
 pub use reader::Reader;
-pub use reading::{stands, tells};
+pub use reading::{reports, stands};
 pub use record::{Record, RecordRef};
 pub use side::Side;
 pub use snapshot::Snapshot;

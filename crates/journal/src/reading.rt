@@ -3,7 +3,7 @@
 ghost use Rattle.std.specs.Prelude.{◌≡◌, ◌+◌, ◌≤◌, ◌<◌, length, map, Ok, IfOk, IfErr};
 ghost use Rattle.std.specs.Option.{option_map, option_copied};
 ghost use Rattle.journal.specs.Format.{stands, scan, walk, records_of, group_of, body_at, length_field, kept, FailsAs, ScansTo, split_record};
-ghost use Rattle.journal.specs.Areas.{stands_at, first_generation, generation_of, tells};
+ghost use Rattle.journal.specs.Areas.{stands_at, first_generation, generation_of, reports};
 ghost use Rattle.journal.specs.declared.layout.TheConstants.{SECOND_AREA};
 
 use crate::configuration::{head_in, shaped_version};
@@ -75,9 +75,9 @@ fn walk_from(alloc: Global, bytes: &[u8], base: u64) -> Result<(Vec<Record>, u64
 ///
 /// # Errors
 /// Out of memory.
-#[tactic(auto, unfolding(crate::specs::Areas::tells))]
-pub fn tells(alloc: Global, bytes: &[u8]) -> Result<Option<Option<u64>>, AllocError>
-    ensures { IfOk result (λ told. told ≡ tells bytes.now) }
+#[tactic(auto, unfolding(crate::specs::Areas::reports))]
+pub fn reports(alloc: Global, bytes: &[u8]) -> Result<Option<Option<u64>>, AllocError>
+    ensures { IfOk result (λ reported. reported ≡ reports bytes.now) }
 {
     if bytes.len() < 2 || bytes[0] == CLOSED {
         return Ok(None);

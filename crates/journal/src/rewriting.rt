@@ -1,7 +1,7 @@
 //! How an area is rewritten: it is closed and cleared, its groups are written after the closed gate, and then the gate is opened.
 
 ghost use Rattle.std.specs.Prelude.{◌≡◌, ◌++◌, ◌∷◌, [], ℕ, IfErr, OnOk, OnErr};
-ghost use Rattle.diskmodel.specs.Disk.{LeavesOnly, AtEachMoment, TellsFault};
+ghost use Rattle.diskmodel.specs.Disk.{LeavesOnly, AtEachMoment, ReportsFault};
 ghost use Rattle.journal.specs.Areas.{IsAtRest, IsOlder, IsOlderOrNew, clear_calls, fill_calls, rewrite_calls};
 ghost use Rattle.journal.specs.Journal.{MadeSome};
 ghost use Rattle.journal.specs.declared.layout.TheConstants.{CLOSED, OPEN};
@@ -18,7 +18,7 @@ pub(crate) fn rewrite_area<D: Disk>(disk: &mut D, bytes: &[u8]) -> Result<(), Jo
     ensures durable { OnOk result (LeavesOnly (D.device.content disk.new) (D.device.outcome disk.new)) }
     ensures any_moment { (above : ℕ) → IsAtRest above (D.device.content disk.old) → AtEachMoment D.device disk.old disk.new (IsOlderOrNew above bytes.now) }
     ensures errors { IfErr result (λ error. error ≡ JournalError.Device) }
-    ensures cause { TellsFault JournalError.Device (D.device.faults disk.old) (D.device.faults disk.new) result }
+    ensures cause { ReportsFault JournalError.Device (D.device.faults disk.old) (D.device.faults disk.new) result }
     ensures calls { OnOk result (D.device.calls disk.new ≡ D.device.calls disk.old ++ rewrite_calls bytes.now) }
     ensures calls_err { OnErr result (MadeSome (rewrite_calls bytes.now) (D.device.calls disk.old) (D.device.calls disk.new)) }
 {
@@ -33,7 +33,7 @@ fn clear<D: Disk>(disk: &mut D) -> Result<(), JournalError>
     ensures durable { OnOk result (LeavesOnly (D.device.content disk.new) (D.device.outcome disk.new)) }
     ensures any_moment { (above : ℕ) → IsAtRest above (D.device.content disk.old) → AtEachMoment D.device disk.old disk.new (IsOlder above) }
     ensures errors { IfErr result (λ error. error ≡ JournalError.Device) }
-    ensures cause { TellsFault JournalError.Device (D.device.faults disk.old) (D.device.faults disk.new) result }
+    ensures cause { ReportsFault JournalError.Device (D.device.faults disk.old) (D.device.faults disk.new) result }
     ensures calls { OnOk result (D.device.calls disk.new ≡ D.device.calls disk.old ++ clear_calls) }
     ensures calls_err { OnErr result (MadeSome clear_calls (D.device.calls disk.old) (D.device.calls disk.new)) }
 {
@@ -53,7 +53,7 @@ fn fill<D: Disk>(disk: &mut D, bytes: &[u8]) -> Result<(), JournalError>
     ensures durable { OnOk result (LeavesOnly (D.device.content disk.new) (D.device.outcome disk.new)) }
     ensures any_moment { (above : ℕ) → AtEachMoment D.device disk.old disk.new (IsOlderOrNew above bytes.now) }
     ensures errors { IfErr result (λ error. error ≡ JournalError.Device) }
-    ensures cause { TellsFault JournalError.Device (D.device.faults disk.old) (D.device.faults disk.new) result }
+    ensures cause { ReportsFault JournalError.Device (D.device.faults disk.old) (D.device.faults disk.new) result }
     ensures calls { OnOk result (D.device.calls disk.new ≡ D.device.calls disk.old ++ fill_calls bytes.now) }
     ensures calls_err { OnErr result (MadeSome (fill_calls bytes.now) (D.device.calls disk.old) (D.device.calls disk.new)) }
 {

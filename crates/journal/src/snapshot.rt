@@ -3,7 +3,7 @@
 ghost use Rattle.std.specs.Prelude.{◌≡◌, ◌+◌, ◌≤◌, ◌++◌, ◌∷◌, ℕ, vec_len, take, drop, length, IfOk, IfErr, OnOk, OnErr, IsTrue, ◌↔◌};
 ghost use Rattle.std.specs.Int.{w64, to_be_bytes};
 ghost use Rattle.diskmodel.specs.Outcomes.{AreBytes};
-ghost use Rattle.diskmodel.specs.Disk.{LeavesOnly, AtEachMoment, TellsFault};
+ghost use Rattle.diskmodel.specs.Disk.{LeavesOnly, AtEachMoment, ReportsFault};
 ghost use Rattle.journal.specs.Areas.{IsAtRest, IsOlderOrNew, rewrite_calls};
 ghost use Rattle.journal.specs.Journal.{MadeSome};
 ghost use Rattle.std.specs.List.{All};
@@ -107,7 +107,7 @@ impl Snapshot {
         ensures durable { OnOk result (LeavesOnly (D.device.content disk.new) (D.device.outcome disk.new)) }
         ensures any_moment { (above : ℕ) → IsAtRest above (D.device.content disk.old) → AtEachMoment D.device disk.old disk.new (IsOlderOrNew above (bytes_for generation self.old)) }
         ensures errors { IfErr result (λ error. error ≡ JournalError.Device) }
-        ensures cause { TellsFault JournalError.Device (D.device.faults disk.old) (D.device.faults disk.new) result }
+        ensures cause { ReportsFault JournalError.Device (D.device.faults disk.old) (D.device.faults disk.new) result }
         ensures calls { OnOk result (D.device.calls disk.new ≡ D.device.calls disk.old ++ rewrite_calls (bytes_for generation self.old)) }
         ensures calls_err { OnErr result (MadeSome (rewrite_calls (bytes_for generation self.old)) (D.device.calls disk.old) (D.device.calls disk.new)) }
     {

@@ -1,7 +1,7 @@
 //! The spare disk of a journal on two disks.
 
 ghost use Rattle.std.specs.Prelude.{◌≡◌, ◌+◌, ◌<◌, ◌^◌, ◌++◌, ◌∷◌, IfErr, OnOk, OnErr};
-ghost use Rattle.diskmodel.specs.Disk.{LeavesOnly, AtEachMoment, TellsFault};
+ghost use Rattle.diskmodel.specs.Disk.{LeavesOnly, AtEachMoment, ReportsFault};
 ghost use Rattle.journal.specs.Areas.{IsAtRest, IsOlderOrNew, rewrite_calls};
 ghost use Rattle.journal.specs.Journal.{MadeSome};
 ghost use Rattle.journal.specs.Snapshot.{bytes_for};
@@ -48,7 +48,7 @@ impl<D: Disk> Spare<D> {
         ensures durable { OnOk result (LeavesOnly (D.device.content live.new) (D.device.outcome live.new)) }
         ensures any_moment { IsAtRest self.old.generation (D.device.content self.old.disk) → AtEachMoment D.device self.old.disk (written_disk result self.new live.new) (IsOlderOrNew self.old.generation (bytes_for (self.old.generation + 1) snapshot.old)) }
         ensures errors { IfErr result (λ error. error ≡ JournalError.Device) }
-        ensures cause { TellsFault JournalError.Device (D.device.faults self.old.disk) (D.device.faults (written_disk result self.new live.new)) result }
+        ensures cause { ReportsFault JournalError.Device (D.device.faults self.old.disk) (D.device.faults (written_disk result self.new live.new)) result }
         ensures calls { OnOk result (D.device.calls live.new ≡ D.device.calls self.old.disk ++ rewrite_calls (bytes_for (self.old.generation + 1) snapshot.old)) }
         ensures calls_err { OnErr result (MadeSome (rewrite_calls (bytes_for (self.old.generation + 1) snapshot.old)) (D.device.calls self.old.disk) (D.device.calls self.new.disk)) }
     {

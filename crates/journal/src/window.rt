@@ -1,7 +1,7 @@
 //! Reading the groups of a file through a window: the part of the file that is in memory.
 
 ghost use Rattle.std.specs.Prelude.{◌≡◌, ◌≢◌, ◌+◌, ◌<◌, ◌≤◌, [], ℕ, List, length, Ok, IfOk, IfErr, IsTrue, false, OnOk, vec_len};
-ghost use Rattle.diskmodel.specs.Disk.{TellsFault};
+ghost use Rattle.diskmodel.specs.Disk.{ReportsFault};
 ghost use Rattle.journal.specs.Format.{FailsAs, ScansTo, walk, with_front};
 ghost use Rattle.journal.specs.Areas.{stands_at};
 ghost use Rattle.journal.specs.Reader.{TakesAll, TakesTo};
@@ -60,7 +60,7 @@ impl Window {
         ensures taken { OnOk result (TakesTo (λ records. R.takes reader.old records reader.new) (left_from base self.old.gate (D.device.content disk.old)) (base + self.new.gate)) }
         ensures err { IfErr result (λ error. error ≢ JournalError.Device → FailsAs error (left_from base self.old.gate (D.device.content disk.old))) }
         ensures only_read { IsOnlyRead D.device disk.old disk.new }
-        ensures cause { TellsFault JournalError.Device (D.device.faults disk.old) (D.device.faults disk.new) result }
+        ensures cause { ReportsFault JournalError.Device (D.device.faults disk.old) (D.device.faults disk.new) result }
     {
         while self.next(alloc, disk, base, reader)? {}
         Ok(())
@@ -84,7 +84,7 @@ impl Window {
             × (left_from base self.old.gate (D.device.content disk.old) ≡ Ok ([], base + self.old.gate))) }
         ensures err { IfErr result (λ error. error ≢ JournalError.Device → FailsAs error (left_from base self.old.gate (D.device.content disk.old))) }
         ensures only_read { IsOnlyRead D.device disk.old disk.new }
-        ensures cause { TellsFault JournalError.Device (D.device.faults disk.old) (D.device.faults disk.new) result }
+        ensures cause { ReportsFault JournalError.Device (D.device.faults disk.old) (D.device.faults disk.new) result }
     {
         self.reach(disk)?;
         if self.bytes[self.read] == CLOSED {
@@ -112,7 +112,7 @@ impl Window {
         ensures gate { self.new.gate ≡ self.old.gate }
         ensures only_read { IsOnlyRead D.device disk.old disk.new }
         ensures errors { IfErr result (λ error. error ≡ JournalError.Device) }
-        ensures cause { TellsFault JournalError.Device (D.device.faults disk.old) (D.device.faults disk.new) result }
+        ensures cause { ReportsFault JournalError.Device (D.device.faults disk.old) (D.device.faults disk.new) result }
     {
         if !self.has_next() {
             self.fill(disk)?;
@@ -147,7 +147,7 @@ impl Window {
         ensures gate { self.new.gate ≡ self.old.gate }
         ensures only_read { IsOnlyRead D.device disk.old disk.new }
         ensures errors { IfErr result (λ error. error ≡ JournalError.Device) }
-        ensures cause { TellsFault JournalError.Device (D.device.faults disk.old) (D.device.faults disk.new) result }
+        ensures cause { ReportsFault JournalError.Device (D.device.faults disk.old) (D.device.faults disk.new) result }
     {
         let count = (self.len - self.gate).min(WINDOW_BYTES) as usize;
         let start = self.bytes.len() - count;
@@ -169,7 +169,7 @@ pub(crate) fn read_area<D: Disk, R: Reader>(
     ensures len { IfOk result (λ ends. ends.1 ≡ length (D.device.content disk.old)) }
     ensures err { IfErr result (λ error. error ≢ JournalError.Device → FailsAs error (stands_at side (D.device.content disk.old))) }
     ensures only_read { IsOnlyRead D.device disk.old disk.new }
-    ensures cause { TellsFault JournalError.Device (D.device.faults disk.old) (D.device.faults disk.new) result }
+    ensures cause { ReportsFault JournalError.Device (D.device.faults disk.old) (D.device.faults disk.new) result }
 {
     let len = disk.len()?;
     if len < 2 {
@@ -198,7 +198,7 @@ fn read_groups<D: Disk, R: Reader>(
     ensures taken { IfOk result (λ gate. TakesTo (λ records. R.takes reader.old records reader.new) (walk base 0 (D.device.content disk.old)) (base + gate)) }
     ensures err { IfErr result (λ error. error ≢ JournalError.Device → FailsAs error (walk base 0 (D.device.content disk.old))) }
     ensures only_read { IsOnlyRead D.device disk.old disk.new }
-    ensures cause { TellsFault JournalError.Device (D.device.faults disk.old) (D.device.faults disk.new) result }
+    ensures cause { ReportsFault JournalError.Device (D.device.faults disk.old) (D.device.faults disk.new) result }
 {
     let mut window = Window::new(alloc, len)?;
     window.read_on(alloc, disk, base, reader)?;

@@ -24,13 +24,13 @@ use Rattle.spec_records.specs.Records.{record_of}
 use Rattle.spec_world.specs.World as world
 use Rattle.spec_world.specs.World.{bytes_of, IsPair, StandsFor}
 use Rattle.spec_world.proofs.Recovering.{stands_once}
-use Rattle.opening.specs.Decoded.{IsText, event_in, events_part, go_on, is_event, or_damaged, own_fault, read_after, read_checkpoint, read_events, read_pair, read_state, state_part, decoded_in, Tells, unless, StandsAt}
+use Rattle.opening.specs.Decoded.{IsText, event_in, events_part, go_on, is_event, or_damaged, own_fault, read_after, read_checkpoint, read_events, read_pair, read_state, state_part, decoded_in, Reports, unless, StandsAt}
 use Rattle.opening.proofs.EventRecords.{record_read}
 use Rattle.opening.proofs.Histories.{read_back}
 use Rattle.opening.proofs.Laws.{unless_ok}
 use Rattle.opening.proofs.PairLaws.{areas_begin, found_in}
-use Rattle.opening.proofs.PairTelling.{checkpoint_is, pair_fails, pair_first, pair_none, decoded_pair_records}
-use Rattle.opening.proofs.Telling.{read_nil}
+use Rattle.opening.proofs.PairReporting.{checkpoint_is, pair_fails, pair_first, pair_none, decoded_pair_records}
+use Rattle.opening.proofs.Reporting.{read_nil}
 use Rattle.admission.specs.declared.tables.Tables.{Tables}
 use Rattle.validator.specs.Standing.{AreAtSound}
 use Rattle.journal_account.specs.Accounts.{after_head, events_in, base_of, base_in, generation_in, side_in, IsReadAs, IsReadAt, given_to, given_by, given_in, AreKeptVotes, AreOrdered, AreVotes, Sums}
@@ -96,12 +96,12 @@ begins_wrong node [] error wrong = absurd (no_ok (fresh node) error wrong)
 begins_wrong node (first ∷ rest) error wrong = fault_on node first rest error (own_fault node first) (base_of node first rest) refl refl wrong
 
 -- a journal whose beginning is at fault is so
-pub begin_tells : (node : Node) (records : List Record) (error : JournalError) → Tells error (base_in node records) → Tells error (read_pair node records)
-begin_tells node records Memory tells = tt
-begin_tells node records Device tells = begins_wrong node records Device tells
-begin_tells node records (Damaged place) tells = begins_wrong node records (Damaged place) tells
-begin_tells node records ConfigMismatch tells = begins_wrong node records ConfigMismatch tells
-begin_tells node records Full tells = begins_wrong node records Full tells
+pub begin_reports : (node : Node) (records : List Record) (error : JournalError) → Reports error (base_in node records) → Reports error (read_pair node records)
+begin_reports node records Memory reports = tt
+begin_reports node records Device reports = begins_wrong node records Device reports
+begin_reports node records (Damaged place) reports = begins_wrong node records (Damaged place) reports
+begin_reports node records ConfigMismatch reports = begins_wrong node records ConfigMismatch reports
+begin_reports node records Full reports = begins_wrong node records Full reports
 
 events_wrong : (node : Node) (records : List Record) (base : State) (place : ℕ) → base_in node records ≡ Ok base → read_events node base (events_in records) ≡ Err place
     → read_pair node records ≡ Err (Damaged place)
@@ -112,18 +112,18 @@ events_wrong node (first ∷ rest) base place begins wrong =
     free node first rest parts.0 ∙ ap or_damaged (ap (go_on (λ s. read_events node s (events_in (first ∷ rest)))) parts.1 ∙ wrong)
 
 -- and so is one whose events are
-pub events_tell : (node : Node) (records : List Record) (base : State) (error : JournalError) → base_in node records ≡ Ok base
-    → FailsAs error (read_events node base (events_in records)) → Tells error (read_pair node records)
-events_tell node records base Memory begins fails = tt
-events_tell node records base Device begins fails = absurd fails
-events_tell node records base (Damaged place) begins fails = events_wrong node records base place begins fails
-events_tell node records base ConfigMismatch begins fails = absurd fails
-events_tell node records base Full begins fails = absurd fails
+pub events_report : (node : Node) (records : List Record) (base : State) (error : JournalError) → base_in node records ≡ Ok base
+    → FailsAs error (read_events node base (events_in records)) → Reports error (read_pair node records)
+events_report node records base Memory begins fails = tt
+events_report node records base Device begins fails = absurd fails
+events_report node records base (Damaged place) begins fails = events_wrong node records base place begins fails
+events_report node records base ConfigMismatch begins fails = absurd fails
+events_report node records base Full begins fails = absurd fails
 
 -- what is told of areas is told of their records
-pub tells_areas : (node : Node) (areas : Areas) (records : List Record) (error : JournalError) → IsPair areas → stands_in areas ≡ Ok records → Tells error (read_pair node records)
-    → Tells error (decoded_in node areas)
-tells_areas node areas records error two is tells = subst (Tells error) (sym (decoded_pair_records node areas records two is)) tells
+pub reports_areas : (node : Node) (areas : Areas) (records : List Record) (error : JournalError) → IsPair areas → stands_in areas ≡ Ok records → Reports error (read_pair node records)
+    → Reports error (decoded_in node areas)
+reports_areas node areas records error two is reports = subst (Reports error) (sym (decoded_pair_records node areas records two is)) reports
 
 -- ---- the records of events
 
@@ -197,7 +197,7 @@ found_as starts node areas records base state two sound base_sound texts is begi
         legal = record { node_is = sound; sound = base_sound; taken = more.are.taken; new = more.are.new };
         stands_for = subst (StandsFor node areas) more.parts stands;
         one_state = λ other stands_too. one_state node areas state other stands stands_too ∙ more.parts;
-        is_told = decoded_pair_records node areas records two is ∙ whole ∙ ap Ok more.parts;
+        is_decoded = decoded_pair_records node areas records two is ∙ whole ∙ ap Ok more.parts;
       };
       same = refl;
       leads = more.parts;
@@ -291,7 +291,7 @@ begun_stands node first rest tables own at = record { state = at.state; is_read 
 
 -- and what is wrong with it
 pub begun_fails : (node : Node) (first : Record) (rest : List Record) (error : JournalError) → own_fault node first ≡ None → FailsAs error (base_of node first rest)
-    → Tells error (base_in node (first ∷ rest))
+    → Reports error (base_in node (first ∷ rest))
 begun_fails node first rest Memory own fails = tt
 begun_fails node first rest Device own fails = absurd fails
 begun_fails node first rest (Damaged place) own fails = base_free node first rest (Err place) own fails
@@ -299,7 +299,7 @@ begun_fails node first rest ConfigMismatch own fails = absurd fails
 begun_fails node first rest Full own fails = absurd fails
 
 pub first_fails : (node : Node) (first : Record) (rest : List Record) (error : JournalError) → (error ≢ Memory → own_fault node first ≡ Some error)
-    → Tells error (base_in node (first ∷ rest))
+    → Reports error (base_in node (first ∷ rest))
 first_fails node first rest Memory own = tt
 first_fails node first rest Device own = base_fault node first rest Device (own (λ same. cc))
 first_fails node first rest (Damaged place) own = base_fault node first rest (Damaged place) (own (λ same. cc))

@@ -6,7 +6,7 @@ use Rattle.journal.specs.declared.record.Record.{Record}
 use Rattle.spec_model.specs.Nodes.{Node}
 use Rattle.spec_model.specs.States.{State}
 use Rattle.opening.specs.Decoded.{read_event, read_events, StandsAt}
-use Rattle.opening.proofs.Telling.{fails_on, read_nil, read_ok}
+use Rattle.opening.proofs.Reporting.{fails_on, read_nil, read_ok}
 use Rattle.admission.specs.declared.tables.Tables.{Tables}
 use Rattle.validator.specs.Standing.{AreAtSound}
 

@@ -12,7 +12,7 @@ use Rattle.spec_model.specs.Nodes.{Node}
 use Rattle.spec_world.specs.World.{bytes_of}
 use Rattle.opening.specs.PairReplayed.{error_at}
 use Rattle.opening.specs.Decoded.{gates_of, is_event, events_part, read_state, state_part}
-use Rattle.opening.proofs.PairTelling.{events_on, state_fails, state_on}
+use Rattle.opening.proofs.PairReporting.{events_on, state_fails, state_on}
 
 -- a record of a state
 abbrev pub IsState : Record → Type 0

@@ -68,7 +68,7 @@ pub record IsReadAs (node : Node) (areas : Areas) (base : State) (events : Histo
   pub legal : IsLegalAfter node base events
   pub stands_for : StandsFor node areas (after_all node base events)
   pub one_state : (other : State) → StandsFor node areas other → other ≡ after_all node base events
-  pub is_told : decoded_in node areas ≡ Ok (after_all node base events)
+  pub is_decoded : decoded_in node areas ≡ Ok (after_all node base events)
 
 -- areas are read as a state and the events after it, and the tables hold the state after these events
 pub record IsReadAt (node : Node) (areas : Areas) (tables : Tables) : Type 0 where

@@ -1,12 +1,12 @@
 //! Which of a journal's two files is read, and its records, by the same definitions as in an opening of a node.
 
 ghost use Rattle.std.specs.Prelude.{◌≡◌, ◌<◌, ◌^◌, Ok, All, map, IfOk, IfErr};
-ghost use Rattle.journal.specs.Areas.{tells, chosen, pair, stands_in, moved, moved_by};
+ghost use Rattle.journal.specs.Areas.{reports, chosen, pair, stands_in, moved, moved_by};
 ghost use Rattle.journal.specs.Format.{FailsAs, stands};
 ghost use Rattle.journal.specs.declared.layout.TheConstants.{SECOND_AREA};
 
 use crate::flaw::{Flaw, Why};
-use journal::{JournalError, Record, SECOND_AREA, Side, stands, tells};
+use journal::{JournalError, Record, SECOND_AREA, Side, reports, stands};
 use opening::is_text;
 use std::alloc::Global;
 
@@ -16,11 +16,11 @@ use std::alloc::Global;
 /// `Damaged` at the first gate of the file whose first group is no journal's, or of the second file where both have the same generation;
 /// `Memory` where an allocation failed.
 pub fn side_read(alloc: Global, first: &[u8], second: &[u8]) -> Result<Option<Side>, Flaw>
-    ensures ok { IfOk result (λ side. chosen (tells first.now) (tells second.now) ≡ Ok side) }
-    ensures err { IfErr result (λ flaw. FailsAs flaw.error (chosen (tells first.now) (tells second.now))) }
+    ensures ok { IfOk result (λ side. chosen (reports first.now) (reports second.now) ≡ Ok side) }
+    ensures err { IfErr result (λ flaw. FailsAs flaw.error (chosen (reports first.now) (reports second.now))) }
 {
-    let one = tells(alloc, first)?;
-    let other = tells(alloc, second)?;
+    let one = reports(alloc, first)?;
+    let other = reports(alloc, second)?;
     choose(one, other)
 }
 

@@ -4,7 +4,7 @@ ghost use Rattle.std.specs.Prelude.{◌≡◌, Ok, IfOk, IfErr};
 ghost use Rattle.journal.specs.Areas.{Areas, stands_in};
 ghost use Rattle.spec_world.specs.World.{IsPair};
 ghost use Rattle.validator.specs.Setting.{node_of};
-ghost use Rattle.opening.specs.Decoded.{decoded_in, Tells};
+ghost use Rattle.opening.specs.Decoded.{decoded_in, Reports};
 ghost use Rattle.journal_account.specs.Accounts.{AreOrdered};
 
 use crate::flaw::Flaw;
@@ -25,7 +25,7 @@ pub fn order_of<S: Sign>(
     records: &[Record],
 ) -> Result<Vec<Digest>, Flaw>
     ensures ok { (areas : Areas) → IsPair areas → stands_in areas ≡ Ok records.now → IfOk result (λ digests. AreOrdered (node_of S.scheme config.now) areas digests.items) }
-    ensures err { (areas : Areas) → IsPair areas → stands_in areas ≡ Ok records.now → IfErr result (λ flaw. Tells flaw.error (decoded_in (node_of S.scheme config.now) areas)) }
+    ensures err { (areas : Areas) → IsPair areas → stands_in areas ≡ Ok records.now → IfErr result (λ flaw. Reports flaw.error (decoded_in (node_of S.scheme config.now) areas)) }
 {
     let validator = after_records(alloc, config, records)?;
     let order = validator.order();

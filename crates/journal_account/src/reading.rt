@@ -6,7 +6,7 @@ ghost use Rattle.journal.specs.Format.{FailsAs};
 ghost use Rattle.spec_machine.specs.Machine.{fresh};
 ghost use Rattle.spec_world.specs.World.{IsPair};
 ghost use Rattle.validator.specs.Setting.{node_of};
-ghost use Rattle.opening.specs.Decoded.{IsText, read_pair, Tells, StandsAt};
+ghost use Rattle.opening.specs.Decoded.{IsText, read_pair, Reports, StandsAt};
 ghost use Rattle.journal_account.specs.Accounts.{IsReadAt, base_of, base_in};
 
 use crate::events::replay;
@@ -34,7 +34,7 @@ pub fn after_records<'a, S: Sign>(
     // Where two files are read as these records, they stand for a state and later events, and the validator is in the state after these.
     ensures read { let node = node_of S.scheme config.now in (areas : Areas) → IsPair areas → stands_in areas ≡ Ok records.now
         → IfOk result (λ validator. IsReadAt node areas validator.tables) }
-    ensures err { IfErr result (λ flaw. Tells flaw.error (read_pair (node_of S.scheme config.now) records.now)) }
+    ensures err { IfErr result (λ flaw. Reports flaw.error (read_pair (node_of S.scheme config.now) records.now)) }
 {
     spec_machine::starts_fresh();
     config.limits_hold();
@@ -55,7 +55,7 @@ pub(crate) fn begun<'a, S: Sign>(
 ) -> Result<Validator<'a, S>, Flaw>
     ensures setting { IfOk result (λ validator. validator.setting ≡ config.now) }
     ensures stands { let node = node_of S.scheme config.now in IfOk result (λ validator. StandsAt node (base_in node records.now) validator.tables) }
-    ensures err { IfErr result (λ flaw. Tells flaw.error (base_in (node_of S.scheme config.now) records.now)) }
+    ensures err { IfErr result (λ flaw. Reports flaw.error (base_in (node_of S.scheme config.now) records.now)) }
 {
     match records.split_first() {
         Some((first, rest)) => {

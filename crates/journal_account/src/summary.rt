@@ -4,7 +4,7 @@ ghost use Rattle.std.specs.Prelude.{◌≡◌, Ok, IfOk, IfErr};
 ghost use Rattle.journal.specs.Areas.{Areas, stands_in};
 ghost use Rattle.spec_world.specs.World.{IsPair};
 ghost use Rattle.validator.specs.Setting.{node_of};
-ghost use Rattle.opening.specs.Decoded.{decoded_in, Tells};
+ghost use Rattle.opening.specs.Decoded.{decoded_in, Reports};
 ghost use Rattle.journal_account.specs.Accounts.{Sums};
 
 use crate::flaw::Flaw;
@@ -53,7 +53,7 @@ pub fn summary_of<S: Sign>(
     records: &[Record],
 ) -> Result<Summary, Flaw>
     ensures ok { (areas : Areas) → IsPair areas → stands_in areas ≡ Ok records.now → IfOk result (λ summary. Sums (node_of S.scheme config.now) areas summary) }
-    ensures err { (areas : Areas) → IsPair areas → stands_in areas ≡ Ok records.now → IfErr result (λ flaw. Tells flaw.error (decoded_in (node_of S.scheme config.now) areas)) }
+    ensures err { (areas : Areas) → IsPair areas → stands_in areas ≡ Ok records.now → IfErr result (λ flaw. Reports flaw.error (decoded_in (node_of S.scheme config.now) areas)) }
 {
     let validator = after_records(alloc, config, records)?;
     let events = events_of(records).len() as u64;

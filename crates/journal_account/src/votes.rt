@@ -5,7 +5,7 @@ ghost use Rattle.std.specs.Option.{option_to_list};
 ghost use Rattle.journal.specs.Areas.{Areas, stands_in};
 ghost use Rattle.spec_world.specs.World.{IsPair};
 ghost use Rattle.validator.specs.Setting.{node_of};
-ghost use Rattle.opening.specs.Decoded.{decoded_in, Tells};
+ghost use Rattle.opening.specs.Decoded.{decoded_in, Reports};
 ghost use Rattle.journal_account.specs.Accounts.{AreVotes, given_by, given_in};
 
 use crate::events::replay;
@@ -45,7 +45,7 @@ pub fn votes_of<S: Sign>(
     records: &[Record],
 ) -> Result<Vec<Given>, Flaw>
     ensures ok { (areas : Areas) → IsPair areas → stands_in areas ≡ Ok records.now → IfOk result (λ votes. AreVotes (node_of S.scheme config.now) areas votes.items) }
-    ensures err { (areas : Areas) → IsPair areas → stands_in areas ≡ Ok records.now → IfErr result (λ flaw. Tells flaw.error (decoded_in (node_of S.scheme config.now) areas)) }
+    ensures err { (areas : Areas) → IsPair areas → stands_in areas ≡ Ok records.now → IfErr result (λ flaw. Reports flaw.error (decoded_in (node_of S.scheme config.now) areas)) }
 {
     spec_machine::starts_fresh();
     config.limits_hold();

@@ -1,7 +1,7 @@
 //! The certificates of a journal as a graph in the language of Graphviz: one row for each round, one column for each member.
 
 use crate::ending::Ending;
-use crate::telling::short;
+use crate::reporting::short;
 use journal_account::{Fate, Graph, Vertex};
 use std::io::{self, Write};
 use wire::Author;

@@ -2,7 +2,7 @@
 
 use crate::ending::Ending;
 use crate::listing::{Row, batch_row, certificate_row, header_row};
-use crate::telling::short_of;
+use crate::reporting::short_of;
 use journal::{HEAD, HEAD_BYTES};
 use std::alloc::Global;
 use wire::WireError;

@@ -6,8 +6,8 @@ mod ending;
 mod files;
 mod kept_rows;
 mod listing;
+mod reporting;
 mod request;
 mod running;
-mod telling;
 
 pub use running::run;

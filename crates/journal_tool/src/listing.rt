@@ -2,7 +2,7 @@
 
 use crate::ending::Ending;
 use crate::kept_rows::kept_row;
-use crate::telling::{Column, put_line, short};
+use crate::reporting::{Column, put_line, short};
 use journal::{CLOSED, MAX_GROUP_BYTES, MAX_GROUP_RECORDS};
 use journal_account::{EVENT, FRONT_BYTES, Flaw, Why, own_number};
 use std::alloc::Global;

@@ -4,8 +4,8 @@ use crate::drawing::{draw, draw_nothing};
 use crate::ending::Ending;
 use crate::files::{Both, both_at, listed};
 use crate::listing::{COLUMNS, list};
+use crate::reporting::{Column, put_hex, put_line, put_names};
 use crate::request::{Command, Request, request_of};
-use crate::telling::{Column, put_hex, put_line, put_names};
 use committee::{Committee, CommitteeError};
 use journal::{Record, Side};
 use journal_account::{
@@ -62,7 +62,7 @@ where
         Command::Votes | Command::LastHeader | Command::Order | Command::Graph => {
             let (config, records) = read(rt, alloc, request.other, both)?;
             match config {
-                Some(config) => tell(alloc, request, &config, &records, writer)?,
+                Some(config) => report(alloc, request, &config, &records, writer)?,
                 None if request.command == Command::Graph => draw_nothing(writer)?,
                 None => put_names(request.json, names_of(request.command), writer)?,
             }
@@ -205,7 +205,7 @@ fn names_of(command: Command) -> &'static [&'static str] {
 }
 
 // Reports what a command asks of a journal that has a configuration.
-fn tell<W: Write>(
+fn report<W: Write>(
     alloc: Global,
     request: Request<'_>,
     config: &Config<HashSign>,
@@ -214,17 +214,17 @@ fn tell<W: Write>(
 ) -> Result<(), Ending> {
     let json = request.json;
     match request.command {
-        Command::Votes => tell_votes(alloc, json, config, records, writer),
-        Command::Order => tell_order(alloc, json, request.from, config, records, writer),
+        Command::Votes => report_votes(alloc, json, config, records, writer),
+        Command::Order => report_order(alloc, json, request.from, config, records, writer),
         Command::Graph => {
             let (first, last) = request.rounds;
             draw(&Graph::new(alloc, config, records)?, first, last, writer)
         }
-        _ => tell_last(alloc, request.bytes, config, records, writer),
+        _ => report_last(alloc, request.bytes, config, records, writer),
     }
 }
 
-fn tell_votes<W: Write>(
+fn report_votes<W: Write>(
     alloc: Global,
     json: bool,
     config: &Config<HashSign>,
@@ -249,7 +249,7 @@ fn tell_votes<W: Write>(
     Ok(())
 }
 
-fn tell_order<W: Write>(
+fn report_order<W: Write>(
     alloc: Global,
     json: bool,
     from: u64,
@@ -297,7 +297,7 @@ fn put_ordered<W: Write>(
     )
 }
 
-fn tell_last<W: Write>(
+fn report_last<W: Write>(
     alloc: Global,
     bytes: bool,
     config: &Config<HashSign>,

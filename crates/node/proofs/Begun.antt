@@ -24,7 +24,7 @@ use Rattle.admission.specs.declared.tables.Tables.{Tables}
 use Rattle.spec_world.specs.World.{Holds}
 use Rattle.opening.specs.Laws.{HoldsIn, IsOpeningOn, KeepsAlone}
 use Rattle.opening.specs.Stages.{IsDecodedThroughout}
-use Rattle.opening.specs.Decoded.{decoded_in, Tells}
+use Rattle.opening.specs.Decoded.{decoded_in, Reports}
 use Rattle.sigface.specs.Scheme.{Scheme}
 use Rattle.node.specs.Starting.{IsStartingOn}
 
@@ -66,7 +66,7 @@ flusher_first {S} {D} scheme device node flusher journal seat setting tables set
 pub opening_failed : {T U D : Type 0} (node : Node) (device : Device D) (ours : T → Store D) (theirs : U → Store D) (store : Store D) (failed : Failed JournalError (Store D))
     → IsOpeningOn node device ours store (Err failed) → IsStartingOn node device theirs store (Err failed)
 opening_failed node device ours theirs store failed at = record {
-  tells = at.tells;
+  reports = at.reports;
   full = at.full;
   cause = at.cause;
   any_moment = at.any_moment;
@@ -81,7 +81,7 @@ pub opening_goes_on : {T U D : Type 0} (node : Node) (device : Device D) (ours :
     → IsOpeningOn node device ours store (Ok opened) → IfOk result (λ started. theirs started ≡ ours opened)
     → IfErr result (λ failed. (failed.error ≡ errors.Memory) × (failed.disk ≡ ours opened)) → IsStartingOn node device theirs store result
 opening_goes_on {T} {U} {D} node device ours theirs store opened (Ok started) at same none = record {
-  tells = tt;
+  reports = tt;
   full = tt;
   cause = (ap (faults_in device) same ∙ at.cause.0, tt);
   any_moment = subst (IsDecodedThroughout node device store) (sym same) at.any_moment;
@@ -90,7 +90,7 @@ opening_goes_on {T} {U} {D} node device ours theirs store opened (Ok started) at
   unchanged = tt;
 }
 opening_goes_on {T} {U} {D} node device ours theirs store opened (Err failed) at none same = record {
-  tells = λ other room. subst (λ (e : JournalError). Tells e (decoded_in node (areas_in device store))) (sym same.0) tt;
+  reports = λ other room. subst (λ (e : JournalError). Reports e (decoded_in node (areas_in device store))) (sym same.0) tt;
   full = λ is. absurd (let clash = sym same.0 ∙ is in cc);
   cause = (tt, (λ is. absurd (let clash = sym same.0 ∙ is in cc), λ other. ap (faults_in device) same.1 ∙ at.cause.0));
   any_moment = subst (IsDecodedThroughout node device store) (sym same.1) at.any_moment;

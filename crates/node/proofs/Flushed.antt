@@ -3,7 +3,7 @@ use Rattle.std.proofs.Common.{◌≡◌, ℕ, Bool, true, false, List, Option, R
 use Rattle.std.specs.Prelude.{◌⊎◌, ◌↔◌, IsErrOf, IsSome, IsTrue, OnOk, OnErr}
 use Rattle.flusher.specs.declared.FlushError.{FlushError}
 use Rattle.flusher.specs.declared.FlushError.TheVariants as flush
-use Rattle.diskmodel.specs.Disk.{AtEachMoment, Device, TellsFault}
+use Rattle.diskmodel.specs.Disk.{AtEachMoment, Device, ReportsFault}
 use Rattle.flusher.specs.Rounds.{journal_of, is_down, settled_in, taken_in, areas_at, IsFlusherOf, HoldsEither, KeepsEarlier, GoesDown, TakesAndSettles, TakesAllAndSettles, TakesLongest, TakesAll}
 use Rattle.flusher.specs.declared.flusher.Flusher.{Flusher}
 use Rattle.journal.specs.Areas.{Areas}
@@ -55,7 +55,7 @@ module _ {S D : Type 0} (scheme : Scheme S) (device : Device D) (only : Only dev
   or_down (inr at) by = up_or_down (IsErrOf result flush.Down) (is_down before) _ goes.down (by at)
 
   pub round_flushes : (seat later_seat : SeatView) → TakesAndSettles seat later_seat before later result
-      → TellsFault flush.Device (device.faults (disk_of (journal_of before))) (device.faults (disk_of (journal_of later))) result → spare_of (journal_of later) ≡ spare_of (journal_of before)
+      → ReportsFault flush.Device (device.faults (disk_of (journal_of before))) (device.faults (disk_of (journal_of later))) result → spare_of (journal_of later) ≡ spare_of (journal_of before)
       → IsErrOf result flush.Down ⊎ AtEachMoment device (disk_of (journal_of before)) (disk_of (journal_of later)) (λ left. Either (areas_at device (journal_of before) left))
       → OnOk result (KeepsEarlier scheme node (settled_in before) (settled_in later) (areas_of device (journal_of before)) (areas_of device (journal_of later)))
       → Flushes scheme device node before later result
@@ -72,7 +72,7 @@ module _ {S D : Type 0} (scheme : Scheme S) (device : Device D) (only : Only dev
   }
 
   pub checkpoint_flushes : (seat later_seat : SeatView) → TakesAllAndSettles seat later_seat before later result → IsSome (spare_of (journal_of before))
-      → TellsFault flush.Device (device.faults (spare_disk (journal_of before))) (device.faults (rewritten_disk result (journal_of later))) result
+      → ReportsFault flush.Device (device.faults (spare_disk (journal_of before))) (device.faults (rewritten_disk result (journal_of later))) result
       → OnOk result (HaveChangedPlaces (journal_of before) (journal_of later)) → OnErr result (HaveKeptPlaces (journal_of before) (journal_of later))
       → untouched_disk result (journal_of later) ≡ disk_of (journal_of before)
       → IsErrOf result flush.Down ⊎ AtEachMoment device (spare_disk (journal_of before)) (rewritten_disk result (journal_of later)) (λ left. Either (areas_with device (journal_of before) left))

@@ -3,7 +3,7 @@ use Rattle.std.proofs.Common.{◌≡◌, ◌+◌, ◌<◌, ◌≤◌, ℕ, List,
 use Rattle.std.specs.Prelude.{IsSome, IfSome, OnOk, OnErr}
 use Rattle.std.specs.Option.{option_map_or}
 use Rattle.diskmodel.proofs.Clock.{started, weaker, joins}
-use Rattle.diskmodel.specs.Disk.{AtEachMoment, Device, LeavesOnly, TellsFault}
+use Rattle.diskmodel.specs.Disk.{AtEachMoment, Device, LeavesOnly, ReportsFault}
 use Rattle.flusher.specs.Rounds.{areas_at}
 use Rattle.journal.specs.Areas.{Areas, alone, pair, pair_of, other_side}
 use Rattle.journal.specs.Journal.{disk_of, spare_of, IsAlivePair}
@@ -160,42 +160,42 @@ module _ {D : Type 0} (device : Device D) where
 
   -- ---- faults
 
-  fault_sum : {T E : Type 0} (error : E) (rest before now both both_now : ℕ) (result : Result T E) → both ≡ rest + before → both_now ≡ rest + now → TellsFault error before now result
-      → TellsFault error both both_now result
-  fault_sum error rest before now both both_now (Ok given) was is tells = (let same = tells.0 in omega (arith, was, is, same), tt)
-  fault_sum error rest before now both both_now (Err other) was is tells =
-      (tt, ((λ same. let more = tells.1.0 same in omega (arith, was, is, more)), (λ not. let as_is = tells.1.1 not in omega (arith, was, is, as_is))))
+  fault_sum : {T E : Type 0} (error : E) (rest before now both both_now : ℕ) (result : Result T E) → both ≡ rest + before → both_now ≡ rest + now → ReportsFault error before now result
+      → ReportsFault error both both_now result
+  fault_sum error rest before now both both_now (Ok given) was is reports = (let same = reports.0 in omega (arith, was, is, same), tt)
+  fault_sum error rest before now both both_now (Err other) was is reports =
+      (tt, ((λ same. let more = reports.1.0 same in omega (arith, was, is, more)), (λ not. let as_is = reports.1.1 not in omega (arith, was, is, as_is))))
 
   faults_two : (side : Side) (live other : D) → faults_in device (two (by_area side live other)) ≡ device.faults live + device.faults other
   faults_two First live other = refl
   faults_two Second live other = omega arith
 
-  fault_by : {T E : Type 0} (error : E) (live now : D) (spare : Option (Spare D)) (result : Result T E) → TellsFault error (device.faults live) (device.faults now) result
-      → TellsFault error (faults_in device (option_map_or (λ s. two (by_area s.side live s.disk)) spare (One live)))
+  fault_by : {T E : Type 0} (error : E) (live now : D) (spare : Option (Spare D)) (result : Result T E) → ReportsFault error (device.faults live) (device.faults now) result
+      → ReportsFault error (faults_in device (option_map_or (λ s. two (by_area s.side live s.disk)) spare (One live)))
       (faults_in device (option_map_or (λ s. two (by_area s.side now s.disk)) spare (One now))) result
-  fault_by error live now None result tells = tells
-  fault_by error live now (Some s) result tells =
+  fault_by error live now None result reports = reports
+  fault_by error live now (Some s) result reports =
       fault_sum error (device.faults s.disk) (device.faults live) (device.faults now) (faults_in device (two (by_area s.side live s.disk))) (faults_in device (two (by_area s.side now s.disk))) result
-      (let sum = faults_two s.side live s.disk in omega (arith, sum)) (let sum = faults_two s.side now s.disk in omega (arith, sum)) tells
+      (let sum = faults_two s.side live s.disk in omega (arith, sum)) (let sum = faults_two s.side now s.disk in omega (arith, sum)) reports
 
   -- one of the disks has failed exactly where the one that is read has
   pub fault_of_live : {T E : Type 0} (error : E) (old new : Journal D) (result : Result T E) → spare_of new ≡ spare_of old
-      → TellsFault error (device.faults (disk_of old)) (device.faults (disk_of new)) result → TellsFault error (faults_in device (store_of old)) (faults_in device (store_of new)) result
-  fault_of_live {T} {E} error old new result same tells =
-      subst (λ (s : Option (Spare D)). TellsFault error (faults_in device (store_of old))
+      → ReportsFault error (device.faults (disk_of old)) (device.faults (disk_of new)) result → ReportsFault error (faults_in device (store_of old)) (faults_in device (store_of new)) result
+  fault_of_live {T} {E} error old new result same reports =
+      subst (λ (s : Option (Spare D)). ReportsFault error (faults_in device (store_of old))
       (faults_in device (option_map_or (λ spare. two (by_area spare.side (disk_of new) spare.disk)) s (One (disk_of new)))) result)
-      (sym same) (fault_by error (disk_of old) (disk_of new) (spare_of old) result tells)
+      (sym same) (fault_by error (disk_of old) (disk_of new) (spare_of old) result reports)
 
   -- or exactly where the other one has
   pub fault_of_spare : {T E : Type 0} (error : E) (result : Result T E) (old new : Journal D) → IsSome (spare_of old) → OnOk result (HaveChangedPlaces old new)
       → OnErr result (HaveKeptPlaces old new) → untouched_disk result new ≡ disk_of old
-      → TellsFault error (device.faults (spare_disk old)) (device.faults (rewritten_disk result new)) result
-      → TellsFault error (faults_in device (store_of old)) (faults_in device (store_of new)) result
-  fault_of_spare error result old new some changed kept untouched tells =
+      → ReportsFault error (device.faults (spare_disk old)) (device.faults (rewritten_disk result new)) result
+      → ReportsFault error (faults_in device (store_of old)) (faults_in device (store_of new)) result
+  fault_of_spare error result old new some changed kept untouched reports =
       fault_sum error (device.faults (disk_of old)) (device.faults (spare_disk old)) (device.faults (rewritten_disk result new)) (faults_in device (store_of old))
       (faults_in device (store_of new)) result
       (ap (faults_in device) (store_is old some) ∙ faults_two (side_in old) (disk_of old) (spare_disk old))
-      (ap (faults_in device) (store_then result old new changed kept untouched) ∙ faults_two (side_in old) (disk_of old) (rewritten_disk result new)) tells
+      (ap (faults_in device) (store_then result old new changed kept untouched) ∙ faults_two (side_in old) (disk_of old) (rewritten_disk result new)) reports
 
   module _ (P : Areas → Type 0) where
     -- of two disks one is written

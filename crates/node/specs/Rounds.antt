@@ -2,7 +2,7 @@
 use Rattle.std.specs.Prelude.{◌≡◌, ◌⊎◌, ◌↔◌, ℕ, Result, IsErrOf, IsSome, OnOk, OnErr}
 use Rattle.flusher.specs.declared.FlushError.{FlushError}
 use Rattle.flusher.specs.declared.FlushError.TheVariants.{Memory, Device, Down}
-use Rattle.diskmodel.specs.Disk.{Device as Disks, TellsFault}
+use Rattle.diskmodel.specs.Disk.{Device as Disks, ReportsFault}
 use Rattle.flusher.specs.Rounds.{journal_of, settled_in, taken_in, HoldsEither, KeepsEarlier}
 use Rattle.flusher.specs.declared.flusher.Flusher.{Flusher}
 use Rattle.journal.specs.Journal.{spare_of}
@@ -27,6 +27,6 @@ pub record Flushes {S D : Type 0} (scheme : Scheme S) (device : Disks D) (node :
   -- if the journal had, from some state on, what was settled before the call, then it has from the same state on what is settled now
   pub earlier : OnOk result (KeepsEarlier scheme node (settled_in before) (settled_in later) (areas_of device (journal_of before)) (areas_of device (journal_of later)))
   -- the error is Device exactly where one of the disks has failed
-  pub cause : TellsFault Device (faults_in device (store_of (journal_of before))) (faults_in device (store_of (journal_of later))) result
+  pub cause : ReportsFault Device (faults_in device (store_of (journal_of before))) (faults_in device (store_of (journal_of later))) result
   -- the journal stays on the same number of disks
   pub disks : IsSome (spare_of (journal_of later)) ↔ IsSome (spare_of (journal_of before))

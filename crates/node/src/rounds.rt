@@ -1,14 +1,14 @@
 //! What the flushing thread uses to call a node.
 
 ghost use Rattle.std.specs.Prelude.{◌≡◌, ◌⊎◌, ◌↔◌, ◌<◌, false, length, IsOk, IfOk, IfSome, IsNone, IsSome, IsTrue, IsErrOf, OnOk, OnErr};
-ghost use Rattle.diskmodel.specs.Disk.{AtEachMoment, TellsFault};
+ghost use Rattle.diskmodel.specs.Disk.{AtEachMoment, ReportsFault};
 ghost use Rattle.journal.specs.Journal.{disk_of, spare_of, IsAlive};
 ghost use Rattle.journal.specs.Pairs.{HaveChangedPlaces, HaveKeptPlaces, areas_of, areas_with, generation_in, spare_disk, store_of, rewritten_disk, untouched_disk};
 ghost use Rattle.wire.specs.Lists.{Begins};
 ghost use Rattle.validator.specs.Setting.{node_of};
 ghost use Rattle.node_shared.specs.Calls.{IsBeside};
 ghost use Rattle.node_shared.specs.Home.{IsOf};
-ghost use Rattle.flusher.specs.Rounds.{journal_of, is_down, settled_in, taken_in, areas_at, IsFlusherOf, HoldsEither, KeepsEarlier, GoesDown, IsToldOf, TakesAndSettles, TakesAllAndSettles, TellsRoom, TellsRoomToRewrite, StaysAsIs, AddsSettled, IsAtCheckpoint};
+ghost use Rattle.flusher.specs.Rounds.{journal_of, is_down, settled_in, taken_in, areas_at, IsFlusherOf, HoldsEither, KeepsEarlier, GoesDown, IsReportedOf, TakesAndSettles, TakesAllAndSettles, ReportsRoom, ReportsRoomToRewrite, StaysAsIs, AddsSettled, IsAtCheckpoint};
 ghost use Rattle.node.specs.Rounds.{Flushes};
 
 use crate::caller::Caller;
@@ -89,10 +89,10 @@ impl<'n, 'a, S: Sign, D: Disk> Rounds<'n, 'a, S, D> {
     pub fn round<R: Wait>(&mut self, rt: &R) -> Result<u64, FlushError>
         ensures node { self.new.node ≡ self.old.node }
         ensures down { GoesDown self.old.flusher self.new.flusher result }
-        ensures told { IsToldOf self.old.seat self.new.seat result }
+        ensures reported { IsReportedOf self.old.seat self.new.seat result }
         ensures settles { TakesAndSettles self.old.seat self.new.seat self.old.flusher self.new.flusher result }
-        ensures room { TellsRoom D.device self.old.flusher self.new.flusher result }
-        ensures cause { TellsFault FlushError.Device (D.device.faults (disk_of (journal_of self.old.flusher))) (D.device.faults (disk_of (journal_of self.new.flusher))) result }
+        ensures room { ReportsRoom D.device self.old.flusher self.new.flusher result }
+        ensures cause { ReportsFault FlushError.Device (D.device.faults (disk_of (journal_of self.old.flusher))) (D.device.faults (disk_of (journal_of self.new.flusher))) result }
         ensures alive { is_down self.old.flusher ≡ false → IsAlive D.device (journal_of self.old.flusher) }
         ensures nothing { IfOk result (λ count. count ≡ 0 → journal_of self.new.flusher ≡ journal_of self.old.flusher) }
         ensures adds { IfOk result (λ count. 0 < count → AddsSettled D.device self.old.flusher self.new.flusher) }
@@ -110,15 +110,15 @@ impl<'n, 'a, S: Sign, D: Disk> Rounds<'n, 'a, S, D> {
         requires pair { IsSome (spare_of (journal_of self.old.flusher)) }
         ensures node { self.new.node ≡ self.old.node }
         ensures down { GoesDown self.old.flusher self.new.flusher result }
-        ensures told { IsToldOf self.old.seat self.new.seat result }
+        ensures reported { IsReportedOf self.old.seat self.new.seat result }
         ensures settles { TakesAllAndSettles self.old.seat self.new.seat self.old.flusher self.new.flusher result }
         ensures answer { IfOk result (λ generation. generation ≡ generation_in (journal_of self.new.flusher)) }
         ensures alive { is_down self.old.flusher ≡ false → IsAlive D.device (journal_of self.old.flusher) }
         ensures writes { OnOk result (IsAtCheckpoint S.scheme D.device self.old.node self.new.flusher) }
         ensures swapped { OnOk result (HaveChangedPlaces (journal_of self.old.flusher) (journal_of self.new.flusher)) }
         ensures keeps { OnErr result (HaveKeptPlaces (journal_of self.old.flusher) (journal_of self.new.flusher)) }
-        ensures room { IsErrOf result FlushError.Down ⊎ IsErrOf result FlushError.Memory ⊎ TellsRoomToRewrite S.scheme self.old.node self.old.flusher self.new.flusher result }
-        ensures cause { TellsFault FlushError.Device (D.device.faults (spare_disk (journal_of self.old.flusher))) (D.device.faults (rewritten_disk result (journal_of self.new.flusher))) result }
+        ensures room { IsErrOf result FlushError.Down ⊎ IsErrOf result FlushError.Memory ⊎ ReportsRoomToRewrite S.scheme self.old.node self.old.flusher self.new.flusher result }
+        ensures cause { ReportsFault FlushError.Device (D.device.faults (spare_disk (journal_of self.old.flusher))) (D.device.faults (rewritten_disk result (journal_of self.new.flusher))) result }
         ensures untouched { untouched_disk result (journal_of self.new.flusher) ≡ disk_of (journal_of self.old.flusher) }
         ensures any_moment { IsErrOf result FlushError.Down ⊎ AtEachMoment D.device (spare_disk (journal_of self.old.flusher)) (rewritten_disk result (journal_of self.new.flusher)) (λ left. HoldsEither S.scheme self.old.node (settled_in self.old.flusher) (taken_in self.new.flusher) (areas_of D.device (journal_of self.old.flusher)) (areas_with D.device (journal_of self.old.flusher) left)) }
         ensures earlier { OnOk result (KeepsEarlier S.scheme self.old.node (settled_in self.old.flusher) (settled_in self.new.flusher) (areas_of D.device (journal_of self.old.flusher)) (areas_of D.device (journal_of self.new.flusher))) }

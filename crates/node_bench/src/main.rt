@@ -53,19 +53,19 @@ fn run<R: Env + AllocGlobal + Print + Threads + Wait + Sync>(rt: &R) -> Result<(
     let [_, word, ..] = words.as_slice() else {
         return run_little(rt);
     };
-    tell(rt, word.as_str(), task_of(rt.alloc(), &words[1..]))
+    report(rt, word.as_str(), task_of(rt.alloc(), &words[1..]))
 }
 
 // A little of each kind of work.
 fn run_little<R: AllocGlobal + Print + Threads + Wait + Sync>(rt: &R) -> Result<(), Ending> {
     for (word, _, count, _) in &WORKS {
-        tell(rt, word, sized(rt.alloc(), word, *count, None))?;
+        report(rt, word, sized(rt.alloc(), word, *count, None))?;
     }
     Ok(())
 }
 
 // Does a task, if the words ask for one, and prints its result.
-fn tell<R>(rt: &R, word: &str, task: Option<Task>) -> Result<(), Ending>
+fn report<R>(rt: &R, word: &str, task: Option<Task>) -> Result<(), Ending>
 where
     R: AllocGlobal + Print + Threads + Wait + Sync,
 {

@@ -32,9 +32,12 @@ pub fn run_stream<R: Threads + Wait + Sync>(
     let stream = stream_of(task, config)?;
     let text = member_list(task.alloc, task.members)?;
     let store = Store::One(empty_disk(task.alloc)?);
-    let (told, errors) = (Mutex::new(Fold::new()), Mutex::new(Fold::new()));
-    let writer = Told { rt, fold: &told };
-    let mut lines = Told { rt, fold: &errors };
+    let (reported, errors) = (Mutex::new(Fold::new()), Mutex::new(Fold::new()));
+    let writer = Reported {
+        rt,
+        fold: &reported,
+    };
+    let mut lines = Reported { rt, fold: &errors };
     let member = (text.as_bytes(), OWN_NUMBER);
     let Ran {
         ending,
@@ -53,7 +56,7 @@ pub fn run_stream<R: Threads + Wait + Sync>(
     if !matches!(ending, RunEnding::Done) {
         return Err(Ending::Refused);
     }
-    fold.join(told.into_inner());
+    fold.join(reported.into_inner());
     fold.join(errors.into_inner());
     Ok(())
 }
@@ -146,12 +149,12 @@ fn put_frames(stream: &mut Vec<u8>, task: Task, frames: &[Vec<u8>]) -> Result<()
 
 /// A writer that keeps only a sum over what the node writes.
 #[derive(Drop)]
-struct Told<'t, R: Wait> {
+struct Reported<'t, R: Wait> {
     rt: &'t R,
     fold: &'t Mutex<Fold>,
 }
 
-impl<'t, R: Wait> Write for Told<'t, R> {
+impl<'t, R: Wait> Write for Reported<'t, R> {
     fn write(&mut self, bytes: &[u8]) -> io::Result<usize> {
         let mut fold = self.fold.lock(self.rt);
         for byte in bytes {

@@ -3,14 +3,14 @@
 
 mod ending;
 mod play;
-mod telling;
+mod reporting;
 
 use ending::Ending;
 use play::Play;
+use reporting::{report_coin, report_end, report_growth, report_round, report_stop};
 use sim_members::Settings;
 use sim_script::{BATCHES, DEPTH};
 use std::process::ExitCode;
-use telling::{tell_coin, tell_end, tell_growth, tell_round, tell_stop};
 
 /// The number of waves that are played.
 const WAVES: u64 = 3;
@@ -35,7 +35,7 @@ fn run<R: AllocGlobal + Print>(rt: &R) -> Result<bool, Ending> {
     let mut play = Play::new(rt.alloc(), &settings)?;
     println!(rt; "four members of one committee, each over a disk in memory, for {WAVES} waves")?;
     play_all(rt, &mut play)?;
-    tell_end(rt, &play)
+    report_end(rt, &play)
 }
 
 /// Plays the rounds of all waves, and the one that shows the last wave's coin.
@@ -54,17 +54,17 @@ fn play_round(rt: &impl Print, play: &mut Play<'_>, round: u64) -> Result<(), En
     play.propose()?;
     if round == STOPPING {
         let (lost, found) = play.stop_last()?;
-        tell_stop(rt, lost, found)?;
+        report_stop(rt, lost, found)?;
     }
     play.deliver()?;
-    tell_round(rt, play, round)?;
-    tell_growth(rt, play)
+    report_round(rt, play, round)?;
+    report_growth(rt, play)
 }
 
 /// The coin of a wave is given to each member.
 fn play_coin(rt: &impl Print, play: &mut Play<'_>, wave: u64) -> Result<(), Ending> {
     let taken = play.toss(wave)?;
-    tell_coin(rt, wave, taken)?;
+    report_coin(rt, wave, taken)?;
     play.deliver()?;
-    tell_growth(rt, play)
+    report_growth(rt, play)
 }

@@ -3,4 +3,4 @@ pub mod Requests
 pub mod Endings
 pub mod Makers
 pub mod Cutting
-pub mod Tellings
+pub mod Reportings

@@ -1,7 +1,7 @@
 //! Why a frame is refused, as it is reported.
 
 ghost use Rattle.std.specs.Prelude.{◌≡◌};
-ghost use Rattle.node_io.specs.Tellings.{of_make};
+ghost use Rattle.node_io.specs.Reportings.{of_make};
 ghost use Rattle.node_io.specs.declared.rejection.Rejection.TheVariants.{Unread, Unchecked, Refused};
 ghost use Rattle.wire.specs.declared.error.WireError.TheVariants.{Memory};
 
@@ -26,7 +26,7 @@ pub enum Rejection {
 }
 
 impl From<WireError> for Rejection {
-    ghost from_gives = { λ error told. told ≡ Unread error };
+    ghost from_gives = { λ error reported. reported ≡ Unread error };
 
     fn from(error: WireError) -> Rejection {
         Rejection::Unread(error)
@@ -34,7 +34,7 @@ impl From<WireError> for Rejection {
 }
 
 impl From<CheckError> for Rejection {
-    ghost from_gives = { λ error told. told ≡ Unchecked error };
+    ghost from_gives = { λ error reported. reported ≡ Unchecked error };
 
     fn from(error: CheckError) -> Rejection {
         Rejection::Unchecked(error)
@@ -42,7 +42,7 @@ impl From<CheckError> for Rejection {
 }
 
 impl From<Refusal> for Rejection {
-    ghost from_gives = { λ refusal told. told ≡ Refused refusal };
+    ghost from_gives = { λ refusal reported. reported ≡ Refused refusal };
 
     fn from(refusal: Refusal) -> Rejection {
         Rejection::Refused(refusal)
@@ -50,7 +50,7 @@ impl From<Refusal> for Rejection {
 }
 
 impl From<AllocError> for Rejection {
-    ghost from_gives = { λ _ told. told ≡ Unread Memory };
+    ghost from_gives = { λ _ reported. reported ≡ Unread Memory };
 
     fn from(_: AllocError) -> Rejection {
         Rejection::Unread(WireError::Memory)
@@ -58,7 +58,7 @@ impl From<AllocError> for Rejection {
 }
 
 impl From<MakeError> for Rejection {
-    ghost from_gives = { λ error told. told ≡ of_make error };
+    ghost from_gives = { λ error reported. reported ≡ of_make error };
 
     fn from(error: MakeError) -> Rejection {
         match error {

@@ -11,9 +11,9 @@ use Rattle.node_lock.specs.Home.{IsKept, Holds, Takes, Gives}
 
 module _ {T V : Type 0} (fits : T → Type 0) where
   -- the value is taken where the word is 0, if it is 0 no more after the step
-  pub may_take : (told : T → Type 0) (slots id : ℕ) (me : Me (Option T) V) (f : ℕ → ℕ) → ((n : ℕ) → f n ≢ 0) → ((value : T) → fits value → told value) → me.1 ≡ []
-      → Allows (IsKept fits) slots id me 0 f (λ found after. Takes told found me after)
-  may_take told slots id me f taken tells empty s kept size at wide =
+  pub may_take : (known : T → Type 0) (slots id : ℕ) (me : Me (Option T) V) (f : ℕ → ℕ) → ((n : ℕ) → f n ≢ 0) → ((value : T) → fits value → known value) → me.1 ≡ []
+      → Allows (IsKept fits) slots id me 0 f (λ found after. Takes known found me after)
+  may_take known slots id me f taken reports empty s kept size at wide =
       let found : slice_index s.words 0 ≡ kept.word = ap (λ ws. slice_index ws 0) kept.words in
       let words : slice_set s.words 0 (f (slice_index s.words 0)) ≡ f kept.word ∷ [] = ap (λ ws. slice_set ws 0 (f (slice_index ws 0))) kept.words in
       dite (ℕ_discrete kept.word 0)
@@ -22,14 +22,14 @@ module _ {T V : Type 0} (fits : T → Type 0) where
         takes 0 (Some home.0),
         ap (λ hs. get_elem? hs 0) home.1,
         record { word = f kept.word; words = words; home = λ e. absurd (taken kept.word e); out = λ _. ap (λ hs. slice_set hs 0 slot.none) home.1 },
-        subst (λ n. Takes told n me (me.0, (0, Some home.0) ∷ me.1)) (sym (found ∙ free)) (home.0, ap (λ c. (0, Some home.0) ∷ c) empty, tells home.0 home.2),
+        subst (λ n. Takes known n me (me.0, (0, Some home.0) ∷ me.1)) (sym (found ∙ free)) (home.0, ap (λ c. (0, Some home.0) ∷ c) empty, reports home.0 home.2),
       ))
       (λ held. (
         me.0,
         keeps,
         tt,
         record { word = f kept.word; words = words; home = λ e. absurd (taken kept.word e); out = λ _. kept.out held },
-        subst (λ b. MatchBool b (Holds told me) (me.1 ≡ me.1)) (sym (ne_eqb _ _ (λ e. held (sym found ∙ e)))) refl,
+        subst (λ b. MatchBool b (Holds known me) (me.1 ≡ me.1)) (sym (ne_eqb _ _ (λ e. held (sym found ∙ e)))) refl,
       ))
 
   -- a value that fits comes home

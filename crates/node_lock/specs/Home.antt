@@ -18,11 +18,11 @@ module _ {T V : Type 0} where
 
   -- a seat has taken the value, and knows this of it
   abbrev pub Holds : (T → Type 0) → Me (Option T) V → Type 0
-  Holds told me = (value : T) × (me.1 ≡ (0, Some value) ∷ []) × told value
+  Holds known me = (value : T) × (me.1 ≡ (0, Some value) ∷ []) × known value
 
   -- if the word was 0 the seat has now taken the value; otherwise it has what it had
   abbrev pub Takes : (T → Type 0) → ℕ → Me (Option T) V → Me (Option T) V → Type 0
-  Takes told found before after = MatchBool (found == 0) (Holds told after) (after.1 ≡ before.1)
+  Takes known found before after = MatchBool (found == 0) (Holds known after) (after.1 ≡ before.1)
 
   -- the seat has what it had, without the value that it took last
   abbrev pub Gives : Me (Option T) V → Me (Option T) V → Type 0

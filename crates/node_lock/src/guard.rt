@@ -3,7 +3,7 @@
 ghost use Rattle.std.specs.Prelude.{◌≡◌, [], IfOk, IsTrue, IsFalse};
 ghost use Rattle.node_lock.specs.Home.{Holds, Takes};
 
-use crate::rule::{Enter, Fits, Give, Home, Take, Told};
+use crate::rule::{Enter, Fits, Give, Home, Known, Take};
 use crate::turn::Turn;
 use atomic_table::{Refused, Seat, Table};
 use std::alloc::{AllocError, Global};
@@ -128,24 +128,24 @@ impl<T, K, F: Fits<T, K>> Lock<T, K, F> {
     }
 
     // This and the next method give the word as it was before.
-    fn take_free<W: Told<T>>(&self, seat: &mut Seat<Option<T>, ()>) -> u64
+    fn take_free<W: Known<T>>(&self, seat: &mut Seat<Option<T>, ()>) -> u64
         requires of { seat.old.table_id ≡ self.now.id }
         requires empty { seat.old.me.1 ≡ [] }
-        requires told { (value : T) → F.fits self.now.key value → W.told value }
+        requires known { (value : T) → F.fits self.now.key value → W.known value }
         ensures of { seat.new.table_id ≡ self.now.id }
-        ensures takes { Takes W.told result seat.old.me seat.new.me }
+        ensures takes { Takes W.known result seat.old.me seat.new.me }
     {
         self.table
             .shared
             .compare_exchange::<Take<W>>(seat, WORD, FREE, TAKEN)
     }
 
-    fn take_wanted<W: Told<T>>(&self, seat: &mut Seat<Option<T>, ()>) -> u64
+    fn take_wanted<W: Known<T>>(&self, seat: &mut Seat<Option<T>, ()>) -> u64
         requires of { seat.old.table_id ≡ self.now.id }
         requires empty { seat.old.me.1 ≡ [] }
-        requires told { (value : T) → F.fits self.now.key value → W.told value }
+        requires known { (value : T) → F.fits self.now.key value → W.known value }
         ensures of { seat.new.table_id ≡ self.now.id }
-        ensures takes { Takes W.told result seat.old.me seat.new.me }
+        ensures takes { Takes W.known result seat.old.me seat.new.me }
     {
         self.table.shared.swap::<Take<W>>(seat, WORD, WANTED)
     }

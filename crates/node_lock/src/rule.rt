@@ -23,12 +23,12 @@ impl<T, K, F: Fits<T, K>> TableRule<Option<T>, (), K> for Home<F> {
 }
 
 /// What a call knows of the value that it takes. A `Play` can't read the key, so each call at `Brand` chooses this.
-pub(crate) trait Told<T> {
-    ghost told: { T → Type 0 };
+pub(crate) trait Known<T> {
+    ghost known: { T → Type 0 };
 }
 
-impl<T> Told<T> for Brand {
-    ghost told = { λ _. ⊤ };
+impl<T> Known<T> for Brand {
+    ghost known = { λ _. ⊤ };
 }
 
 /// Takes the value where the word is 0.
@@ -36,8 +36,8 @@ pub(crate) struct Take<W> {
     of: PhantomData<W>,
 }
 
-impl<T, W: Told<T>> Play<Option<T>, ()> for Take<W> {
-    ghost then = { λ step before found after. Takes W.told found before after };
+impl<T, W: Known<T>> Play<Option<T>, ()> for Take<W> {
+    ghost then = { λ step before found after. Takes W.known found before after };
 }
 
 /// Puts the value back.

@@ -89,7 +89,8 @@ both_stay (Rounds low end) Nothing round due = due
 both_stay (Rounds low end) (Rounds other_low other_end) round due = (omega (arith, due.0), omega (arith, due.1))
 
 -- what was due before a message is due after it
-pub due_stays : (own : Author) (sent : Message) (old new : Due) (told : Result Bool Rejection) → IsDueAfter own sent old new told → (round : ℕ) → IsDue old.waiting round → IsDue new.waiting round
+pub due_stays : (own : Author) (sent : Message) (old new : Due) (reported : Result Bool Rejection) → IsDueAfter own sent old new reported → (round : ℕ) → IsDue old.waiting round
+    → IsDue new.waiting round
 due_stays own sent old new (Ok true) after round due =
     let all = after.new_one refl in
     subst (λ (d : Due). IsDue d.waiting round) (sym all.2) (both_stay old.waiting all.0.waiting round due)
@@ -101,7 +102,8 @@ taken_cases : (one : Event) (place : ℕ) (old new : WaitersView) → IsTakenOut
     → (event ≡ one) ⊎ Contains (held new round) event
 taken_cases one place old new taken round event inside = elim (cases_Bool (round == place)) [
   | inl is ↦ at_place (eqb-true round place is)
-  | inr isnt ↦ inr (subst (λ (l : List Event). Contains l event) (sym (taken.others round (λ is. let yes : (round == place) ≡ true = subst (λ r. (r == place) ≡ true) (sym is) (self place) in absurd cc))) inside)
+  | inr isnt ↦ inr (subst (λ (l : List Event). Contains l event) (sym (taken.others round (λ is. let yes : (round == place) ≡ true = subst (λ r. (r == place) ≡ true) (sym is)
+      (self place) in absurd cc))) inside)
 ]
   where
     self : (n : ℕ) → (n == n) ≡ true
@@ -303,25 +305,25 @@ module _ {S : Type 0} (scheme : Scheme S) where
 
   -- a turn in which one was, and was submitted
   pub go_some : (before mid looked later : CallerView S) (due mid_due looked_due later_due : Due) (waiters mid_waiters looked_waiters later_waiters : WaitersView) (one : Event)
-      (own : Author) (told : Result Bool Rejection) → StaysWith before mid → Begins before.seat.view.seen mid.seat.view.seen → mid_due.waiting ≡ due.waiting → mid_waiters ≡ waiters
+      (own : Author) (reported : Result Bool Rejection) → StaysWith before mid → Begins before.seat.view.seen mid.seat.view.seen → mid_due.waiting ≡ due.waiting → mid_waiters ≡ waiters
       → OnlyAsks mid looked → AsksWhatWasDue scheme mid.node mid_due.waiting looked_due.waiting mid_waiters mid looked → TakesOne one mid_waiters looked_waiters mid_due looked_due
-      → Begins looked.seat.view.seen later.seat.view.seen → later_waiters ≡ looked_waiters → IsDueAfter own one.message looked_due later_due told
-      → BringsAgain scheme looked.node (fault_of looked.setting.charter accepts_all one) one looked later told
+      → Begins looked.seat.view.seen later.seat.view.seen → later_waiters ≡ looked_waiters → IsDueAfter own one.message looked_due later_due reported
+      → BringsAgain scheme looked.node (fault_of looked.setting.charter accepts_all one) one looked later reported
       → GoesThrough scheme before.node due.waiting later_due.waiting waiters later_waiters before later
-  go_some before mid looked later due mid_due looked_due later_due waiters mid_waiters looked_waiters later_waiters one own told stays more same_due same_waiters only asks takes rest same_later
+  go_some before mid looked later due mid_due looked_due later_due waiters mid_waiters looked_waiters later_waiters one own reported stays more same_due same_waiters only asks takes rest same_later
       after again round event is inside =
       let still : IsDue mid_due.waiting round = subst (λ (w : Waiting). IsDue w round) (sym same_due) is in
       let there : Contains (held mid_waiters round) event = subst (λ (w : WaitersView). Contains (held w round) event) (sym same_waiters) inside in
-      let here = subst (λ (n : NodeView S). BringsAgain scheme n (fault_of before.setting.charter accepts_all one) one looked later told) (only.stays.node ∙ stays.node)
-      (subst (λ (s : ConfigView S). BringsAgain scheme looked.node (fault_of s.charter accepts_all one) one looked later told) (only.stays.setting ∙ stays.setting) again) in
+      let here = subst (λ (n : NodeView S). BringsAgain scheme n (fault_of before.setting.charter accepts_all one) one looked later reported) (only.stays.node ∙ stays.node)
+      (subst (λ (s : ConfigView S). BringsAgain scheme looked.node (fault_of s.charter accepts_all one) one looked later reported) (only.stays.setting ∙ stays.setting) again) in
       elim (decide_due looked_due.waiting round) [
         | inr isnt ↦ inl (asked_since scheme before.node before mid later event stays.setting more (asked_until scheme before.node mid looked later event rest
             (subst (λ (n : NodeView S). WasAsked scheme n mid looked event) stays.node
             (All-contains (WasAsked scheme mid.node mid looked) (held mid_waiters round) event (asks.rounds round still isnt) there))))
         | inl due' ↦ elim (taken_cases one takes.0 mid_waiters looked_waiters takes.1 round event there) [
           | inl same ↦ inr (inl (subst (WasSubmitted scheme before.node before) (sym same)
-              (looked, later, told, here, begins_trans before.seat.view.seen mid.seat.view.seen looked.seat.view.seen more only.seen)))
-          | inr left ↦ inr (inr (due_stays own one.message looked_due later_due told after round due', subst (λ (w : WaitersView). Contains (held w round) event) (sym same_later) left))
+              (looked, later, reported, here, begins_trans before.seat.view.seen mid.seat.view.seen looked.seat.view.seen more only.seen)))
+          | inr left ↦ inr (inr (due_stays own one.message looked_due later_due reported after round due', subst (λ (w : WaitersView). Contains (held w round) event) (sym same_later) left))
         ]
       ]
 

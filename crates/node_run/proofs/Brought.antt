@@ -13,7 +13,7 @@ use Rattle.node_shared.specs.Home.{NodeView}
 use Rattle.sigface.specs.Scheme.{Scheme}
 use Rattle.waiter.specs.Rounds.{WaitersView}
 use Rattle.node_run.specs.Bringing.{Brings, CantWait, Enters}
-use Rattle.node_run.specs.Taking.{Handles, OnlyLooks, told_as}
+use Rattle.node_run.specs.Taking.{Handles, OnlyLooks, reported_as}
 use Rattle.node_run.specs.declared.caller.Taken.{Taken}
 use Rattle.node_run.specs.declared.caller.Taken.TheVariants.{New, Known, Waits}
 
@@ -22,15 +22,15 @@ either_way certificate true is = absurd cc
 either_way certificate false is = absurd cc
 
 -- what was submitted doesn't wait
-never_waits : (certificate : Event) (answer : Result Receipt Refusal) → told_as answer ≡ Ok (Waits certificate) → ⊥
+never_waits : (certificate : Event) (answer : Result Receipt Refusal) → reported_as answer ≡ Ok (Waits certificate) → ⊥
 never_waits certificate (Ok receipt) is = either_way certificate receipt.new is
 never_waits certificate (Err why) is = absurd cc
 
 module _ {S : Type 0} (scheme : Scheme S) (node : NodeView S) (fault : Option CheckError) (event : Event) (before later : CallerView S) (old new : WaitersView)
-    (told : Result Taken Rejection) (handles : Handles scheme node fault event before later told) where
-  pub brings_new : told ≡ Ok New → new ≡ old → Brings scheme node fault event before later old new (Ok true)
+    (reported : Result Taken Rejection) (handles : Handles scheme node fault event before later reported) where
+  pub brings_new : reported ≡ Ok New → new ≡ old → Brings scheme node fault event before later old new (Ok true)
   brings_new is same = record {
-    told = told;
+    reported = reported;
     later = later;
     handles = handles;
     is_new = λ _. (refl, same, refl);
@@ -39,9 +39,9 @@ module _ {S : Type 0} (scheme : Scheme S) (node : NodeView S) (fault : Option Ch
     refused = λ why other. let bad : Ok New ≡ Err why = sym is ∙ other in absurd cc;
   }
 
-  pub brings_known : told ≡ Ok Known → new ≡ old → Brings scheme node fault event before later old new (Ok false)
+  pub brings_known : reported ≡ Ok Known → new ≡ old → Brings scheme node fault event before later old new (Ok false)
   brings_known is same = record {
-    told = told;
+    reported = reported;
     later = later;
     handles = handles;
     is_new = λ other. let bad : Ok Known ≡ Ok New = sym is ∙ other in absurd cc;
@@ -50,9 +50,9 @@ module _ {S : Type 0} (scheme : Scheme S) (node : NodeView S) (fault : Option Ch
     refused = λ why other. let bad : Ok Known ≡ Err why = sym is ∙ other in absurd cc;
   }
 
-  pub brings_refusal : (why : Rejection) → told ≡ Err why → new ≡ old → Brings scheme node fault event before later old new (Err why)
+  pub brings_refusal : (why : Rejection) → reported ≡ Err why → new ≡ old → Brings scheme node fault event before later old new (Err why)
   brings_refusal why is same = record {
-    told = told;
+    reported = reported;
     later = later;
     handles = handles;
     is_new = λ other. let bad : Err why ≡ Ok New = sym is ∙ other in absurd cc;
@@ -64,12 +64,12 @@ module _ {S : Type 0} (scheme : Scheme S) (node : NodeView S) (fault : Option Ch
         (ap Err one, same, refl);
   }
 
-  pub brings_waiting : (now : CallerView S) (certificate : Event) (result : Result Bool Rejection) → OnlyLooks later.seat now.seat → told
+  pub brings_waiting : (now : CallerView S) (certificate : Event) (result : Result Bool Rejection) → OnlyLooks later.seat now.seat → reported
       ≡ Ok (Waits certificate) → result ≢ Ok true → OnOk result (Enters certificate old new) → OnErr result (new ≡ old)
       → IfErr result (CantWait certificate old now.seat.view.down)
       → Brings scheme node fault event before now old new result
   brings_waiting now certificate (Ok found) looks is never enters same why = record {
-    told = told;
+    reported = reported;
     later = later;
     handles = handles;
     is_new = λ other. let bad : Ok (Waits certificate) ≡ Ok New = sym is ∙ other in absurd cc;
@@ -80,8 +80,8 @@ module _ {S : Type 0} (scheme : Scheme S) (node : NodeView S) (fault : Option Ch
         (never, λ _. rw (← one) enters, tt, tt, looks);
     refused = λ why other. let bad : Ok (Waits certificate) ≡ Err why = sym is ∙ other in absurd cc;
   }
-  brings_waiting now certificate (Err told_so) looks is never enters same why = record {
-    told = told;
+  brings_waiting now certificate (Err reported_so) looks is never enters same why = record {
+    reported = reported;
     later = later;
     handles = handles;
     is_new = λ other. let bad : Ok (Waits certificate) ≡ Ok New = sym is ∙ other in absurd cc;
@@ -89,11 +89,11 @@ module _ {S : Type 0} (scheme : Scheme S) (node : NodeView S) (fault : Option Ch
     waits = λ another other.
         let both : Ok (Waits certificate) ≡ Ok (Waits another) = sym is ∙ other in
         let one : certificate ≡ another = cc in
-        (never, λ fine. let bad : Err told_so ≡ Ok false = fine in absurd cc, same, rw (← one) why, looks);
+        (never, λ fine. let bad : Err reported_so ≡ Ok false = fine in absurd cc, same, rw (← one) why, looks);
     refused = λ why other. let bad : Ok (Waits certificate) ≡ Err why = sym is ∙ other in absurd cc;
   }
 
-  waits_by : (certificate : Event) (found : Option CheckError) → fault ≡ found → told ≡ Ok (Waits certificate) → certificate_digest_in certificate.message ≢ None
+  waits_by : (certificate : Event) (found : Option CheckError) → fault ≡ found → reported ≡ Ok (Waits certificate) → certificate_digest_in certificate.message ≢ None
   waits_by certificate (Some error) faulty is = let bad : Ok (Waits certificate) ≡ Err (Unchecked error) = sym is ∙ (handles.unchecked error faulty).0 in absurd cc
   waits_by certificate None sound is =
       elim (handles.checked sound) [
@@ -105,5 +105,5 @@ module _ {S : Type 0} (scheme : Scheme S) (node : NodeView S) (fault : Option Ch
       ]
 
   -- what has to wait is a certificate
-  pub waits_certificate : (certificate : Event) → told ≡ Ok (Waits certificate) → certificate_digest_in certificate.message ≢ None
+  pub waits_certificate : (certificate : Event) → reported ≡ Ok (Waits certificate) → certificate_digest_in certificate.message ≢ None
   waits_certificate certificate is = waits_by certificate fault refl is

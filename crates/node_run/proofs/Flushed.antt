@@ -3,7 +3,7 @@ use Rattle.std.proofs.Common.{◌≡◌, ◌+◌, ◌<◌, ℕ, Bool, true, fals
 use Rattle.std.specs.Prelude.{◌⊎◌, ◌↔◌, IfOk, OnOk, IsErrOf, IsSome, IsTrue}
 use Rattle.flusher.specs.Rounds.{TakesLongest}
 use Rattle.node_io.specs.Endings.{first_of}
-use Rattle.node_run.specs.Ends.{TellsRounds, TellsJournal}
+use Rattle.node_run.specs.Ends.{ReportsRounds, ReportsJournal}
 use Rattle.book.specs.declared.own.error.FlushError.{FlushError}
 use Rattle.book.specs.declared.own.error.FlushError.TheVariants as flush
 use Rattle.journal.specs.declared.error.JournalError.{JournalError}
@@ -75,10 +75,10 @@ stays_up round count false true is fell goes = absurd (never (goes refl))
     never (inr (inr down)) = let bad : IsErrOf {T = ℕ} (Ok count) flush.Down = sym is ∙ down in cc
 
 -- nothing went wrong before
-pub nothing_told : (first : ℕ) (was : Bool) (Lacks : Type 0) → TellsJournal first first was was None Lacks
-nothing_told first was Lacks = record {
+pub nothing_reported : (first : ℕ) (was : Bool) (Lacks : Type 0) → ReportsJournal first first was was None Lacks
+nothing_reported first was Lacks = record {
   fell = λ some. absurd (cc);
-  told = λ up down. absurd (let bad : false ≡ true = sym up ∙ down in cc);
+  reported = λ up down. absurd (let bad : false ≡ true = sym up ∙ down in cc);
   full = λ is. absurd (cc);
   rounds = record { disk = record { device = λ is. absurd (cc); no_fault = λ other. refl }; which = tt };
 }
@@ -92,33 +92,33 @@ none_more (Some journal.ConfigMismatch) = refl
 none_more (Some journal.Full) = refl
 
 -- more rounds: those of a node that is down tell nothing, and leave it so
-pub told_on : (first mid now : ℕ) (was down later : Bool) (fault more : Option JournalError) (Lacks More : Type 0) → TellsJournal first mid was down fault Lacks
-    → TellsRounds mid now more → (down ≡ false → IsSome more ↔ IsTrue later)
+pub reported_on : (first mid now : ℕ) (was down later : Bool) (fault more : Option JournalError) (Lacks More : Type 0) → ReportsJournal first mid was down fault Lacks
+    → ReportsRounds mid now more → (down ≡ false → IsSome more ↔ IsTrue later)
     → (IsTrue down → (more ≡ None) × IsTrue later × (Lacks → More)) → (down ≡ false → more ≡ Some journal.Full → More)
-    → TellsJournal first now was later (first_of fault more) More
-told_on first mid now was true later fault more Lacks More so_far tells down_is stays full =
+    → ReportsJournal first now was later (first_of fault more) More
+reported_on first mid now was true later fault more Lacks More so_far reports down_is stays full =
     let none = (stays refl).0 in
-    let same : now ≡ mid = tells.disk.no_fault (λ is. let bad : ◌≡◌ {A = Option JournalError} None (Some journal.Device) = sym none ∙ is in cc) in
-    subst (λ (m : Option JournalError). TellsJournal first now was later (first_of fault m) More) (sym none)
-    (subst (λ (f : Option JournalError). TellsJournal first now was later f More) (sym (none_more fault))
+    let same : now ≡ mid = reports.disk.no_fault (λ is. let bad : ◌≡◌ {A = Option JournalError} None (Some journal.Device) = sym none ∙ is in cc) in
+    subst (λ (m : Option JournalError). ReportsJournal first now was later (first_of fault m) More) (sym none)
+    (subst (λ (f : Option JournalError). ReportsJournal first now was later f More) (sym (none_more fault))
     (record {
       fell = λ some. (stays refl).1;
-      told = λ up down. so_far.told up refl;
+      reported = λ up down. so_far.reported up refl;
       full = λ is. (stays refl).2 (so_far.full is);
       rounds = record {
         disk = record { device = λ is. subst (λ n. first < n) (sym same) (so_far.rounds.disk.device is); no_fault = λ other. same ∙ so_far.rounds.disk.no_fault other };
         which = so_far.rounds.which;
       };
     }))
-told_on first mid now was false later (Some error) more Lacks More so_far tells down_is stays full = absurd (let bad : false ≡ true = so_far.fell refl in cc)
-told_on first mid now was false later None more Lacks More so_far tells down_is stays full =
+reported_on first mid now was false later (Some error) more Lacks More so_far reports down_is stays full = absurd (let bad : false ≡ true = so_far.fell refl in cc)
+reported_on first mid now was false later None more Lacks More so_far reports down_is stays full =
     let start : mid ≡ first = so_far.rounds.disk.no_fault (λ is. let bad : ◌≡◌ {A = Option JournalError} None (Some journal.Device) = is in cc) in
     record {
       fell = (down_is refl).0;
-      told = λ up down. (down_is refl).1 down;
+      reported = λ up down. (down_is refl).1 down;
       full = full refl;
       rounds = record {
-        disk = record { device = λ is. subst (λ n. n < now) start (tells.disk.device is); no_fault = λ other. tells.disk.no_fault other ∙ start };
-        which = tells.which;
+        disk = record { device = λ is. subst (λ n. n < now) start (reports.disk.device is); no_fault = λ other. reports.disk.no_fault other ∙ start };
+        which = reports.which;
       };
     }

@@ -31,12 +31,12 @@ second_fine : (one other third : Bool) → ((one || other) || third) ≡ false �
 second_fine one other third fine = (or_parts one other (or_parts (one || other) third fine).0).1
 
 -- What was written is on the disks, where the one that wrote knew no more as settled than the rounds had settled on it.
-pub is_settled : {S D : Type 0} (scheme : Scheme S) (device : Device D) (rule : Rule) (first later : RoundsView S D) (tells : Faults) (node : NodeView S) (view : View)
+pub is_settled : {S D : Type 0} (scheme : Scheme S) (device : Device D) (rule : Rule) (first later : RoundsView S D) (reports : Faults) (node : NodeView S) (view : View)
     (left : Store D) (one other third all : Bool)
-    (old new : Option (List ℕ)) → HasFlushed scheme device rule first later tells → is_down first.flusher ≡ false → node ≡ first.node
+    (old new : Option (List ℕ)) → HasFlushed scheme device rule first later reports → is_down first.flusher ≡ false → node ≡ first.node
     → left ≡ store_of (journal_of later.flusher) → Begins view.durable (settled_in later.flusher) → all ≡ ((one || other) || third)
     → HasWritten (All (MayGo scheme node view)) (other ≡ false) old new → HasWritten (AreSettled scheme device first.node first.flusher left) (all ≡ false) old new
-is_settled {S} {D} scheme device rule first later tells node view left one other third all old new flushed up same is_left durable is_all written =
+is_settled {S} {D} scheme device rule first later reports node view left one other third all old new flushed up same is_left durable is_all written =
     written_weaker (All (MayGo scheme node view)) (AreSettled scheme device first.node first.flusher left) (other ≡ false) (all ≡ false) old new
     (λ outputs each. record {
       view = view;
@@ -48,18 +48,19 @@ is_settled {S} {D} scheme device rule first later tells node view left one other
     (λ fine. second_fine one other third (sym is_all ∙ fine)) written
 
 -- What was brought to the disks was brought by the rule, where nothing is told.
-pub comes_by_rule : {S D : Type 0} (scheme : Scheme S) (device : Device D) (rule : Rule) (first later : RoundsView S D) (others tells all : Faults) (left : Store D)
-    → HasFlushed scheme device rule first later tells → is_down first.flusher ≡ false → left ≡ store_of (journal_of later.flusher)
-    → all.journal ≡ first_of others.journal tells.journal → all.memory ≡ (others.memory || tells.memory) → all.journal ≡ None
+pub comes_by_rule : {S D : Type 0} (scheme : Scheme S) (device : Device D) (rule : Rule) (first later : RoundsView S D) (others reports all : Faults) (left : Store D)
+    → HasFlushed scheme device rule first later reports → is_down first.flusher ≡ false → left ≡ store_of (journal_of later.flusher)
+    → all.journal ≡ first_of others.journal reports.journal → all.memory ≡ (others.memory || reports.memory) → all.journal ≡ None
     → ComesByRule device (HasCheckpoint scheme device first.node) rule all.memory (point_of first.flusher) left
-comes_by_rule scheme device rule first later others tells all left flushed up is_left journal_is memory_is none =
-    let both = none_of_both others.journal tells.journal (sym journal_is ∙ none) in
+comes_by_rule scheme device rule first later others reports all left flushed up is_left journal_is memory_is none =
+    let both = none_of_both others.journal reports.journal (sym journal_is ∙ none) in
     let by = flushed.by_rule up both.1 in
-    let raised : tells.memory ≡ true → all.memory ≡ true = λ is. memory_is ∙ or_right others.memory tells.memory is in
+    let raised : reports.memory ≡ true → all.memory ≡ true = λ is. memory_is ∙ or_right others.memory reports.memory is in
     record {
       last = point_of later.flusher;
       last_rule = by.0;
-      by_rule = by_rule_weaker device (HasCheckpoint scheme device first.node) (HasCheckpoint scheme device first.node) rule by.0 tells.memory all.memory (point_of first.flusher) (point_of later.flusher) (λ point made. made) raised by.1;
+      by_rule = by_rule_weaker device (HasCheckpoint scheme device first.node) (HasCheckpoint scheme device first.node) rule by.0 reports.memory all.memory (point_of first.flusher)
+          (point_of later.flusher) (λ point made. made) raised by.1;
       is_left = is_left;
     }
 
@@ -75,9 +76,9 @@ none_of_input ends.Broken lacked_memory = refl
 none_of_input ends.Memory lacked_memory = refl
 
 -- A full journal that the rounds told has no place on the disks for what was taken.
-pub is_full_up : {S D : Type 0} (scheme : Scheme S) (device : Device D) (rule : Rule) (first later : RoundsView S D) (tells : Faults) (fault : Option JournalError) (left : Store D)
-    → HasFlushed scheme device rule first later tells → left ≡ store_of (journal_of later.flusher) → fault ≡ tells.journal → fault ≡ Some journal.Full → IsFullUp scheme device first.node left
-is_full_up scheme device rule first later tells fault left flushed is_left same is = record { last = later.flusher; lacks = flushed.full (sym same ∙ is); is_left = is_left }
+pub is_full_up : {S D : Type 0} (scheme : Scheme S) (device : Device D) (rule : Rule) (first later : RoundsView S D) (reports : Faults) (fault : Option JournalError) (left : Store D)
+    → HasFlushed scheme device rule first later reports → left ≡ store_of (journal_of later.flusher) → fault ≡ reports.journal → fault ≡ Some journal.Full → IsFullUp scheme device first.node left
+is_full_up scheme device rule first later reports fault left flushed is_left same is = record { last = later.flusher; lacks = flushed.full (sym same ∙ is); is_left = is_left }
 
 -- what holds of what there is
 pub of_some : {X : Type 0} (P : X → Type 0) (found : Option X) (one : X) → found ≡ Some one → IfSome found P → P one

@@ -4,8 +4,8 @@ use Rattle.std.specs.Option.{option_map_or}
 use Rattle.std.specs.Prelude.{◌⊎◌, IfOk, IsErrOf, IsSome, IsTrue, OnErr, OnOk}
 use Rattle.book.specs.declared.own.error.FlushError.{FlushError}
 use Rattle.book.specs.declared.own.error.FlushError.TheVariants as flush
-use Rattle.diskmodel.specs.Disk.{Device, TellsFault}
-use Rattle.flusher.specs.Rounds.{journal_of, is_down, settled_in, taken_in, AddsSettled, GoesDown, HasNoRoom, IsAtCheckpoint, IsGroupOf, IsToldOf, KeepsEarlier, TakesAndSettles, TakesLongest, TellsRoom}
+use Rattle.diskmodel.specs.Disk.{Device, ReportsFault}
+use Rattle.flusher.specs.Rounds.{journal_of, is_down, settled_in, taken_in, AddsSettled, GoesDown, HasNoRoom, IsAtCheckpoint, IsGroupOf, IsReportedOf, KeepsEarlier, TakesAndSettles, TakesLongest, ReportsRoom}
 use Rattle.flusher.specs.declared.flusher.Flusher.{Flusher}
 use Rattle.journal.specs.Areas.{other_side}
 use Rattle.journal.specs.Journal.{disk_of, spare_of, IsAlive}
@@ -161,9 +161,9 @@ fails_down before later flush.Down other goes up = let bad : true ≡ false = sy
 same_points : {D : Type 0} (one other : Flusher D) → journal_of one ≡ journal_of other → settled_in one ≡ settled_in other → point_of one ≡ point_of other
 same_points one other journal settled = λ i. record { journal = journal i; settled = settled i }
 
-tells_after : (first mid now : ℕ) (error : FlushError) → mid ≡ first → TellsFault {T = ℕ} flush.Device mid now (Err error) → TellsFault {T = ℕ} flush.Device first now (Err error)
-tells_after first mid now error same tells =
-    (tt, ((λ is. subst (λ (n : ℕ). n < now) same (tells.1.0 is)), (λ not_that. tells.1.1 not_that ∙ same)))
+reports_after : (first mid now : ℕ) (error : FlushError) → mid ≡ first → ReportsFault {T = ℕ} flush.Device mid now (Err error) → ReportsFault {T = ℕ} flush.Device first now (Err error)
+reports_after first mid now error same reports =
+    (tt, ((λ is. subst (λ (n : ℕ). n < now) same (reports.1.0 is)), (λ not_that. reports.1.1 not_that ∙ same)))
 
 module _ {S D : Type 0} (scheme : Scheme S) (device : Device D) (counts : Counts device) (rule : Rule) (missed : Bool) (before : RoundsView S D) where
   abbrev There : RoundsView S D → RoundsView S D → Type 0
@@ -184,12 +184,12 @@ module _ {S D : Type 0} (scheme : Scheme S) (device : Device D) (counts : Counts
 
   -- a round after which nothing is to be done
   pub once_over : (later : RoundsView S D) (round : Result ℕ FlushError) → IsOver round → later.node ≡ before.node → GoesDown before.flusher later.flusher round
-      → IsToldOf before.seat later.seat round → TakesAndSettles before.seat later.seat before.flusher later.flusher round → TellsRoom device before.flusher later.flusher round
+      → IsReportedOf before.seat later.seat round → TakesAndSettles before.seat later.seat before.flusher later.flusher round → ReportsRoom device before.flusher later.flusher round
       → Flushes scheme device before.node before.flusher later.flusher round → IfOk round (λ count. count ≡ 0 → journal_of later.flusher ≡ journal_of before.flusher)
       → (is_down before.flusher ≡ false → IsAlive device (journal_of before.flusher)) → FlushesOnce scheme device rule rule missed before later round
-  once_over later round over node down told settles room flushes nothing alive = record {
+  once_over later round over node down reported settles room flushes nothing alive = record {
     node = node;
-    seen = told.more;
+    seen = reported.more;
     more = settles_any later round flushes;
     down = down;
     cause = flushes.cause;
@@ -316,7 +316,19 @@ module _ {S D : Type 0} (scheme : Scheme S) (device : Device D) (counts : Counts
       earlier = λ _. flushes.earlier;
       any_moment = λ _. leaves_of so_far;
       at_end = λ none _. absurd (some none);
-      by_rule = λ _. (record { grown = point_of mid.flusher; followed = none_due } ∷ [], (record { adds = adds (positive count some); same_area = same_area; brings = brings some; follows = not_due }, (refl, refl)));
+      by_rule = λ _. (
+        record { grown = point_of mid.flusher; followed = none_due } ∷ [],
+        (
+          record {
+            adds = adds
+                (positive count some);
+            same_area = same_area;
+            brings = brings some;
+            follows = not_due;
+          },
+          (refl, refl),
+        ),
+      );
       pair = some_spare;
     }
       where
@@ -328,17 +340,18 @@ module _ {S D : Type 0} (scheme : Scheme S) (device : Device D) (counts : Counts
     -- one was due, and was taken, or failed for another reason than that memory was refused
     once_checkpoint : (answer : Result ℕ FlushError) → (answer ≡ Err flush.Memory → ⊥) → (count ≡ 0 → ⊥) → IsDue rule (length_in device (journal_of mid.flusher))
         → later.node ≡ mid.node → GoesDown mid.flusher later.flusher answer
-        → IsToldOf mid.seat later.seat answer → Flushes scheme device mid.node mid.flusher later.flusher answer → OnOk answer (HaveChangedPlaces (journal_of mid.flusher) (journal_of later.flusher))
+        → IsReportedOf mid.seat later.seat answer → Flushes scheme device mid.node mid.flusher later.flusher answer → OnOk answer (HaveChangedPlaces (journal_of mid.flusher)
+        (journal_of later.flusher))
         → OnOk answer (IsAtCheckpoint scheme device mid.node later.flusher) → OnOk answer (later_rule ≡ counted_from device rule (journal_of later.flusher)) → OnErr answer (later_rule ≡ rule)
         → (IsErrOf answer flush.Full → IsAlive device (journal_of later.flusher) × HasNoRoomToRewrite scheme mid.node later.flusher)
         → FlushesOnce scheme device rule later_rule missed before later (answer_of count answer)
-    once_checkpoint (Ok generation) not_memory some due later_node later_goes told taken swapped writes counted kept full =
+    once_checkpoint (Ok generation) not_memory some due later_node later_goes reported taken swapped writes counted kept full =
         let later_up = is_up mid.flusher later.flusher generation later_goes in
         let no_down = ok_is_up (Ok generation) generation refl in
         let more_later = subst (Begins (settled_in mid.flusher)) (sym taken.settled) (begins_taken (settled_in mid.flusher) (taken_in later.flusher) (Ok generation) no_down taken.takes) in
         record {
           node = later_node ∙ node;
-          seen = begins_trans before.seat.view.seen mid.seat.view.seen later.seat.view.seen seen told.more;
+          seen = begins_trans before.seat.view.seen mid.seat.view.seen later.seat.view.seen seen reported.more;
           more = begins_trans (settled_in before.flusher) (settled_in mid.flusher) (settled_in later.flusher) more more_later;
           down = goes_ok before.flusher later.flusher count up later_up;
           cause = (taken.cause.0 ∙ flushes.cause.0, tt);
@@ -360,14 +373,14 @@ module _ {S D : Type 0} (scheme : Scheme S) (device : Device D) (counts : Counts
               (step ∷ [], (record { adds = adds (positive count some); same_area = same_area; brings = brings some; follows = (due, swapped, more_later, has_checkpoint writes) }, (counted, refl)));
           pair = λ pair is. taken.disks.1 (some_spare pair (subst (λ (r : Rule). IsSome r.every) counted is));
         }
-    once_checkpoint (Err error) not_memory some due later_node later_goes told taken swapped writes counted kept full =
+    once_checkpoint (Err error) not_memory some due later_node later_goes reported taken swapped writes counted kept full =
         let no_down : IsErrOf {T = ℕ} (Err error) flush.Down → ⊥ = λ is. (let bad : true ≡ false = sym (later_goes.down.0 is) ∙ still_up in cc) in
         record {
           node = later_node ∙ node;
-          seen = begins_trans before.seat.view.seen mid.seat.view.seen later.seat.view.seen seen told.more;
+          seen = begins_trans before.seat.view.seen mid.seat.view.seen later.seat.view.seen seen reported.more;
           more = subst (Begins (settled_in before.flusher)) (sym taken.not_settled) more;
           down = goes_err before.flusher mid.flusher later.flusher error up still_up later_goes;
-          cause = tells_after (faults_in device (store_of (journal_of before.flusher))) (faults_in device (store_of (journal_of mid.flusher)))
+          cause = reports_after (faults_in device (store_of (journal_of before.flusher))) (faults_in device (store_of (journal_of mid.flusher)))
               (faults_in device (store_of (journal_of later.flusher))) error flushes.cause.0 taken.cause;
           full = λ is. ((full is).0, inr (subst (λ (n : NodeView S). HasNoRoomToRewrite scheme n later.flusher) node (full is).1));
           nothing = λ is. absurd (let bad : ◌≡◌ {A = Result ℕ FlushError} (Err error) (Ok 0) = is in cc);
@@ -383,14 +396,14 @@ module _ {S D : Type 0} (scheme : Scheme S) (device : Device D) (counts : Counts
 
     -- one was due, and memory was refused for it
     once_missed : (count ≡ 0 → ⊥) → IsDue rule (length_in device (journal_of mid.flusher)) → later.node ≡ mid.node → GoesDown mid.flusher later.flusher (Err flush.Memory)
-        → IsToldOf mid.seat later.seat (Err flush.Memory)
+        → IsReportedOf mid.seat later.seat (Err flush.Memory)
         → Flushes scheme device mid.node mid.flusher later.flusher (Err flush.Memory) → later_rule ≡ rule → missed ≡ true → FlushesOnce scheme device rule later_rule missed before later (Ok count)
-    once_missed some due later_node later_goes told taken kept marked =
+    once_missed some due later_node later_goes reported taken kept marked =
         let later_up = memory_is_up mid.flusher later.flusher later_goes in
         let no_down : IsErrOf {T = ℕ} (Err flush.Memory) flush.Down → ⊥ = λ is. (let bad : flush.Memory ≡ flush.Down = ap error_in is in cc) in
         record {
           node = later_node ∙ node;
-          seen = begins_trans before.seat.view.seen mid.seat.view.seen later.seat.view.seen seen told.more;
+          seen = begins_trans before.seat.view.seen mid.seat.view.seen later.seat.view.seen seen reported.more;
           more = subst (Begins (settled_in before.flusher)) (sym taken.not_settled) more;
           down = goes_ok before.flusher later.flusher count up later_up;
           cause = (taken.cause.1.1 (λ is. let bad : flush.Memory ≡ flush.Device = is in cc) ∙ flushes.cause.0, tt);
@@ -420,7 +433,7 @@ module _ {S D : Type 0} (scheme : Scheme S) (device : Device D) (counts : Counts
     once_both result not_memory some (inl (due, it)) =
         subst (λ (r : Result (Unit {0}) FlushError). FlushesOnce scheme device rule later_rule missed before later (with_count count r)) (sym it.answered)
         (subst (FlushesOnce scheme device rule later_rule missed before later) (same_answer count it.answer)
-        (once_checkpoint it.answer (λ is. not_memory (it.answered ∙ ap without_number is)) some due it.node it.down it.told it.flushes it.swapped it.writes it.counts it.keeps it.full))
+        (once_checkpoint it.answer (λ is. not_memory (it.answered ∙ ap without_number is)) some due it.node it.down it.reported it.flushes it.swapped it.writes it.counts it.keeps it.full))
     once_both result not_memory some (inr (not_due, ok, same, same_rule)) =
         subst (λ (r : Result (Unit {0}) FlushError). FlushesOnce scheme device rule later_rule missed before later (with_count count r)) (sym ok)
         (subst (λ (l : RoundsView S D). FlushesOnce scheme device rule later_rule missed before l (Ok count)) (sym same)
@@ -430,6 +443,6 @@ module _ {S D : Type 0} (scheme : Scheme S) (device : Device D) (counts : Counts
         → FlushesOnce scheme device rule later_rule missed before later (Ok count)
     once_without result memory marked some (inl (due, it)) =
         let same = was_memory it.answer (sym memory ∙ it.answered) in
-        once_missed some due it.node (subst (GoesDown mid.flusher later.flusher) same it.down) (subst (IsToldOf mid.seat later.seat) same it.told)
+        once_missed some due it.node (subst (GoesDown mid.flusher later.flusher) same it.down) (subst (IsReportedOf mid.seat later.seat) same it.reported)
         (subst (Flushes scheme device mid.node mid.flusher later.flusher) same it.flushes) (subst (λ (a : Result ℕ FlushError). OnErr a (later_rule ≡ rule)) same it.keeps) marked
     once_without result memory marked some (inr it) = absurd (let bad : ◌≡◌ {A = Result (Unit {0}) FlushError} (Err flush.Memory) (Ok tt) = sym memory ∙ it.1 in cc)

@@ -3,7 +3,7 @@ use Rattle.std.proofs.Common.{◌≡◌, ◌<◌, ℕ, Bool, true, false, List, 
 use Rattle.std.specs.Prelude.{◌⊎◌, ◌↔◌, IsErrOf, IsSome, IsTrue}
 use Rattle.book.specs.declared.own.error.FlushError.{FlushError}
 use Rattle.book.specs.declared.own.error.FlushError.TheVariants as flush
-use Rattle.diskmodel.specs.Disk.{Device, TellsFault}
+use Rattle.diskmodel.specs.Disk.{Device, ReportsFault}
 use Rattle.flusher.specs.Rounds.{journal_of, is_down, settled_in, taken_in, GoesDown, KeepsEarlier, TakesLongest}
 use Rattle.flusher.specs.declared.flusher.Flusher.{Flusher}
 use Rattle.journal.specs.Journal.{spare_of}
@@ -20,7 +20,7 @@ use Rattle.node_seats.specs.declared.view.Marked.{Marked}
 use Rattle.node_shared.specs.Home.{NodeView}
 use Rattle.sigface.specs.Scheme.{Scheme}
 use Rattle.wire.specs.Lists.{Begins}
-use Rattle.node_run.specs.Ends.{faults_after, TellsRounds, TellsJournal}
+use Rattle.node_run.specs.Ends.{faults_after, ReportsRounds, ReportsJournal}
 use Rattle.node_run.specs.Flushing.{FlushesOnce}
 use Rattle.node_run.specs.Rewriting.{AreSteps, ByTheRule, FollowsWhereDue, Followed, HasCheckpoint, HasNoPlace, Point, Step, none_due, made, skipped, point_after, point_of, rule_after}
 use Rattle.node_run.specs.Runs.{HoldsMore, LeavesSettled}
@@ -39,7 +39,8 @@ steps_join {D} device Made rule memory first [] mid_rule mid more later last her
 steps_join device Made rule memory first (step ∷ steps) mid_rule mid more later last here there =
     (here.0, steps_join device Made (rule_after device rule step) memory (point_after step) steps mid_rule mid more later last here.1 there)
 
-by_rule_joins : {D : Type 0} (device : Device D) (Made : Point D → Type 0) (rule mid_rule later : Rule) (memory : Bool) (first mid last : Point D) → ByTheRule device Made rule memory first mid_rule mid
+by_rule_joins : {D : Type 0} (device : Device D) (Made : Point D → Type 0) (rule mid_rule later : Rule) (memory : Bool) (first mid last : Point D)
+    → ByTheRule device Made rule memory first mid_rule mid
     → ByTheRule device Made mid_rule memory mid later last → ByTheRule device Made rule memory first later last
 by_rule_joins device Made rule mid_rule later memory first mid last here there =
     (here.0 ++ there.0, steps_join device Made rule memory first here.0 mid_rule mid there.0 later last here.1 there.1)
@@ -74,21 +75,21 @@ by_rule_weaker device Made Other rule later memory more first last wider raised 
 
 -- ---- what is told
 
-tells_failed : (first mid now : ℕ) (error : FlushError) → mid ≡ first → TellsFault {T = ℕ} flush.Device mid now (Err error) → TellsRounds first now (faults_after error).journal
-tells_failed first mid now flush.Memory same tells = record {
-  disk = record { device = λ is. absurd (cc); no_fault = λ other. tells.1.1 (λ is. let bad : flush.Memory ≡ flush.Device = is in cc) ∙ same };
+reports_failed : (first mid now : ℕ) (error : FlushError) → mid ≡ first → ReportsFault {T = ℕ} flush.Device mid now (Err error) → ReportsRounds first now (faults_after error).journal
+reports_failed first mid now flush.Memory same reports = record {
+  disk = record { device = λ is. absurd (cc); no_fault = λ other. reports.1.1 (λ is. let bad : flush.Memory ≡ flush.Device = is in cc) ∙ same };
   which = tt;
 }
-tells_failed first mid now flush.Device same tells = record {
-  disk = record { device = λ is. subst (λ (n : ℕ). n < now) same (tells.1.0 refl); no_fault = λ other. absurd (other refl) };
+reports_failed first mid now flush.Device same reports = record {
+  disk = record { device = λ is. subst (λ (n : ℕ). n < now) same (reports.1.0 refl); no_fault = λ other. absurd (other refl) };
   which = inl refl;
 }
-tells_failed first mid now flush.Full same tells = record {
-  disk = record { device = λ is. absurd (cc); no_fault = λ other. tells.1.1 (λ is. let bad : flush.Full ≡ flush.Device = is in cc) ∙ same };
+reports_failed first mid now flush.Full same reports = record {
+  disk = record { device = λ is. absurd (cc); no_fault = λ other. reports.1.1 (λ is. let bad : flush.Full ≡ flush.Device = is in cc) ∙ same };
   which = inr refl;
 }
-tells_failed first mid now flush.Down same tells = record {
-  disk = record { device = λ is. absurd (cc); no_fault = λ other. tells.1.1 (λ is. let bad : flush.Down ≡ flush.Device = is in cc) ∙ same };
+reports_failed first mid now flush.Down same reports = record {
+  disk = record { device = λ is. absurd (cc); no_fault = λ other. reports.1.1 (λ is. let bad : flush.Down ≡ flush.Device = is in cc) ∙ same };
   which = tt;
 }
 
@@ -128,11 +129,12 @@ pub record Looped {S D : Type 0} (scheme : Scheme S) (device : Device D) (rule n
 -- what is left, and reported
 pub record Ended {S D : Type 0} (scheme : Scheme S) (device : Device D) (rule later_rule : Rule) (missed : Bool) (first later : RoundsView S D) (faults : Faults) : Type 0 where
   pub pair : IsSome later_rule.every → IsSome (spare_of (journal_of later.flusher))
-  pub rounds : TellsRounds (faults_in device (store_of (journal_of first.flusher))) (faults_in device (store_of (journal_of later.flusher))) faults.journal
+  pub rounds : ReportsRounds (faults_in device (store_of (journal_of first.flusher))) (faults_in device (store_of (journal_of later.flusher))) faults.journal
   pub down : is_down first.flusher ≡ false → IsSome faults.journal ↔ IsTrue (is_down later.flusher)
   pub stays : IsTrue (is_down first.flusher) → (faults.journal ≡ None) × (later.flusher ≡ first.flusher)
   pub full : is_down first.flusher ≡ false → faults.journal ≡ Some journal.Full → HasNoPlace scheme device first.node later.flusher
-  pub by_rule : is_down first.flusher ≡ false → faults.journal ≡ None → ByTheRule device (HasCheckpoint scheme device first.node) rule missed (point_of first.flusher) later_rule (point_of later.flusher)
+  pub by_rule : is_down first.flusher ≡ false → faults.journal ≡ None → ByTheRule device (HasCheckpoint scheme device first.node) rule missed (point_of first.flusher) later_rule
+      (point_of later.flusher)
   pub all : is_down later.flusher ≡ false → faults.memory ≡ false → TakesLongest first.seat.view.seen (settled_in later.flusher) (settled_in later.flusher)
   pub memory : faults.memory ≡ true → taken_in later.flusher ≡ settled_in later.flusher
   pub others : (faults.output ≡ false) × (faults.input ≡ false)
@@ -229,7 +231,7 @@ module _ {S D : Type 0} (scheme : Scheme S) (device : Device D) (rule now_rule l
       → Ended scheme device rule later_rule later_missed first later (faults_after error)
   ended_by error once = record {
     pair = once.pair loop.pair;
-    rounds = tells_failed (faults_in device (store_of (journal_of first.flusher))) (faults_in device (store_of (journal_of now.flusher))) (faults_in device (store_of (journal_of later.flusher)))
+    rounds = reports_failed (faults_in device (store_of (journal_of first.flusher))) (faults_in device (store_of (journal_of now.flusher))) (faults_in device (store_of (journal_of later.flusher)))
         error loop.faults once.cause;
     down = λ up. fell now.flusher later.flusher error (loop.down ∙ up) once.down;
     stays = λ down. stayed error once.down (loop.down ∙ down) (loop.stays down);
@@ -292,20 +294,21 @@ none_of_both (Some journal.ConfigMismatch) other none = absurd (let bad : ◌≡
 none_of_both (Some journal.Full) other none = absurd (let bad : ◌≡◌ {A = Option JournalError} (Some journal.Full) None = none in cc)
 
 -- where nothing was reported, the node is up
-up_so_far : (first mid : ℕ) (was down : Bool) (fault : Option JournalError) (Lacks : Type 0) → TellsJournal first mid was down fault Lacks → was ≡ false → fault ≡ None → down ≡ false
-up_so_far first mid was false fault Lacks told up none = refl
-up_so_far first mid was true fault Lacks told up none = absurd (let bad : false ≡ true = subst (λ (f : Option JournalError). IsSome f) none (told.told up refl) in cc)
+up_so_far : (first mid : ℕ) (was down : Bool) (fault : Option JournalError) (Lacks : Type 0) → ReportsJournal first mid was down fault Lacks → was ≡ false → fault ≡ None → down ≡ false
+up_so_far first mid was false fault Lacks reported up none = refl
+up_so_far first mid was true fault Lacks reported up none = absurd (let bad : false ≡ true = subst (λ (f : Option JournalError). IsSome f) none (reported.reported up refl) in cc)
 
 -- all was brought by the rule before, and is then
-pub by_rule_on : {D : Type 0} (device : Device D) (Made : Point D → Type 0) (rule mid_rule later : Rule) (first mid now : Flusher D) (Lacks : Type 0) (faults more all : Faults) (missed later_missed : Bool)
+pub by_rule_on : {D : Type 0} (device : Device D) (Made : Point D → Type 0) (rule mid_rule later : Rule) (first mid now : Flusher D) (Lacks : Type 0) (faults more all : Faults)
+    (missed later_missed : Bool)
     (at_first at_mid : ℕ)
-    → TellsJournal at_first at_mid (is_down first) (is_down mid) faults.journal Lacks
+    → ReportsJournal at_first at_mid (is_down first) (is_down mid) faults.journal Lacks
     → (is_down first ≡ false → faults.journal ≡ None → ByTheRule device Made rule missed (point_of first) mid_rule (point_of mid))
     → (is_down mid ≡ false → more.journal ≡ None → ByTheRule device Made mid_rule later_missed (point_of mid) later (point_of now))
     → (missed ≡ true → later_missed ≡ true) → all.journal ≡ first_of faults.journal more.journal
     → is_down first ≡ false → all.journal ≡ None → ByTheRule device Made rule later_missed (point_of first) later (point_of now)
-by_rule_on device Made rule mid_rule later first mid now Lacks faults more all missed later_missed at_first at_mid told before after kept journal_is up none =
+by_rule_on device Made rule mid_rule later first mid now Lacks faults more all missed later_missed at_first at_mid reported before after kept journal_is up none =
     let both = none_of_both faults.journal more.journal (sym journal_is ∙ none) in
     by_rule_joins device Made rule mid_rule later later_missed (point_of first) (point_of mid) (point_of now)
     (by_rule_weaker device Made Made rule mid_rule missed later_missed (point_of first) (point_of mid) (λ point is. is) kept (before up both.0))
-    (after (up_so_far at_first at_mid (is_down first) (is_down mid) faults.journal Lacks told up both.0) both.1)
+    (after (up_so_far at_first at_mid (is_down first) (is_down mid) faults.journal Lacks reported up both.0) both.1)

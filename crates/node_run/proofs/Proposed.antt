@@ -24,7 +24,7 @@ use Rattle.validator.specs.Setting.{node_of}
 use Rattle.node.specs.Callers.{CallerView}
 use Rattle.wire.specs.declared.message.Message.TheVariants as message
 use Rattle.node_run.specs.declared.caller.Taken.{Taken}
-use Rattle.node_run.specs.Taking.{IsProposed, IsSubmitted, is_told_new, told_as}
+use Rattle.node_run.specs.Taking.{IsProposed, IsSubmitted, is_reported_new, reported_as}
 
 -- an own event by the number and the committee of the node's configuration
 pub own_fault : (node : Node) (charter : Charter) (own : Author) (header : Header) (fault : Option CheckError) → charter ≡ node.charter → own ≡ node.own
@@ -71,13 +71,13 @@ module _ {S : Type 0} (scheme : Scheme S) (shared : NodeView S) (before mid : Ca
     failed = λ _ _ _ _. (refl, mine);
   }
 
-  pub was_proposed : (later : CallerView S) (found : Option Header) (header : Header) (event : Event) (told : Result Taken Rejection) (newness : Result Bool AllocError)
+  pub was_proposed : (later : CallerView S) (found : Option Header) (header : Header) (event : Event) (reported : Result Taken Rejection) (newness : Result Bool AllocError)
       → Finds found → found ≡ Some header → event ≡ own_event node header → fault_of node.charter accepts_all event ≡ None
-      → Begins mid.seat.view.seen later.seat.view.seen → IsSubmitted scheme shared event before later told
-      → IfOk newness (λ new. new ≡ is_told_new told) → IfOk newness (λ new. IsProposed scheme shared before later new)
-  was_proposed later found header event told newness is some own passed less done = on_ok newness
+      → Begins mid.seat.view.seen later.seat.view.seen → IsSubmitted scheme shared event before later reported
+      → IfOk newness (λ new. new ≡ is_reported_new reported) → IfOk newness (λ new. IsProposed scheme shared before later new)
+  was_proposed later found header event reported newness is some own passed less done = on_ok newness
     where
-      one : (new : Bool) → new ≡ is_told_new told → IsProposed scheme shared before later new
+      one : (new : Bool) → new ≡ is_reported_new reported → IsProposed scheme shared before later new
       one new newly = record {
         looked = mid.seat.view.seen;
         more = more;
@@ -88,9 +88,9 @@ module _ {S : Type 0} (scheme : Scheme S) (shared : NodeView S) (before mid : Ca
         some = λ other there passes.
             let both : Some header ≡ Some other = sym some ∙ there in
             let same : header ≡ other = cc in (
-              told,
-              subst (λ (it : Header). IsSubmitted scheme shared (own_event node it) before later told) same
-                  (subst (λ (it : Event). IsSubmitted scheme shared it before later told) own done),
+              reported,
+              subst (λ (it : Header). IsSubmitted scheme shared (own_event node it) before later reported) same
+                  (subst (λ (it : Event). IsSubmitted scheme shared it before later reported) own done),
               newly,
             );
         failed = λ other error there fault.
@@ -101,19 +101,19 @@ module _ {S : Type 0} (scheme : Scheme S) (shared : NodeView S) (before mid : Ca
             let bad : Some error ≡ None = sym fault ∙ none in absurd cc;
       }
 
-      on_ok : (newness : Result Bool AllocError) → IfOk newness (λ new. new ≡ is_told_new told) → IfOk newness (λ new. IsProposed scheme shared before later new)
+      on_ok : (newness : Result Bool AllocError) → IfOk newness (λ new. new ≡ is_reported_new reported) → IfOk newness (λ new. IsProposed scheme shared before later new)
       on_ok (Ok new) newly = one new newly
       on_ok (Err error) newly = tt
 
 -- what is refused is no event of one's own
 refused_mine : {S : Type 0} (scheme : Scheme S) (node : NodeView S) (event : Event) (before later : CallerView S) (why : Rejection) (answer : Result Receipt Refusal)
-    → Submits scheme node event before.seat.view later.seat.view answer → told_as answer ≡ Err why → later.seat.view.mine ≡ before.seat.view.mine
+    → Submits scheme node event before.seat.view later.seat.view answer → reported_as answer ≡ Err why → later.seat.view.mine ≡ before.seat.view.mine
 refused_mine scheme node event before later why (Ok receipt) submits is = absurd cc
 refused_mine scheme node event before later why (Err refusal) submits is = let same = submits.same in same.1
 
 -- want of memory is told only where nothing was accepted
-pub lacked_memory : {S : Type 0} (scheme : Scheme S) (node : NodeView S) (event : Event) (before mid later : CallerView S) (told : Result Taken Rejection) (newness : Result Bool AllocError)
-    → mid.seat.view.mine ≡ before.seat.view.mine → IsSubmitted scheme node event mid later told → OnErr newness (told ≡ Err (Refused Memory))
+pub lacked_memory : {S : Type 0} (scheme : Scheme S) (node : NodeView S) (event : Event) (before mid later : CallerView S) (reported : Result Taken Rejection) (newness : Result Bool AllocError)
+    → mid.seat.view.mine ≡ before.seat.view.mine → IsSubmitted scheme node event mid later reported → OnErr newness (reported ≡ Err (Refused Memory))
     → OnErr newness (later.seat.view.mine ≡ before.seat.view.mine)
-lacked_memory scheme node event before mid later told (Ok new) mine done why = tt
-lacked_memory scheme node event before mid later told (Err error) mine done why = refused_mine scheme node event mid later (Refused Memory) done.answer done.submits (sym done.is ∙ why) ∙ mine
+lacked_memory scheme node event before mid later reported (Ok new) mine done why = tt
+lacked_memory scheme node event before mid later reported (Err error) mine done why = refused_mine scheme node event mid later (Refused Memory) done.answer done.submits (sym done.is ∙ why) ∙ mine

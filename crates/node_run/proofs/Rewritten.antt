@@ -5,7 +5,7 @@ use Rattle.book.specs.Checkpoints.{HasNoRoomFor}
 use Rattle.book.specs.declared.own.error.FlushError.{FlushError}
 use Rattle.book.specs.declared.own.error.FlushError.TheVariants as flush
 use Rattle.diskmodel.specs.Disk.{Device}
-use Rattle.flusher.specs.Rounds.{journal_of, GoesDown, IsAtCheckpoint, IsToldOf, TellsRoomToRewrite}
+use Rattle.flusher.specs.Rounds.{journal_of, GoesDown, IsAtCheckpoint, IsReportedOf, ReportsRoomToRewrite}
 use Rattle.flusher.specs.declared.flusher.Flusher.{Flusher}
 use Rattle.journal.specs.Journal.{spare_of, IsAlive}
 use Rattle.journal.specs.Pairs.{HaveChangedPlaces}
@@ -24,11 +24,11 @@ some_every (Some every) was len due = refl
 
 -- one that answered Full had no room
 no_room : {S D : Type 0} (scheme : Scheme S) (device : Device D) (node : NodeView S) (before later : Flusher D) (answer : Result ℕ FlushError) → IsAlive device (journal_of before)
-    → IsSome (spare_of (journal_of later)) → IsErrOf answer flush.Down ⊎ IsErrOf answer flush.Memory ⊎ TellsRoomToRewrite scheme node before later answer
+    → IsSome (spare_of (journal_of later)) → IsErrOf answer flush.Down ⊎ IsErrOf answer flush.Memory ⊎ ReportsRoomToRewrite scheme node before later answer
     → IsErrOf answer flush.Full → IsAlive device (journal_of later) × HasNoRoomToRewrite scheme node later
 no_room {S} {D} scheme device node before later answer alive pair = by
   where
-    by : IsErrOf answer flush.Down ⊎ IsErrOf answer flush.Memory ⊎ TellsRoomToRewrite scheme node before later answer → IsErrOf answer flush.Full
+    by : IsErrOf answer flush.Down ⊎ IsErrOf answer flush.Memory ⊎ ReportsRoomToRewrite scheme node before later answer → IsErrOf answer flush.Full
         → IsAlive device (journal_of later) × HasNoRoomToRewrite scheme node later
     by (inl down) full = absurd (let bad : ◌≡◌ {A = Result ℕ FlushError} (Err flush.Full) (Err flush.Down) = sym full ∙ down in cc)
     by (inr (inl memory)) full = absurd (let bad : ◌≡◌ {A = Result ℕ FlushError} (Err flush.Full) (Err flush.Memory) = sym full ∙ memory in cc)
@@ -46,20 +46,20 @@ no_room {S} {D} scheme device node before later answer alive pair = by
 pub was_due : {S D : Type 0} (scheme : Scheme S) (device : Device D) (rule later_rule : Rule) (before later : RoundsView S D) (answer : Result ℕ FlushError) (result : Result (Unit {0}) FlushError)
     → IsSome (spare_of (journal_of before.flusher)) → IsDue rule (length_in device (journal_of before.flusher)) → result ≡ without_number answer
     → later.node ≡ before.node → GoesDown before.flusher later.flusher answer
-    → IsToldOf before.seat later.seat answer → Flushes scheme device before.node before.flusher later.flusher answer
+    → IsReportedOf before.seat later.seat answer → Flushes scheme device before.node before.flusher later.flusher answer
     → OnOk answer (HaveChangedPlaces (journal_of before.flusher) (journal_of later.flusher)) → OnOk answer (IsAtCheckpoint scheme device before.node later.flusher)
     → OnOk answer (later_rule ≡ counted_from device rule (journal_of later.flusher))
     → OnErr answer (later_rule ≡ rule)
-    → IsErrOf answer flush.Down ⊎ IsErrOf answer flush.Memory ⊎ TellsRoomToRewrite scheme before.node before.flusher later.flusher answer
+    → IsErrOf answer flush.Down ⊎ IsErrOf answer flush.Memory ⊎ ReportsRoomToRewrite scheme before.node before.flusher later.flusher answer
     → IsAlive device (journal_of before.flusher) → RewritesWhereDue scheme device rule later_rule before later result
-was_due scheme device rule later_rule before later answer result pair due answered node down told flushes swapped writes counts keeps room alive = inl (
+was_due scheme device rule later_rule before later answer result pair due answered node down reported flushes swapped writes counts keeps room alive = inl (
   due,
   record {
     answer = answer;
     answered = answered;
     node = node;
     down = down;
-    told = told;
+    reported = reported;
     flushes = flushes;
     swapped = swapped;
     writes = writes;

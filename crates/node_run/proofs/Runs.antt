@@ -36,7 +36,7 @@ use Rattle.node_shared.specs.Home.{NodeView}
 use Rattle.opening.specs.Laws.{IsFullIn, IsLeftIn, IsNoRefusalOfBoth, IsReadIn}
 use Rattle.opening.specs.Renewing.{KeepsStatesIn}
 use Rattle.opening.specs.Stages.{IsDecodedAsBoth, IsDecodedThroughout}
-use Rattle.opening.specs.Decoded.{decoded_in, StandsAt, Tells, IsDecodedAsOneOf}
+use Rattle.opening.specs.Decoded.{decoded_in, StandsAt, Reports, IsDecodedAsOneOf}
 use Rattle.spec_machine.specs.After.{after_all, IsLegalAfter}
 use Rattle.spec_machine.proofs.AfterAll.{after_none}
 use Rattle.spec_model.specs.Nodes.{Node}
@@ -45,7 +45,7 @@ use Rattle.spec_model.specs.Words.{Output}
 use Rattle.spec_world.specs.World.{Holds, StandsFor}
 use Rattle.validator.specs.Setting.{ConfigView, node_of}
 use Rattle.validator.specs.Standing.{AreAtSound}
-use Rattle.node_run.specs.Ends.{TellsRounds}
+use Rattle.node_run.specs.Ends.{ReportsRounds}
 use Rattle.wire.specs.declared.keys.Key.{Key}
 use Rattle.node_run.specs.Members.{IsConfigOf, RefusesOpening}
 use Rattle.node_run.proofs.Pending.{by_rule_weaker}
@@ -70,17 +70,17 @@ other_none false true input error is = let bad : None ≡ Some error = ap fault_
 other_none false false true error is = let bad : None ≡ Some error = ap fault_in is in cc
 other_none false false false error is = let bad : None ≡ Some error = ap fault_in is in cc
 
-told_unless : (fault : Option JournalError) (other : Ending) (error : JournalError) → (other ≡ ends.Journal error → ⊥) → unless_journal fault other ≡ ends.Journal error → fault ≡ Some error
-told_unless None other error none is = absurd (none is)
-told_unless (Some journal.Memory) other error none is = absurd (none is)
-told_unless (Some journal.Device) other error none is = ap fault_in is
-told_unless (Some (journal.Damaged place)) other error none is = ap fault_in is
-told_unless (Some journal.ConfigMismatch) other error none is = ap fault_in is
-told_unless (Some journal.Full) other error none is = ap fault_in is
+reported_unless : (fault : Option JournalError) (other : Ending) (error : JournalError) → (other ≡ ends.Journal error → ⊥) → unless_journal fault other ≡ ends.Journal error → fault ≡ Some error
+reported_unless None other error none is = absurd (none is)
+reported_unless (Some journal.Memory) other error none is = absurd (none is)
+reported_unless (Some journal.Device) other error none is = ap fault_in is
+reported_unless (Some (journal.Damaged place)) other error none is = ap fault_in is
+reported_unless (Some journal.ConfigMismatch) other error none is = ap fault_in is
+reported_unless (Some journal.Full) other error none is = ap fault_in is
 
 -- a run ends with a fault of the journal only where that was told
 decoded_of_journal : (faults : Faults) (error : JournalError) → ending_of faults ≡ ends.Journal error → faults.journal ≡ Some error
-decoded_of_journal faults error is = told_unless faults.journal _ error (other_none faults.output (lacks_memory faults) faults.input error) is
+decoded_of_journal faults error is = reported_unless faults.journal _ error (other_none faults.output (lacks_memory faults) faults.input error) is
 
 -- and where its disk's fault was told, so it ends
 ends_with_device : (fault : Option JournalError) (other : Ending) → fault ≡ Some journal.Device → unless_journal fault other ≡ ends.Journal journal.Device
@@ -125,9 +125,9 @@ nothing_unless (Some (journal.Damaged place)) output memory lacks input which br
 nothing_unless (Some journal.ConfigMismatch) output memory lacks input which brought = absurd (let bad : false ≡ true = brought in cc)
 nothing_unless (Some journal.Full) output memory lacks input which brought = absurd (let bad : false ≡ true = brought in cc)
 
-told_nothing : (faults : Faults) → IfSome faults.journal (λ error. (error ≡ journal.Device) ⊎ (error ≡ journal.Full)) → is_all_brought (ending_of faults) ≡ true
+reported_nothing : (faults : Faults) → IfSome faults.journal (λ error. (error ≡ journal.Device) ⊎ (error ≡ journal.Full)) → is_all_brought (ending_of faults) ≡ true
     → (faults.journal ≡ None) × (faults.memory ≡ true → may_lack_memory (ending_of faults) ≡ true)
-told_nothing faults which brought = nothing_unless faults.journal faults.output faults.memory _ faults.input which brought
+reported_nothing faults which brought = nothing_unless faults.journal faults.output faults.memory _ faults.input which brought
 
 -- one that couldn't begin
 nothing_brought : (error : JournalError) → is_all_brought (of_journal error) ≡ true → ⊥
@@ -163,17 +163,17 @@ events_begin front whole begins = record {
 }
 
 abbrev IsOfRun : Node → Areas → JournalError → Type 0
-IsOfRun node before error = (error ≡ journal.Device) ⊎ (error ≡ journal.Full) ⊎ Tells error (decoded_in node before)
+IsOfRun node before error = (error ≡ journal.Device) ⊎ (error ≡ journal.Full) ⊎ Reports error (decoded_in node before)
 
-kind_of : (node : Node) (before : Areas) (error : JournalError) → (error ≢ journal.Device → error ≢ journal.Full → Tells error (decoded_in node before)) → IsOfRun node before error
-kind_of node before journal.Memory tells =
-    inr (inr (tells (λ is. let bad : journal.Memory ≡ journal.Device = is in cc) (λ is. let bad : journal.Memory ≡ journal.Full = is in cc)))
-kind_of node before journal.Device tells = inl refl
-kind_of node before (journal.Damaged place) tells =
-    inr (inr (tells (λ is. let bad : journal.Damaged place ≡ journal.Device = is in cc) (λ is. let bad : journal.Damaged place ≡ journal.Full = is in cc)))
-kind_of node before journal.ConfigMismatch tells =
-    inr (inr (tells (λ is. let bad : journal.ConfigMismatch ≡ journal.Device = is in cc) (λ is. let bad : journal.ConfigMismatch ≡ journal.Full = is in cc)))
-kind_of node before journal.Full tells = inr (inl refl)
+kind_of : (node : Node) (before : Areas) (error : JournalError) → (error ≢ journal.Device → error ≢ journal.Full → Reports error (decoded_in node before)) → IsOfRun node before error
+kind_of node before journal.Memory reports =
+    inr (inr (reports (λ is. let bad : journal.Memory ≡ journal.Device = is in cc) (λ is. let bad : journal.Memory ≡ journal.Full = is in cc)))
+kind_of node before journal.Device reports = inl refl
+kind_of node before (journal.Damaged place) reports =
+    inr (inr (reports (λ is. let bad : journal.Damaged place ≡ journal.Device = is in cc) (λ is. let bad : journal.Damaged place ≡ journal.Full = is in cc)))
+kind_of node before journal.ConfigMismatch reports =
+    inr (inr (reports (λ is. let bad : journal.ConfigMismatch ≡ journal.Device = is in cc) (λ is. let bad : journal.ConfigMismatch ≡ journal.Full = is in cc)))
+kind_of node before journal.Full reports = inr (inl refl)
 
 -- one that ends with out of memory had no fault of the journal
 none_unless : (fault : Option JournalError) (other : Ending) → IfSome fault (λ error. (error ≡ journal.Device) ⊎ (error ≡ journal.Full)) → unless_journal fault other ≡ ends.Memory → fault ≡ None
@@ -226,14 +226,14 @@ module _ {S D : Type 0} (scheme : Scheme S) (device : Device D) where
   two_where_due node (Two first second) every opened read some = read.0
 
   -- the node wasn't opened
-  pub not_opened : (node : Node) (store later : Store D) (every : ℕ) (error : JournalError) → (error ≢ journal.Device → error ≢ journal.Full → Tells error (decoded_in node (areas_in device store)))
+  pub not_opened : (node : Node) (store later : Store D) (every : ℕ) (error : JournalError) → (error ≢ journal.Device → error ≢ journal.Full → Reports error (decoded_in node (areas_in device store)))
       → (error ≡ journal.Device → faults_in device store < faults_in device later) × (error ≢ journal.Device → faults_in device later ≡ faults_in device store)
       → IsDecodedThroughout node device store later → (IsLeftIn node (areas_in device store) → IsNoRefusalOfBoth error) → (error ≡ journal.Full → IsFullIn node device store)
       → RunsOver node device store every (of_journal error) (Some later)
-  not_opened node store later every error tells cause leaves never_refused full = record {
+  not_opened node store later every error reports cause leaves never_refused full = record {
     device = λ is. cause.0 (opening_decoded error journal.Device is);
     no_fault = λ other. cause.1 (λ is. other (ap of_journal is));
-    told_as = λ named is. subst (IsOfRun node (areas_in device store)) (opening_decoded error named is) (kind_of node (areas_in device store) error tells);
+    reported_as = λ named is. subst (IsOfRun node (areas_in device store)) (opening_decoded error named is) (kind_of node (areas_in device store) error reports);
     never_refused = λ left named is. not_refused error named is (never_refused left);
     full = λ is. inl (full (opening_decoded error journal.Full is));
     lost = some_left later (of_journal error);
@@ -248,7 +248,7 @@ module _ {S D : Type 0} (scheme : Scheme S) (device : Device D) where
   not_run node store now every same leaves = record {
     device = λ is. absurd (none-some journal.Device (ap fault_in is));
     no_fault = λ other. same;
-    told_as = λ named is. absurd (none-some named (ap fault_in is));
+    reported_as = λ named is. absurd (none-some named (ap fault_in is));
     never_refused = λ left named is. absurd (none-some named (ap fault_in is));
     full = λ is. absurd (none-some journal.Full (ap fault_in is));
     lost = λ none. refl;
@@ -258,11 +258,11 @@ module _ {S D : Type 0} (scheme : Scheme S) (device : Device D) where
   }
 
   -- the disks were lost
-  run_lost : (node : Node) (store : Store D) (every : ℕ) (told_of : Faults) → told_of ≡ no_memory → RunsOver node device store every (ending_of told_of) None
-  run_lost node store every told_of is = record {
+  run_lost : (node : Node) (store : Store D) (every : ℕ) (reported_of : Faults) → reported_of ≡ no_memory → RunsOver node device store every (ending_of reported_of) None
+  run_lost node store every reported_of is = record {
     device = λ device. tt;
     no_fault = λ other. tt;
-    told_as = λ named so. absurd (none-some named (ap fault_in (sym ends_so ∙ so)));
+    reported_as = λ named so. absurd (none-some named (ap fault_in (sym ends_so ∙ so)));
     never_refused = λ left named so. absurd (none-some named (ap fault_in (sym ends_so ∙ so)));
     full = λ is. inr tt;
     lost = λ none. ends_so;
@@ -271,7 +271,7 @@ module _ {S D : Type 0} (scheme : Scheme S) (device : Device D) where
     lacks = λ is. tt;
   }
     where
-      ends_so : ending_of told_of ≡ ends.Memory
+      ends_so : ending_of reported_of ≡ ends.Memory
       ends_so = ap ending_of is
 
   -- What areas hold after more events of a node that began where the disks were read, they hold after the same events from the state as which
@@ -283,7 +283,7 @@ module _ {S D : Type 0} (scheme : Scheme S) (device : Device D) where
       let holds = it.leaves.holds in (
         record {
           base = holds.base;
-          is_told = is_told holds;
+          is_decoded = is_decoded holds;
           more = events it.more;
           legal = subst (λ (n : Node). IsLegalAfter n holds.base (events it.more)) of_node holds.legal;
           holds = subst (λ (n : Node). Holds n areas (after_all n holds.base (events it.more))) of_node holds.holds;
@@ -293,8 +293,8 @@ module _ {S D : Type 0} (scheme : Scheme S) (device : Device D) where
       )
     where
       -- the disks were told as each base
-      is_told : {marked : List Marked} {some : Areas} → (it : HoldsAfter scheme shared marked some) → decoded_in node (areas_in device store) ≡ Ok it.base
-      is_told it =
+      is_decoded : {marked : List Marked} {some : Areas} → (it : HoldsAfter scheme shared marked some) → decoded_in node (areas_in device store) ≡ Ok it.base
+      is_decoded it =
           let at = subst (λ (n : Node). AreAtSound n shared.begun it.base) of_node it.is_base in
           begins.is_read ∙ ap Ok (one_state node shared.begun begins.state it.base begins.at.sound begins.at.at at.sound at.at)
 
@@ -325,24 +325,25 @@ module _ {S D : Type 0} (scheme : Scheme S) (device : Device D) where
           inr (rewrite.pair, (all, rewrite.records, checkpoint, rewrite.full))
 
   -- it ran
-  has_run : (shared : NodeView S) (node : Node) (store now : Store D) (every : ℕ) (opened : Journal D) (later : Store D) (told_of : Faults) → node_of scheme shared.setting ≡ node
+  has_run : (shared : NodeView S) (node : Node) (store now : Store D) (every : ℕ) (opened : Journal D) (later : Store D) (reported_of : Faults) → node_of scheme shared.setting ≡ node
       → StandsAt node (decoded_in node (areas_in device store)) shared.begun → faults_in device now ≡ faults_in device store
-      → TellsRounds (faults_in device now) (faults_in device later) told_of.journal → IsDecodedThroughout node device store now
+      → ReportsRounds (faults_in device now) (faults_in device later) reported_of.journal → IsDecodedThroughout node device store now
       → AtEachMomentOn device (HoldsMore scheme shared [] (areas_of device opened)) now later → KeepsStatesIn node (areas_in device store) (areas_of device opened)
-      → IsReadIn node device store opened → IsAlive device opened → (told_of.journal ≡ None → ComesByRule device (HasCheckpoint scheme device shared) (rule_on device store every opened) told_of.memory (point_at opened) later)
-      → (told_of.journal ≡ Some journal.Full → IsFullUp scheme device shared later) → RunsOver node device store every (ending_of told_of) (Some later)
-  has_run shared node store now every opened later told_of of_node begins same tells opening leaves kept_all read alive by_rule full = record {
-    device = λ is. subst (λ n. n < faults_in device later) same (tells.disk.device (decoded_of_journal told_of journal.Device is));
-    no_fault = λ other. tells.disk.no_fault (λ is. other (ends_with_device told_of.journal _ is)) ∙ same;
-    told_as = λ named is. elim (which named is) [ inl device ↦ inl device | inr full ↦ inr (inl full) ];
+      → IsReadIn node device store opened → IsAlive device opened → (reported_of.journal ≡ None → ComesByRule device (HasCheckpoint scheme device shared)
+      (rule_on device store every opened) reported_of.memory (point_at opened) later)
+      → (reported_of.journal ≡ Some journal.Full → IsFullUp scheme device shared later) → RunsOver node device store every (ending_of reported_of) (Some later)
+  has_run shared node store now every opened later reported_of of_node begins same reports opening leaves kept_all read alive by_rule full = record {
+    device = λ is. subst (λ n. n < faults_in device later) same (reports.disk.device (decoded_of_journal reported_of journal.Device is));
+    no_fault = λ other. reports.disk.no_fault (λ is. other (ends_with_device reported_of.journal _ is)) ∙ same;
+    reported_as = λ named is. elim (which named is) [ inl device ↦ inl device | inr full ↦ inr (inl full) ];
     never_refused = λ left. which;
-    full = λ is. inr (full_after shared node store later of_node begins (full (decoded_of_journal told_of journal.Full is)));
-    lost = some_left later (ending_of told_of);
+    full = λ is. inr (full_after shared node store later of_node begins (full (decoded_of_journal reported_of journal.Full is)));
+    lost = some_left later (ending_of reported_of);
     any_moment = on_joins device (May node store) (HoldsMore scheme shared [] (areas_of device opened)) store now later (from_opening node store now opening) leaves more;
     rewritten = λ brought.
-        let fine = told_nothing told_of tells.which brought in
-        each (may_lack_memory (ending_of told_of)) fine.1 (by_rule fine.0);
-    lacks = λ is. inr (each true (λ lacking. refl) (by_rule (none_unless told_of.journal _ tells.which is)));
+        let fine = reported_nothing reported_of reports.which brought in
+        each (may_lack_memory (ending_of reported_of)) fine.1 (by_rule fine.0);
+    lacks = λ is. inr (each true (λ lacking. refl) (by_rule (none_unless reported_of.journal _ reports.which is)));
   }
     where
       from_base : (point : Point D) → HasCheckpoint scheme device shared point → HasCheckpointFrom node device begins.state point
@@ -353,7 +354,8 @@ module _ {S D : Type 0} (scheme : Scheme S) (device : Device D) where
             content = has.content;
           }
 
-      each : (memory : Bool) → (told_of.memory ≡ true → memory ≡ true) → ComesByRule device (HasCheckpoint scheme device shared) (rule_on device store every opened) told_of.memory (point_at opened) later
+      each : (memory : Bool) → (reported_of.memory ≡ true → memory ≡ true) → ComesByRule device (HasCheckpoint scheme device shared) (rule_on device store every opened) reported_of.memory
+          (point_at opened) later
           → IsRewrittenEach node device store every memory later
       each memory raised by = record {
         opened = opened;
@@ -365,30 +367,30 @@ module _ {S D : Type 0} (scheme : Scheme S) (device : Device D) where
         comes = record {
           last = by.last;
           last_rule = by.last_rule;
-          by_rule = by_rule_weaker device (HasCheckpoint scheme device shared) (HasCheckpointFrom node device begins.state) (rule_on device store every opened) by.last_rule told_of.memory memory
+          by_rule = by_rule_weaker device (HasCheckpoint scheme device shared) (HasCheckpointFrom node device begins.state) (rule_on device store every opened) by.last_rule reported_of.memory memory
               (point_at opened) by.last from_base raised by.by_rule;
           is_left = by.is_left;
         };
       }
 
-      which : (named : JournalError) → ending_of told_of ≡ ends.Journal named → (named ≡ journal.Device) ⊎ (named ≡ journal.Full)
-      which named is = subst (λ (f : Option JournalError). IfSome f (λ error. (error ≡ journal.Device) ⊎ (error ≡ journal.Full))) (decoded_of_journal told_of named is) tells.which
+      which : (named : JournalError) → ending_of reported_of ≡ ends.Journal named → (named ≡ journal.Device) ⊎ (named ≡ journal.Full)
+      which named is = subst (λ (f : Option JournalError). IfSome f (λ error. (error ≡ journal.Device) ⊎ (error ≡ journal.Full))) (decoded_of_journal reported_of named is) reports.which
 
       more : (left : Areas) → HoldsMore scheme shared [] (areas_of device opened) left → May node store left
       more left it = inr (goes_on shared node store (areas_of device opened) [] of_node begins kept_all refl left it).0
 
   -- its threads have ended
-  pub ended : (shared : NodeView S) (node : Node) (store now : Store D) (every : ℕ) (opened : Journal D) (told_of : Faults) (left : Option (Store D)) → node_of scheme shared.setting ≡ node
+  pub ended : (shared : NodeView S) (node : Node) (store now : Store D) (every : ℕ) (opened : Journal D) (reported_of : Faults) (left : Option (Store D)) → node_of scheme shared.setting ≡ node
       → StandsAt node (decoded_in node (areas_in device store)) shared.begun → faults_in device now ≡ faults_in device store
-      → IfSome left (λ later. TellsRounds (faults_in device now) (faults_in device later) told_of.journal) → (left ≡ None → told_of ≡ no_memory)
+      → IfSome left (λ later. ReportsRounds (faults_in device now) (faults_in device later) reported_of.journal) → (left ≡ None → reported_of ≡ no_memory)
       → IsDecodedThroughout node device store now
       → IfSome left (λ later. AtEachMomentOn device (HoldsMore scheme shared [] (areas_of device opened)) now later) → KeepsStatesIn node (areas_in device store) (areas_of device opened)
       → IsReadIn node device store opened → IsAlive device opened
-      → (told_of.journal ≡ None → IfSome left (ComesByRule device (HasCheckpoint scheme device shared) (rule_on device store every opened) told_of.memory (point_at opened)))
-      → (told_of.journal ≡ Some journal.Full → IfSome left (IsFullUp scheme device shared)) → RunsOver node device store every (ending_of told_of) left
-  ended shared node store now every opened told_of None of_node begins same tells lost opening leaves kept_all read alive by_rule full = run_lost node store every told_of (lost refl)
-  ended shared node store now every opened told_of (Some later) of_node begins same tells lost opening leaves kept_all read alive by_rule full =
-      has_run shared node store now every opened later told_of of_node begins same tells opening leaves kept_all read alive by_rule full
+      → (reported_of.journal ≡ None → IfSome left (ComesByRule device (HasCheckpoint scheme device shared) (rule_on device store every opened) reported_of.memory (point_at opened)))
+      → (reported_of.journal ≡ Some journal.Full → IfSome left (IsFullUp scheme device shared)) → RunsOver node device store every (ending_of reported_of) left
+  ended shared node store now every opened reported_of None of_node begins same reports lost opening leaves kept_all read alive by_rule full = run_lost node store every reported_of (lost refl)
+  ended shared node store now every opened reported_of (Some later) of_node begins same reports lost opening leaves kept_all read alive by_rule full =
+      has_run shared node store now every opened later reported_of of_node begins same reports opening leaves kept_all read alive by_rule full
 
   -- ---- what it gave out
 
@@ -420,25 +422,25 @@ module _ {S D : Type 0} (scheme : Scheme S) (device : Device D) where
 
   -- what its threads wrote is on the disks
   pub gives_only : {W : Type 0} (contents : W → Option (List ℕ)) (shared : NodeView S) (node : Node) (store : Store D) (first : Flusher D) (writer : W)
-      (old : Option (List ℕ)) (ran : Ran D W) (told_of : Faults)
+      (old : Option (List ℕ)) (ran : Ran D W) (reported_of : Faults)
       → node_of scheme shared.setting ≡ node → StandsAt node (decoded_in node (areas_in device store)) shared.begun
-      → KeepsStatesIn node (areas_in device store) (areas_of device (journal_of first)) → settled_in first ≡ [] → old ≡ contents writer → ran.ending ≡ ending_of told_of
-      → IfSome ran.store (λ left. IfSome ran.writer (λ later. HasWritten (AreSettled scheme device shared first left) (told_of.output ≡ false) old (contents later)))
-      → (ran.writer ≡ None → (told_of.output ≡ false) × (told_of.memory ≡ true))
+      → KeepsStatesIn node (areas_in device store) (areas_of device (journal_of first)) → settled_in first ≡ [] → old ≡ contents writer → ran.ending ≡ ending_of reported_of
+      → IfSome ran.store (λ left. IfSome ran.writer (λ later. HasWritten (AreSettled scheme device shared first left) (reported_of.output ≡ false) old (contents later)))
+      → (ran.writer ≡ None → (reported_of.output ≡ false) × (reported_of.memory ≡ true))
       → GivesOnly node device contents store writer ran
-  gives_only {W} contents shared node store first writer old ran told_of of_node begins kept_all none same ends given lost = record {
+  gives_only {W} contents shared node store first writer old ran reported_of of_node begins kept_all none same ends given lost = record {
     written = by ran.store ran.writer given;
-    lost = λ gone. let it = lost gone in subst IsOfLoss (sym ends) (is_of_loss told_of it.0 it.1);
+    lost = λ gone. let it = lost gone in subst IsOfLoss (sym ends) (is_of_loss reported_of it.0 it.1);
   }
     where
       by : (left : Option (Store D)) (back : Option W)
-          → IfSome left (λ left. IfSome back (λ later. HasWritten (AreSettled scheme device shared first left) (told_of.output ≡ false) old (contents later)))
+          → IfSome left (λ left. IfSome back (λ later. HasWritten (AreSettled scheme device shared first left) (reported_of.output ≡ false) old (contents later)))
           → IfSome left (λ left. IfSome back (λ later. HasWritten (NoneOrOnDisk node device store left) (is_all_written ran.ending ≡ true) (contents writer) (contents later)))
       by None back given = tt
       by (Some left) None given = tt
       by (Some left) (Some later) given = subst (λ (o : Option (List ℕ)). HasWritten (NoneOrOnDisk node device store left) (is_all_written ran.ending ≡ true) o (contents later)) same
-          (written_weaker (AreSettled scheme device shared first left) (NoneOrOnDisk node device store left) (told_of.output ≡ false) (is_all_written ran.ending ≡ true) old (contents later)
-          (on_disk shared node store first left of_node begins kept_all none) (λ whole. wrote_all told_of (subst (λ (e : Ending). is_all_written e ≡ true) ends whole)) given)
+          (written_weaker (AreSettled scheme device shared first left) (NoneOrOnDisk node device store left) (reported_of.output ≡ false) (is_all_written ran.ending ≡ true) old (contents later)
+          (on_disk shared node store first left of_node begins kept_all none) (λ whole. wrote_all reported_of (subst (λ (e : Ending). is_all_written e ≡ true) ends whole)) given)
 
 -- nothing was written
 pub gives_nothing : {D W : Type 0} (node : Node) (device : Device D) (contents : W → Option (List ℕ)) (store : Store D) (writer : W) (ran : Ran D W)

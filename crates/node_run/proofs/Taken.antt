@@ -96,18 +96,18 @@ waits scheme node event before later fault is lacks same = record {
 }
 
 -- any other event is submitted
-pub submitted : {S : Type 0} (scheme : Scheme S) (node : NodeView S) (event : Event) (before later : CallerView S) (fault : Option CheckError) (told : Result Taken Rejection)
-    → fault ≡ None → MayBeSubmitted scheme node event before later → IsSubmitted scheme node event before later told → Handles scheme node fault event before later told
-submitted scheme node event before later fault told is goes done = record {
+pub submitted : {S : Type 0} (scheme : Scheme S) (node : NodeView S) (event : Event) (before later : CallerView S) (fault : Option CheckError) (reported : Result Taken Rejection)
+    → fault ≡ None → MayBeSubmitted scheme node event before later → IsSubmitted scheme node event before later reported → Handles scheme node fault event before later reported
+submitted scheme node event before later fault reported is goes done = record {
   unchecked = λ other there. let bad : Some other ≡ None = sym there ∙ is in absurd cc;
   checked = λ _. inr (goes, done);
 }
 
 -- after a look
-pub submitted_since : {S : Type 0} (scheme : Scheme S) (node : NodeView S) (event : Event) (before mid later : CallerView S) (told : Result Taken Rejection)
+pub submitted_since : {S : Type 0} (scheme : Scheme S) (node : NodeView S) (event : Event) (before mid later : CallerView S) (reported : Result Taken Rejection)
     → mid.seat.view.number ≡ before.seat.view.number → mid.seat.view.mine ≡ before.seat.view.mine
-    → Begins before.seat.view.seen mid.seat.view.seen → IsSubmitted scheme node event mid later told → IsSubmitted scheme node event before later told
-submitted_since scheme node event before mid later told number mine more done = record {
+    → Begins before.seat.view.seen mid.seat.view.seen → IsSubmitted scheme node event mid later reported → IsSubmitted scheme node event before later reported
+submitted_since scheme node event before mid later reported number mine more done = record {
   answer = done.answer;
   submits = submits_since scheme node event before.seat.view mid.seat.view later.seat.view done.answer number mine more done.submits;
   is = done.is;

@@ -98,6 +98,6 @@ TakesOne event old new due later = (round : ℕ) × IsTakenOut event round old n
 
 -- What is due after a message: if it was new, what was due before and every question whose answer the message may change; otherwise what
 -- was due before.
-pub record IsDueAfter (own : Author) (sent : Message) (old new : Due) (told : Result Bool Rejection) : Type 0 where
-  pub other : told ≢ Ok true → new ≡ old
-  pub new_one : told ≡ Ok true → (due : Due) × Leaves own sent due × (new ≡ both_due old due)
+pub record IsDueAfter (own : Author) (sent : Message) (old new : Due) (reported : Result Bool Rejection) : Type 0 where
+  pub other : reported ≢ Ok true → new ≡ old
+  pub new_one : reported ≡ Ok true → (due : Due) × Leaves own sent due × (new ≡ both_due old due)

@@ -32,27 +32,27 @@ CantWait event held down why =
 -- refused. After that the caller's seat is unchanged, except that it may have looked where the message waits.
 pub record Brings {S : Type 0} (scheme : Scheme S) (node : NodeView S) (fault : Option CheckError) (event : Event) (before now : CallerView S) (old new : WaitersView)
     (result : Result Bool Rejection) : Type 0 where
-  pub told : Result Taken Rejection
+  pub reported : Result Taken Rejection
   pub later : CallerView S
-  pub handles : Handles scheme node fault event before later told
-  pub is_new : told ≡ Ok New → (result ≡ Ok true) × (new ≡ old) × (now ≡ later)
-  pub is_known : told ≡ Ok Known → (result ≡ Ok false) × (new ≡ old) × (now ≡ later)
-  pub waits : (certificate : Event) → told ≡ Ok (Waits certificate)
+  pub handles : Handles scheme node fault event before later reported
+  pub is_new : reported ≡ Ok New → (result ≡ Ok true) × (new ≡ old) × (now ≡ later)
+  pub is_known : reported ≡ Ok Known → (result ≡ Ok false) × (new ≡ old) × (now ≡ later)
+  pub waits : (certificate : Event) → reported ≡ Ok (Waits certificate)
       → (result ≢ Ok true) × (result ≡ Ok false → Enters certificate old new) × OnErr result (new ≡ old) × IfErr result (CantWait certificate old now.seat.view.down) × OnlyLooks later.seat now.seat
-  pub refused : (why : Rejection) → told ≡ Err why → (result ≡ Err why) × (new ≡ old) × (now ≡ later)
+  pub refused : (why : Rejection) → reported ≡ Err why → (result ≡ Err why) × (new ≡ old) × (now ≡ later)
 
 -- what is reported of an event that was handled: whether it was a new record, or why it was refused
-abbrev pub reported : Result Taken Rejection → Result Bool Rejection
-reported (Ok New) = Ok true
-reported (Ok other) = Ok false
-reported (Err why) = Err why
+abbrev pub whether_new : Result Taken Rejection → Result Bool Rejection
+whether_new (Ok New) = Ok true
+whether_new (Ok other) = Ok false
+whether_new (Err why) = Err why
 
 -- an event that has waited was handled again, and the result reports that
 pub record BringsAgain {S : Type 0} (scheme : Scheme S) (node : NodeView S) (fault : Option CheckError) (event : Event) (before later : CallerView S)
     (result : Result Bool Rejection) : Type 0 where
-  pub told : Result Taken Rejection
-  pub handles : HandlesAgain scheme node fault event before later told
-  pub is : result ≡ reported told
+  pub reported : Result Taken Rejection
+  pub handles : HandlesAgain scheme node fault event before later reported
+  pub is : result ≡ whether_new reported
 
 -- an own batch as an event
 abbrev pub own_batch : Author → BatchView → Event

@@ -19,24 +19,24 @@ faults_after flush.Full = record { journal = Some journal.Full; output = false; 
 faults_after flush.Down = record { journal = None; output = false; memory = false; input = false }
 
 -- why a certificate can't wait: an allocation failed, or otherwise its parents are missing
-abbrev pub told_of_wait : WaitRefusal → Rejection
-told_of_wait waiter.Memory = Refused refusal.Memory
-told_of_wait other = Refused refusal.MissingParents
+abbrev pub reported_of_wait : WaitRefusal → Rejection
+reported_of_wait waiter.Memory = Refused refusal.Memory
+reported_of_wait other = Refused refusal.MissingParents
 
 -- the journal's fault is the disk's exactly where the disk counted a fault since `first`
-pub record TellsDisk (first now : ℕ) (fault : Option JournalError) : Type 0 where
+pub record ReportsDisk (first now : ℕ) (fault : Option JournalError) : Type 0 where
   pub device : fault ≡ Some journal.Device → first < now
   pub no_fault : fault ≢ Some journal.Device → now ≡ first
 
 -- what rounds report of a journal: nothing, the disk's fault, or that it is full
-pub record TellsRounds (first now : ℕ) (fault : Option JournalError) : Type 0 where
-  pub disk : TellsDisk first now fault
+pub record ReportsRounds (first now : ℕ) (fault : Option JournalError) : Type 0 where
+  pub disk : ReportsDisk first now fault
   pub which : IfSome fault (λ error. (error ≡ journal.Device) ⊎ (error ≡ journal.Full))
 
 -- What all rounds together report of a journal: a fault exactly where one of them took the node down. It is the disk's, or that the journal
 -- is full.
-pub record TellsJournal (first now : ℕ) (was_down is_down : Bool) (fault : Option JournalError) (HasNoPlace : Type 0) : Type 0 where
+pub record ReportsJournal (first now : ℕ) (was_down is_down : Bool) (fault : Option JournalError) (HasNoPlace : Type 0) : Type 0 where
   pub fell : IsSome fault → IsTrue is_down
-  pub told : was_down ≡ false → IsTrue is_down → IsSome fault
+  pub reported : was_down ≡ false → IsTrue is_down → IsSome fault
   pub full : fault ≡ Some journal.Full → HasNoPlace
-  pub rounds : TellsRounds first now fault
+  pub rounds : ReportsRounds first now fault

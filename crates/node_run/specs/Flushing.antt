@@ -2,7 +2,7 @@
 use Rattle.std.specs.Prelude.{◌≡◌, ⊤, ℕ, Bool, false, Result, Ok, Err, IfOk, IsErrOf, IsSome}
 use Rattle.book.specs.declared.own.error.FlushError.{FlushError}
 use Rattle.book.specs.declared.own.error.FlushError.TheVariants as errors
-use Rattle.diskmodel.specs.Disk.{Device, TellsFault}
+use Rattle.diskmodel.specs.Disk.{Device, ReportsFault}
 use Rattle.flusher.specs.Rounds.{journal_of, is_down, settled_in, taken_in, GoesDown, KeepsEarlier, TakesLongest}
 use Rattle.journal.specs.Journal.{spare_of}
 use Rattle.journal.specs.Pairs.{areas_of, store_of}
@@ -27,7 +27,7 @@ pub record FlushesOnce {S D : Type 0} (scheme : Scheme S) (device : Device D) (r
   pub seen : Begins before.seat.view.seen later.seat.view.seen
   pub more : Begins (settled_in before.flusher) (settled_in later.flusher)
   pub down : GoesDown before.flusher later.flusher result
-  pub cause : TellsFault errors.Device (faults_in device (store_of (journal_of before.flusher))) (faults_in device (store_of (journal_of later.flusher))) result
+  pub cause : ReportsFault errors.Device (faults_in device (store_of (journal_of before.flusher))) (faults_in device (store_of (journal_of later.flusher))) result
   pub full : IsErrOf result errors.Full → HasNoPlace scheme device before.node later.flusher
   -- where nothing was pending, nothing more fits a group after what is settled
   pub nothing : result ≡ Ok 0 → TakesLongest before.seat.view.seen (settled_in later.flusher) (settled_in later.flusher)

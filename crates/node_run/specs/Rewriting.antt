@@ -4,7 +4,7 @@ use Rattle.book.specs.Checkpoints.{HasNoRoomFor}
 use Rattle.book.specs.declared.own.error.FlushError.{FlushError}
 use Rattle.book.specs.declared.own.error.FlushError.TheVariants as errors
 use Rattle.diskmodel.specs.Disk.{Device}
-use Rattle.flusher.specs.Rounds.{journal_of, records_after, settled_in, taken_in, GoesDown, HasNoRoom, IsAtCheckpoint, IsGroupOf, IsToldOf}
+use Rattle.flusher.specs.Rounds.{journal_of, records_after, settled_in, taken_in, GoesDown, HasNoRoom, IsAtCheckpoint, IsGroupOf, IsReportedOf}
 use Rattle.flusher.specs.declared.flusher.Flusher.{Flusher}
 use Rattle.journal.specs.Format.{file_with}
 use Rattle.journal.specs.Journal.{disk_of, spare_of, IsAlive}
@@ -159,7 +159,7 @@ pub record IsRewritten {S D : Type 0} (scheme : Scheme S) (device : Device D) (r
   pub answered : result ≡ without_number answer
   pub node : later.node ≡ before.node
   pub down : GoesDown before.flusher later.flusher answer
-  pub told : IsToldOf before.seat later.seat answer
+  pub reported : IsReportedOf before.seat later.seat answer
   pub flushes : Flushes scheme device before.node before.flusher later.flusher answer
   pub swapped : OnOk answer (HaveChangedPlaces (journal_of before.flusher) (journal_of later.flusher))
   pub writes : OnOk answer (IsAtCheckpoint scheme device before.node later.flusher)

@@ -30,7 +30,7 @@ use Rattle.node_shared.specs.Home.{NodeView}
 use Rattle.opening.specs.Laws.{IsFullIn, IsLeftIn, IsReadIn}
 use Rattle.opening.specs.Renewing.{KeepsStatesIn}
 use Rattle.opening.specs.Stages.{IsDecodedThroughout}
-use Rattle.opening.specs.Decoded.{decoded_in, Tells}
+use Rattle.opening.specs.Decoded.{decoded_in, Reports}
 use Rattle.spec_machine.specs.After.{after_all, IsLegalAfter}
 use Rattle.spec_model.specs.Histories.{History}
 use Rattle.wire.specs.Lists.{Begins}
@@ -40,7 +40,7 @@ use Rattle.spec_model.specs.Words.{Output}
 use Rattle.spec_world.specs.World.{Holds, StandsFor}
 use Rattle.validator.specs.Setting.{ConfigView, node_of}
 use Rattle.wire.specs.declared.keys.Key.{Key}
-use Rattle.node_run.specs.Ends.{TellsRounds}
+use Rattle.node_run.specs.Ends.{ReportsRounds}
 use Rattle.node_run.specs.Members.{IsConfigOf}
 use Rattle.node_run.specs.Rewriting.{length_in, point_of, ByTheRule, HasCheckpoint, HasNoPlace, Point}
 use Rattle.node_run.specs.Writing.{HasWritten, MayGo}
@@ -64,20 +64,20 @@ LeavesSettled scheme device node first settled left =
 -- A node's rounds ran at one node, and report these faults: the journal's faults as rounds report them, and none of outputs or of the
 -- input. A full journal has no room for what was taken. A stop at any moment leaves what was settled before, and perhaps more; a stop at
 -- the end leaves all that is settled then. Unless a fault of the journal is reported, the disks were written by the rule.
-pub record HasFlushed {S D : Type 0} (scheme : Scheme S) (device : Device D) (rule : Rule) (before later : RoundsView S D) (tells : Faults) : Type 0 where
+pub record HasFlushed {S D : Type 0} (scheme : Scheme S) (device : Device D) (rule : Rule) (before later : RoundsView S D) (reports : Faults) : Type 0 where
   pub node : later.node ≡ before.node
-  pub told : TellsRounds (faults_in device (store_of (journal_of before.flusher))) (faults_in device (store_of (journal_of later.flusher))) tells.journal
+  pub reported : ReportsRounds (faults_in device (store_of (journal_of before.flusher))) (faults_in device (store_of (journal_of later.flusher))) reports.journal
   -- one is reported exactly where a round or a checkpoint took the node down
-  pub fell : IsSome tells.journal → IsTrue (is_down later.flusher)
-  pub reported : is_down before.flusher ≡ false → IsTrue (is_down later.flusher) → IsSome tells.journal
-  pub full : tells.journal ≡ Some Full → HasNoPlace scheme device before.node later.flusher
-  pub others : (tells.output ≡ false) × (tells.input ≡ false)
+  pub fell : IsSome reports.journal → IsTrue (is_down later.flusher)
+  pub is_reported : is_down before.flusher ≡ false → IsTrue (is_down later.flusher) → IsSome reports.journal
+  pub full : reports.journal ≡ Some Full → HasNoPlace scheme device before.node later.flusher
+  pub others : (reports.output ≡ false) × (reports.input ≡ false)
   pub any_moment : is_down before.flusher ≡ false
       → AtEachMomentOn device (HoldsMore scheme before.node (settled_in before.flusher) (areas_of device (journal_of before.flusher)))
       (store_of (journal_of before.flusher)) (store_of (journal_of later.flusher))
   pub at_end : is_down before.flusher ≡ false → LeavesSettled scheme device before.node before.flusher (settled_in later.flusher) (store_of (journal_of later.flusher))
-  pub by_rule : is_down before.flusher ≡ false → tells.journal ≡ None
-      → (last : Rule) × ByTheRule device (HasCheckpoint scheme device before.node) rule tells.memory (point_of before.flusher) last (point_of later.flusher)
+  pub by_rule : is_down before.flusher ≡ false → reports.journal ≡ None
+      → (last : Rule) × ByTheRule device (HasCheckpoint scheme device before.node) rule reports.memory (point_of before.flusher) last (point_of later.flusher)
 
 -- what contracts see of the thread that flushes: its rounds, and its rule for checkpoints
 pub record FlushingView (S D : Type 0) : Type 0 where
@@ -109,7 +109,7 @@ pub record AreSettled {S D : Type 0} (scheme : Scheme S) (device : Device D) (no
 -- none. For each state that the earlier areas stood for, these areas are its journal after the same events.
 pub record GoesOn (node : Node) (before left : Areas) : Type 0 where
   pub base : State
-  pub is_told : decoded_in node before ≡ Ok base
+  pub is_decoded : decoded_in node before ≡ Ok base
   pub more : History
   pub legal : IsLegalAfter node base more
   pub holds : Holds node left (after_all node base more)
@@ -190,7 +190,7 @@ pub record IsFullAfter {D : Type 0} (node : Node) (disks : Device D) (store left
 pub record RunsOver {D : Type 0} (node : Node) (disks : Device D) (store : Store D) (every : ℕ) (ending : Ending) (left : Option (Store D)) : Type 0 where
   pub device : ending ≡ endings.Journal errors.Device → IfSome left (λ later. faults_in disks store < faults_in disks later)
   pub no_fault : ending ≢ endings.Journal errors.Device → IfSome left (λ later. faults_in disks later ≡ faults_in disks store)
-  pub told_as : (error : JournalError) → ending ≡ endings.Journal error → (error ≡ errors.Device) ⊎ (error ≡ Full) ⊎ Tells error (decoded_in node (areas_in disks store))
+  pub reported_as : (error : JournalError) → ending ≡ endings.Journal error → (error ≡ errors.Device) ⊎ (error ≡ Full) ⊎ Reports error (decoded_in node (areas_in disks store))
   pub never_refused : IsLeftIn node (areas_in disks store) → (error : JournalError) → ending ≡ endings.Journal error → (error ≡ errors.Device) ⊎ (error ≡ Full)
   pub full : ending ≡ endings.Journal Full → IsFullIn node disks store ⊎ IfSome left (IsFullAfter node disks store)
   pub lost : left ≡ None → ending ≡ endings.Memory

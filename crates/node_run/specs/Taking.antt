@@ -25,15 +25,15 @@ use Rattle.node_run.specs.declared.caller.Taken.{Taken}
 use Rattle.node_run.specs.declared.caller.Taken.TheVariants.{New, Known, Waits}
 
 -- the result that is reported for a receipt or a refusal
-abbrev pub told_as : Result Receipt Refusal → Result Taken Rejection
-told_as (Ok receipt) = Ok (if receipt.new then New else Known)
-told_as (Err refusal) = Err (Refused refusal)
+abbrev pub reported_as : Result Receipt Refusal → Result Taken Rejection
+reported_as (Ok receipt) = Ok (if receipt.new then New else Known)
+reported_as (Err refusal) = Err (Refused refusal)
 
 -- an event was submitted, and this is the reported result
-pub record IsSubmitted {S : Type 0} (scheme : Scheme S) (node : NodeView S) (event : Event) (before later : CallerView S) (told : Result Taken Rejection) : Type 0 where
+pub record IsSubmitted {S : Type 0} (scheme : Scheme S) (node : NodeView S) (event : Event) (before later : CallerView S) (reported : Result Taken Rejection) : Type 0 where
   pub answer : Result Receipt Refusal
   pub submits : Submits scheme node event before.seat.view later.seat.view answer
-  pub is : told ≡ told_as answer
+  pub is : reported ≡ reported_as answer
 
 -- the event is a certificate that lacks a parent, from each base, after all accepted events, which the caller has now seen
 pub record LacksParents {S : Type 0} (scheme : Scheme S) (node : NodeView S) (event : Event) (later : CallerView S) : Type 0 where
@@ -58,20 +58,21 @@ pub record OnlyLooks (before later : SeatView) : Type 0 where
   pub within : Begins later.view.durable later.view.seen
 
 -- What happened to an event: the first fault of the checks is reported, or it has to wait, or it may be submitted and was.
-pub record Handles {S : Type 0} (scheme : Scheme S) (node : NodeView S) (fault : Option CheckError) (event : Event) (before later : CallerView S) (told : Result Taken Rejection) : Type 0 where
-  pub unchecked : (error : CheckError) → fault ≡ Some error → (told ≡ Err (Unchecked error)) × (later ≡ before)
-  pub checked : fault ≡ None → (LacksParents scheme node event later × IsSame before.seat later.seat × (told ≡ Ok (Waits event)))
-      ⊎ (MayBeSubmitted scheme node event before later × IsSubmitted scheme node event before later told)
+pub record Handles {S : Type 0} (scheme : Scheme S) (node : NodeView S) (fault : Option CheckError) (event : Event) (before later : CallerView S) (reported : Result Taken Rejection) : Type 0 where
+  pub unchecked : (error : CheckError) → fault ≡ Some error → (reported ≡ Err (Unchecked error)) × (later ≡ before)
+  pub checked : fault ≡ None → (LacksParents scheme node event later × IsSame before.seat later.seat × (reported ≡ Ok (Waits event)))
+      ⊎ (MayBeSubmitted scheme node event before later × IsSubmitted scheme node event before later reported)
 
 -- what happened to an event that has waited: the first fault of the checks is reported, or it was submitted
-pub record HandlesAgain {S : Type 0} (scheme : Scheme S) (node : NodeView S) (fault : Option CheckError) (event : Event) (before later : CallerView S) (told : Result Taken Rejection) : Type 0 where
-  pub unchecked : (error : CheckError) → fault ≡ Some error → (told ≡ Err (Unchecked error)) × (later ≡ before)
-  pub checked : fault ≡ None → IsSubmitted scheme node event before later told
+pub record HandlesAgain {S : Type 0} (scheme : Scheme S) (node : NodeView S) (fault : Option CheckError) (event : Event) (before later : CallerView S)
+    (reported : Result Taken Rejection) : Type 0 where
+  pub unchecked : (error : CheckError) → fault ≡ Some error → (reported ≡ Err (Unchecked error)) × (later ≡ before)
+  pub checked : fault ≡ None → IsSubmitted scheme node event before later reported
 
 -- the result reports that the event was new
-abbrev pub is_told_new : Result Taken Rejection → Bool
-is_told_new (Ok New) = true
-is_told_new other = false
+abbrev pub is_reported_new : Result Taken Rejection → Bool
+is_reported_new (Ok New) = true
+is_reported_new other = false
 
 -- The node was asked for its proposal, from each base after the events that the caller had seen when it looked, at some moment of the call.
 -- A proposed header that passes the checks was submitted, and `new` says whether it was new; otherwise nothing was submitted.
@@ -84,6 +85,6 @@ pub record IsProposed {S : Type 0} (scheme : Scheme S) (node : NodeView S) (befo
   pub none : found ≡ None → (new ≡ false) × (later.seat.view.mine ≡ before.seat.view.mine)
   pub some : (header : Header) → found ≡ Some header
       → fault_of node.setting.charter accepts_all (own_event (node_of scheme node.setting) header) ≡ None
-      → (told : Result Taken Rejection) × IsSubmitted scheme node (own_event (node_of scheme node.setting) header) before later told × (new ≡ is_told_new told)
+      → (reported : Result Taken Rejection) × IsSubmitted scheme node (own_event (node_of scheme node.setting) header) before later reported × (new ≡ is_reported_new reported)
   pub failed : (header : Header) (error : CheckError) → found ≡ Some header
       → fault_of node.setting.charter accepts_all (own_event (node_of scheme node.setting) header) ≡ Some error → (new ≡ false) × (later.seat.view.mine ≡ before.seat.view.mine)

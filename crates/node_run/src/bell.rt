@@ -4,7 +4,7 @@ use std::sync::{Condvar, Mutex, Wait};
 
 /// The state of a bell.
 #[derive(Clone, Copy)]
-struct Told {
+struct Reported {
     rung: bool,
     closed: bool,
 }
@@ -12,7 +12,7 @@ struct Told {
 /// A bell that one thread waits for. Several rings before the thread waits count as one.
 #[derive(Drop)]
 pub(crate) struct Bell {
-    told: Mutex<Told>,
+    reported: Mutex<Reported>,
     changed: Condvar,
 }
 
@@ -20,7 +20,7 @@ impl Bell {
     /// A bell that wasn't rung yet.
     pub(crate) fn new() -> Bell {
         Bell {
-            told: Mutex::new(Told {
+            reported: Mutex::new(Reported {
                 rung: false,
                 closed: false,
             }),
@@ -30,24 +30,26 @@ impl Bell {
 
     /// Says that there is work.
     pub(crate) fn ring<R: Wait>(&self, rt: &R) {
-        self.told.lock(rt).rung = true;
+        self.reported.lock(rt).rung = true;
         self.changed.notify_one();
     }
 
     /// Says that no more work will come.
     pub(crate) fn close<R: Wait>(&self, rt: &R) {
-        self.told.lock(rt).closed = true;
+        self.reported.lock(rt).closed = true;
         self.changed.notify_one();
     }
 
     /// Sleeps until there is work, or no more will come. Gives whether more may come after this.
     pub(crate) fn wait<R: Wait>(&self, rt: &R) -> bool {
-        let told = self.told.lock(rt);
-        let mut told = self
-            .changed
-            .wait_while(rt, told, |told| !told.rung && !told.closed);
-        told.rung = false;
-        !told.closed
+        let reported = self.reported.lock(rt);
+        let mut reported = self.changed.wait_while(
+            rt,
+            reported,
+            |reported| !reported.rung && !reported.closed,
+        );
+        reported.rung = false;
+        !reported.closed
     }
 }
 

@@ -15,7 +15,7 @@ ghost use Rattle.node_shared.specs.Home.{IsBase, seen_in};
 ghost use Rattle.sigface.specs.Pair.{is_pair_signature};
 ghost use Rattle.node.specs.Callers.{StaysWith};
 ghost use Rattle.validator.specs.Setting.{node_of};
-ghost use Rattle.node_run.specs.Taking.{Handles, HandlesAgain, IsSubmitted, IsProposed, LacksParents, MayBeSubmitted, OnlyLooks, is_told_new};
+ghost use Rattle.node_run.specs.Taking.{Handles, HandlesAgain, IsSubmitted, IsProposed, LacksParents, MayBeSubmitted, OnlyLooks, is_reported_new};
 
 use diskmodel::Disk;
 use header::{Checked, check, passes, recheck};
@@ -207,11 +207,11 @@ fn submit<S: Sign, R: Wait>(
 }
 
 // Whether a proposal was new. A node that is down refuses it; the run reports that at its end.
-fn newness(told: Result<Taken, Rejection>) -> Result<bool, AllocError>
-    ensures ok { IfOk result (λ new. new ≡ is_told_new told) }
-    ensures err { OnErr result (told ≡ Err (Refused Refusal.Memory)) }
+fn newness(reported: Result<Taken, Rejection>) -> Result<bool, AllocError>
+    ensures ok { IfOk result (λ new. new ≡ is_reported_new reported) }
+    ensures err { OnErr result (reported ≡ Err (Refused Refusal.Memory)) }
 {
-    match told {
+    match reported {
         Ok(Taken::New) => Ok(true),
         Err(Rejection::Refused(Refusal::Memory)) => Err(AllocError),
         _ => Ok(false),

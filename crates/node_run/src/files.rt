@@ -4,7 +4,7 @@ ghost use Rattle.std.specs.Prelude.{IfOk};
 ghost use Rattle.node_run.specs.Runs.{AreTwo};
 
 use disk_file::{FileDisk, OpenError};
-use journal::{LENGTH_BYTES, MAX_GROUP_BYTES, Store, tells};
+use journal::{LENGTH_BYTES, MAX_GROUP_BYTES, Store, reports};
 use node_io::read_regular_file;
 use std::alloc::Global;
 use std::fs::File;
@@ -55,7 +55,7 @@ fn generation_at<R: Files<File = File> + AllocGlobal>(
     path: &str,
 ) -> Result<Option<u64>, OpenError> {
     match read_regular_file(rt, path, FIRST_GROUP_BYTES) {
-        Ok(front) => match tells(alloc, &front)? {
+        Ok(front) => match reports(alloc, &front)? {
             Some(generation) => Ok(generation),
             None => Ok(None),
         },

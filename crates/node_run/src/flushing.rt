@@ -7,7 +7,7 @@ ghost use Rattle.journal.specs.Stores.{faults_in};
 ghost use Rattle.node.specs.Disks.{AtEachMomentOn};
 ghost use Rattle.wire.specs.Lists.{Begins};
 ghost use Rattle.flusher.specs.Rounds.{journal_of, is_down, settled_in, taken_in, KeepsEarlier, TakesLongest};
-ghost use Rattle.node_run.specs.Ends.{faults_after, TellsRounds, TellsJournal};
+ghost use Rattle.node_run.specs.Ends.{faults_after, ReportsRounds, ReportsJournal};
 ghost use Rattle.node_run.specs.Flushing.{FlushesOnce};
 ghost use Rattle.node_run.specs.Rewriting.{length_in, point_of, ByTheRule, HasCheckpoint, RewritesWhereDue, HasNoPlace};
 ghost use Rattle.node_run.specs.Runs.{HoldsMore, LeavesSettled};
@@ -33,7 +33,7 @@ pub(crate) fn flush_all<S: Sign, D: Disk, R: Wait>(
 ) -> Faults
     // Only a journal on two disks is rewritten.
     requires pair { IsSome rule.every → IsSome (spare_of (journal_of rounds.old.flusher)) }
-    ensures journal { TellsJournal (faults_in D.device (store_of (journal_of rounds.old.flusher))) (faults_in D.device (store_of (journal_of rounds.new.flusher))) (is_down rounds.old.flusher) (is_down rounds.new.flusher) result.journal (HasNoPlace S.scheme D.device rounds.old.node rounds.new.flusher) }
+    ensures journal { ReportsJournal (faults_in D.device (store_of (journal_of rounds.old.flusher))) (faults_in D.device (store_of (journal_of rounds.new.flusher))) (is_down rounds.old.flusher) (is_down rounds.new.flusher) result.journal (HasNoPlace S.scheme D.device rounds.old.node rounds.new.flusher) }
     ensures others { (result.output ≡ false) × (result.input ≡ false) }
     ensures node { rounds.new.node ≡ rounds.old.node }
     // Unless a fault of the journal is reported, a checkpoint was taken exactly after each round after which one was due. One may have been
@@ -71,7 +71,7 @@ fn flush_pending<S: Sign, D: Disk, R: Wait>(
 ) -> Faults
     requires pair { IsSome rule.old.every → IsSome (spare_of (journal_of rounds.old.flusher)) }
     ensures pair { IsSome rule.new.every → IsSome (spare_of (journal_of rounds.new.flusher)) }
-    ensures rounds { TellsRounds (faults_in D.device (store_of (journal_of rounds.old.flusher))) (faults_in D.device (store_of (journal_of rounds.new.flusher))) result.journal }
+    ensures rounds { ReportsRounds (faults_in D.device (store_of (journal_of rounds.old.flusher))) (faults_in D.device (store_of (journal_of rounds.new.flusher))) result.journal }
 
     // A round that takes the node down is reported as the journal's fault: the disk's, or that the group has no room.
     ensures down { is_down rounds.old.flusher ≡ false → IsSome result.journal ↔ IsTrue (is_down rounds.new.flusher) }

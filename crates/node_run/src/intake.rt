@@ -12,7 +12,7 @@ ghost use Rattle.wire.specs.Lists.{Begins};
 ghost use Rattle.node_run.specs.Asked.{AsksEach, AsksWhatWasDue, GoesThrough, OnlyAsks, WasAsked};
 ghost use Rattle.node_run.specs.Asking.{IsDueAfter, IsTakenOut, TakesOne, nothing_due, first_due};
 ghost use Rattle.node_run.specs.Bringing.{Brings, BringsAgain, CantWait, Enters, own_batch};
-ghost use Rattle.node_run.specs.Ends.{told_of_wait};
+ghost use Rattle.node_run.specs.Ends.{reported_of_wait};
 ghost use Rattle.node_run.specs.Taking.{IsProposed, OnlyLooks};
 
 use crate::bell::Bell;
@@ -82,7 +82,7 @@ impl<'n, 'a, S: Sign> Intake<'n, 'a, S> {
         match self.answer(rt, body) {
             Ok(true) => self.follow(rt, errors),
             Ok(false) => (),
-            Err(told) => write_line(errors, told),
+            Err(reported) => write_line(errors, reported),
         }
     }
 
@@ -124,8 +124,8 @@ impl<'n, 'a, S: Sign> Intake<'n, 'a, S> {
         let Some(event) = self.next_ready(rt) else {
             return false;
         };
-        if let Err(told) = self.take_ready(rt, event) {
-            write_line(errors, told);
+        if let Err(reported) = self.take_ready(rt, event) {
+            write_line(errors, reported);
         }
         true
     }
@@ -215,7 +215,7 @@ impl<'n, 'a, S: Sign> Intake<'n, 'a, S> {
                 Ok(false)
             }
             Ok(Taken::Waits(event)) => self.offer(event),
-            Err(told) => Err(told),
+            Err(reported) => Err(reported),
         }
     }
 
@@ -232,12 +232,12 @@ impl<'n, 'a, S: Sign> Intake<'n, 'a, S> {
         ensures err { OnErr result (self.new.waiters ≡ self.old.waiters) }
         ensures why { IfErr result (CantWait event self.old.waiters self.new.caller.seat.view.down) }
     {
-        if let Err(told) = self.caller.test_up() {
-            return Err(told);
+        if let Err(reported) = self.caller.test_up() {
+            return Err(reported);
         }
         match self.waiters.offer(event) {
             Ok(()) => Ok(false),
-            Err(refusal) => Err(told_of_wait(refusal)),
+            Err(refusal) => Err(reported_of_wait(refusal)),
         }
     }
 
@@ -376,13 +376,13 @@ impl<'n, 'a, S: Sign> Intake<'n, 'a, S> {
 }
 
 // If the line can't be written, there is nobody to report that to.
-fn write_line<E: Write>(errors: &mut E, told: Rejection) {
-    let _ = writeln!(errors, "{told}");
+fn write_line<E: Write>(errors: &mut E, reported: Rejection) {
+    let _ = writeln!(errors, "{reported}");
 }
 
 // The refusal that is reported of a certificate that can't wait: an allocation failed, or its parents are missing.
-fn told_of_wait(refusal: WaitRefusal) -> Rejection
-    ensures { result ≡ told_of_wait refusal }
+fn reported_of_wait(refusal: WaitRefusal) -> Rejection
+    ensures { result ≡ reported_of_wait refusal }
 {
     match refusal {
         WaitRefusal::Memory => Rejection::Refused(Refusal::Memory),

@@ -18,7 +18,7 @@ pub(crate) fn read_all<S: Sign, I: Read + Drop, E: Write + Drop, R: Wait>(
     intake: &mut Intake<'_, '_, S>,
     errors: &mut BufWriter<E>,
 ) -> Faults
-    ensures tells { (end : End) × (input.new.end ≡ Some end) × (result ≡ after_input end intake.new.was_refused_memory) }
+    ensures reports { (end : End) × (input.new.end ≡ Some end) × (result ≡ after_input end intake.new.was_refused_memory) }
     ensures mark { intake.old.was_refused_memory ≡ true → intake.new.was_refused_memory ≡ true }
 {
     intake.follow(rt, errors);

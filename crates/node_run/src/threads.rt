@@ -10,7 +10,7 @@ ghost use Rattle.flusher.specs.Rounds.{journal_of, is_down, settled_in};
 ghost use Rattle.wire.specs.Lists.{Begins};
 ghost use Rattle.node_io.specs.Endings.{after_input};
 ghost use Rattle.node_io.specs.declared.input.End.{End};
-ghost use Rattle.node_run.specs.Ends.{TellsRounds};
+ghost use Rattle.node_run.specs.Ends.{ReportsRounds};
 ghost use Rattle.node_run.specs.Rewriting.{point_of, HasCheckpoint};
 ghost use Rattle.node_run.specs.Runs.{HoldsMore, AreSettled, ComesByRule, IsFullUp};
 ghost use Rattle.node_run.specs.Writing.{no_faults, no_memory, HasWritten};
@@ -223,7 +223,7 @@ where
     // Only a journal on two disks is rewritten.
     requires pair { IsSome rule.every → IsSome (spare_of (journal_of rounds.flusher)) }
     requires node { desks.writing.caller.node ≡ rounds.node }
-    ensures told { IfSome result.1 (λ left. TellsRounds (faults_in D.device (store_of (journal_of rounds.entry.flusher))) (faults_in D.device left) result.0.journal) }
+    ensures reported { IfSome result.1 (λ left. ReportsRounds (faults_in D.device (store_of (journal_of rounds.entry.flusher))) (faults_in D.device left) result.0.journal) }
     // A full journal is reported where it has no room for what was taken.
     ensures full { result.0.journal ≡ Some JournalError.Full → IfSome result.1 (IsFullUp S.scheme D.device rounds.entry.node) }
     ensures lost { result.1 ≡ None → result.0 ≡ no_memory }

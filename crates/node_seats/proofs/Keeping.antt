@@ -29,8 +29,8 @@ fits_longer accepted settled longer more_settled was down number view fits more 
   seen = begins_trans view.seen accepted longer fits.seen more;
   durable = begins_trans view.durable settled more_settled fits.durable durable;
   durable_seen = fits.durable_seen;
-  told = begins_trans view.told accepted longer fits.told more;
-  told_durable = begins_trans view.told_durable settled more_settled fits.told_durable durable;
+  heard = begins_trans view.heard accepted longer fits.heard more;
+  heard_durable = begins_trans view.heard_durable settled more_settled fits.heard_durable durable;
   mine = same ∙ fits.mine;
   own = fits.own;
   down_is = λ is. stays (fits.down_is is);

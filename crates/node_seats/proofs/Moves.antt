@@ -107,8 +107,8 @@ module _ {S : Type 0} (Legal : History → Type 0) where
             seen = begins_same kept.accepted;
             durable = fits.durable;
             durable_seen = begins_trans me.0.durable me.0.seen kept.accepted fits.durable_seen fits.seen;
-            told = fits.told;
-            told_durable = fits.told_durable;
+            heard = fits.heard;
+            heard_durable = fits.heard_durable;
             mine = fits.mine;
             own = fits.mine;
             down_is = fits.down_is;
@@ -117,7 +117,7 @@ module _ {S : Type 0} (Legal : History → Type 0) where
           record {
             rest = refl;
             seen = fits.seen;
-            told = fits.told;
+            heard = fits.heard;
             count_is = first_count state kept;
             own = λ numbered. subst (λ (n : ℕ). events_by n kept.accepted ≡ me.0.mine) (sym (fits.number_is numbered)) fits.mine;
             judged = judge (events kept.accepted) (all_legal state kept);
@@ -138,8 +138,8 @@ module _ {S : Type 0} (Legal : History → Type 0) where
             seen = more.begins;
             durable = begins_same kept.settled;
             durable_seen = more.other_begins;
-            told = fits.told;
-            told_durable = fits.told_durable;
+            heard = fits.heard;
+            heard_durable = fits.heard_durable;
             mine = fits.mine;
             own = own;
             down_is = fits.down_is;
@@ -148,7 +148,7 @@ module _ {S : Type 0} (Legal : History → Type 0) where
           record {
             rest = refl;
             durable = fits.durable;
-            told = fits.told_durable;
+            heard = fits.heard_durable;
             durable_seen = more.other_begins;
             seen = more.one_begins;
             same = more.same;
@@ -184,8 +184,8 @@ module _ {S : Type 0} (Legal : History → Type 0) where
           seen = fits.seen;
           durable = fits.durable;
           durable_seen = fits.durable_seen;
-          told = fits.told;
-          told_durable = fits.told_durable;
+          heard = fits.heard;
+          heard_durable = fits.heard_durable;
           mine = fits.mine;
           own = fits.own;
           down_is = λ is. is;
@@ -211,8 +211,8 @@ module _ {S : Type 0} (Legal : History → Type 0) where
           seen = fits.seen;
           durable = fits.durable;
           durable_seen = fits.durable_seen;
-          told = fits.told;
-          told_durable = fits.told_durable;
+          heard = fits.heard;
+          heard_durable = fits.heard_durable;
           mine = fits.mine;
           own = fits.own;
           down_is = λ _. refl;
@@ -231,8 +231,8 @@ module _ {S : Type 0} (Legal : History → Type 0) where
           seen = fits.seen;
           durable = fits.durable;
           durable_seen = fits.durable_seen;
-          told = fits.told;
-          told_durable = fits.told_durable;
+          heard = fits.heard;
+          heard_durable = fits.heard_durable;
           mine = fits.mine;
           own = fits.own;
           down_is = fits.down_is;
@@ -292,8 +292,8 @@ module _ {S : Type 0} (Legal : History → Type 0) where
               seen = subst (λ (l : List Marked). Begins w.seen l) seen (begins_same w.seen);
               durable = fits.durable;
               durable_seen = begins_more me.0.durable me.0.seen (mark me.0.number event ∷ []) fits.durable_seen;
-              told = begins_more me.0.told kept.accepted (mark me.0.number event ∷ []) fits.told;
-              told_durable = fits.told_durable;
+              heard = begins_more me.0.heard kept.accepted (mark me.0.number event ∷ []) fits.heard;
+              heard_durable = fits.heard_durable;
               mine = subst (λ (n : ℕ). events_by id (kept.accepted ++ mark n event ∷ []) ≡ me.0.mine ++ event ∷ []) (sym mine)
                   (by_same id event kept.accepted ∙ ap (λ (h : History). h ++ event ∷ []) fits.mine);
               own = subst (λ (n : ℕ). events_by id (me.0.seen ++ mark n event ∷ []) ≡ me.0.mine ++ event ∷ []) (sym mine) (by_same id event me.0.seen ∙ ap (λ (h : History). h ++ event ∷ []) fits.own);
@@ -347,8 +347,8 @@ module _ {S : Type 0} (Legal : History → Type 0) where
               seen = fits.seen;
               durable = begins_same durable;
               durable_seen = take_begins new me.0.seen;
-              told = fits.told;
-              told_durable = begins_trans me.0.told_durable kept.settled durable fits.told_durable grown;
+              heard = fits.heard;
+              heard_durable = begins_trans me.0.heard_durable kept.settled durable fits.heard_durable grown;
               mine = fits.mine;
               own = fits.own;
               down_is = fits.down_is;
@@ -375,8 +375,8 @@ module _ {S : Type 0} (Legal : History → Type 0) where
         seen = fits.seen;
         durable = fits.durable;
         durable_seen = fits.durable_seen;
-        told = begins_nothing kept.accepted;
-        told_durable = begins_nothing kept.settled;
+        heard = begins_nothing kept.accepted;
+        heard_durable = begins_nothing kept.settled;
         mine = kept.nobody number past;
         own = by_nobody number view.seen kept.accepted fits.seen (kept.nobody number past);
         down_is = fits.down_is;
@@ -414,14 +414,14 @@ module _ {S : Type 0} (Legal : History → Type 0) where
           (λ (t : (other ≢ id) × (get_elem? state.views other ≡ some from)). kept.fits other from t.1 alive)
           (at_set state.views id other (informed view from) from there)
 
-      told : IsKept Legal state.words (set state.views id (informed view from))
-      told = stays state kept id view (informed view from) at (λ _. record {
+      heard : IsKept Legal state.words (set state.views id (informed view from))
+      heard = stays state kept id view (informed view from) at (λ _. record {
         number_is = fits.number_is;
         seen = fits.seen;
         durable = fits.durable;
         durable_seen = fits.durable_seen;
-        told = theirs.seen;
-        told_durable = theirs.durable;
+        heard = theirs.seen;
+        heard_durable = theirs.durable;
         mine = fits.mine;
         own = fits.own;
         down_is = either_is view.down from.down kept.down fits.down_is theirs.down_is;
@@ -432,7 +432,7 @@ module _ {S : Type 0} (Legal : History → Type 0) where
       between = record { words = state.words; homes = state.homes; views = set state.views id (informed view from) }
 
       last : IsKept Legal state.words (set (set state.views id (informed view from)) other spent)
-      last = stays between told other from spent there (λ bad. absurd cc)
+      last = stays between heard other from spent there (λ bad. absurd cc)
 
 -- ---- at first
 
@@ -461,8 +461,8 @@ begins_kept Legal legal = record {
       seen = begins_same [];
       durable = begins_same [];
       durable_seen = begins_same [];
-      told = begins_same [];
-      told_durable = begins_same [];
+      heard = begins_same [];
+      heard_durable = begins_same [];
       mine = refl;
       own = refl;
       down_is = λ bad. absurd cc;

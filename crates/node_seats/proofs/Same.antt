@@ -35,16 +35,16 @@ same_seat before later of rest = record {
 }
 
 -- and one that was told what another knows
-pub same_told : (before later : SeatView) (other : View) → later ≡ record before { view = informed before.view other } → IsSame before later
-same_told before later other told = record {
-  table = ap (λ s. s.table) told;
-  id = ap (λ s. s.id) told;
-  live = ap (λ s. s.view.live) told;
-  numbered = ap (λ s. s.view.numbered) told;
-  number = ap (λ s. s.view.number) told;
-  mine = ap (λ s. s.view.mine) told;
-  down = λ is. ap (λ s. s.view.down) told ∙ ap (λ d. d || other.down) is;
-  right = ap (λ s. s.view.may_fail) told;
+pub same_heard : (before later : SeatView) (other : View) → later ≡ record before { view = informed before.view other } → IsSame before later
+same_heard before later other heard = record {
+  table = ap (λ s. s.table) heard;
+  id = ap (λ s. s.id) heard;
+  live = ap (λ s. s.view.live) heard;
+  numbered = ap (λ s. s.view.numbered) heard;
+  number = ap (λ s. s.view.number) heard;
+  mine = ap (λ s. s.view.mine) heard;
+  down = λ is. ap (λ s. s.view.down) heard ∙ ap (λ d. d || other.down) is;
+  right = ap (λ s. s.view.may_fail) heard;
 }
 
 -- a look changes nothing of what is known as settled
@@ -67,9 +67,9 @@ or_second false other is = is
 -- ---- what is known of down
 
 -- what is known of down after some turns in which another seat told: as before them all, or with what the other knows
-pub data IsToldDown (first other later : Bool) : Type 0 where
-  not_yet : later ≡ first → IsToldDown first other later
-  once_told : later ≡ (first || other) → IsToldDown first other later
+pub data IsInformedDown (first other later : Bool) : Type 0 where
+  not_yet : later ≡ first → IsInformedDown first other later
+  once_informed : later ≡ (first || other) → IsInformedDown first other later
 
 or_again : (one other : Bool) → (one || other) || other ≡ (one || other)
 or_again true other = refl
@@ -77,6 +77,6 @@ or_again false true = refl
 or_again false false = refl
 
 -- after one turn more it is so with what the other knows
-pub told_down : (first other before later : Bool) → IsToldDown first other before → later ≡ (before || other) → later ≡ (first || other)
-told_down first other before later (not_yet is) turn = turn ∙ ap (λ d. d || other) is
-told_down first other before later (once_told is) turn = turn ∙ ap (λ d. d || other) is ∙ or_again first other
+pub informed_down : (first other before later : Bool) → IsInformedDown first other before → later ≡ (before || other) → later ≡ (first || other)
+informed_down first other before later (not_yet is) turn = turn ∙ ap (λ d. d || other) is
+informed_down first other before later (once_informed is) turn = turn ∙ ap (λ d. d || other) is ∙ or_again first other

@@ -10,7 +10,7 @@ use Rattle.node_seats.specs.Views.{events, mark, flag, HasOwn}
 pub record Looks (Judged : History → Type 0) (before : View) (count : ℕ) (later : View) : Type 0 where
   pub rest : later ≡ record before { seen = later.seen }
   pub seen : Begins before.seen later.seen
-  pub told : Begins before.told later.seen
+  pub heard : Begins before.heard later.seen
   pub count_is : length later.seen ≡ count
   pub own : later.numbered ≡ true → HasOwn later
   pub judged : Judged (events later.seen)
@@ -19,7 +19,7 @@ pub record Looks (Judged : History → Type 0) (before : View) (count : ℕ) (la
 pub record Reads (Judged : History → Type 0) (before : View) (count : ℕ) (later : View) : Type 0 where
   pub rest : later ≡ record before { seen = later.seen; durable = later.durable }
   pub durable : Begins before.durable later.durable
-  pub told : Begins before.told_durable later.durable
+  pub heard : Begins before.heard_durable later.durable
   pub durable_seen : Begins later.durable later.seen
   pub seen : Begins before.seen later.seen
   pub same : length later.durable ≤ length before.seen → later.seen ≡ before.seen

@@ -16,8 +16,8 @@ pub record Fits (accepted settled : List Marked) (down : Bool) (number : ℕ) (v
   pub seen : Begins view.seen accepted
   pub durable : Begins view.durable settled
   pub durable_seen : Begins view.durable view.seen
-  pub told : Begins view.told accepted
-  pub told_durable : Begins view.told_durable settled
+  pub heard : Begins view.heard accepted
+  pub heard_durable : Begins view.heard_durable settled
   pub mine : events_by number accepted ≡ view.mine
   pub own : events_by number view.seen ≡ view.mine
   pub down_is : view.down ≡ true → down ≡ true

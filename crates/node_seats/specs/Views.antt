@@ -39,8 +39,8 @@ first_view = record {
   mine = [];
   down = false;
   may_fail = true;
-  told = [];
-  told_durable = [];
+  heard = [];
+  heard_durable = [];
 }
 
 -- a seat made from this one: it knows what this one does, has brought no event, can't take the node down, and has no number yet
@@ -54,13 +54,13 @@ newcomer view = record {
   mine = [];
   down = view.down;
   may_fail = false;
-  told = [];
-  told_durable = [];
+  heard = [];
+  heard_durable = [];
 }
 
 -- what a seat knows once another one has shared what it knows
 abbrev pub informed : View → View → View
-informed view other = record view { down = view.down || other.down; told = other.seen; told_durable = other.durable }
+informed view other = record view { down = view.down || other.down; heard = other.seen; heard_durable = other.durable }
 
 -- a seat that was merged into another one
 abbrev pub spent : View
@@ -73,8 +73,8 @@ spent = record {
   mine = [];
   down = false;
   may_fail = false;
-  told = [];
-  told_durable = [];
+  heard = [];
+  heard_durable = [];
 }
 
 -- any event, as a default value

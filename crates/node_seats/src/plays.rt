@@ -95,9 +95,9 @@ impl Play<(), View> for Settled {
 }
 
 /// One seat shares what it knows with another: a new seat is split from it and then merged into the other.
-pub struct Tells;
+pub struct Informs;
 
-impl Split<View> for Tells {
+impl Split<View> for Informs {
     ghost use Rattle.node_seats.specs.Views.{newcomer};
 
     ghost left = { λ view. view };
@@ -105,7 +105,7 @@ impl Split<View> for Tells {
     ghost right = { newcomer };
 }
 
-impl Join<View> for Tells {
+impl Join<View> for Informs {
     ghost use Rattle.node_seats.specs.Views.{informed, spent as nothing};
 
     ghost both = { informed };

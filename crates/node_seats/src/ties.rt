@@ -28,7 +28,7 @@ impl<K, L: Law<K>> Words<K, L> {
         ensures judged { J.judged (events seat.new.view.seen) }
     {
         for _ in rt.forever() {
-            self.tell(other, seat);
+            self.inform(other, seat);
             if self.look::<J>(seat) == count {
                 return;
             }
@@ -60,7 +60,7 @@ impl<K, L: Law<K>> Words<K, L> {
         ensures judged { J.judged (events seat.new.view.durable) }
     {
         for _ in rt.forever() {
-            self.tell(other, seat);
+            self.inform(other, seat);
             if self.read::<J>(seat) == count {
                 return;
             }
@@ -82,7 +82,7 @@ impl<K, L: Law<K>> Words<K, L> {
         ensures covers { Begins other.old.view.durable seat.new.view.durable }
     {
         for _ in rt.forever() {
-            self.tell(other, seat);
+            self.inform(other, seat);
             if self.read::<Anything>(seat) == count {
                 return;
             }
@@ -147,7 +147,7 @@ impl<K, L: Law<K>> Words<K, L> {
         ensures judged_second { J.judged (events second.new.view.seen) }
     {
         self.look::<J>(first);
-        self.tell(first, second);
+        self.inform(first, second);
         self.look::<J>(second)
     }
 }

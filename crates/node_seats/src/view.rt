@@ -25,6 +25,6 @@ pub struct View {
     /// Whether the seat has the right to take the node down. The first seat has it until it uses it, and until then the node is up.
     pub may_fail: bool,
     /// What another seat has shared: accepted events, and settled ones.
-    pub told: LinkedList<Marked>,
-    pub told_durable: LinkedList<Marked>,
+    pub heard: LinkedList<Marked>,
+    pub heard_durable: LinkedList<Marked>,
 }

@@ -7,7 +7,7 @@ ghost use Rattle.node_seats.specs.Plays.{Looks, Reads, ReadsDown, Accepts, Settl
 ghost use Rattle.node_seats.specs.Sights.{SeatView};
 
 use crate::plays::{
-    Accepted, Call, DownRead, Downed, Judge, Looked, Numbers, Read, Settled, Tells,
+    Accepted, Call, DownRead, Downed, Informs, Judge, Looked, Numbers, Read, Settled,
 };
 use crate::rule::{Kept, Law};
 use crate::seat::Seat;
@@ -67,20 +67,20 @@ impl<K, L: Law<K>> Words<K, L> {
         ensures view { result.view ≡ record (newcomer seat.old.view) { numbered = true; number = result.view.number } }
         ensures own { HasOwn result.view }
     {
-        let mut place = self.table.shared.split_seat::<Tells>(&mut seat.place);
+        let mut place = self.table.shared.split_seat::<Informs>(&mut seat.place);
         self.table.shared.load::<Numbers>(&mut place, ACCEPTED);
         Seat { place }
     }
 
     /// Shares what one seat knows with another one, which takes the events in at its next look.
-    pub fn tell(&self, from: &mut Seat, to: &mut Seat)
+    pub fn inform(&self, from: &mut Seat, to: &mut Seat)
         requires from { (from.old.table ≡ self.now.table) × (from.old.view.live ≡ true) }
         requires to { (to.old.table ≡ self.now.table) × (to.old.view.live ≡ true) }
         ensures same { from.new ≡ from.old }
-        ensures told { to.new ≡ record to.old { view = informed to.old.view from.old.view } }
+        ensures heard { to.new ≡ record to.old { view = informed to.old.view from.old.view } }
     {
-        let place = self.table.shared.split_seat::<Tells>(&mut from.place);
-        self.table.shared.join_seat::<Tells>(&mut to.place, place);
+        let place = self.table.shared.split_seat::<Informs>(&mut from.place);
+        self.table.shared.join_seat::<Informs>(&mut to.place, place);
     }
 
     /// The number of accepted events, all of which the seat has then seen.

@@ -29,22 +29,22 @@ module _ {S : Type 0} (shared : NodeView S) (scheme : Scheme S) (seat mine : Sea
   -- what is said of each run at which the book stands holds of that on a base
   at_base : (P : Node → Run → Type 0) → ((run : Run) → Stands (node_of scheme book.validator.setting) run book → P (node_of scheme book.validator.setting) run)
       → (base : State) → IsBase scheme shared base → P node (run_of base seat.view home.taken)
-  at_base P told base at =
-      subst (λ (s : ConfigView S). (run : Run) → Stands (node_of scheme s) run book → P (node_of scheme s) run) home.setting told (run_of base seat.view home.taken) (home.stands base at)
+  at_base P reported base at =
+      subst (λ (s : ConfigView S). (run : Run) → Stands (node_of scheme s) run book → P (node_of scheme s) run) home.setting reported (run_of base seat.view home.taken) (home.stands base at)
 
   pub seen_of : (P : Node → State → Type 0) → mine.view.seen ≡ seat.view.seen
       → ((run : Run) → Stands (node_of scheme book.validator.setting) run book → P (node_of scheme book.validator.setting) (state_in (node_of scheme book.validator.setting) run))
       → (base : State) → IsBase scheme shared base → P node (seen_in node base mine)
-  seen_of P same told base at =
+  seen_of P same reported base at =
       let is : state_in node (run_of base seat.view home.taken) ≡ seen_in node base mine = λ i. seen_in node base (record mine { view = record mine.view { seen = sym same i } }) in
-      subst (P node) is (at_base (λ n run. P n (state_in n run)) told base at)
+      subst (P node) is (at_base (λ n run. P n (state_in n run)) reported base at)
 
   pub durable_of : (P : Node → State → Type 0) → mine.view.durable ≡ seat.view.durable
       → ((run : Run) → Stands (node_of scheme book.validator.setting) run book → P (node_of scheme book.validator.setting) (settled_in (node_of scheme book.validator.setting) run))
       → (base : State) → IsBase scheme shared base → P node (durable_in node base mine)
-  durable_of P same told base at =
+  durable_of P same reported base at =
       let is : settled_in node (run_of base seat.view home.taken) ≡ durable_in node base mine = λ i. durable_in node base (record mine { view = record mine.view { durable = sym same i } }) in
-      subst (P node) is (at_base (λ n run. P n (settled_in n run)) told base at)
+      subst (P node) is (at_base (λ n run. P n (settled_in n run)) reported base at)
 
   -- an output that goes out may be given out with what the seat knows as settled
   pub given : mine.view.durable ≡ seat.view.durable → (output : Option Output)
@@ -92,19 +92,19 @@ module _ {S : Type 0} (shared : NodeView S) (scheme : Scheme S) (seat mine : Sea
       → IfOk result (λ digests. (run : Run) → Stands (node_of scheme book.validator.setting) run book
       → items digests ≡ drop from (settled_in (node_of scheme book.validator.setting) run).order)
       → IfOk result (λ digests. (base : State) → IsBase scheme shared base → items digests ≡ drop from (durable_in node base mine).order)
-  ordered same items from (Err error) told = told
-  ordered same items from (Ok digests) told = durable_of (λ n state. items digests ≡ drop from state.order) same told
+  ordered same items from (Err error) reported = reported
+  ordered same items from (Ok digests) reported = durable_of (λ n state. items digests ≡ drop from state.order) same reported
 
   -- and the header that is proposed is that of what it has seen
   pub proposed : mine.view.seen ≡ seat.view.seen → {E : Type 0} → (result : Result (Option Header) E) (validator : ValidatorView S) → validator ≡ book.validator
       → IfOk result (λ found. (state : State) → AreAtSound (node_of scheme validator.setting) validator.tables state
       → found ≡ proposed_at (node_of scheme validator.setting) state)
       → IfOk result (λ found. (base : State) → IsBase scheme shared base → found ≡ proposed_at node (seen_in node base mine))
-  proposed same (Err error) validator is told = told
-  proposed same (Ok found) validator is told =
+  proposed same (Err error) validator is reported = reported
+  proposed same (Ok found) validator is reported =
       let there = subst
       (λ (v : ValidatorView S). (state : State) → AreAtSound (node_of scheme v.setting) v.tables state → found ≡ proposed_at (node_of scheme v.setting) state)
-      is told in
+      is reported in
       seen_of (λ n state. found ≡ proposed_at n state) same (λ run stands. there (state_in (node_of scheme book.validator.setting) run) stands.at)
 
 -- what a book gives that is down just where this is so

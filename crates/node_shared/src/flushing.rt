@@ -114,7 +114,7 @@ impl<'a, S: Sign> Node<'a, S> {
     }
 
     /// After this the seat knows exactly the same events as settled as the flush seat.
-    pub fn tell_settled<R: Wait>(&self, rt: &R, flush: &mut FlushSeat, seat: &mut Seat)
+    pub fn report_settled<R: Wait>(&self, rt: &R, flush: &mut FlushSeat, seat: &mut Seat)
         requires flush { IsFlushOf self.now flush.old }
         requires of { IsOf self.now seat.old }
         ensures flush { flush.new ≡ flush.old }
@@ -152,7 +152,7 @@ impl<'a, S: Sign> Node<'a, S> {
         ensures seat { seat.new ≡ record seat.old { view = informed seat.old.view flush.new.seat.view } }
     {
         self.words.raise_down(&mut flush.seat);
-        self.words.tell(&mut flush.seat, seat);
+        self.words.inform(&mut flush.seat, seat);
     }
 
     // After this the flush seat knows what the book's seat does. The result is whether both count the same; if they don't at once, they

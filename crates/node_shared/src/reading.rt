@@ -104,9 +104,9 @@ impl<'a, S: Sign> Node<'a, S> {
         ensures stays_locked { Stays locked.old.seat locked.new.seat }
         ensures stays { Stays seat.old seat.new }
     {
-        self.words.tell(&mut locked.seat, seat);
+        self.words.inform(&mut locked.seat, seat);
         if self.words.read_down(seat) {
-            self.words.tell(seat, &mut locked.seat);
+            self.words.inform(seat, &mut locked.seat);
             locked.book.fail();
         }
     }

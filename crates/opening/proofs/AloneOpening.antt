@@ -77,12 +77,12 @@ module _ {S D : Type 0} (scheme : Scheme S) (device : Disks D) (setting : Config
         kept = subst (λ (a : Areas). KeepsStatesIn node (alone (device.content disk)) a) (sym areas) keeps;
         holds = record {
           state = kept node held.history;
-          told_as = ap (decoded_in node) areas ∙ held.told_as;
+          decoded_as = ap (decoded_in node) areas ∙ held.decoded_as;
           holds = subst (λ (a : Areas). Holds node a (kept node held.history)) (sym areas) held.holds;
           at = held.at;
         };
         opening = record {
-          tells = tt;
+          reports = tt;
           full = tt;
           cause = (ap (faults_in device) store ∙ opening.cause.0, tt);
           any_moment = subst (IsDecodedThroughout node device (One disk)) (sym store) opening.any_moment;
@@ -108,7 +108,7 @@ module _ {S D : Type 0} (scheme : Scheme S) (device : Disks D) (setting : Config
     kept = tt;
     holds = tt;
     opening = record {
-      tells = λ device_not full_not. opening.tells device_not;
+      reports = λ device_not full_not. opening.reports device_not;
       full = λ is. absurd (opening.never_full is);
       cause = (tt, opening.cause.1);
       any_moment = opening.any_moment;

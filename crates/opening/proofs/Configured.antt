@@ -11,11 +11,11 @@ use Rattle.std.proofs.lemmas.Nat.{from_be_bytes-to_be_bytes_2}
 use Rattle.std.proofs.lemmas.Option.{same_Some}
 use Rattle.committee.specs.Charter.{Charter, IsCharter, total_of}
 use Rattle.committee.proofs.StakeLemmas.{sum-bounds}
-use Rattle.spec_records.specs.Records.{configuration_of, CanTell}
+use Rattle.spec_records.specs.Records.{configuration_of, CanReport}
 use Rattle.journal.specs.Configuration.{number_of, size_in, has_front, is_configuration, shaped_version}
 use Rattle.journal.specs.declared.version.Version.{Version}
 use Rattle.journal.specs.declared.version.Version.TheVariants.{First, Second}
-use Rattle.opening.specs.Decoded.{has_ones, can_tell}
+use Rattle.opening.specs.Decoded.{has_ones, can_report}
 use Rattle.wire.specs.declared.keys.Author.{Author}
 
 -- ---- stakes
@@ -72,13 +72,13 @@ all_passed test P each (x ∷ xs) all =
     All-cons P x xs (each x parts.0) (all_passed test P each xs parts.1)
 
 -- whether a version can tell a committee says that it can
-pub tells_of : (version : Version) (charter : Charter) → can_tell version charter ≡ true → CanTell version charter
-tells_of First charter so = all_passed (λ stake. eqb stake 1) (λ stake. stake ≡ 1) (λ stake so. eqb-true stake 1 so) charter.stakes so
-tells_of Second charter so = tt
+pub reports_of : (version : Version) (charter : Charter) → can_report version charter ≡ true → CanReport version charter
+reports_of First charter so = all_passed (λ stake. eqb stake 1) (λ stake. stake ≡ 1) (λ stake so. eqb-true stake 1 so) charter.stakes so
+reports_of Second charter so = tt
 
-pub told_of : (version : Version) (charter : Charter) → CanTell version charter → can_tell version charter ≡ true
-told_of First charter can = all_pass (λ stake. eqb stake 1) (λ stake. stake ≡ 1) (λ stake is. eq-eqb stake 1 is) charter.stakes can
-told_of Second charter can = refl
+pub decoded_of : (version : Version) (charter : Charter) → CanReport version charter → can_report version charter ≡ true
+decoded_of First charter can = all_pass (λ stake. eqb stake 1) (λ stake. stake ≡ 1) (λ stake is. eq-eqb stake 1 is) charter.stakes can
+decoded_of Second charter can = refl
 
 -- ---- lists
 

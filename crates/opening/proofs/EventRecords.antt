@@ -15,12 +15,12 @@ use Rattle.spec_model.specs.Nodes.{Node, IsNode}
 use Rattle.spec_model.specs.Words.{Author, Event, Message}
 use Rattle.spec_records.specs.Records.{record_of}
 use Rattle.wire.specs.Reading.{message_of}
-use Rattle.wire.specs.Spelling.{spelling}
+use Rattle.wire.specs.Encoding.{encoding}
 use Rattle.wire.specs.declared.error.WireError.{WireError}
-use Rattle.wire_read.proofs.Messages.{is_spelled, is_read}
+use Rattle.wire_read.proofs.Messages.{is_encoded, is_read}
 use Rattle.wire_read.proofs.Steps.{IsBytes, IsBytes-drop, IsBytes-take}
 use Rattle.opening.specs.Decoded.{if_passed, checked_in, sender_in, event_in}
-use Rattle.opening.proofs.Telling.{event_short, event_other, event_is}
+use Rattle.opening.proofs.Reporting.{event_short, event_other, event_is}
 
 -- ---- an event's record is read
 
@@ -44,7 +44,7 @@ passed_is charter event passed = ap (λ f. cond (is_none f) (Some event) None) p
 pub record_read : (node : Node) (event : Event) → IsNode node → IsTaken node event → event_in node.charter (record_of event) ≡ Some event
 record_read node event sound taken =
     let charter = node.charter in
-    let text = spelling event.message in
+    let text = encoding event.message in
     let sender : sender_in (record_of event) ≡ event.sender = λ i. record { 0 = from_be_bytes-to_be_bytes_2 event.sender.0 (sender_fits node event sound taken) i } in
     event_is charter (record_of event) (omega arith) refl
     ∙ (λ i. checked_in charter (sender i) (is_read event.message taken.message i))
@@ -89,12 +89,12 @@ each_byte bytes are i =
 record_checked : (node : Node) (kind first second : ℕ) (text : List ℕ) (event : Event) → IsBytes (kind ∷ first ∷ second ∷ text) → kind ≡ 1
     → IsChecked node.charter (sender_in (kind ∷ first ∷ second ∷ text)) (message_of text) event → IsRecord node (kind ∷ first ∷ second ∷ text) event
 record_checked node kind first second text event are kind_is is =
-    let spelled = is_spelled text event.message (IsBytes-drop 3 (kind ∷ first ∷ second ∷ text) are) is.is_read in
+    let encoded = is_encoded text event.message (IsBytes-drop 3 (kind ∷ first ∷ second ∷ text) are) is.is_read in
     let sender : to_be_bytes w16 event.sender.0 ≡ first ∷ second ∷ [] =
     be_bytes_2 (first ∷ second ∷ []) event.sender.0 refl (IsBytes-take 2 (first ∷ second ∷ text) (IsBytes-drop 1 (kind ∷ first ∷ second ∷ text) are)) (ap (λ (a : Author). a.0) (sym is.sent)) in
     record {
-      same = λ i. kind_is i ∷ (sym sender i ++ spelled.1 i);
-      taken = record { message = spelled.0; passed = is.passed };
+      same = λ i. kind_is i ∷ (sym sender i ++ encoded.1 i);
+      taken = record { message = encoded.0; passed = is.passed };
     }
 
 pub read_record : (node : Node) (bytes : List ℕ) (event : Event) → AreBytes bytes → event_in node.charter bytes ≡ Some event → IsRecord node bytes event

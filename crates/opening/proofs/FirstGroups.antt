@@ -8,7 +8,7 @@ use Rattle.std.proofs.lemmas.Bool.{cases_eq, eq-eqb, ne_eqb}
 use Rattle.std.proofs.lemmas.List.Elements.{All-nil, All-cons, All-append, All-map, All-weaker}
 use Rattle.std.proofs.lemmas.Nat.{be_bytes_8}
 use Rattle.diskmodel.specs.Outcomes.{AreBytes}
-use Rattle.journal.specs.Areas.{pair, head_record, unless_zero, head_in, generation_of, first_generation, tells, base_of, chosen, moved, moved_by, stands_at, read_from, stands_in}
+use Rattle.journal.specs.Areas.{pair, head_record, unless_zero, head_in, generation_of, first_generation, reports, base_of, chosen, moved, moved_by, stands_at, read_from, stands_in}
 use Rattle.journal.specs.Configuration.{shaped_version}
 use Rattle.journal.specs.Format.{group_of, body_at, kept_at, kept, walk, stands}
 use Rattle.journal.specs.declared.record.Record.{Record}
@@ -16,7 +16,7 @@ use Rattle.journal.specs.declared.side.Side.{Side}
 use Rattle.journal.specs.declared.side.Side.TheVariants.{First, Second}
 use Rattle.journal.specs.declared.version.Version.{Version}
 use Rattle.journal.proofs.Stops.{scan_ok, scan_err}
-use Rattle.journal.proofs.Telling.{gate_open, tells_long, tells_first, by_telling}
+use Rattle.journal.proofs.Reporting.{gate_open, reports_long, reports_first, by_reporting}
 use Rattle.journal.proofs.Walks.{goes, closed_is}
 use Rattle.spec_world.proofs.Recovering.{at_side}
 use Rattle.opening.specs.Decoded.{IsText}
@@ -97,20 +97,20 @@ opened gate bytes generation found is_open is walked =
       },
     )
 
-some_same : (one other : ℕ) (told : Option ℕ) → ◌≡◌ {A = Option (Option ℕ)} (Some told) (Some (Some other)) → told ≡ Some other
-some_same one other told is = cc
+some_same : (one other : ℕ) (reported : Option ℕ) → ◌≡◌ {A = Option (Option ℕ)} (Some reported) (Some (Some other)) → reported ≡ Some other
+some_same one other reported is = cc
 
-found_by : (file : List ℕ) (generation : ℕ) (records : List Record) (read : Result Found ℕ) → tells file ≡ Some (Some generation) → stands file ≡ Ok records → walk 0 0 file ≡ read
+found_by : (file : List ℕ) (generation : ℕ) (records : List Record) (read : Result Found ℕ) → reports file ≡ Some (Some generation) → stands file ≡ Ok records → walk 0 0 file ≡ read
     → (group : List (List ℕ)) × Begins records group generation
-found_by file generation records (Err place) told is walked = absurd (no_walk (sym is ∙ (scan_err file place (scans_long file (tells_long file (Some generation) told) ∙ walked))))
+found_by file generation records (Err place) reported is walked = absurd (no_walk (sym is ∙ (scan_err file place (scans_long file (reports_long file (Some generation) reported) ∙ walked))))
   where
     no_walk : ◌≡◌ {A = Result (List Record) ℕ} (Ok records) (Err place) → ⊥
     no_walk same = cc
-found_by [] generation records (Ok found) told is walked = absurd (omega (arith, tells_long [] (Some generation) told))
-found_by (gate ∷ bytes) generation records (Ok found) told is walked =
-    let is_open = gate_open gate bytes (Some generation) told in
-    let long = tells_long (gate ∷ bytes) (Some generation) told in
-    let first = some_same 0 generation (first_generation bytes) (sym (tells_first gate bytes is_open (omega (arith, long))) ∙ told) in
+found_by [] generation records (Ok found) reported is walked = absurd (omega (arith, reports_long [] (Some generation) reported))
+found_by (gate ∷ bytes) generation records (Ok found) reported is walked =
+    let is_open = gate_open gate bytes (Some generation) reported in
+    let long = reports_long (gate ∷ bytes) (Some generation) reported in
+    let first = some_same 0 generation (first_generation bytes) (sym (reports_first gate bytes is_open (omega (arith, long))) ∙ reported) in
     let same : found.0 ≡ records = ok_same found.0 records (sym (scan_ok (gate ∷ bytes) found (scans_long (gate ∷ bytes) long ∙ walked)) ∙ is) in
     let at = opened gate bytes generation found is_open first walked in
     (at.0, subst (λ (l : List Record). Begins l at.0 generation) same at.1)
@@ -161,9 +161,9 @@ moved_begins base (one ∷ others) rest first same begins = by_kind (begins one 
         (ap (λ (g : ℕ). base + g) shares ∙ gate_is) is (all_moved more after)
     by_kind (without_head after) = without_head (subst (All (IsAfterFirst first)) rest_is (all_moved others after))
 
-side_begins : (side : Side) (live : List ℕ) (generation : ℕ) (first : Record) (rest : List Record) → tells live ≡ Some (Some generation) → stands_at side live ≡ Ok (first ∷ rest)
+side_begins : (side : Side) (live : List ℕ) (generation : ℕ) (first : Record) (rest : List Record) → reports live ≡ Some (Some generation) → stands_at side live ≡ Ok (first ∷ rest)
     → BeginsWith first rest
-side_begins side live generation first rest told is = by_read (stands live) refl
+side_begins side live generation first rest reported is = by_read (stands live) refl
   where
     ok_same : (one other : List Record) → ◌≡◌ {A = Result (List Record) ℕ} (Ok one) (Ok other) → one ≡ other
     ok_same one other same = cc
@@ -182,19 +182,19 @@ side_begins side live generation first rest told is = by_read (stands live) refl
     ]
     by_read (Ok records) found =
         let same = ok_same (map (moved_by (base_of side)) records) (first ∷ rest) (sym (at_side side live records found) ∙ is) in
-        let at = found_by live generation records (walk 0 0 live) told found refl in
+        let at = found_by live generation records (walk 0 0 live) reported found refl in
         moved_begins (base_of side) records rest first same
         (λ one others are. by_group at.0 at.1.more generation one others at.1.is_group at.1.after (sym at.1.are ∙ are))
 
 -- which of two areas is read
 pub data IsReadOf (one other : List ℕ) (records : List Record) : Type 0 where
   of_none : records ≡ [] → IsReadOf one other records
-  of_first : (generation : ℕ) → tells one ≡ Some (Some generation) → stands_at First one ≡ Ok records → IsReadOf one other records
-  of_second : (generation : ℕ) → tells other ≡ Some (Some generation) → stands_at Second other ≡ Ok records → IsReadOf one other records
+  of_first : (generation : ℕ) → reports one ≡ Some (Some generation) → stands_at First one ≡ Ok records → IsReadOf one other records
+  of_second : (generation : ℕ) → reports other ≡ Some (Some generation) → stands_at Second other ≡ Ok records → IsReadOf one other records
 
 pub read_of : (one other : List ℕ) (records : List Record) → stands_in (pair one other) ≡ Ok records → IsReadOf one other records
 unfolding chosen
-read_of one other records is = by_tellings (tells one) (tells other) refl refl
+read_of one other records is = by_tellings (reports one) (reports other) refl refl
   where
     ok_same : (l : List Record) → ◌≡◌ {A = Result (List Record) ℕ} (Ok l) (Ok records) → records ≡ l
     ok_same l same = cc
@@ -202,14 +202,14 @@ read_of one other records is = by_tellings (tells one) (tells other) refl refl
     no_ok : (place : ℕ) → ◌≡◌ {A = Result (List Record) ℕ} (Err place) (Ok records) → ⊥
     no_ok place same = cc
 
-    by_tellings : (told also : Option (Option ℕ)) → tells one ≡ told → tells other ≡ also → IsReadOf one other records
-    by_tellings None None a b = of_none (ok_same [] (sym (by_telling one other None None a b) ∙ is))
-    by_tellings (Some None) also a b = absurd (no_ok _ (sym (by_telling one other (Some None) also a b) ∙ is))
-    by_tellings None (Some None) a b = absurd (no_ok _ (sym (by_telling one other None (Some None) a b) ∙ is))
-    by_tellings (Some (Some g)) (Some None) a b = absurd (no_ok _ (sym (by_telling one other (Some (Some g)) (Some None) a b) ∙ is))
-    by_tellings (Some (Some g)) None a b = of_first g a (sym (by_telling one other (Some (Some g)) None a b) ∙ is)
-    by_tellings None (Some (Some g)) a b = of_second g b (sym (by_telling one other None (Some (Some g)) a b) ∙ is)
-    by_tellings (Some (Some g)) (Some (Some h)) a b = by_same (eqb g h) (ltb h g) (sym (by_telling one other (Some (Some g)) (Some (Some h)) a b) ∙ is)
+    by_tellings : (reported also : Option (Option ℕ)) → reports one ≡ reported → reports other ≡ also → IsReadOf one other records
+    by_tellings None None a b = of_none (ok_same [] (sym (by_reporting one other None None a b) ∙ is))
+    by_tellings (Some None) also a b = absurd (no_ok _ (sym (by_reporting one other (Some None) also a b) ∙ is))
+    by_tellings None (Some None) a b = absurd (no_ok _ (sym (by_reporting one other None (Some None) a b) ∙ is))
+    by_tellings (Some (Some g)) (Some None) a b = absurd (no_ok _ (sym (by_reporting one other (Some (Some g)) (Some None) a b) ∙ is))
+    by_tellings (Some (Some g)) None a b = of_first g a (sym (by_reporting one other (Some (Some g)) None a b) ∙ is)
+    by_tellings None (Some (Some g)) a b = of_second g b (sym (by_reporting one other None (Some (Some g)) a b) ∙ is)
+    by_tellings (Some (Some g)) (Some (Some h)) a b = by_same (eqb g h) (ltb h g) (sym (by_reporting one other (Some (Some g)) (Some (Some h)) a b) ∙ is)
       where
         by_same : (same less : Bool) → read_from one other (cond same (Err 1099511627776) (cond less (Ok (Some First)) (Ok (Some Second)))) ≡ Ok records → IsReadOf one other records
         by_same true less so = absurd (no_ok _ so)
@@ -222,8 +222,8 @@ begins_with one other first rest is = by_side (read_of one other (first ∷ rest
   where
     by_side : IsReadOf one other (first ∷ rest) → BeginsWith first rest
     by_side (of_none none) = absurd (cc none)
-    by_side (of_first g told stand) = side_begins First one g first rest told stand
-    by_side (of_second g told stand) = side_begins Second other g first rest told stand
+    by_side (of_first g reported stand) = side_begins First one g first rest reported stand
+    by_side (of_second g reported stand) = side_begins Second other g first rest reported stand
 
 -- ---- bytes
 
@@ -243,8 +243,8 @@ pair_texts only one other records are also is = by_side (read_of one other recor
 
     by_side : IsReadOf one other records → All IsText records
     by_side (of_none none) = subst (All IsText) (sym none) (All-nil IsText)
-    by_side (of_first g told stand) = stands_texts only one records are stand
-    by_side (of_second g told stand) = moved_by_read (stands other) refl stand
+    by_side (of_first g reported stand) = stands_texts only one records are stand
+    by_side (of_second g reported stand) = moved_by_read (stands other) refl stand
 
 -- ---- the head
 

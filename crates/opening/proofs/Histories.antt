@@ -15,7 +15,7 @@ use Rattle.spec_records.specs.Records.{record_of}
 use Rattle.spec_world.specs.World.{bytes_of}
 use Rattle.opening.specs.Decoded.{IsText, event_in, read_event, read_events}
 use Rattle.opening.proofs.EventRecords.{record_read, read_record}
-use Rattle.opening.proofs.Telling.{read_none, read_new, read_old, read_nil, read_ok, read_err}
+use Rattle.opening.proofs.Reporting.{read_none, read_new, read_old, read_nil, read_ok, read_err}
 
 -- ---- one record
 

@@ -25,7 +25,7 @@ use Rattle.spec_model.specs.Giving.{kept}
 use Rattle.spec_model.specs.Histories.{History}
 use Rattle.spec_model.specs.Nodes.{Node, IsNode}
 use Rattle.spec_model.specs.States.{State}
-use Rattle.spec_records.specs.Records.{record_of, stakes_of, configuration_of, CanTell}
+use Rattle.spec_records.specs.Records.{record_of, stakes_of, configuration_of, CanReport}
 use Rattle.journal.specs.declared.version.Version.{Version}
 use Rattle.journal.specs.declared.version.Version.TheVariants.{First, Second}
 use Rattle.wire.specs.Fields as fields
@@ -34,13 +34,13 @@ use Rattle.spec_world.specs.Promise.{NothingTakenBack}
 use Rattle.spec_world.specs.Runs.{AreKeys}
 use Rattle.spec_world.specs.World.{bytes_of, IsJournal, own_configuration, BeginsAs, as_fresh, as_checkpoint, Holds, as_journal, as_empty}
 use Rattle.opening.specs.Laws.{IsOfBytes, DecodedStandsFor, WhatStandsIsDecoded, WorldsAreDecoded}
-use Rattle.opening.specs.Decoded.{IsText, is_alone, can_tell, is_own, mismatch, first_fault, unless, read_events, read_journal, decoded}
+use Rattle.opening.specs.Decoded.{IsText, is_alone, can_report, is_own, mismatch, first_fault, unless, read_events, read_journal, decoded}
 use Rattle.journal.specs.Configuration.{stakes_size, shaped_version}
-use Rattle.opening.proofs.Configured.{all_pass, all_passed, tells_of, told_of, shaped_is}
+use Rattle.opening.proofs.Configured.{all_pass, all_passed, reports_of, decoded_of, shaped_is}
 use Rattle.opening.proofs.Empty.{first_at_zero}
 use Rattle.opening.proofs.GroupTexts.{OnlyGroups, stands_texts}
 use Rattle.opening.proofs.Histories.{AreEvents, read_back, read_whole}
-use Rattle.opening.proofs.Telling.{by_version, fault_none, ok_decoded, journal_nil, journal_cons, decoded_records, decoded_damaged, bytes_same}
+use Rattle.opening.proofs.Reporting.{by_version, fault_none, ok_decoded, journal_nil, journal_cons, decoded_records, decoded_damaged, bytes_same}
 
 -- ---- the first record
 
@@ -49,7 +49,7 @@ record HasNoFault (node : Node) (first : Record) (events : List Record) : Type 0
   version : Version
   shape : shaped_version first.bytes ≡ Some version
   alone : is_alone events ≡ true
-  tells : can_tell version node.charter ≡ true
+  reports : can_report version node.charter ≡ true
   own : first.bytes ≡ configuration_of version node.charter node.own
 
 matched : (own : Bool) → mismatch own ≡ None → own ≡ true
@@ -69,14 +69,14 @@ no_fault : (node : Node) (first : Record) (events : List Record) → first_fault
 no_fault node first events none =
     let (version, shape, only, own) = tests_passed (is_alone events) (shaped_version first.bytes) (is_own node first.bytes) first.gate none in
     let configuration = configuration_of version node.charter node.own in
-    let parts = and_parts (can_tell version node.charter) (bytes_eq first.bytes configuration) own in
-    record { version = version; shape = shape; alone = only; tells = parts.0; own = same_bytes first.bytes configuration parts.1 }
+    let parts = and_parts (can_report version node.charter) (bytes_eq first.bytes configuration) own in
+    record { version = version; shape = shape; alone = only; reports = parts.0; own = same_bytes first.bytes configuration parts.1 }
 
 free : (node : Node) (first : Record) (events : List Record) → HasNoFault node first events → first_fault node first events ≡ None
 free node first events is =
     let configuration = configuration_of is.version node.charter node.own in
     let same : bytes_eq first.bytes configuration ≡ true = ap (λ (l : List ℕ). bytes_eq first.bytes l) (sym is.own) ∙ bytes_same first.bytes in
-    let own : is_own node first.bytes is.version ≡ true = and_from (can_tell is.version node.charter) (bytes_eq first.bytes configuration) is.tells same in
+    let own : is_own node first.bytes is.version ≡ true = and_from (can_report is.version node.charter) (bytes_eq first.bytes configuration) is.reports same in
     fault_none node first events is.version (is_own node first.bytes is.version) (λ i. cond (is.alone i) (is.shape i) None) refl own
 
 -- ---- what bytes are told as
@@ -112,7 +112,7 @@ held starts node bytes state first records events sound stands_for is are state_
   front = own_configuration is.version node ∷ [];
   in_first = 1;
   base = fresh node;
-  begins = as_fresh is.version (tells_of is.version node.charter is.tells) refl refl refl;
+  begins = as_fresh is.version (reports_of is.version node.charter is.reports) refl refl refl;
   events = events;
   journal = record {
     records = first ∷ records;
@@ -192,11 +192,11 @@ configuration_shape version node sound keys =
     let both = length-append (flat_map (λ (key : Key). key.0) charter.keys) (stakes_of version charter.stakes) in
     shaped_is version charter node.own (omega (arith, sound.charter.size)) (omega (arith, long, stakes, both))
 
-told_new : (node : Node) (bytes : List ℕ) (state : State) → stands bytes ≡ Ok [] → state ≡ fresh node → decoded node bytes ≡ Ok state
-told_new node bytes state none is = decoded_records node bytes [] none ∙ journal_nil node ∙ ap Ok (sym is)
+reported_new : (node : Node) (bytes : List ℕ) (state : State) → stands bytes ≡ Ok [] → state ≡ fresh node → decoded node bytes ≡ Ok state
+reported_new node bytes state none is = decoded_records node bytes [] none ∙ journal_nil node ∙ ap Ok (sym is)
 
 decoded_held : (version : Version) (node : Node) (bytes : List ℕ) (records : List Record) (events : History) → AreKeys node → IsLegalAfter node (fresh node) events → stands bytes ≡ Ok records
-    → bytes_of records ≡ own_configuration version node ∷ map record_of events → All (λ (one : Record). 0 < one.gate) (drop 1 records) → CanTell version node.charter
+    → bytes_of records ≡ own_configuration version node ∷ map record_of events → All (λ (one : Record). 0 < one.gate) (drop 1 records) → CanReport version node.charter
     → decoded node bytes ≡ Ok (after_all node (fresh node) events)
 decoded_held version node bytes [] events keys legal stands_for are alone_in can = absurd (omega (arith, ap length are))
 decoded_held version node bytes (first ∷ records) events keys legal stands_for are alone_in can =
@@ -206,7 +206,7 @@ decoded_held version node bytes (first ∷ records) events keys legal stands_for
       version = version;
       shape = ap shaped_version own ∙ configuration_shape version node legal.node_is keys;
       alone = all_pass (λ (one : Record). ltb 0 one.gate) (λ one. 0 < one.gate) (λ one so. lt-ltb 0 one.gate so) records alone_in;
-      tells = told_of version node.charter can;
+      reports = decoded_of version node.charter can;
       own = own;
     } in
     decoded_records node bytes (first ∷ records) stands_for ∙ journal_cons node first records
@@ -229,7 +229,7 @@ decoded_begun node bytes front in_first base events keys legal is (as_checkpoint
 pub what_stands_is_decoded : WhatStandsIsDecoded
 what_stands_is_decoded node bytes state keys (as_journal holds) =
     decoded_begun node bytes holds.front holds.in_first holds.base holds.events keys holds.legal holds.journal holds.begins ∙ ap Ok holds.leads
-what_stands_is_decoded node bytes state keys (as_empty none is) = told_new node bytes state (sym (alone_stands bytes) ∙ none) is
+what_stands_is_decoded node bytes state keys (as_empty none is) = reported_new node bytes state (sym (alone_stands bytes) ∙ none) is
 
 -- ---- the worlds
 
@@ -239,7 +239,7 @@ worlds_are_decoded kept_all node moves world bytes sound keys run may =
     let (history, recovered, stands_for) = never.stands (alone bytes) may in
     record {
       history = history;
-      is_told = what_stands_is_decoded node bytes (kept node history) keys stands_for;
+      is_decoded = what_stands_is_decoded node bytes (kept node history) keys stands_for;
       stands_for = stands_for;
       recovered = recovered;
     }

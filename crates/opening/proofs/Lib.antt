@@ -1,5 +1,5 @@
 pub mod Configured
-pub mod Telling
+pub mod Reporting
 pub mod Empty
 pub mod Longer
 pub mod EventRecords
@@ -8,7 +8,7 @@ pub mod Histories
 pub mod Laws
 pub mod Opened
 pub mod FirstGroups
-pub mod PairTelling
+pub mod PairReporting
 pub mod PairLaws
 mod StateTexts
 mod Keys

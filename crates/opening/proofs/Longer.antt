@@ -27,7 +27,7 @@ use Rattle.journal.specs.declared.version.Version.{Version}
 use Rattle.wire_read.proofs.Messages.{is_read}
 use Rattle.opening.specs.Decoded.{checked_in, if_passed, sender_in, event_in, read_event, read_events, unless, is_alone, is_own, first_fault, decoded}
 use Rattle.journal.specs.Configuration.{shaped_version}
-use Rattle.opening.proofs.Telling.{event_is, read_new, read_nil, read_ok, read_err, journal_cons, decoded_records, decoded_damaged, ok_decoded, by_version}
+use Rattle.opening.proofs.Reporting.{event_is, read_new, read_nil, read_ok, read_err, journal_cons, decoded_records, decoded_damaged, ok_decoded, by_version}
 
 -- ---- the record of an event
 

@@ -20,9 +20,9 @@ use Rattle.validator.specs.Standing.{AreAtSound}
 use Rattle.spec_world.proofs.Recovering.{holds_same, some_record}
 use Rattle.spec_world.specs.World.{own_configuration, as_fresh, Holds, StandsFor, as_journal, as_empty}
 use Rattle.opening.specs.Laws.{IsOfBytes, StandsForAt, HoldsAt, KeepsStates, IsNoRefusal}
-use Rattle.opening.specs.Decoded.{IsText, HasTexts, decoded, Tells, StandsAt, IsDecodedAsOneOf, KeepsOrBegins, KeepsRecords}
+use Rattle.opening.specs.Decoded.{IsText, HasTexts, decoded, Reports, StandsAt, IsDecodedAsOneOf, KeepsOrBegins, KeepsRecords}
 use Rattle.opening.proofs.Laws.{alone_stands, fresh_sound, found_records}
-use Rattle.opening.proofs.Telling.{decoded_records, decoded_damaged, decoded_same, as_one_of, keeps_one, keeps_same}
+use Rattle.opening.proofs.Reporting.{decoded_records, decoded_damaged, decoded_same, as_one_of, keeps_one, keeps_same}
 use Rattle.admission.specs.declared.tables.Tables.{Tables}
 
 -- the tables stand where the bytes stand, if the records after the first are bytes
@@ -41,12 +41,12 @@ clash : (error : JournalError) (state : State) (read : Result State JournalError
 clash error state read one other = cc
 
 -- what is told as a state is not refused
-pub no_refusal : (error : JournalError) (state : State) (read : Result State JournalError) → read ≡ Ok state → (error ≢ Device → Tells error read) → IsNoRefusal error
-no_refusal Memory state read is tells = inr refl
-no_refusal Device state read is tells = inl refl
-no_refusal (Damaged place) state read is tells = absurd (clash (Damaged place) state read is (tells (λ same. cc)))
-no_refusal ConfigMismatch state read is tells = absurd (clash ConfigMismatch state read is (tells (λ same. cc)))
-no_refusal Full state read is tells = absurd (clash Full state read is (tells (λ same. cc)))
+pub no_refusal : (error : JournalError) (state : State) (read : Result State JournalError) → read ≡ Ok state → (error ≢ Device → Reports error read) → IsNoRefusal error
+no_refusal Memory state read is reports = inr refl
+no_refusal Device state read is reports = inl refl
+no_refusal (Damaged place) state read is reports = absurd (clash (Damaged place) state read is (reports (λ same. cc)))
+no_refusal ConfigMismatch state read is reports = absurd (clash ConfigMismatch state read is (reports (λ same. cc)))
+no_refusal Full state read is reports = absurd (clash Full state read is (reports (λ same. cc)))
 
 records_are : (one other : List Record) → ◌≡◌ {A = Result (List Record) ℕ} (Ok one) (Ok other) → one ≡ other
 records_are one other same = cc
@@ -102,7 +102,7 @@ module _ (starts : StartsFresh) (node : Node) (later : List ℕ) (tables : Table
   as_held : (found : IsOfBytes node later at.state) → StandsFor node (alone later) at.state → HoldsAt node later tables
   as_held found (as_journal held) = record {
     history = found.history;
-    told_as = at.is_read ∙ ap Ok (sym found.keeps);
+    decoded_as = at.is_read ∙ ap Ok (sym found.keeps);
     holds = subst (Holds node (alone later)) (sym found.keeps) held;
     legal = found.legal;
     at = subst (AreAtSound node tables) (sym found.keeps) at.at;
@@ -132,9 +132,9 @@ module _ {D : Type 0} (node : Node) (device : Disks D) (old middle : D) (opened 
 
   -- and then of writing a configuration, where there is none
   module _ (new : D) (same : stands (device.content middle) ≡ stands (device.content old)) (now : device.outcome old (device.content old)) where
-    pub told_on : AtEachMoment device middle new (λ left. decoded node left ≡ decoded node (device.content middle))
+    pub reported_on : AtEachMoment device middle new (λ left. decoded node left ≡ decoded node (device.content middle))
         → AtEachMoment device old new (IsDecodedAsOneOf node (device.outcome old))
-    told_on going = joins device old middle new (IsDecodedAsOneOf node (device.outcome old)) (λ left. decoded node left ≡ decoded node (device.content middle)) first_decoded going
+    reported_on going = joins device old middle new (IsDecodedAsOneOf node (device.outcome old)) (λ left. decoded node left ≡ decoded node (device.content middle)) first_decoded going
         (λ left as_is. (device.content old, now, as_is ∙ decoded_same node (device.content middle) (device.content old) same))
 
     pub kept_on : AtEachMoment device middle new (KeepsOrBegins Second node (device.content middle)) → AtEachMoment device old new (KeepsRecords node (device.outcome old))

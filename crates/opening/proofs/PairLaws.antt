@@ -28,22 +28,22 @@ use Rattle.spec_model.specs.Giving.{kept}
 use Rattle.spec_model.specs.Histories.{History}
 use Rattle.spec_model.specs.Nodes.{Node, IsNode}
 use Rattle.spec_model.specs.States.{State}
-use Rattle.spec_records.specs.Records.{record_of, configuration_of, CanTell}
+use Rattle.spec_records.specs.Records.{record_of, configuration_of, CanReport}
 use Rattle.spec_world.specs.Promise.{NothingTakenBack}
 use Rattle.spec_world.specs.Runs.{AreKeys}
 use Rattle.spec_world.specs.World.{bytes_of, IsPair, own_configuration, BeginsAs, as_fresh, as_checkpoint, Holds, StandsFor, as_journal, as_empty}
 use Rattle.wire.specs.Fields.{AreBytes}
 use Rattle.opening.specs.Laws.{IsOfAreas, DecodedInStandsFor, WhatStandsIsDecodedIn, WorldsAreDecodedIn}
-use Rattle.opening.specs.Decoded.{IsText, can_tell, is_own, mismatch, own_fault, or_damaged, go_on, read_events, is_event}
+use Rattle.opening.specs.Decoded.{IsText, can_report, is_own, mismatch, own_fault, or_damaged, go_on, read_events, is_event}
 use Rattle.opening.specs.Decoded.{state_part, events_part, gates_of, gate_of, loaded, read_state, read_checkpoint, read_after, read_pair, decoded_in}
-use Rattle.opening.proofs.Configured.{tells_of, told_of}
+use Rattle.opening.proofs.Configured.{reports_of, decoded_of}
 use Rattle.opening.proofs.FirstGroups.{IsAfterFirst, BeginsWith, with_head, without_head, begins_with, pair_texts, head_written}
 use Rattle.opening.proofs.Histories.{AreEvents, read_back, read_whole}
 use Rattle.opening.proofs.GroupTexts.{OnlyGroups}
 use Rattle.opening.proofs.Laws.{fresh_sound, unless_ok, configuration_shape, decoded_stands_for, what_stands_is_decoded}
-use Rattle.opening.proofs.PairTelling.{pair_none, pair_first, pair_headed, pair_alone, pair_apart, checkpoint_is, state_read, decoded_pair_records, decoded_pair_damaged}
+use Rattle.opening.proofs.PairReporting.{pair_none, pair_first, pair_headed, pair_alone, pair_apart, checkpoint_is, state_read, decoded_pair_records, decoded_pair_damaged}
 use Rattle.opening.proofs.StateTexts.{state_are, configuration_are}
-use Rattle.opening.proofs.Telling.{by_version, bytes_same, read_nil}
+use Rattle.opening.proofs.Reporting.{by_version, bytes_same, read_nil}
 
 -- ---- the first record
 
@@ -51,7 +51,7 @@ use Rattle.opening.proofs.Telling.{by_version, bytes_same, read_nil}
 pub record IsOwn (node : Node) (first : Record) : Type 0 where
   pub version : Version
   pub shape : shaped_version first.bytes ≡ Some version
-  pub can : CanTell version node.charter
+  pub can : CanReport version node.charter
   pub is : first.bytes ≡ configuration_of version node.charter node.own
 
 matched : (own : Bool) → mismatch own ≡ None → own ≡ true
@@ -62,11 +62,11 @@ own_by : (node : Node) (first : Record) (shaped : Option Version) → shaped_ver
 own_by node first None shape none = absurd (cc)
 own_by node first (Some version) shape none =
     let configuration = configuration_of version node.charter node.own in
-    let parts = and_parts (can_tell version node.charter) (bytes_eq first.bytes configuration) (matched (is_own node first.bytes version) none) in
+    let parts = and_parts (can_report version node.charter) (bytes_eq first.bytes configuration) (matched (is_own node first.bytes version) none) in
     record {
       version = version;
       shape = shape;
-      can = tells_of version node.charter parts.0;
+      can = reports_of version node.charter parts.0;
       is = (bytes_eq-Decides first.bytes configuration).0 parts.1;
     }
 
@@ -78,7 +78,7 @@ own_free node first own =
     let configuration = configuration_of own.version node.charter node.own in
     let same : bytes_eq first.bytes configuration ≡ true = ap (λ (l : List ℕ). bytes_eq first.bytes l) (sym own.is) ∙ bytes_same first.bytes in
     let is : is_own node first.bytes own.version ≡ true =
-    and_from (can_tell own.version node.charter) (bytes_eq first.bytes configuration) (told_of own.version node.charter own.can) same in
+    and_from (can_report own.version node.charter) (bytes_eq first.bytes configuration) (decoded_of own.version node.charter own.can) same in
     ap (λ (v : Option Version). by_version (is_own node first.bytes) v first.gate) own.shape ∙ ap mismatch is
 
 -- ---- what a reading gave
@@ -322,7 +322,7 @@ loads_written node first state c sound keys own written state_sound rows =
     let texts = All-cons AreBytes configuration (state_records c) (configuration_are own.version node keys) (state_are node c written.canonical) in
     (λ i. load_fault node (own.is i ∷ rows i))
     ∙ (loads_the_sound node (configuration ∷ state_records c) sound texts).1
-    (c, record { version = own.version; can_tell = own.can; are = refl; written = written; sound = state_sound })
+    (c, record { version = own.version; can_report = own.can; are = refl; written = written; sound = state_sound })
 
 -- ---- a journal with a checkpoint
 
@@ -355,7 +355,7 @@ events_decoded node first rest events own after are legal = by_rest rest after (
         pair_apart node first one others free (λ same. omega (arith, above, same)) ∙ ap or_damaged read
 
 -- the node's configuration is its own
-pub own_by_bytes : (node : Node) (first : Record) (version : Version) → IsNode node → AreKeys node → CanTell version node.charter → first.bytes ≡ own_configuration version node → IsOwn node first
+pub own_by_bytes : (node : Node) (first : Record) (version : Version) → IsNode node → AreKeys node → CanReport version node.charter → first.bytes ≡ own_configuration version node → IsOwn node first
 own_by_bytes node first version sound keys can is = record { version = version; shape = ap shaped_version is ∙ configuration_shape version node sound keys; can = can; is = is }
 
 module _ (node : Node) (areas : Areas) (two : IsPair areas) (keys : AreKeys node) where
@@ -422,7 +422,7 @@ worlds_are_decoded_in kept_all node moves world areas sound keys run may =
     let (history, recovered, stands_for) = never.stands areas may in
     record {
       history = history;
-      is_told = what_stands_is_decoded_in node areas (kept node history) sound keys stands_for;
+      is_decoded = what_stands_is_decoded_in node areas (kept node history) sound keys stands_for;
       stands_for = stands_for;
       recovered = recovered;
     }

@@ -21,7 +21,7 @@ use Rattle.journal.specs.declared.store.Store.{Store}
 use Rattle.journal.specs.declared.store.Store.TheVariants.{One, Two}
 use Rattle.journal.specs.declared.version.Version.{Version}
 use Rattle.journal.specs.declared.version.Version.TheVariants as versions
-use Rattle.journal.proofs.Telling.{both_stand_as_before}
+use Rattle.journal.proofs.Reporting.{both_stand_as_before}
 use Rattle.sigface.specs.Scheme.{Scheme}
 use Rattle.spec_machine.specs.Laws.{StartsFresh}
 use Rattle.spec_model.specs.Nodes.{Node, IsNode}
@@ -37,9 +37,9 @@ use Rattle.opening.specs.Laws.{IsLeftIn, AreLeftDecodedIn, KeepsAlone, IsNoRefus
 use Rattle.opening.specs.PairReplayed.{version_in}
 use Rattle.opening.specs.Renewing.{KeepsStatesIn, IsFullOf, IsFullAt, IsReadOn, IsRenewed, IsPlaced}
 use Rattle.opening.specs.Stages.{IsStage, InStages, IsDecodedAsBoth, IsDecodedThroughout}
-use Rattle.opening.specs.Decoded.{IsText, StandsAt, Tells, read_pair, decoded_in}
+use Rattle.opening.specs.Decoded.{IsText, StandsAt, Reports, read_pair, decoded_in}
 use Rattle.opening.proofs.PairLaws.{found_in, areas_begin, what_stands_is_decoded_in}
-use Rattle.opening.proofs.PairTelling.{decoded_pair_same, decoded_pair_records, decoded_pair_damaged}
+use Rattle.opening.proofs.PairReporting.{decoded_pair_same, decoded_pair_records, decoded_pair_damaged}
 use Rattle.opening.proofs.Renewals.{areas_pair, generation_decoded, stage}
 
 -- ---- the disks
@@ -70,35 +70,35 @@ store_areas device journal some = store_by device (disk_of journal) (spare_of jo
 -- ---- errors
 
 -- what is told as a state is not refused
-refusal_by : (error : JournalError) (state : State) (read : Result State JournalError) → read ≡ Ok state → (error ≢ Device → error ≢ Full → Tells error read) → IsNoRefusalOfBoth error
-refusal_by Memory state read is tells = inl (inr refl)
-refusal_by Device state read is tells = inl (inl refl)
-refusal_by (Damaged place) state read is tells = absurd (clash (sym is ∙ tells (λ same. cc) (λ same. cc)))
+refusal_by : (error : JournalError) (state : State) (read : Result State JournalError) → read ≡ Ok state → (error ≢ Device → error ≢ Full → Reports error read) → IsNoRefusalOfBoth error
+refusal_by Memory state read is reports = inl (inr refl)
+refusal_by Device state read is reports = inl (inl refl)
+refusal_by (Damaged place) state read is reports = absurd (clash (sym is ∙ reports (λ same. cc) (λ same. cc)))
   where
     clash : ◌≡◌ {A = Result State JournalError} (Ok state) (Err (Damaged place)) → ⊥
     clash same = cc
-refusal_by ConfigMismatch state read is tells = absurd (clash (sym is ∙ tells (λ same. cc) (λ same. cc)))
+refusal_by ConfigMismatch state read is reports = absurd (clash (sym is ∙ reports (λ same. cc) (λ same. cc)))
   where
     clash : ◌≡◌ {A = Result State JournalError} (Ok state) (Err ConfigMismatch) → ⊥
     clash same = cc
-refusal_by Full state read is tells = inr refl
+refusal_by Full state read is reports = inr refl
 
-opening_tells : (node : Node) (areas : Areas) (error : JournalError) → IsPair areas → ((place : ℕ) → error ≡ Damaged place → stands_in areas ≡ Err place) → error ≢ Full → error ≢ ConfigMismatch
-    → error ≢ Device → Tells error (decoded_in node areas)
-opening_tells node areas Memory is_two damaged full config device = tt
-opening_tells node areas (Damaged place) is_two damaged full config device = decoded_pair_damaged node areas place is_two (damaged place refl)
-opening_tells node areas Device is_two damaged full config device = absurd (device refl)
-opening_tells node areas ConfigMismatch is_two damaged full config device = absurd (config refl)
-opening_tells node areas Full is_two damaged full config device = absurd (full refl)
+opening_reports : (node : Node) (areas : Areas) (error : JournalError) → IsPair areas → ((place : ℕ) → error ≡ Damaged place → stands_in areas ≡ Err place) → error ≢ Full → error ≢ ConfigMismatch
+    → error ≢ Device → Reports error (decoded_in node areas)
+opening_reports node areas Memory is_two damaged full config device = tt
+opening_reports node areas (Damaged place) is_two damaged full config device = decoded_pair_damaged node areas place is_two (damaged place refl)
+opening_reports node areas Device is_two damaged full config device = absurd (device refl)
+opening_reports node areas ConfigMismatch is_two damaged full config device = absurd (config refl)
+opening_reports node areas Full is_two damaged full config device = absurd (full refl)
 
 -- one of these is none that is read
-renewal_tells : (error : JournalError) (read : Result State JournalError) → (error ≡ Device) ⊎ (error ≡ Memory) ⊎ (error ≡ Full) → error ≢ Device → error ≢ Full → Tells error read
-renewal_tells error read is device full = by_error is
+renewal_reports : (error : JournalError) (read : Result State JournalError) → (error ≡ Device) ⊎ (error ≡ Memory) ⊎ (error ≡ Full) → error ≢ Device → error ≢ Full → Reports error read
+renewal_reports error read is device full = by_error is
   where
-    memory : error ≡ Memory → Tells error read
-    memory same = subst (λ (e : JournalError). Tells e read) (sym same) tt
+    memory : error ≡ Memory → Reports error read
+    memory same = subst (λ (e : JournalError). Reports e read) (sym same) tt
 
-    by_error : (error ≡ Device) ⊎ (error ≡ Memory) ⊎ (error ≡ Full) → Tells error read
+    by_error : (error ≡ Device) ⊎ (error ≡ Memory) ⊎ (error ≡ Full) → Reports error read
     by_error (inl same) = absurd (device same)
     by_error (inr (inl same)) = memory same
     by_error (inr (inr same)) = absurd (full same)
@@ -122,9 +122,9 @@ decoded_at node areas records tables is_two is at = record { state = at.state; i
 read_at : (node : Node) (one other : Result State JournalError) (tables : Tables) → one ≡ other → StandsAt node one tables → StandsAt node other tables
 read_at node one other tables same at = record { state = at.state; is_read = sym same ∙ at.is_read; at = at.at }
 
-pub tells_at : (node : Node) (areas : Areas) (records : List Record) (error : JournalError) → IsPair areas → stands_in areas ≡ Ok records → Tells error (read_pair node records)
-    → Tells error (decoded_in node areas)
-tells_at node areas records error is_two is tells = subst (Tells error) (sym (decoded_pair_records node areas records is_two is)) tells
+pub reports_at : (node : Node) (areas : Areas) (records : List Record) (error : JournalError) → IsPair areas → stands_in areas ≡ Ok records → Reports error (read_pair node records)
+    → Reports error (decoded_in node areas)
+reports_at node areas records error is_two is reports = subst (Reports error) (sym (decoded_pair_records node areas records is_two is)) reports
 
 -- areas that stand for the same records stand for the same states
 stands_same : (node : Node) (one other : Areas) (state : State) → IsPair other → stands_in other ≡ stands_in one → StandsFor node one state → StandsFor node other state
@@ -139,7 +139,7 @@ holds_in : (node : Node) (before later : Areas) (tables : Tables) → StandsForI
     → decoded_in node later ≡ decoded_in node before → KeepsStatesIn node before later → HoldsIn node later tables
 holds_in node before later tables stands_for sound keys same keeps = record {
   state = stands_for.state;
-  told_as = same ∙ what_stands_is_decoded_in node before stands_for.state sound keys stands_for.stands_for;
+  decoded_as = same ∙ what_stands_is_decoded_in node before stands_for.state sound keys stands_for.stands_for;
   holds = keeps stands_for.state stands_for.stands_for;
   at = stands_for.at;
 }
@@ -211,14 +211,14 @@ module _ {S D : Type 0} (scheme : Scheme S) (device : Disks D) (setting : Config
       → (failed.error ≡ Device → faults_in device store < faults_in device failed.disk) × (failed.error ≢ Device → faults_in device failed.disk ≡ faults_in device store)
       → IsOpeningOn {T = Given} node device disks_in store (Err failed)
   open_fails failed at damaged full config same cause =
-      let tells = opening_tells node before failed.error tt damaged full config in
+      let reports = opening_reports node before failed.error tt damaged full config in
       record {
-        tells = λ device_not full_not. tells device_not;
+        reports = λ device_not full_not. reports device_not;
         full = λ is. absurd (full is);
         cause = (tt, cause);
         any_moment = throughout failed.disk at;
         keeps = keeps_two node device first second failed.disk (throughout failed.disk at);
-        never_refused = λ left. let found = left_decoded before left in refusal_by failed.error found.0 (decoded_in node before) found.1 (λ device_not full_not. tells device_not);
+        never_refused = λ left. let found = left_decoded before left in refusal_by failed.error found.0 (decoded_in node before) found.1 (λ device_not full_not. reports device_not);
         unchanged = λ other. unchanged_by failed.disk at (ap stands_in (same other));
       }
 
@@ -260,17 +260,17 @@ module _ {S D : Type 0} (scheme : Scheme S) (device : Disks D) (setting : Config
     unchanged_still = unchanged_by (store_of journal) at (ap stands_in (store_areas device journal some) ∙ same)
 
     -- its records are at fault
-    records_fail : (error : JournalError) (disk : Store D) → error ≢ Device → error ≢ Full → Tells error (decoded_in node (areas_of device journal)) → disk ≡ store_of journal
+    records_fail : (error : JournalError) (disk : Store D) → error ≢ Device → error ≢ Full → Reports error (decoded_in node (areas_of device journal)) → disk ≡ store_of journal
         → IsOpeningOn {T = Given} node device disks_in store (Err (record { error = error; disk = disk }))
-    records_fail error disk device_not full_not tells disk_is =
-        let told = subst (Tells error) decoded_same tells in
+    records_fail error disk device_not full_not reports disk_is =
+        let reported = subst (Reports error) decoded_same reports in
         record {
-          tells = λ one other. told;
+          reports = λ one other. reported;
           full = λ is. absurd (full_not is);
           cause = (tt, ((λ is. absurd (device_not is)), (λ other. ap (faults_in device) disk_is ∙ faults)));
           any_moment = subst (IsDecodedThroughout node device store) (sym disk_is) (throughout (store_of journal) at);
           keeps = keeps_two node device first second disk (subst (IsDecodedThroughout node device store) (sym disk_is) (throughout (store_of journal) at));
-          never_refused = λ left. let found = left_decoded before left in refusal_by error found.0 (decoded_in node before) found.1 (λ one other. told);
+          never_refused = λ left. let found = left_decoded before left in refusal_by error found.0 (decoded_in node before) found.1 (λ one other. reported);
           unchanged = λ other. subst (IsUnchanged device store) (sym disk_is) unchanged_still;
         }
 
@@ -308,7 +308,7 @@ module _ {S D : Type 0} (scheme : Scheme S) (device : Disks D) (setting : Config
 
       renewed_ok : (validator : ValidatorView S) (new : Journal D) → IsRenewed node device journal done new → IsOpeningOn node device disks_in store (Ok (validator, new))
       renewed_ok validator new is = record {
-        tells = tt;
+        reports = tt;
         full = tt;
         cause = (sums_now new done is ∙ is.cause.0 ∙ sums new done is, tt);
         any_moment = all_through new done is;
@@ -323,9 +323,9 @@ module _ {S D : Type 0} (scheme : Scheme S) (device : Disks D) (setting : Config
       renewed_err error disk new is full disk_is =
           let now = ap (faults_in device) disk_is ∙ sums_now new (gives_up error) is in
           let then = sums new (gives_up error) is in
-          let tells = renewal_tells error (decoded_in node before) is.errors in
+          let reports = renewal_reports error (decoded_in node before) is.errors in
           record {
-            tells = tells;
+            reports = reports;
             full = full;
             cause = (
               tt,
@@ -338,7 +338,7 @@ module _ {S D : Type 0} (scheme : Scheme S) (device : Disks D) (setting : Config
             );
             any_moment = subst (IsDecodedThroughout node device store) (sym disk_is) (all_through new (gives_up error) is);
             keeps = keeps_two node device first second disk (subst (IsDecodedThroughout node device store) (sym disk_is) (all_through new (gives_up error) is));
-            never_refused = λ left. let found = left_decoded before left in refusal_by error found.0 (decoded_in node before) found.1 tells;
+            never_refused = λ left. let found = left_decoded before left in refusal_by error found.0 (decoded_in node before) found.1 reports;
             unchanged = λ other.
                 let kept : disk ≡ store_of journal = disk_is ∙ ap store_of (is.unchanged other) in
                 subst (IsUnchanged device store) (sym kept) unchanged_still;
@@ -361,7 +361,7 @@ module _ {S D : Type 0} (scheme : Scheme S) (device : Disks D) (setting : Config
           generation = generation_in journal;
           chosen = chosen;
           state = full.state;
-          is_told = sym decoded_same ∙ full.is_told;
+          is_decoded = sym decoded_same ∙ full.is_decoded;
           no_room = full.no_room;
         }
 
@@ -376,7 +376,7 @@ module _ {S D : Type 0} (scheme : Scheme S) (device : Disks D) (setting : Config
                 generation = generation_in journal;
                 chosen = chosen;
                 rewritten = λ version. let moved = placed.rewritten version in (moved.places.side, moved.places.generation);
-                room = λ version. let moved = placed.rewritten version in (moved.room.state, sym decoded_same ∙ moved.room.is_told, moved.room.room);
+                room = λ version. let moved = placed.rewritten version in (moved.room.state, sym decoded_same ∙ moved.room.is_decoded, moved.room.room);
                 stays = λ other. let kept = placed.stays other in (kept.side, kept.generation);
               }
 
@@ -409,7 +409,7 @@ module _ {S D : Type 0} (scheme : Scheme S) (device : Disks D) (setting : Config
           }
 
         given_up : (failed : Failed JournalError (Store D)) → IsGivenUp node device journal failed → IsOpenedIn scheme device setting store (Err failed)
-        given_up failed (at_records device_not full_not tells disk_is) = not_opened failed (records_fail failed.error failed.disk device_not full_not tells disk_is)
+        given_up failed (at_records device_not full_not reports disk_is) = not_opened failed (records_fail failed.error failed.disk device_not full_not reports disk_is)
         given_up failed (at_renewal new is first_version disk_is) =
             not_opened failed (renewed_err failed.error failed.disk new is (λ full. full_of (first_version full records stand) (is.full full)) disk_is)
 

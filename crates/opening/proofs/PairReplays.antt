@@ -27,12 +27,12 @@ use Rattle.admission.specs.declared.tables.Tables.{Tables}
 use Rattle.validator.specs.Loading.{LoadingView}
 use Rattle.validator.specs.Setting.{ConfigView, node_of}
 use Rattle.validator.specs.Standing.{AreAtSound, ValidatorView}
-use Rattle.opening.specs.Decoded.{IsText, StandsAt, Tells, can_tell, is_own, mismatch, own_fault, or_damaged, go_on, read_event, read_events, is_event, gates_of, gate_of, read_state, read_pair}
+use Rattle.opening.specs.Decoded.{IsText, StandsAt, Reports, can_report, is_own, mismatch, own_fault, or_damaged, go_on, read_event, read_events, is_event, gates_of, gate_of, read_state, read_pair}
 use Rattle.opening.specs.PairReplayed.{version_in, IsOfBytesAlone, IsConfigured, IsLoadingTo, IsStandingAt, IsStandingBefore, IsFailedAs, HasReached, error_at, IsPut}
 use Rattle.opening.specs.declared.reached.Reached.{Reached}
 use Rattle.opening.specs.declared.reached.Reached.TheVariants as reached
-use Rattle.opening.proofs.PairTelling.{IsOfState, pair_none, pair_fails, pair_headed, pair_apart, pair_alone, checkpoint_ends, checkpoint_whole, state_fails, fault_stays}
-use Rattle.opening.proofs.Telling.{read_nil, read_ok, read_err, tells_is, by_version}
+use Rattle.opening.proofs.PairReporting.{IsOfState, pair_none, pair_fails, pair_headed, pair_apart, pair_alone, checkpoint_ends, checkpoint_whole, state_fails, fault_stays}
+use Rattle.opening.proofs.Reporting.{read_nil, read_ok, read_err, reports_is, by_version}
 
 -- ---- errors
 
@@ -221,7 +221,7 @@ module _ {S : Type 0} (scheme : Scheme S) (setting : ConfigView S) where
         own_bytes : (first : Record) (v : Version) → shaped_version first.bytes ≡ Some v → own_fault node first ≡ None → first.bytes ≡ configuration_of v setting.charter setting.own
         own_bytes first v shape none =
             let so = matched (is_own node first.bytes v) (sym (ap (λ (o : Option Version). by_version (is_own node first.bytes) o first.gate) shape) ∙ none) in
-            (bytes_eq-Decides first.bytes (configuration_of v node.charter node.own)).0 (and_parts (can_tell v node.charter) (bytes_eq first.bytes (configuration_of v node.charter node.own)) so).1
+            (bytes_eq-Decides first.bytes (configuration_of v node.charter node.own)).0 (and_parts (can_report v node.charter) (bytes_eq first.bytes (configuration_of v node.charter node.own)) so).1
 
     -- one more of a state's records
     pub put_more : (records : List Record) (loading : LoadingView S) (gates : List ℕ) (one : Record) (later : Reached S) → All IsText records → IsText one → is_event one ≡ false
@@ -277,10 +277,10 @@ module _ {S : Type 0} (scheme : Scheme S) (setting : ConfigView S) where
     pub whole_stands : (tables : Tables) → StandsAt node (read_state node is.first is.state) tables → StandsAt node (read_pair node records) tables
     whole_stands tables stands = record { state = stands.state; is_read = whole ∙ ap or_damaged stands.is_read; at = stands.at }
 
-    pub whole_fails : (error : JournalError) → FailsAs error (read_state node is.first is.state) → Tells error (read_pair node records) × (error ≢ Device) × (error ≢ Full)
+    pub whole_fails : (error : JournalError) → FailsAs error (read_state node is.first is.state) → Reports error (read_pair node records) × (error ≢ Device) × (error ≢ Full)
     whole_fails error fails = by_error error fails
       where
-        by_error : (e : JournalError) → FailsAs e (read_state node is.first is.state) → Tells e (read_pair node records) × (e ≢ Device) × (e ≢ Full)
+        by_error : (e : JournalError) → FailsAs e (read_state node is.first is.state) → Reports e (read_pair node records) × (e ≢ Device) × (e ≢ Full)
         by_error Memory f = (tt, (λ same. cc), (λ same. cc))
         by_error (Damaged gate) f = (whole ∙ ap or_damaged f, (λ same. cc), (λ same. cc))
         by_error Device f = absurd f
@@ -319,5 +319,5 @@ module _ {S : Type 0} (scheme : Scheme S) (setting : ConfigView S) where
     at = is.at;
   }
 
-  pub failed_tells : (records : List Record) (error : JournalError) → IsFailedAs scheme setting records error → Tells error (read_pair node records) × (error ≢ Device) × (error ≢ Full)
-  failed_tells records error is = (tells_is error (read_pair node records) (ap (read_pair node) (sym (append-nil records)) ∙ is.on []), is.of_bytes.device, is.of_bytes.full)
+  pub failed_reports : (records : List Record) (error : JournalError) → IsFailedAs scheme setting records error → Reports error (read_pair node records) × (error ≢ Device) × (error ≢ Full)
+  failed_reports records error is = (reports_is error (read_pair node records) (ap (read_pair node) (sym (append-nil records)) ∙ is.on []), is.of_bytes.device, is.of_bytes.full)

@@ -8,8 +8,8 @@ use Rattle.std.proofs.lemmas.Bool.{cases_eq, cases_lt}
 use Rattle.std.proofs.lemmas.List.{append-nil, map-append}
 use Rattle.std.proofs.lemmas.List.Elements.{All-nil, All-cons, All-head, All-append}
 use Rattle.diskmodel.proofs.Clock.{started, weaker}
-use Rattle.diskmodel.specs.Disk.{LeavesOnly, AtEachMoment, TellsFault, Device as Disks}
-use Rattle.journal.specs.Areas.{Areas, alone, pair, pair_of, base_of, other_side, head_record, generation_of, tells, chosen, moved, stands_at, stands_in, IsOlder}
+use Rattle.diskmodel.specs.Disk.{LeavesOnly, AtEachMoment, ReportsFault, Device as Disks}
+use Rattle.journal.specs.Areas.{Areas, alone, pair, pair_of, base_of, other_side, head_record, generation_of, reports, chosen, moved, stands_at, stands_in, IsOlder}
 use Rattle.journal.specs.Configuration.{shaped_version}
 use Rattle.journal.specs.Format.{sized_body, group_of, kept_at, kept, all_kept, walk, only_records, stands}
 use Rattle.journal.specs.Journal.{disk_of, spare_of, IsAlive, IsAlivePair, IsNewPair}
@@ -27,7 +27,7 @@ use Rattle.journal.specs.declared.side.Side.TheVariants.{First, Second}
 use Rattle.journal.specs.declared.spare.Spare.{Spare}
 use Rattle.journal.specs.declared.version.Version.{Version}
 use Rattle.journal.specs.declared.version.Version.TheVariants as versions
-use Rattle.journal.proofs.Telling.{tells_short, tells_closed, tells_first, by_telling, both_older, at_rest_older}
+use Rattle.journal.proofs.Reporting.{reports_short, reports_closed, reports_first, by_reporting, both_older, at_rest_older}
 use Rattle.journal.proofs.Walks.{goes, walk_closed, stands_short}
 use Rattle.spec_checkpoint.specs.Data.{Checkpoint, IsWritten}
 use Rattle.spec_checkpoint.specs.Meaning.{state_in}
@@ -52,7 +52,7 @@ use Rattle.opening.proofs.FirstGroups.{walk_from}
 use Rattle.opening.proofs.Laws.{unless_ok, configuration_shape}
 use Rattle.opening.specs.PairReplayed.{version_in}
 use Rattle.opening.proofs.PairLaws.{own_is, own_free, own_by_bytes, checkpoint_decoded, two_are_decoded}
-use Rattle.opening.proofs.PairTelling.{pair_none, pair_first, pair_alone, decoded_pair_same, decoded_pair_records}
+use Rattle.opening.proofs.PairReporting.{pair_none, pair_first, pair_alone, decoded_pair_same, decoded_pair_records}
 
 -- ---- the disks of a journal on two
 
@@ -77,7 +77,7 @@ module _ {D : Type 0} (device : Disks D) where
   pub record IsBeside (journal : Journal D) : Type 0 where
     pub durable : LeavesOnly (device.content (spare_disk journal)) (device.outcome (spare_disk journal))
     pub older : IsOlder (generation_in journal) (device.content (spare_disk journal))
-    pub of_generation : (tells (device.content (disk_of journal)) ≡ Some (Some (generation_in journal)))
+    pub of_generation : (reports (device.content (disk_of journal)) ≡ Some (Some (generation_in journal)))
         ⊎ IsNewPair (device.content (disk_of journal)) (device.content (spare_disk journal)) (side_in journal) (generation_in journal)
 
   module _ (live : D) (spare : Option (Spare D)) (some : IsSome spare) (is : IfSome spare (IsAlivePair device live)) where
@@ -104,9 +104,9 @@ module _ {D : Type 0} (device : Disks D) where
           | Some s ↦ λ _ pair. at_rest_older s.generation (device.content s.disk) pair.at_rest
         ] some is
 
-    generation_by : (tells (device.content live) ≡ Some (Some level)) ⊎ IsNewPair (device.content live) (device.content rest) on level
+    generation_by : (reports (device.content live) ≡ Some (Some level)) ⊎ IsNewPair (device.content live) (device.content rest) on level
     generation_by = elim spare as (λ o. IsSome o → IfSome o (IsAlivePair device live)
-        → (tells (device.content live) ≡ Some (Some (option_map_or (λ (s : Spare D). s.generation) o 0)))
+        → (reports (device.content live) ≡ Some (Some (option_map_or (λ (s : Spare D). s.generation) o 0)))
         ⊎ IsNewPair (device.content live) (device.content (option_map_or (λ (s : Spare D). s.disk) o live)) (option_map_or (λ (s : Spare D). s.side) o First)
         (option_map_or (λ (s : Spare D). s.generation) o 0)) [
           | None ↦ λ none _. absurd (cc none)
@@ -126,25 +126,25 @@ module _ {D : Type 0} (device : Disks D) where
   faults_by First live other = refl
   faults_by Second live other = omega arith
 
-  fault_sum : {T E : Type 0} (error : E) (still before now both both_now : ℕ) (result : Result T E) → both ≡ still + before → both_now ≡ still + now → TellsFault error before now result
-      → TellsFault error both both_now result
-  fault_sum error still before now both both_now (Ok given) was is tells = (let same = tells.0 in omega (arith, was, is, same), tt)
-  fault_sum error still before now both both_now (Err other) was is tells =
-      (tt, ((λ same. let more = tells.1.0 same in omega (arith, was, is, more)), (λ not. let as_is = tells.1.1 not in omega (arith, was, is, as_is))))
+  fault_sum : {T E : Type 0} (error : E) (still before now both both_now : ℕ) (result : Result T E) → both ≡ still + before → both_now ≡ still + now → ReportsFault error before now result
+      → ReportsFault error both both_now result
+  fault_sum error still before now both both_now (Ok given) was is reports = (let same = reports.0 in omega (arith, was, is, same), tt)
+  fault_sum error still before now both both_now (Err other) was is reports =
+      (tt, ((λ same. let more = reports.1.0 same in omega (arith, was, is, more)), (λ not. let as_is = reports.1.1 not in omega (arith, was, is, as_is))))
 
   -- one of both has failed exactly where the one that was written has
   pub fault_of_one : {T E : Type 0} (error : E) (side : Side) (live spare now : D) (disks now_disks : D × D) (result : Result T E) → disks ≡ by_area side live spare → now_disks ≡ by_area side live now
-      → TellsFault error (device.faults spare) (device.faults now) result → TellsFault error (faults_of_both device disks) (faults_of_both device now_disks) result
-  fault_of_one error side live spare now disks now_disks result was is tells =
+      → ReportsFault error (device.faults spare) (device.faults now) result → ReportsFault error (faults_of_both device disks) (faults_of_both device now_disks) result
+  fault_of_one error side live spare now disks now_disks result was is reports =
       fault_sum error (device.faults live) (device.faults spare) (device.faults now) (faults_of_both device disks) (faults_of_both device now_disks) result
-      (ap (faults_of_both device) was ∙ faults_by side live spare) (ap (faults_of_both device) is ∙ faults_by side live now) tells
+      (ap (faults_of_both device) was ∙ faults_by side live spare) (ap (faults_of_both device) is ∙ faults_by side live now) reports
 
   pub fault_of_live : {T E : Type 0} (error : E) (side : Side) (live spare now : D) (disks now_disks : D × D) (result : Result T E) → disks ≡ by_area side live spare
       → now_disks ≡ by_area side now spare
-      → TellsFault error (device.faults live) (device.faults now) result → TellsFault error (faults_of_both device disks) (faults_of_both device now_disks) result
-  fault_of_live error side live spare now disks now_disks result was is tells =
+      → ReportsFault error (device.faults live) (device.faults now) result → ReportsFault error (faults_of_both device disks) (faults_of_both device now_disks) result
+  fault_of_live error side live spare now disks now_disks result was is reports =
       fault_sum error (device.faults spare) (device.faults live) (device.faults now) (faults_of_both device disks) (faults_of_both device now_disks) result
-      (let sum = ap (faults_of_both device) was ∙ faults_by side live spare in omega (arith, sum)) (let sum = ap (faults_of_both device) is ∙ faults_by side now spare in omega (arith, sum)) tells
+      (let sum = ap (faults_of_both device) was ∙ faults_by side live spare in omega (arith, sum)) (let sum = ap (faults_of_both device) is ∙ faults_by side now spare in omega (arith, sum)) reports
 
   -- ---- moments
 
@@ -326,23 +326,23 @@ some_rewritten areas side generation configuration state is none = no_record (sy
 ok_same : (one other : List Record) → ◌≡◌ {A = Result (List Record) ℕ} (Ok one) (Ok other) → one ≡ other
 ok_same one other same = cc
 
-none_and_none : (one other : List ℕ) → tells one ≡ None → tells other ≡ None → stands_in (pair one other) ≡ Ok []
+none_and_none : (one other : List ℕ) → reports one ≡ None → reports other ≡ None → stands_in (pair one other) ≡ Ok []
 unfolding chosen
-none_and_none one other first second = by_telling one other None None first second
+none_and_none one other first second = by_reporting one other None None first second
 
 pub new_is_empty : (live spare : List ℕ) (side : Side) (generation : ℕ) → IsNewPair live spare side generation → stands_in (pair_of side live spare) ≡ Ok []
 new_is_empty live spare First generation is =
-    none_and_none live spare (tells_short live (omega (arith, ap length is.empty))) (tells_short spare (omega (arith, is.other_short)))
+    none_and_none live spare (reports_short live (omega (arith, ap length is.empty))) (reports_short spare (omega (arith, is.other_short)))
 new_is_empty live spare Second generation is = absurd (other_side_is is.first)
   where
     other_side_is : Second ≡ First → ⊥
     other_side_is same = cc
 
 -- a file that stands for no record tells nothing
-pub tells_of_none : (left : List ℕ) → stands left ≡ Ok [] → tells left ≡ None
+pub reports_of_none : (left : List ℕ) → stands left ≡ Ok [] → reports left ≡ None
 unfolding stands
-tells_of_none left none = elim (cases_lt (length left) 2) [
-  | inl short ↦ tells_short left short
+reports_of_none left none = elim (cases_lt (length left) 2) [
+  | inl short ↦ reports_short left short
   | inr long ↦ by_first left long none
 ]
   where
@@ -351,10 +351,10 @@ tells_of_none left none = elim (cases_lt (length left) 2) [
         walk_open gate rest place is_open (walked ∙ ap (λ (l : List Record). Ok (l, place)) (ok_same records [] is))
     by_read gate rest (Err place) is_open walked is = cc
 
-    by_first : (file : List ℕ) → 2 ≤ length file → stands file ≡ Ok [] → tells file ≡ None
+    by_first : (file : List ℕ) → 2 ≤ length file → stands file ≡ Ok [] → reports file ≡ None
     by_first [] long is = absurd (omega (arith, long))
     by_first (gate ∷ rest) long is = elim (cases_eq gate 0) [
-      | inl closed ↦ tells_closed gate rest closed
+      | inl closed ↦ reports_closed gate rest closed
       | inr is_open ↦ absurd (by_read gate rest (walk 0 0 (gate ∷ rest)) is_open refl (sym (ap only_records (scans_long (gate ∷ rest) long)) ∙ is))
     ]
 
@@ -367,9 +367,9 @@ one_of_group [] (one ∷ more) own above same =
 one_of_group (bytes ∷ []) more own above same = ap (λ (l : List Record). (get_or l 0 (kept_at 0 [])).bytes ∷ []) same
 one_of_group (bytes ∷ other ∷ others) more own above same = absurd (omega (arith, ap length same))
 
-pub tells_of_one : (left own : List ℕ) (version : Version) → stands left ≡ Ok (kept_at 0 own ∷ []) → shaped_version own ≡ Some version → tells left ≡ Some (Some 0)
+pub reports_of_one : (left own : List ℕ) (version : Version) → stands left ≡ Ok (kept_at 0 own ∷ []) → shaped_version own ≡ Some version → reports left ≡ Some (Some 0)
 unfolding stands generation_of
-tells_of_one left own version is shape = elim (cases_lt (length left) 2) [
+reports_of_one left own version is shape = elim (cases_lt (length left) 2) [
   | inl short ↦ absurd (some_record (sym (stands_short left short) ∙ is))
   | inr long ↦ by_first left long is
 ]
@@ -381,16 +381,16 @@ tells_of_one left own version is shape = elim (cases_lt (length left) 2) [
     generation_is group are = ap generation_of are ∙ ap (option_map (λ (v : Version). 0)) shape
 
     by_read : (gate : ℕ) (rest : List ℕ) (read : Result (List Record × ℕ) ℕ) → gate ≢ 0 → 1 ≤ length rest → walk 0 0 (gate ∷ rest) ≡ read → only_records read ≡ Ok (kept_at 0 own ∷ [])
-        → tells (gate ∷ rest) ≡ Some (Some 0)
+        → reports (gate ∷ rest) ≡ Some (Some 0)
     by_read gate rest (Err place) is_open some walked found = absurd (cc)
     by_read gate rest (Ok (records, place)) is_open some walked found =
         let on = goes 0 gate rest (records, place) is_open walked in
         let above = walk_from rest 1 (4 + length on.body) on.more on.on in
         let group = one_of_group on.records on.more.0 own above (ap (λ (f : List Record × ℕ). f.0) (sym on.is) ∙ ok_same records (kept_at 0 own ∷ []) found) in
-        tells_first gate rest is_open some
+        reports_first gate rest is_open some
         ∙ ap Some (ap (option_and_then (λ body. option_and_then generation_of (group_of body))) on.at_body ∙ ap (option_and_then generation_of) on.is_group ∙ generation_is on.records group)
 
-    by_first : (file : List ℕ) → 2 ≤ length file → stands file ≡ Ok (kept_at 0 own ∷ []) → tells file ≡ Some (Some 0)
+    by_first : (file : List ℕ) → 2 ≤ length file → stands file ≡ Ok (kept_at 0 own ∷ []) → reports file ≡ Some (Some 0)
     by_first [] long found = absurd (omega (arith, long))
     by_first (gate ∷ rest) long found = elim (cases_eq gate 0) [
       | inl closed ↦
@@ -405,12 +405,12 @@ module _ (node : Node) (sound : IsNode node) (keys : AreKeys node) (left other :
 
   pub begun_stands : stands left ≡ Ok (kept_at 0 own_row ∷ []) → stands_in (pair left other) ≡ Ok (kept_at 0 own_row ∷ [])
   begun_stands is =
-      both_older First 0 left other (tells_of_one left own_row versions.Second is (configuration_shape versions.Second node sound keys)) (inl (tells_short other (omega (arith, short)))) ∙ is
+      both_older First 0 left other (reports_of_one left own_row versions.Second is (configuration_shape versions.Second node sound keys)) (inl (reports_short other (omega (arith, short)))) ∙ is
 
   pub begun_decoded : (file : List ℕ) → stands file ≡ Ok [] → KeepsOrBegins versions.Second node file left → decoded_in node (pair left other) ≡ Ok (fresh node)
   begun_decoded file none (inl (records, before, now)) =
       let same = ok_same records [] (sym before ∙ none) in
-      decoded_pair_records node (pair left other) [] tt (none_and_none left other (tells_of_none left (now ∙ ap Ok same)) (tells_short other (omega (arith, short)))) ∙ pair_none node
+      decoded_pair_records node (pair left other) [] tt (none_and_none left other (reports_of_none left (now ∙ ap Ok same)) (reports_short other (omega (arith, short)))) ∙ pair_none node
   begun_decoded file none (inr (also, is)) =
       let own = kept_at 0 own_row in
       decoded_pair_records node (pair left other) (own ∷ []) tt (begun_stands is)
@@ -444,9 +444,9 @@ module _ {D : Type 0} (device : Disks D) (node : Node) (journal : Journal D) (so
   areas_now = areas_pair device journal (device.content (spare_disk journal)) two
 
   -- the area that is read has its first group
-  pub generation_decoded : tells (device.content (disk_of journal)) ≡ Some (Some (generation_in journal))
+  pub generation_decoded : reports (device.content (disk_of journal)) ≡ Some (Some (generation_in journal))
   generation_decoded = elim (beside device journal alive two).of_generation [
-    | inl told ↦ told
+    | inl reported ↦ reported
     | inr new ↦
         absurd (some (ap stands_in (areas_are device journal (device.content (spare_disk journal)) two)
         ∙ new_is_empty (device.content (disk_of journal)) (device.content (spare_disk journal)) (side_in journal) (generation_in journal) new))
@@ -456,8 +456,8 @@ module _ {D : Type 0} (device : Disks D) (node : Node) (journal : Journal D) (so
     state_is : at.state ≡ state_in node of.checkpoint
     state_is = one_state node tables at.state (state_in node of.checkpoint) at.at.sound at.at.at of.sound of.at
 
-    told_now : decoded_in node (areas_of device journal) ≡ Ok (state_in node of.checkpoint)
-    told_now = at.is_read ∙ ap Ok state_is
+    reported_now : decoded_in node (areas_of device journal) ≡ Ok (state_in node of.checkpoint)
+    reported_now = at.is_read ∙ ap Ok state_is
 
     -- areas that were rewritten
     module _ (areas : Areas) (pair_is : IsPair areas) (side : Side) (generation : ℕ) (is : stands_in areas ≡ stands_as side generation snapshot) where
@@ -465,7 +465,7 @@ module _ {D : Type 0} (device : Disks D) (node : Node) (journal : Journal D) (so
       stands_rewritten = is ∙ ap (stands_as side generation) of.are
 
       pub rewritten_same : decoded_in node areas ≡ decoded_in node (areas_of device journal)
-      rewritten_same = decoded_rewritten node areas pair_is sound keys side generation of.checkpoint of.written of.sound stands_rewritten ∙ sym told_now
+      rewritten_same = decoded_rewritten node areas pair_is sound keys side generation of.checkpoint of.written of.sound stands_rewritten ∙ sym reported_now
 
       pub rewritten_some : stands_in areas ≢ Ok []
       rewritten_some = some_rewritten areas side generation (own_configuration versions.Second node) (state_records of.checkpoint) stands_rewritten
@@ -475,8 +475,8 @@ module _ {D : Type 0} (device : Disks D) (node : Node) (journal : Journal D) (so
 
       pub rewritten_keeps : KeepsStatesIn node (areas_of device journal) areas
       rewritten_keeps state stands_for =
-          let told = two_are_decoded node (areas_of device journal) areas_now keys state stands_for in
-          subst (Holds node areas) (same_state (state_in node of.checkpoint) state (sym told_now ∙ told))
+          let reported = two_are_decoded node (areas_of device journal) areas_now keys state stands_for in
+          subst (Holds node areas) (same_state (state_in node of.checkpoint) state (sym reported_now ∙ reported))
           (holds_rewritten node areas pair_is sound keys side generation of.checkpoint of.written of.sound stands_rewritten)
         where
           same_state : (one other : State) → ◌≡◌ {A = Result State JournalError} (Ok one) (Ok other) → one ≡ other
@@ -491,7 +491,7 @@ module _ {D : Type 0} (device : Disks D) (node : Node) (journal : Journal D) (so
     pub full_at : (MAX_JOURNAL_BYTES < 1 + length (bytes_for (generation_in journal + 1) snapshot)) ⊎ (generation_in journal ≡ 2 ^ 64 - 1) → IsFullAt node device journal
     full_at full = record {
       state = at.state;
-      is_told = at.is_read;
+      is_decoded = at.is_read;
       no_room = record {
         checkpoint = of.checkpoint;
         written = of.written;
@@ -504,7 +504,7 @@ module _ {D : Type 0} (device : Disks D) (node : Node) (journal : Journal D) (so
     pub room_at : ¬ ((MAX_JOURNAL_BYTES < 1 + length (bytes_for (generation_in journal + 1) snapshot)) ⊎ (generation_in journal ≡ 2 ^ 64 - 1)) → HasRoomAt node device journal
     room_at fits = record {
       state = at.state;
-      is_told = at.is_read;
+      is_decoded = at.is_read;
       room = record {
         checkpoint = of.checkpoint;
         written = of.written;
@@ -551,10 +551,10 @@ module _ {D : Type 0} (device : Disks D) (node : Node) (journal : Journal D) (so
   new_pair : IsNewPair live other (side_in journal) (generation_in journal)
   new_pair = elim (beside device journal alive two).of_generation [
     | inr new ↦ new
-    | inl told ↦
+    | inl reported ↦
         let older = (beside device journal alive two).older in
-        let none = stands_by (side_in journal) live (sym (both_older (side_in journal) (generation_in journal) live other told older) ∙ now_empty) in
-        absurd (some_decoded (sym (tells_of_none live none) ∙ told))
+        let none = stands_by (side_in journal) live (sym (both_older (side_in journal) (generation_in journal) live other reported older) ∙ now_empty) in
+        absurd (some_decoded (sym (reports_of_none live none) ∙ reported))
   ]
     where
       some_decoded : ◌≡◌ {A = Option (Option ℕ)} None (Some (Some (generation_in journal))) → ⊥
@@ -616,7 +616,7 @@ module _ {D : Type 0} (device : Disks D) (node : Node) (journal : Journal D) (so
         by_kind (inl (records, before, now)) = absurd (some (now ∙ ap Ok (ok_same records [] (sym before ∙ file_none))))
         by_kind (inr (none, is)) = is
 
-    pub begun_renews : IsSound node (fresh node) → IsAlive device new → stands later ≢ Ok [] → TellsFault Device (device.faults (disk_of journal)) (device.faults (disk_of new)) done
+    pub begun_renews : IsSound node (fresh node) → IsAlive device new → stands later ≢ Ok [] → ReportsFault Device (device.faults (disk_of journal)) (device.faults (disk_of new)) done
         → IsRenewed {X = Unit {0}} node device journal (Ok tt) new
     begun_renews fresh_sound alive_then some cause =
         let is = ap stands_in areas_then ∙ begun_stands node sound keys later other new_pair.other_short (written_then some) in
@@ -627,8 +627,8 @@ module _ {D : Type 0} (device : Disks D) (node : Node) (journal : Journal D) (so
           configured = λ none. some_record (sym is ∙ none);
           newest = newest_begun node (areas_of device new) (areas_pair device new (device.content (spare_disk new)) two_then) sound keys 0 is;
           kept = λ state stands_for.
-              let told = two_are_decoded node (areas_of device journal) (areas_pair device journal other two) keys state stands_for in
-              subst (Holds node (areas_of device new)) (same_state (fresh node) state (sym decoded_fresh ∙ told))
+              let reported = two_are_decoded node (areas_of device journal) (areas_pair device journal other two) keys state stands_for in
+              subst (Holds node (areas_of device new)) (same_state (fresh node) state (sym decoded_fresh ∙ reported))
               (subst (λ (a : Areas). Holds node a (fresh node)) (sym areas_then) (begun_holds node sound keys later other new_pair.other_short fresh_sound (written_then some)));
           errors = tt;
           full = tt;
@@ -644,7 +644,7 @@ module _ {D : Type 0} (device : Disks D) (node : Node) (journal : Journal D) (so
         same_state one also same_states = cc
 
     pub not_begun : (error : JournalError) → (error ≡ Device) ⊎ (error ≡ Memory) → (error ≡ Memory → new ≡ journal)
-        → TellsFault Device (device.faults (disk_of journal)) (device.faults (disk_of new)) (gives_up error) → IsRenewed {X = Unit {0}} node device journal (Err error) new
+        → ReportsFault Device (device.faults (disk_of journal)) (device.faults (disk_of new)) (gives_up error) → IsRenewed {X = Unit {0}} node device journal (Err error) new
     not_begun error is unchanged cause = record {
       alive = tt;
       two = two_then;
@@ -685,7 +685,7 @@ module _ {D : Type 0} (device : Disks D) (node : Node) (journal new : Journal D)
   pub migrated : (generation : ℕ) → IsAlive device new → HaveChangedPlaces journal new → decoded_in node (areas_of device new) ≡ decoded_in node (areas_of device journal)
       → stands_in (areas_of device new) ≢ Ok [] → IsNewest (areas_of device new) → KeepsStatesIn node (areas_of device journal) (areas_of device new)
       → AtEachMoment device (spare_disk journal) (disk_of new) (λ left. decoded_in node (areas_with device journal left) ≡ decoded_in node (areas_of device journal))
-      → TellsFault Device (device.faults (spare_disk journal)) (device.faults (disk_of new)) (counts generation)
+      → ReportsFault Device (device.faults (spare_disk journal)) (device.faults (disk_of new)) (counts generation)
       → IsRenewed {X = Unit {0}} node device journal (Ok tt) new
   migrated generation alive_then swapped same some newest states at cause =
       let disks = disks_swapped (side_in journal) journal new refl swapped.side swapped.spare in
@@ -706,7 +706,7 @@ module _ {D : Type 0} (device : Disks D) (node : Node) (journal new : Journal D)
   pub not_migrated : (error : JournalError) → HaveKeptPlaces journal new → disk_of new ≡ disk_of journal → (error ≡ Device) ⊎ (error ≡ Memory) ⊎ (error ≡ Full)
       → (error ≡ Full → IsFullAt node device journal) → (error ≢ Device → new ≡ journal)
       → AtEachMoment device (spare_disk journal) (spare_disk new) (λ left. decoded_in node (areas_with device journal left) ≡ decoded_in node (areas_of device journal))
-      → TellsFault Device (device.faults (spare_disk journal)) (device.faults (spare_disk new)) (counts_none error) → IsRenewed {X = Unit {0}} node device journal (Err error) new
+      → ReportsFault Device (device.faults (spare_disk journal)) (device.faults (spare_disk new)) (counts_none error) → IsRenewed {X = Unit {0}} node device journal (Err error) new
   not_migrated error places untouched errors full unchanged at cause =
       let disks : disks_of new ≡ by_area (side_in journal) (disk_of journal) (spare_disk new) = (λ i. by_area (places.side i) (untouched i) (spare_disk new)) in
       record {
@@ -795,7 +795,7 @@ module _ {D : Type 0} (device : Disks D) (node : Node) (journal new : Journal D)
     (counts_now : (disk : D) (t : ℕ) (c : List ℕ) → t ≤ device.clock disk → device.outcome disk c → device.outcome_since disk t c)
     (is_outcome : (disk : D) → device.outcome disk (device.content disk)) where
   pub begun_any : (result : Result (Unit {0}) JournalError) → OnOk result (IsAlive device new) → OnOk result (stands (device.content (disk_of new)) ≢ Ok [])
-      → TellsFault Device (device.faults (disk_of journal)) (device.faults (disk_of new)) result → IfErr result (λ error. (error ≡ Device) ⊎ (error ≡ Memory))
+      → ReportsFault Device (device.faults (disk_of journal)) (device.faults (disk_of new)) result → IfErr result (λ error. (error ≡ Device) ⊎ (error ≡ Memory))
       → IfErr result (λ error. error ≡ Memory → new ≡ journal)
       → IsRenewed node device journal result new
   begun_any (Ok given) alive_then some cause errors unchanged =
@@ -816,9 +816,9 @@ never_full (Err error) errors = no_lack error errors
 -- where the first record has none there is no record
 pub none_of_version : (node : Node) (areas : Areas) (records : List Record) (state : State) → IsPair areas → stands_in areas ≡ Ok records → decoded_in node areas ≡ Ok state → version_in records ≡ None
     → stands_in areas ≡ Ok []
-none_of_version node areas [] state two is told none = is
-none_of_version node areas (first ∷ rest) state two is told none =
-    let read = sym (decoded_pair_records node areas (first ∷ rest) two is) ∙ told in
+none_of_version node areas [] state two is reported none = is
+none_of_version node areas (first ∷ rest) state two is reported none =
+    let read = sym (decoded_pair_records node areas (first ∷ rest) two is) ∙ reported in
     let free = (unless_ok (own_fault node first) (read_after node first rest) state (sym (pair_first node first rest) ∙ read)).0 in
     absurd (some_version (sym (own_is node first free).shape ∙ none))
   where

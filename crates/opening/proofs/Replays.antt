@@ -18,7 +18,7 @@ use Rattle.journal.specs.Configuration.{shaped_version}
 use Rattle.std.specs.Option.{option_map_or}
 use Rattle.opening.specs.Decoded.{IsText, StandsAt, read_event, read_events, go_on, or_damaged, unless, is_alone, is_own, mismatch, own_fault, read_journal}
 use Rattle.opening.specs.Replayed.{HasReplayed, first_gate, read_apart}
-use Rattle.opening.proofs.Telling.{ok_weaker, err_weaker, read_nil, fails_not, journal_nil, journal_cons}
+use Rattle.opening.proofs.Reporting.{ok_weaker, err_weaker, read_nil, fails_not, journal_nil, journal_cons}
 
 read_same : (read : Result State ℕ) → go_on (λ later. Ok later) read ≡ read
 read_same (Ok state) = refl

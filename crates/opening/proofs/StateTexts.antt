@@ -17,7 +17,7 @@ use Rattle.wire.specs.Batches.{BatchView, transaction_bytes, batch_body, IsTrans
 use Rattle.wire.specs.Fields as fields
 use Rattle.wire.specs.Grammar.{IsHeaderBody}
 use Rattle.wire.specs.References.{IsBatchReference, IsParentReference, IsVoteEntry, AreBatches, AreParents, AreVotes}
-use Rattle.wire.specs.Spelling.{batch_reference_bytes, parent_reference_bytes, vote_entry_bytes, batches_bytes, parents_bytes, votes_bytes, header_body}
+use Rattle.wire.specs.Encoding.{batch_reference_bytes, parent_reference_bytes, vote_entry_bytes, batches_bytes, parents_bytes, votes_bytes, header_body}
 use Rattle.wire.specs.declared.header.HeaderBody.{HeaderBody}
 use Rattle.wire.specs.declared.keys.Key.{Key}
 use Rattle.wire.specs.declared.references.BatchReference.{BatchReference}

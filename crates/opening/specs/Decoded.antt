@@ -94,9 +94,9 @@ abbrev pub has_ones : Charter → Bool
 has_ones charter = list_all (λ stake. stake == 1) charter.stakes
 
 -- a version can express a committee: the first one, which has no stakes, only where each is 1
-abbrev pub can_tell : Version → Charter → Bool
-can_tell First charter = has_ones charter
-can_tell Second charter = true
+abbrev pub can_report : Version → Charter → Bool
+can_report First charter = has_ones charter
+can_report Second charter = true
 
 -- ---- a journal
 
@@ -106,7 +106,7 @@ first_version first events = if is_alone events then shaped_version first.bytes 
 
 -- these bytes are the node's own configuration, in a version that can express its committee
 abbrev pub is_own : Node → List ℕ → Version → Bool
-is_own node bytes version = can_tell version node.charter && bytes_eq bytes (configuration_of version node.charter node.own)
+is_own node bytes version = can_report version node.charter && bytes_eq bytes (configuration_of version node.charter node.own)
 
 -- the error where a configuration isn't the node's own
 abbrev pub mismatch : Bool → Option JournalError
@@ -216,9 +216,9 @@ decoded_in node (pair one other) = decoded_by_both node (stands_in (pair one oth
 -- ---- what the calls report
 
 -- a call's error is the one that reading gives, unless an allocation failed
-abbrev pub Tells : {X : Type 0} → JournalError → Result X JournalError → Type 0
-Tells Memory read = Unit {0}
-Tells error read = read ≡ Err error
+abbrev pub Reports : {X : Type 0} → JournalError → Result X JournalError → Type 0
+Reports Memory read = Unit {0}
+Reports error read = read ≡ Err error
 
 -- reading gave a sound state, and the tables hold that state
 pub record StandsAt {E : Type 0} (node : Node) (read : Result State E) (tables : Tables) : Type 0 where

@@ -16,7 +16,7 @@ use Rattle.validator.specs.Setting.{ConfigView, node_of}
 use Rattle.validator.specs.Standing.{ValidatorView}
 use Rattle.opening.specs.PairReplayed.{version_in}
 use Rattle.opening.specs.Renewing.{IsRenewed, IsPlaced}
-use Rattle.opening.specs.Decoded.{decoded_in, Tells, StandsAt}
+use Rattle.opening.specs.Decoded.{decoded_in, Reports, StandsAt}
 
 -- the result of a renewal: success, or this error
 abbrev pub done : Result (Unit {0}) JournalError
@@ -35,7 +35,7 @@ pub record IsReady {S D : Type 0} (scheme : Scheme S) (device : Disks D) (settin
 -- the opening failed, and the disks are handed back with an error
 pub data IsGivenUp {D : Type 0} (node : Node) (device : Disks D) (old : Journal D) (failed : Failed JournalError (Store D)) : Type 0 where
   -- the error is that of the records, or an allocation failed; the disks are as before
-  at_records : failed.error ≢ Device → failed.error ≢ Full → Tells failed.error (decoded_in node (areas_of device old)) → failed.disk ≡ store_of old → IsGivenUp node device old failed
+  at_records : failed.error ≢ Device → failed.error ≢ Full → Reports failed.error (decoded_in node (areas_of device old)) → failed.disk ≡ store_of old → IsGivenUp node device old failed
   -- the error is that of the renewal. Only a journal in the first version can lack room
   at_renewal : (new : Journal D) → IsRenewed node device old (gives_up failed.error) new
       → (failed.error ≡ Full → (records : List Record) → stands_in (areas_of device old) ≡ Ok records → version_in records ≡ Some First)

@@ -3,9 +3,9 @@ use Rattle.std.specs.Prelude.{◌≡◌, ◌≢◌, ◌⊎◌, ⊤, ℕ, List, [
 use Rattle.diskmodel.specs.Disk.{AtEachMoment, Device as Disks}
 use Rattle.diskmodel.specs.Outcomes.{AreBytes}
 use Rattle.journal.specs.Areas.{Areas, alone, pair, stands_in}
-use Rattle.journal.specs.Journal.{disk_after, spare_of, TellsFaultBack, IsAlive, IsClosedUp}
+use Rattle.journal.specs.Journal.{disk_after, spare_of, ReportsFaultBack, IsAlive, IsClosedUp}
 use Rattle.journal.specs.Pairs.{areas_in, areas_of, store_of}
-use Rattle.journal.specs.Stores.{faults_in, TellsFaultsBack}
+use Rattle.journal.specs.Stores.{faults_in, ReportsFaultsBack}
 use Rattle.journal.specs.declared.error.Failed.{Failed}
 use Rattle.journal.specs.declared.error.JournalError.{JournalError}
 use Rattle.journal.specs.declared.error.JournalError.TheVariants.{Memory, Device, Full}
@@ -20,7 +20,7 @@ use Rattle.spec_model.specs.Nodes.{Node, IsNode}
 use Rattle.spec_model.specs.States.{State}
 use Rattle.opening.specs.Renewing.{KeepsStatesIn, IsFullOf, IsNewest, HasBegun, IsReadOn}
 use Rattle.opening.specs.Stages.{IsDecodedThroughout}
-use Rattle.opening.specs.Decoded.{decoded, decoded_in, Tells, StandsAt, IsDecodedAsOneOf, KeepsRecords}
+use Rattle.opening.specs.Decoded.{decoded, decoded_in, Reports, StandsAt, IsDecodedAsOneOf, KeepsRecords}
 use Rattle.admission.specs.declared.tables.Tables.{Tables}
 use Rattle.sigface.specs.Scheme.{Scheme}
 use Rattle.validator.specs.Setting.{ConfigView, node_of}
@@ -50,7 +50,7 @@ WhatStandsIsDecoded = (node : Node) (bytes : List ℕ) (state : State) → AreKe
 -- bytes decode to the state kept of a history that recovery may find in this world
 pub record IsFound (node : Node) (world : World) (bytes : List ℕ) : Type 0 where
   pub history : History
-  pub is_told : decoded node bytes ≡ Ok (kept node history)
+  pub is_decoded : decoded node bytes ≡ Ok (kept node history)
   pub stands_for : StandsFor node (alone bytes) (kept node history)
   pub recovered : IsRecovered node world history
 
@@ -83,7 +83,7 @@ WhatStandsIsDecodedIn = (node : Node) (areas : Areas) (state : State) → IsNode
 -- areas decode to the state kept of a history that recovery may find in this world
 pub record IsFoundIn (node : Node) (world : World) (areas : Areas) : Type 0 where
   pub history : History
-  pub is_told : decoded_in node areas ≡ Ok (kept node history)
+  pub is_decoded : decoded_in node areas ≡ Ok (kept node history)
   pub stands_for : StandsFor node areas (kept node history)
   pub recovered : IsRecovered node world history
 
@@ -104,7 +104,7 @@ pub record StandsForAt (node : Node) (bytes : List ℕ) (tables : Tables) : Type
 -- bytes are a journal of the node at the state kept of a legal history; they decode to it, and the tables hold it
 pub record HoldsAt (node : Node) (bytes : List ℕ) (tables : Tables) : Type 0 where
   pub history : History
-  pub told_as : decoded node bytes ≡ Ok (kept node history)
+  pub decoded_as : decoded node bytes ≡ Ok (kept node history)
   pub holds : Holds node (alone bytes) (kept node history)
   pub legal : IsLegal node history
   pub at : AreAtSound node tables (kept node history)
@@ -131,10 +131,10 @@ IsNoRefusal error = (error ≡ Device) ⊎ (error ≡ Memory)
 -- What an opening of one disk reports and leaves, whatever value it makes. That value holds the disk, or an error hands it back.
 pub record IsOpening {T D : Type 0} (node : Node) (device : Disks D) (disk_in : T → D) (disk : D) (result : Result T (Failed JournalError D)) : Type 0 where
   -- each error but a failed allocation or a failed disk is the one that the bytes decode to
-  pub tells : IfErr result (λ failed. failed.error ≢ Device → Tells failed.error (decoded node (device.content disk)))
+  pub reports : IfErr result (λ failed. failed.error ≢ Device → Reports failed.error (decoded node (device.content disk)))
   pub never_full : IfErr result (λ failed. failed.error ≢ Full)
   -- the error is Device exactly where the disk has failed
-  pub cause : TellsFaultBack device disk_in Device disk result
+  pub cause : ReportsFaultBack device disk_in Device disk result
   -- what a stop at any moment leaves decodes to what some outcome from before the opening decodes to
   pub any_moment : AtEachMoment device disk (disk_after disk_in result) (IsDecodedAsOneOf node (device.outcome disk))
   -- A stop keeps the records, whichever node's they are; where there are none, only the configuration may have been added. What is left and
@@ -154,7 +154,7 @@ pub record StandsForIn (node : Node) (areas : Areas) (tables : Tables) : Type 0 
 -- areas are a journal of the node at a state; they decode to it, and the tables hold it
 pub record HoldsIn (node : Node) (areas : Areas) (tables : Tables) : Type 0 where
   pub state : State
-  pub told_as : decoded_in node areas ≡ Ok state
+  pub decoded_as : decoded_in node areas ≡ Ok state
   pub holds : Holds node areas state
   pub at : AreAtSound node tables state
 
@@ -205,10 +205,10 @@ KeepsAlone node device old new = ⊥
 -- back.
 pub record IsOpeningOn {T D : Type 0} (node : Node) (device : Disks D) (disks_in : T → Store D) (store : Store D) (result : Result T (Failed JournalError (Store D))) : Type 0 where
   -- each error but a failed allocation, a failed disk or a lack of room is the one that the areas decode to
-  pub tells : IfErr result (λ failed. failed.error ≢ Device → failed.error ≢ Full → Tells failed.error (decoded_in node (areas_in device store)))
+  pub reports : IfErr result (λ failed. failed.error ≢ Device → failed.error ≢ Full → Reports failed.error (decoded_in node (areas_in device store)))
   pub full : IfErr result (λ failed. failed.error ≡ Full → IsFullIn node device store)
   -- the error is Device exactly where a disk has failed
-  pub cause : TellsFaultsBack (faults_in device) disks_in Device store result
+  pub cause : ReportsFaultsBack (faults_in device) disks_in Device store result
   -- what a stop at any moment leaves decodes to what some outcome from before the opening decodes to
   pub any_moment : IsDecodedThroughout node device store (disk_after disks_in result)
   pub keeps : KeepsAlone node device store (disk_after disks_in result)

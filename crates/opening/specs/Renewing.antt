@@ -1,8 +1,8 @@
 -- What an opening does with a journal on two disks once its records were taken: an empty journal gets its configuration, and one in the
 -- first version is rewritten as a checkpoint.
 use Rattle.std.specs.Prelude.{◌≡◌, ◌≢◌, ◌⊎◌, ◌<◌, ◌+◌, ◌-◌, ◌^◌, ℕ, List, [], ◌∷◌, length, Option, Some, IsSome, Result, Ok, IfErr, OnOk}
-use Rattle.diskmodel.specs.Disk.{Device as Disks, TellsFault}
-use Rattle.journal.specs.Areas.{Areas, pair, other_side, stands_in, tells}
+use Rattle.diskmodel.specs.Disk.{Device as Disks, ReportsFault}
+use Rattle.journal.specs.Areas.{Areas, pair, other_side, stands_in, reports}
 use Rattle.journal.specs.Configuration.{shaped_version}
 use Rattle.journal.specs.Journal.{disk_of, spare_of, IsAlive}
 use Rattle.journal.specs.Opened.{IsChoice}
@@ -57,26 +57,26 @@ pub record IsFullOf (node : Node) (one other : List ℕ) : Type 0 where
   pub version : version_in records ≡ Some First
   pub side : Side
   pub generation : ℕ
-  pub chosen : IsChoice side generation (tells one) (tells other)
+  pub chosen : IsChoice side generation (reports one) (reports other)
   pub state : State
-  pub is_told : decoded_in node (pair one other) ≡ Ok state
+  pub is_decoded : decoded_in node (pair one other) ≡ Ok state
   pub no_room : HasNoRoom node generation state
 
 -- an open journal, in any version, has no room for a checkpoint of the state that it decodes to
 pub record IsFullAt {D : Type 0} (node : Node) (device : Disks D) (journal : Journal D) : Type 0 where
   pub state : State
-  pub is_told : decoded_in node (areas_of device journal) ≡ Ok state
+  pub is_decoded : decoded_in node (areas_of device journal) ≡ Ok state
   pub no_room : HasNoRoom node (generation_in journal) state
 
 -- an open journal decodes to a state of which a checkpoint has room
 pub record HasRoomAt {D : Type 0} (node : Node) (device : Disks D) (journal : Journal D) : Type 0 where
   pub state : State
-  pub is_told : decoded_in node (areas_of device journal) ≡ Ok state
+  pub is_decoded : decoded_in node (areas_of device journal) ≡ Ok state
   pub room : HasRoom node (generation_in journal) state
 
 -- the area of a journal on two disks that is read has its first group, and that names its generation
 abbrev pub HasBegun : {D : Type 0} → Disks D → Journal D → Type 0
-HasBegun device journal = IsSome (spare_of journal) → tells (device.content (disk_of journal)) ≡ Some (Some (generation_in journal))
+HasBegun device journal = IsSome (spare_of journal) → reports (device.content (disk_of journal)) ≡ Some (Some (generation_in journal))
 
 -- the first record of a journal is a configuration in the second version
 abbrev pub IsNewest : Areas → Type 0
@@ -92,7 +92,7 @@ pub record IsRenewed {X D : Type 0} (node : Node) (device : Disks D) (old : Jour
   pub kept : OnOk result (KeepsStatesIn node (areas_of device old) (areas_of device new))
   pub errors : IfErr result (λ error. (error ≡ Device) ⊎ (error ≡ Memory) ⊎ (error ≡ Full))
   pub full : IfErr result (λ error. error ≡ Full → IsFullAt node device old)
-  pub cause : TellsFault Device (faults_of_both device (disks_of old)) (faults_of_both device (disks_of new)) result
+  pub cause : ReportsFault Device (faults_of_both device (disks_of old)) (faults_of_both device (disks_of new)) result
   pub unchanged : IfErr result (λ error. error ≢ Device → new ≡ old)
   pub any_moment : IsStage device (λ one other. decoded_in node (pair one other) ≡ decoded_in node (areas_of device old)) (disks_of old) (disks_of new)
 
@@ -113,7 +113,7 @@ pub record IsReadOn {D : Type 0} (node : Node) (one other : List ℕ) (journal :
   pub stands_for : stands_in (pair one other) ≡ Ok records
   pub side : Side
   pub generation : ℕ
-  pub chosen : IsChoice side generation (tells one) (tells other)
+  pub chosen : IsChoice side generation (reports one) (reports other)
   pub rewritten : version_in records ≡ Some First → (side_in journal ≡ other_side side) × (generation_in journal ≡ generation + 1)
   pub room : version_in records ≡ Some First → (state : State) × (decoded_in node (pair one other) ≡ Ok state) × HasRoom node generation state
   pub stays : version_in records ≢ Some First → (side_in journal ≡ side) × (generation_in journal ≡ generation)

@@ -1,7 +1,7 @@
 //! Checkpoints of a journal on two disks.
 
 ghost use Rattle.std.specs.Prelude.{◌≡◌, ◌≢◌, ◌⊎◌, ◌+◌, [], Ok, IfOk, IfErr, OnOk, OnErr, IsSome};
-ghost use Rattle.diskmodel.specs.Disk.{AtEachMoment, TellsFault};
+ghost use Rattle.diskmodel.specs.Disk.{AtEachMoment, ReportsFault};
 ghost use Rattle.journal.specs.Areas.{stands_in};
 ghost use Rattle.journal.specs.Journal.{disk_of, spare_of, IsAlive};
 ghost use Rattle.journal.specs.Pairs.{HaveChangedPlaces, HaveKeptPlaces, spare_disk, generation_in, areas_of, areas_with, rewritten_disk, untouched_disk};
@@ -51,7 +51,7 @@ pub fn checkpoint<S: Sign, D: Disk>(
     ensures full { IfErr result (λ error. error ≡ JournalError.Full → IsFullAt (node_of S.scheme validator.now.setting) D.device journal.old) }
     ensures room { OnOk result (HasRoomAt (node_of S.scheme validator.now.setting) D.device journal.old) }
     // The error is Device exactly where the disk that is written has failed.
-    ensures cause { TellsFault JournalError.Device (D.device.faults (spare_disk journal.old)) (D.device.faults (rewritten_disk result journal.new)) result }
+    ensures cause { ReportsFault JournalError.Device (D.device.faults (spare_disk journal.old)) (D.device.faults (rewritten_disk result journal.new)) result }
     ensures unchanged { IfErr result (λ error. error ≢ JournalError.Device → journal.new ≡ journal.old) }
     ensures keeps { OnErr result (HaveKeptPlaces journal.old journal.new) }
 {

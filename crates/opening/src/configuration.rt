@@ -1,8 +1,8 @@
 //! Which versions of a configuration's record can express a committee.
 
 ghost use Rattle.std.specs.Prelude.{◌≡◌, true, All};
-ghost use Rattle.spec_records.specs.Records.{CanTell};
-ghost use Rattle.opening.specs.Decoded.{has_ones as decoded_ones, can_tell as decoded_by_version};
+ghost use Rattle.spec_records.specs.Records.{CanReport};
+ghost use Rattle.opening.specs.Decoded.{has_ones as decoded_ones, can_report as decoded_by_version};
 ghost use Rattle.wire.specs.Fields.{HasBytes, AreBytes};
 
 use committee::Committee;
@@ -17,9 +17,9 @@ pub fn are_bytes(bytes: &[u8])
 }
 
 /// Whether a version can express a committee: the first one, which has no stakes, only where each is 1.
-pub fn can_tell(version: Version, committee: &Committee) -> bool
+pub fn can_report(version: Version, committee: &Committee) -> bool
     ensures value { result ≡ decoded_by_version version committee.now }
-    ensures tells { result ≡ true → CanTell version committee.now }
+    ensures reports { result ≡ true → CanReport version committee.now }
 {
     match version {
         Version::First => has_ones(committee),

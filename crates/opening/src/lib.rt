@@ -15,7 +15,7 @@ mod standing;
 mod stores;
 
 pub use checkpoints::checkpoint;
-pub use configuration::can_tell;
+pub use configuration::can_report;
 pub use events::{EVENT, FRONT_BYTES, event_of, is_text};
 pub use reopening::{first_version, is_own, reopen, write_configuration};
 pub use standing::{

@@ -3,7 +3,7 @@
 ghost use Rattle.std.specs.Prelude.{◌≡◌, ◌≢◌, ◌∷◌, [], ◌++◌, List, Some, None, Err, All, is_none, IfOk, IfErr, OnOk};
 ghost use Rattle.journal.specs.declared.record.Record.{Record};
 ghost use Rattle.validator.specs.Setting.{node_of};
-ghost use Rattle.opening.specs.Decoded.{IsText, StandsAt, Tells, read_pair};
+ghost use Rattle.opening.specs.Decoded.{IsText, StandsAt, Reports, read_pair};
 ghost use Rattle.opening.specs.PairReplayed.{HasReached, version_in};
 ghost use Rattle.opening.specs.PairReplays.{HasTakenPair, TakesMorePair};
 
@@ -50,7 +50,7 @@ impl<'a, S: Sign> PairReplay<'a, S> {
         ensures stands { let node = node_of S.scheme self.entry.config.now in (records : List Record) → HasTakenPair S.scheme self.entry records
             → IfOk result (λ validator. StandsAt node (read_pair node records) validator.tables) }
         ensures err { let node = node_of S.scheme self.entry.config.now in (records : List Record) → HasTakenPair S.scheme self.entry records
-            → IfErr result (λ error. Tells error (read_pair node records)) }
+            → IfErr result (λ error. Reports error (read_pair node records)) }
         ensures never { (records : List Record) → HasTakenPair S.scheme self.entry records
             → IfErr result (λ error. (error ≢ JournalError.Device) × (error ≢ JournalError.Full)) }
     {

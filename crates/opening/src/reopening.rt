@@ -2,18 +2,18 @@
 
 ghost use Rattle.std.specs.Prelude.{◌≡◌, ◌≢◌, ◌⊎◌, ◌<◌, [], ◌∷◌, ℕ, List, true, None, Ok, Err, ◌&&◌, IfOk, IfErr, OnOk};
 ghost use Rattle.std.specs.Str.{bytes_eq};
-ghost use Rattle.diskmodel.specs.Disk.{AtEachMoment, TellsFault};
+ghost use Rattle.diskmodel.specs.Disk.{AtEachMoment, ReportsFault};
 ghost use Rattle.journal.specs.Format.{stands};
-ghost use Rattle.journal.specs.Journal.{disk_of, spare_of, disk_after, TellsFaultBack, IsAlive, IsClosedUp, StandsAsOneOf};
+ghost use Rattle.journal.specs.Journal.{disk_of, spare_of, disk_after, ReportsFaultBack, IsAlive, IsClosedUp, StandsAsOneOf};
 ghost use Rattle.journal.specs.Reader.{TakesAll};
 ghost use Rattle.journal.specs.declared.record.Record.{Record};
-ghost use Rattle.spec_records.specs.Records.{configuration_of, CanTell};
+ghost use Rattle.spec_records.specs.Records.{configuration_of, CanReport};
 ghost use Rattle.validator.specs.Setting.{node_of};
 ghost use Rattle.opening.specs.Laws.{StandsForAt, HoldsAt, KeepsStates, AreLeftDecoded, IsOpening};
 ghost use Rattle.opening.specs.Replays.{HasTaken};
-ghost use Rattle.opening.specs.Decoded.{HasTexts, first_version as decoded_version, is_alone as decoded_alone, is_own as decoded_own, decoded, Tells, StandsAt, KeepsOrBegins};
+ghost use Rattle.opening.specs.Decoded.{HasTexts, first_version as decoded_version, is_alone as decoded_alone, is_own as decoded_own, decoded, Reports, StandsAt, KeepsOrBegins};
 
-use crate::configuration::can_tell;
+use crate::configuration::can_report;
 use crate::first_group::{configuration, configuration_group};
 use crate::replay::Replay;
 use crate::standing::worlds_are_decoded;
@@ -98,7 +98,7 @@ fn open_one<D: Disk, R: Reader>(
     ensures damaged { IfErr result (λ failed. (gate : ℕ) → failed.error ≡ JournalError.Damaged gate → stands (D.device.content disk) ≡ Err gate) }
     ensures never_full { IfErr result (λ failed. failed.error ≢ JournalError.Full) }
     ensures never_config { IfErr result (λ failed. failed.error ≢ JournalError.ConfigMismatch) }
-    ensures cause { TellsFaultBack D.device disk_of JournalError.Device disk result }
+    ensures cause { ReportsFaultBack D.device disk_of JournalError.Device disk result }
 {
     match Journal::open_store(alloc, Store::One(disk), reader) {
         Ok(journal) => Ok(journal),
@@ -130,8 +130,8 @@ fn validator_on<'a, S: Sign, D: Disk>(
     ensures alive { OnOk result (IsAlive D.device journal.new) }
     ensures configured { OnOk result (stands (D.device.content (disk_of journal.new)) ≢ Ok []) }
     ensures spare { spare_of journal.new ≡ spare_of journal.old }
-    ensures err { IfErr result (λ error. error ≢ JournalError.Device → Tells error (decoded (node_of S.scheme config.now) (D.device.content (disk_of journal.old)))) }
-    ensures cause { TellsFault JournalError.Device (D.device.faults (disk_of journal.old)) (D.device.faults (disk_of journal.new)) result }
+    ensures err { IfErr result (λ error. error ≢ JournalError.Device → Reports error (decoded (node_of S.scheme config.now) (D.device.content (disk_of journal.old)))) }
+    ensures cause { ReportsFault JournalError.Device (D.device.faults (disk_of journal.old)) (D.device.faults (disk_of journal.new)) result }
     ensures never_full { IfErr result (λ error. error ≢ JournalError.Full) }
     ensures unchanged { IfErr result (λ error. error ≢ JournalError.Device → D.device.content (disk_of journal.new) ≡ D.device.content (disk_of journal.old)) }
     ensures any_moment { let node = node_of S.scheme config.now in AtEachMoment D.device (disk_of journal.old) (disk_of journal.new) (λ left. decoded node left ≡ decoded node (D.device.content (disk_of journal.old))) }
@@ -175,7 +175,7 @@ pub fn is_own<S: Sign>(
     ensures { IfOk result (λ own. own ≡ decoded_own (node_of S.scheme config.now) bytes.now version) }
 {
     let own = configuration(alloc, version, config.committee(), config.own())?;
-    Ok(can_tell(version, config.committee()) && bytes == own.as_slice())
+    Ok(can_report(version, config.committee()) && bytes == own.as_slice())
 }
 
 /// Writes the first group of an empty journal: the configuration alone, in a version that can express the committee.
@@ -187,7 +187,7 @@ pub fn write_configuration<S: Sign, D: Disk>(
 ) -> Result<(), JournalError>
     requires alive { IsAlive D.device journal.old }
     requires empty { stands (D.device.content (disk_of journal.old)) ≡ Ok [] }
-    requires can_tell { CanTell version config.now.charter }
+    requires can_report { CanReport version config.now.charter }
 
     ensures alive { OnOk result (IsAlive D.device journal.new) }
     ensures configured { OnOk result (stands (D.device.content (disk_of journal.new)) ≢ Ok []) }
@@ -195,7 +195,7 @@ pub fn write_configuration<S: Sign, D: Disk>(
     ensures texts { OnOk result (HasTexts (D.device.content (disk_of journal.new))) }
     ensures same { let node = node_of S.scheme config.now in OnOk result (decoded node (D.device.content (disk_of journal.new)) ≡ decoded node (D.device.content (disk_of journal.old))) }
     ensures errors { IfErr result (λ error. (error ≡ JournalError.Device) ⊎ (error ≡ JournalError.Memory)) }
-    ensures cause { TellsFault JournalError.Device (D.device.faults (disk_of journal.old)) (D.device.faults (disk_of journal.new)) result }
+    ensures cause { ReportsFault JournalError.Device (D.device.faults (disk_of journal.old)) (D.device.faults (disk_of journal.new)) result }
     ensures unchanged { IfErr result (λ error. error ≡ JournalError.Memory → journal.new ≡ journal.old) }
     ensures any_moment { let node = node_of S.scheme config.now in AtEachMoment D.device (disk_of journal.old) (disk_of journal.new) (λ left. decoded node left ≡ decoded node (D.device.content (disk_of journal.old))) }
     ensures keeps { AtEachMoment D.device (disk_of journal.old) (disk_of journal.new) (KeepsOrBegins version (node_of S.scheme config.now) (D.device.content (disk_of journal.old))) }

@@ -22,7 +22,7 @@ use Rattle.desk.specs.Disks.{Leaves}
 use Rattle.desk.proofs.Stores.{durable_store}
 use Rattle.journal.specs.Areas.{Areas}
 use Rattle.journal.specs.Pairs.{areas_in, store_of}
-use Rattle.recovery.proofs.Desks.{told_now}
+use Rattle.recovery.proofs.Desks.{reported_now}
 use Rattle.recovery.proofs.Scripts.{text_push, desk_push, text_nil, desk_nil}
 use Rattle.diskmodel.specs.Disk.{Device}
 
@@ -30,7 +30,7 @@ use Rattle.diskmodel.specs.Disk.{Device}
 pub record IsCarriedOut {S D : Type 0} (node : Node) (device : Device D) (before : Areas) (done : List script.Command) (book : BookView S)
     (journal : Journal D) (old new : Option (List ℕ)) : Type 0 where
   pub state : State
-  pub told_first : decoded_in node before ≡ Ok state
+  pub decoded_first : decoded_in node before ≡ Ok state
   pub is_of : IsOf node device (script.desk_after node (script.desk_on state) done) book journal
   pub writes : Appends old new (script.text node (script.desk_on state) done)
 
@@ -39,7 +39,7 @@ module _ {S D : Type 0} (node : Node) (device : Device D) (before : Areas) where
   pub first_carried : (book : BookView S) (journal : Journal D) (old : Option (List ℕ)) → IsOpenedOf node device before book journal → IsCarriedOut node device before [] book journal old old
   first_carried book journal old opened = record {
     state = opened.state;
-    told_first = opened.told_first;
+    decoded_first = opened.decoded_first;
     is_of = subst (λ (d : script.Desk). IsOf node device d book journal) (sym (desk_nil node (script.desk_on opened.state))) opened.is_of;
     writes = subst (Appends old old) (sym (text_nil node (script.desk_on opened.state))) (Appends-nil old);
   }
@@ -54,7 +54,7 @@ module _ {S D : Type 0} (node : Node) (device : Device D) (before : Areas) where
         → Appends mid new (script.frames (script.due (script.after node desk next))) → IsCarriedOut node device before (done ++ next ∷ []) later new_journal old new
     next_carried later new_journal new is appends = record {
       state = so_far.state;
-      told_first = so_far.told_first;
+      decoded_first = so_far.decoded_first;
       is_of = subst (λ (d : script.Desk). IsOf node device d later new_journal) (sym (desk_push node (script.desk_on so_far.state) done next)) is;
       writes = subst (Appends old new) (sym (text_push node (script.desk_on so_far.state) done next))
           (Appends-trans old mid new (script.text node (script.desk_on so_far.state) done) (script.frames (script.due (script.after node desk next))) so_far.writes appends);
@@ -67,7 +67,7 @@ module _ {S D : Type 0} (node : Node) (device : Device D) (before : Areas) where
         let text_done = script.text node (script.desk_on so_far.state) done in
         record {
           state = so_far.state;
-          told_first = so_far.told_first;
+          decoded_first = so_far.decoded_first;
           done = done;
           next = next;
           rest = rest;
@@ -93,9 +93,9 @@ module _ {S D : Type 0} (node : Node) (device : Device D) (before : Areas) where
       → HasRun node commands before (areas_in device (store_of journal)) (Leaves device (store_of journal)) old new
   all_carried commands done book journal old new same so_far = record {
     state = so_far.state;
-    told_first = so_far.told_first;
+    decoded_first = so_far.decoded_first;
     writes = subst (λ (l : List script.Command). Appends old new (script.text node (script.desk_on so_far.state) l)) (sym same) so_far.writes;
-    decoded_later = told_now node device _ book journal so_far.is_of
+    decoded_later = reported_now node device _ book journal so_far.is_of
         ∙ ap (λ (l : List script.Command). Ok (script.settled_in node (script.desk_after node (script.desk_on so_far.state) l))) (sym same);
     durable = λ areas may. durable_store device journal so_far.is_of.alive areas may;
   }

@@ -55,7 +55,7 @@ module _ {S D : Type 0} (node : Node) (device : Device D) (keys : AreKeys node) 
       let up = opened.is_of.up opened.up in
       record {
         state = opened.state;
-        told_first = opened.told_first;
+        decoded_first = opened.decoded_first;
         is_of = record {
           stands_at = opened.is_of.stands_at;
           waits = opened.waits;
@@ -72,7 +72,7 @@ module _ {S D : Type 0} (node : Node) (device : Device D) (desk : Desk) (before 
   -- what is settled begins the next run
   pub stopped_of : (book : BookView S) (journal : Journal D) → IsOpenedOf node device before book journal → IsOf node device (after node desk stop) book journal
   stopped_of book journal opened =
-      let same : opened.state ≡ settled_in node desk = ok_is opened.state (settled_in node desk) (sym opened.told_first ∙ is) in
+      let same : opened.state ≡ settled_in node desk = ok_is opened.state (settled_in node desk) (sym opened.decoded_first ∙ is) in
       subst (λ (d : Desk). IsOf node device d book journal) (ap desk_on same ∙ sym (after_stop node desk)) opened.is_of
 
 -- where nothing is refused a stop ends for want of memory, or by a fault of the disk
@@ -136,7 +136,7 @@ module _ {D : Type 0} (node : Node) (device : Device D) (counts : (one : D) (t :
   not_opened_of disks_in store failed error is at = record {
     cause = failed.error;
     is = is;
-    tells = at.tells;
+    reports = at.reports;
     full = λ full. full_areas store (at.full full);
     left = left_after store failed.disk at.any_moment;
     keeps = kept_after store failed.disk at.keeps;

@@ -46,7 +46,7 @@ use Rattle.desk.proofs.Groups.{group_is, group_none}
 use Rattle.desk.specs.Desk as desks
 use Rattle.desk.specs.Disks.{AreReadAs, MayLeave, Leaves}
 use Rattle.desk.proofs.Standing as standing
-use Rattle.desk.proofs.Reading.{over, areas_over, same_spare, IsDurableBeside, durable_beside, read_beside, left_beside, told_of, more_tells, read_same, read_after, still_configured}
+use Rattle.desk.proofs.Reading.{over, areas_over, same_spare, IsDurableBeside, durable_beside, read_beside, left_beside, decoded_of, more_reports, read_same, read_after, still_configured}
 use Rattle.desk.proofs.Standing.{long_enough}
 use Rattle.desk.proofs.Stores.{may_leave, store_areas, durable_store}
 use Rattle.diskmodel.specs.Disk.{Device}
@@ -185,7 +185,7 @@ module _ {S D : Type 0} (node : Node) (device : Device D) (desk : Desk) (before 
           up = down ∙ is.up;
           alive = alive;
           begun = λ some.
-              more_tells device file (device.content (disk_of new)) is.alive.ends_closed is.configured (long_enough file is.configured) group with_it
+              more_reports device file (device.content (disk_of new)) is.alive.ends_closed is.configured (long_enough file is.configured) group with_it
               ∙ is.begun (subst IsSome same some) ∙ ap (λ (s : Option (Spare D)). Some (Some (option_map_or (λ o. o.generation) s 0))) (sym same);
           keys = is.keys;
           configured = still_configured device file (device.content (disk_of new)) is.alive.ends_closed is.configured group with_it;
@@ -194,8 +194,8 @@ module _ {S D : Type 0} (node : Node) (device : Device D) (desk : Desk) (before 
         })
 
   -- what areas are read as they are told as
-  pub told_as : (state : State) (areas : Areas) → AreReadAs node areas state → decoded_in node areas ≡ Ok state
-  told_as state areas = told_of node state areas is.stands_at.legal.node_is (λ two. is.keys)
+  pub decoded_as : (state : State) (areas : Areas) → AreReadAs node areas state → decoded_in node areas ≡ Ok state
+  decoded_as state areas = decoded_of node state areas is.stands_at.legal.node_is (λ two. is.keys)
 
   -- whatever a stop leaves while a group is written
   left_by_flush : (bytes : List ℕ) → IsWithOrWithout before.pending file bytes
@@ -214,8 +214,8 @@ module _ {S D : Type 0} (node : Node) (device : Device D) (desk : Desk) (before 
       let one = left_beside device new (spare_of new) areas refl durable (may_leave device new (store_of new) refl areas may) in
       let are : areas ≡ over device (spare_of old) one.live = one.are ∙ ap (λ (s : Option (Spare D)). over device s one.live) same in
       elim (left_by_flush one.live (left one.live one.may)) [
-        | inl so ↦ inl (told_as (settled_in node desk) areas (subst (λ (a : Areas). AreReadAs node a (settled_in node desk)) (sym are) so))
-        | inr so ↦ inr (told_as (settled_in node (after node desk flush)) areas (subst (λ (a : Areas). AreReadAs node a (settled_in node (after node desk flush))) (sym are) so))
+        | inl so ↦ inl (decoded_as (settled_in node desk) areas (subst (λ (a : Areas). AreReadAs node a (settled_in node desk)) (sym are) so))
+        | inr so ↦ inr (decoded_as (settled_in node (after node desk flush)) areas (subst (λ (a : Areas). AreReadAs node a (settled_in node (after node desk flush))) (sym are) so))
       ]
 
   -- after a round that settled a group
@@ -252,16 +252,16 @@ module _ {S D : Type 0} (node : Node) (device : Device D) (desk : Desk) (before 
   -- what a stop may leave is told as what is settled
   pub left_decoded : (areas : Areas) → MayLeave device old areas → decoded_in node areas ≡ Ok (settled_in node desk)
   left_decoded areas may =
-      told_as (settled_in node desk) areas
+      decoded_as (settled_in node desk) areas
       (subst (λ (a : Areas). AreReadAs node a (settled_in node desk)) (sym (standing.durable_left device old is.alive areas may)) is.read_as)
 
   -- so are its disks
-  pub told_now : decoded_in node (areas_in device (store_of old)) ≡ Ok (settled_in node desk)
-  told_now = ap (decoded_in node) (store_areas device old) ∙ told_as (settled_in node desk) (areas_of device old) is.read_as
+  pub reported_now : decoded_in node (areas_in device (store_of old)) ≡ Ok (settled_in node desk)
+  reported_now = ap (decoded_in node) (store_areas device old) ∙ decoded_as (settled_in node desk) (areas_of device old) is.read_as
 
   -- and so is what durable disks leave
   pub left_durable : (areas : Areas) → Leaves device (store_of old) areas → decoded_in node areas ≡ Ok (settled_in node desk)
-  left_durable areas may = ap (decoded_in node) (durable_store device old is.alive areas may) ∙ told_now
+  left_durable areas may = ap (decoded_in node) (durable_store device old is.alive areas may) ∙ reported_now
 
 -- ---- what comes of an event
 

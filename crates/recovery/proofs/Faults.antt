@@ -2,7 +2,7 @@
 use Rattle.std.proofs.Common.{◌≡◌, ◌≢◌, ◌⊎◌, ◌+◌, ◌<◌, ℕ, true, false, inl, inr, List, Result, Ok, Err, refl, sym, ap, ◌∙◌, subst, arith}
 use Rattle.std.specs.Prelude.{Option, Some, None, IsSome, IfOk, IfErr, OnOk, OnErr, IsOk, IsErrOf, is_some}
 use Rattle.std.specs.Option.{option_map_or}
-use Rattle.diskmodel.specs.Disk.{Device, TellsFault}
+use Rattle.diskmodel.specs.Disk.{Device, ReportsFault}
 use Rattle.book.specs.declared.own.error.FlushError.{FlushError}
 use Rattle.book.specs.declared.own.error.FlushError.TheVariants as errors
 use Rattle.desk.specs.Disks.{MayLeave, of_one, of_two, IsOnAsMany}
@@ -97,11 +97,11 @@ faults_moved {D} device old new same =
     ∙ one_by device (disk_of old) (disk_of new) (spare_of old)
 
 -- what is told of one disk's count is told of all, where these grow alike
-tells_alike : {X E : Type 0} (error : E) (before now all_before all_now : ℕ) → all_now + before ≡ all_before + now → (result : Result X E) → TellsFault error before now result
-    → TellsFault error all_before all_now result
-tells_alike error before now all_before all_now alike (Ok value) tells = let same = tells.0 in (omega (arith, alike, same), tt)
-tells_alike error before now all_before all_now alike (Err other) tells =
-    (tt, (λ is. let more = tells.1.0 is in omega (arith, alike, more), λ not. let same = tells.1.1 not in omega (arith, alike, same)))
+reports_alike : {X E : Type 0} (error : E) (before now all_before all_now : ℕ) → all_now + before ≡ all_before + now → (result : Result X E) → ReportsFault error before now result
+    → ReportsFault error all_before all_now result
+reports_alike error before now all_before all_now alike (Ok value) reports = let same = reports.0 in (omega (arith, alike, same), tt)
+reports_alike error before now all_before all_now alike (Err other) reports =
+    (tt, (λ is. let more = reports.1.0 is in omega (arith, alike, more), λ not. let same = reports.1.1 not in omega (arith, alike, same)))
 
 -- ---- the errors of a script
 
@@ -123,33 +123,33 @@ full_not : errors.Full ≢ errors.Device
 full_not same = cc
 
 -- it answers the disk's error exactly where the call did
-pub tells_drive : {X : Type 0} (before now : ℕ) (answer : Result ℕ FlushError) (result : Result X DriveError) → Answers answer result → TellsFault errors.Device before now answer
-    → TellsFault ends.Device before now result
-tells_drive before now (Ok count) (Ok value) is tells = (tells.0, tt)
-tells_drive before now (Err error) (Ok value) is tells = absurd (err_not is.ok)
+pub reports_drive : {X : Type 0} (before now : ℕ) (answer : Result ℕ FlushError) (result : Result X DriveError) → Answers answer result → ReportsFault errors.Device before now answer
+    → ReportsFault ends.Device before now result
+reports_drive before now (Ok count) (Ok value) is reports = (reports.0, tt)
+reports_drive before now (Err error) (Ok value) is reports = absurd (err_not is.ok)
   where
     err_not : IsOk {T = ℕ} (Err error) → ⊥
     err_not same = cc
-tells_drive {X} before now answer (Err error) is tells = by is.errors
+reports_drive {X} before now answer (Err error) is reports = by is.errors
   where
-    by : (error ≡ ends.Memory) ⊎ ((error ≡ ends.Device) ⊎ (error ≡ ends.Full)) → TellsFault {T = X} ends.Device before now (Err error)
+    by : (error ≡ ends.Memory) ⊎ ((error ≡ ends.Device) ⊎ (error ≡ ends.Full)) → ReportsFault {T = X} ends.Device before now (Err error)
     by (inl memory) =
-        let at = subst (TellsFault errors.Device before now) (is.memory (ap (λ e. Err e) memory)) tells in
+        let at = subst (ReportsFault errors.Device before now) (is.memory (ap (λ e. Err e) memory)) reports in
         (tt, (λ device. absurd (other_than error (inl memory) device), λ _. at.1.1 memory_not))
     by (inr (inl device)) =
-        let at = subst (TellsFault errors.Device before now) (is.device (ap (λ e. Err e) device)) tells in
+        let at = subst (ReportsFault errors.Device before now) (is.device (ap (λ e. Err e) device)) reports in
         (tt, (λ _. at.1.0 refl, λ not. absurd (not device)))
     by (inr (inr full)) =
-        let at = subst (TellsFault errors.Device before now) (is.full (ap (λ e. Err e) full)) tells in
+        let at = subst (ReportsFault errors.Device before now) (is.full (ap (λ e. Err e) full)) reports in
         (tt, (λ device. absurd (other_than error (inr full) device), λ _. at.1.1 full_not))
 
 -- a round calls one disk
 pub flush_cause : {X D : Type 0} (device : Device D) (old new : Journal D) → spare_of new ≡ spare_of old → (answer : Result ℕ FlushError) (result : Result X DriveError) → Answers answer result
-    → TellsFault errors.Device (device.faults (disk_of old)) (device.faults (disk_of new)) answer
-    → TellsFault ends.Device (faults_in device (store_of old)) (faults_in device (store_of new)) result
-flush_cause device old new same answer result is tells =
-    tells_alike ends.Device (device.faults (disk_of old)) (device.faults (disk_of new)) (faults_in device (store_of old)) (faults_in device (store_of new)) (faults_moved device old new same) result
-    (tells_drive (device.faults (disk_of old)) (device.faults (disk_of new)) answer result is tells)
+    → ReportsFault errors.Device (device.faults (disk_of old)) (device.faults (disk_of new)) answer
+    → ReportsFault ends.Device (faults_in device (store_of old)) (faults_in device (store_of new)) result
+flush_cause device old new same answer result is reports =
+    reports_alike ends.Device (device.faults (disk_of old)) (device.faults (disk_of new)) (faults_in device (store_of old)) (faults_in device (store_of new)) (faults_moved device old new same) result
+    (reports_drive (device.faults (disk_of old)) (device.faults (disk_of new)) answer result is reports)
 
 -- and so does a checkpoint, after which the disks may have changed places
 rewriting_sum : {D : Type 0} (device : Device D) (old new : Journal D) (answer : Result ℕ FlushError) → IsSome (spare_of old) → IfOk answer (λ generation. HaveChangedPlaces old new)
@@ -162,12 +162,12 @@ rewriting_sum device old new (Err error) two changed kept untouched =
 
 pub rewriting_cause : {X D : Type 0} (device : Device D) (old new : Journal D) → IsSome (spare_of old) → (answer : Result ℕ FlushError) (result : Result X DriveError) → Answers answer result
     → IfOk answer (λ generation. HaveChangedPlaces old new) → OnErr answer (HaveKeptPlaces old new) → untouched_disk answer new ≡ disk_of old
-    → TellsFault errors.Device (device.faults (spare_disk old)) (device.faults (rewritten_disk answer new)) answer
-    → TellsFault ends.Device (faults_in device (store_of old)) (faults_in device (store_of new)) result
-rewriting_cause device old new two answer result is changed kept untouched tells =
-    tells_alike ends.Device (device.faults (spare_disk old)) (device.faults (rewritten_disk answer new)) (faults_in device (store_of old)) (faults_in device (store_of new))
+    → ReportsFault errors.Device (device.faults (spare_disk old)) (device.faults (rewritten_disk answer new)) answer
+    → ReportsFault ends.Device (faults_in device (store_of old)) (faults_in device (store_of new)) result
+rewriting_cause device old new two answer result is changed kept untouched reports =
+    reports_alike ends.Device (device.faults (spare_disk old)) (device.faults (rewritten_disk answer new)) (faults_in device (store_of old)) (faults_in device (store_of new))
     (rewriting_sum device old new answer two changed kept untouched) result
-    (tells_drive (device.faults (spare_disk old)) (device.faults (rewritten_disk answer new)) answer result is tells)
+    (reports_drive (device.faults (spare_disk old)) (device.faults (rewritten_disk answer new)) answer result is reports)
 
 pub disks_kept : {D : Type 0} (old new : Journal D) (answer : Result ℕ FlushError) → IsSome (spare_of old) → IfOk answer (λ generation. HaveChangedPlaces old new)
     → OnErr answer (HaveKeptPlaces old new) → is_two (store_of new) ≡ is_two (store_of old)

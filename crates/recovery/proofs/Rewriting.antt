@@ -24,7 +24,7 @@ use Rattle.spec_world.specs.Text.{Desk, checkpoint, settled_in, state_in, after}
 use Rattle.recovery.specs.Script.{run_of, IsOf, Breaks, for_checkpoint}
 use Rattle.recovery.specs.declared.driving.DriveError.{DriveError}
 use Rattle.recovery.specs.declared.driving.DriveError.TheVariants as ends
-use Rattle.recovery.proofs.Desks.{left_durable, same_breaks, told_as}
+use Rattle.recovery.proofs.Desks.{left_durable, same_breaks, decoded_as}
 
 after_checkpoint : (node : Node) (desk : Desk) → after node desk checkpoint ≡ record desk { settled = desk.accepted }
 unfolding after
@@ -64,8 +64,8 @@ module _ {S D : Type 0} (node : Node) (device : Device D) (script : Desk) (befor
     left = λ areas may.
         elim (left_either node device (run_of script) before.book before.journal later.journal is.stands_at is.stands_at.legal.node_is is.keys two is.alive is.read_as untouched places left areas
         (may_leave device later.journal (store_of later.journal) refl areas may)) [
-          | inl so ↦ inl (told_as node device script before.book before.journal is (settled_in node script) areas so)
-          | inr so ↦ inr (told_as node device script before.book before.journal is (settled_in node (after node script checkpoint)) areas
+          | inl so ↦ inl (decoded_as node device script before.book before.journal is (settled_in node script) areas so)
+          | inr so ↦ inr (decoded_as node device script before.book before.journal is (settled_in node (after node script checkpoint)) areas
               (subst (λ (d : Desk). AreReadAs node areas (settled_in node d)) (sym (after_checkpoint node script)) so))
         ];
     errors = tt;

@@ -49,7 +49,7 @@ module _ (node : Node) (sound : IsNode node) where
       → EachRunOn node before (GivesOut node commands old new)
   run_given commands before later outcome old new taken run = λ history moves world is begun.
       let goes = goes_on history moves world commands taken begun in
-      let same : run.state ≡ kept node history = ok_is run.state (kept node history) (sym run.told_first ∙ is) in
+      let same : run.state ≡ kept node history = ok_is run.state (kept node history) (sym run.decoded_first ∙ is) in
       record {
         goes_on = goes;
         writes = subst (Appends old new) (ap (λ (s : State). script.text node (script.desk_on s) commands) same ∙ sym goes.is_text) run.writes;
@@ -65,7 +65,7 @@ module _ (node : Node) (sound : IsNode node) where
       let first = script.desk_on so_far.state in
       let text_done = script.text node first done in
       let goes = goes_on history moves world some taken begun in
-      let same : so_far.state ≡ kept node history = ok_is so_far.state (kept node history) (sym so_far.told_first ∙ is) in
+      let same : so_far.state ≡ kept node history = ok_is so_far.state (kept node history) (sym so_far.decoded_first ∙ is) in
       let within : Begins (text_done ++ appends.part) (script.text node first some) = record {
         rest = appends.begins.rest;
         parts = text_push node first done next ∙ ap (λ (l : List ℕ). text_done ++ l) appends.begins.parts ∙ sym (append_assoc text_done appends.part appends.begins.rest);

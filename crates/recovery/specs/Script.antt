@@ -26,7 +26,7 @@ use Rattle.spec_world.specs.Runs.{AreKeys}
 use Rattle.spec_world.specs.Text as script
 use Rattle.recovery.specs.Faults.{ended_by}
 use Rattle.opening.specs.Renewing.{HasBegun, IsFullOf, HasNoRoom as LacksRoom}
-use Rattle.opening.specs.Decoded.{decoded_in, Tells, KeepsRecords}
+use Rattle.opening.specs.Decoded.{decoded_in, Reports, KeepsRecords}
 use Rattle.recovery.specs.Writing.{EndsAtDisk}
 use Rattle.recovery.specs.declared.driving.Command.{Command}
 use Rattle.recovery.specs.declared.driving.Command.TheVariants.{Event, Flush, Checkpoint, Stop}
@@ -91,7 +91,7 @@ Follows node device next before later =
 -- the book and the journal belong to a run that began with the state that the disks decoded to
 pub record IsOpenedOf {S D : Type 0} (node : Node) (device : Device D) (before : Areas) (book : BookView S) (journal : Journal D) : Type 0 where
   pub state : State
-  pub told_first : decoded_in node before ≡ Ok state
+  pub decoded_first : decoded_in node before ≡ Ok state
   pub is_of : IsOf node device (script.desk_on state) book journal
 
 -- ---- how a script ends
@@ -100,7 +100,7 @@ pub record IsOpenedOf {S D : Type 0} (node : Node) (device : Device D) (before :
 -- state after what is settled, and so does whatever a stop leaves of them.
 pub record HasRun (node : Node) (commands : List script.Command) (before later : Areas) (possible : Areas → Type 0) (old new : Option (List ℕ)) : Type 0 where
   pub state : State
-  pub told_first : decoded_in node before ≡ Ok state
+  pub decoded_first : decoded_in node before ≡ Ok state
   pub writes : Appends old new (script.text node (script.desk_on state) commands)
   pub decoded_later : decoded_in node later ≡ Ok (script.settled_in node (script.desk_after node (script.desk_on state) commands))
   pub durable : (areas : Areas) → possible areas → areas ≡ later
@@ -116,7 +116,7 @@ IsFull node (pair one other) = IsFullOf node one other
 pub record IsNotOpened (node : Node) (error : DriveError) (before : Areas) (possible later : Areas → Type 0) : Type 0 where
   pub cause : JournalError
   pub is : error ≡ ended_by cause
-  pub tells : cause ≢ journal.Device → cause ≢ journal.Full → Tells cause (decoded_in node before)
+  pub reports : cause ≢ journal.Device → cause ≢ journal.Full → Reports cause (decoded_in node before)
   pub full : cause ≡ journal.Full → IsFull node before
   pub left : (areas : Areas) → later areas → (first : Areas) × possible first × (decoded_in node areas ≡ decoded_in node first)
   pub keeps : (bytes : List ℕ) → later (alone bytes) → KeepsRecords node (λ one. possible (alone one)) bytes
@@ -175,7 +175,7 @@ BreaksOff node device command before error store =
 -- writes: not all of it where the writer failed, and nothing where the failure was the disk's.
 pub record IsCutShort (node : Node) (commands : List script.Command) (error : DriveError) (before later : Areas) (possible : Areas → Type 0) (old new : Option (List ℕ)) : Type 0 where
   pub state : State
-  pub told_first : decoded_in node before ≡ Ok state
+  pub decoded_first : decoded_in node before ≡ Ok state
   pub done : List script.Command
   pub next : script.Command
   pub rest : List script.Command

@@ -1,11 +1,11 @@
 //! How a desk carries out a command.
 
 ghost use Rattle.std.specs.Prelude.{◌≡◌, ◌≢◌, ◌⊎◌, ◌+◌, ◌<◌, ◌≤◌, true, false, IfOk, IfErr, OnOk, OnErr, IsErrOf, IsOk, None};
-ghost use Rattle.diskmodel.specs.Disk.{TellsFault};
+ghost use Rattle.diskmodel.specs.Disk.{ReportsFault};
 ghost use Rattle.std.specs.Io.KnownBytes.{Appends};
 ghost use Rattle.header.specs.Checks.{fault_of, accepts_all};
 ghost use Rattle.journal.specs.Pairs.{areas_in, store_of};
-ghost use Rattle.journal.specs.Stores.{faults_in, TellsFaultsBack};
+ghost use Rattle.journal.specs.Stores.{faults_in, ReportsFaultsBack};
 ghost use Rattle.book.specs.Book.{StandsAsBefore};
 ghost use Rattle.book.specs.declared.book.TheConstants.{MAX_ACCEPTED};
 ghost use Rattle.validator.specs.Setting.{node_of};
@@ -38,7 +38,7 @@ pub(crate) fn open<'a, S: Sign, D: StopDisk>(
     ensures none { IfOk result (λ desk. desk.book.accepted ≡ 0) }
     ensures disks { KeepsDisks (λ desk. store_of desk.journal) store result }
     ensures err { IfErr result (λ failed. IsNotOpened (node_of S.scheme config.now) failed.error (areas_in D.device store) (Leaves D.device store) (Leaves D.device failed.disk)) }
-    ensures cause { TellsFaultsBack (faults_in D.device) (λ desk. store_of desk.journal) DriveError.Device store result }
+    ensures cause { ReportsFaultsBack (faults_in D.device) (λ desk. store_of desk.journal) DriveError.Device store result }
     ensures never_output { IfErr result (λ failed. failed.error ≢ DriveError.Output) }
 {
     config.keys_hold();
@@ -71,7 +71,7 @@ pub(crate) fn carry_out<'a, S: Sign, D: StopDisk, W: Write>(
     ensures err { let node = node_of S.scheme config.now in IfErr result (λ failed. BreaksOff node D.device (said command) desk.entry failed.error failed.disk) }
     ensures writes_part { let node = node_of S.scheme config.now in IfErr result (λ failed. (script : ScriptDesk) → IsOf node D.device script desk.entry.book desk.entry.journal
         → AppendsPart failed.error (W.contents writer.old) (W.contents writer.new) (frames (due (after node script (said command))))) }
-    ensures cause { TellsFaultsBack (faults_in D.device) (λ next. store_of next.journal) DriveError.Device (store_of desk.entry.journal) result }
+    ensures cause { ReportsFaultsBack (faults_in D.device) (λ next. store_of next.journal) DriveError.Device (store_of desk.entry.journal) result }
 {
     let mut desk = apply(desk, alloc, config, command)?;
     match write_due(&mut desk, alloc, writer) {
@@ -98,7 +98,7 @@ fn apply<'a, S: Sign, D: StopDisk>(
     ensures disks { KeepsDisks (λ next. store_of next.journal) (store_of desk.entry.journal) result }
     ensures count { IfOk result (λ next. next.book.accepted ≤ desk.entry.book.accepted + 1) }
     ensures err { let node = node_of S.scheme config.now in IfErr result (λ failed. BreaksOff node D.device (said command) desk.entry failed.error failed.disk) }
-    ensures cause { TellsFaultsBack (faults_in D.device) (λ next. store_of next.journal) DriveError.Device (store_of desk.entry.journal) result }
+    ensures cause { ReportsFaultsBack (faults_in D.device) (λ next. store_of next.journal) DriveError.Device (store_of desk.entry.journal) result }
     ensures never_output { IfErr result (λ failed. failed.error ≢ DriveError.Output) }
 {
     match command {
@@ -143,7 +143,7 @@ fn flushed<'a, S: Sign, D: StopDisk>(
     ensures disks { KeepsDisks (λ next. store_of next.journal) (store_of desk.entry.journal) result }
     ensures count { IfOk result (λ next. next.book.accepted ≡ desk.entry.book.accepted) }
     ensures err { let node = node_of S.scheme desk.entry.book.validator.setting in IfErr result (λ failed. BreaksOff node D.device flush_it desk.entry failed.error failed.disk) }
-    ensures cause { TellsFaultsBack (faults_in D.device) (λ next. store_of next.journal) DriveError.Device (store_of desk.entry.journal) result }
+    ensures cause { ReportsFaultsBack (faults_in D.device) (λ next. store_of next.journal) DriveError.Device (store_of desk.entry.journal) result }
     ensures never_output { IfErr result (λ failed. failed.error ≢ DriveError.Output) }
 {
     match flush(&mut desk) {
@@ -164,7 +164,7 @@ fn rewritten<'a, S: Sign, D: StopDisk>(
     ensures disks { KeepsDisks (λ next. store_of next.journal) (store_of desk.entry.journal) result }
     ensures count { IfOk result (λ next. next.book.accepted ≡ desk.entry.book.accepted) }
     ensures err { let node = node_of S.scheme desk.entry.book.validator.setting in IfErr result (λ failed. BreaksOff node D.device settle_all desk.entry failed.error failed.disk) }
-    ensures cause { TellsFaultsBack (faults_in D.device) (λ next. store_of next.journal) DriveError.Device (store_of desk.entry.journal) result }
+    ensures cause { ReportsFaultsBack (faults_in D.device) (λ next. store_of next.journal) DriveError.Device (store_of desk.entry.journal) result }
     ensures never_output { IfErr result (λ failed. failed.error ≢ DriveError.Output) }
 {
     match checkpoint(&mut desk) {
@@ -184,7 +184,7 @@ fn stopped<'a, S: Sign, D: StopDisk>(
     ensures disks { KeepsDisks (λ next. store_of next.journal) (store_of desk.entry.journal) result }
     ensures count { IfOk result (λ next. next.book.accepted ≡ 0) }
     ensures err { let node = node_of S.scheme config.now in IfErr result (λ failed. BreaksOff node D.device stop_it desk.entry failed.error failed.disk) }
-    ensures cause { TellsFaultsBack (faults_in D.device) (λ next. store_of next.journal) DriveError.Device (store_of desk.entry.journal) result }
+    ensures cause { ReportsFaultsBack (faults_in D.device) (λ next. store_of next.journal) DriveError.Device (store_of desk.entry.journal) result }
     ensures never_output { IfErr result (λ failed. failed.error ≢ DriveError.Output) }
 {
     match desk.stop_store(alloc, config) {
@@ -217,7 +217,7 @@ fn flush<S: Sign, D: StopDisk>(desk: &mut Desk<'_, S, D>) -> Result<(), DriveErr
     ensures disks { is_two (store_of desk.new.journal) ≡ is_two (store_of desk.old.journal) }
     ensures count { desk.new.book.accepted ≡ desk.old.book.accepted }
     ensures err { let node = node_of S.scheme desk.old.book.validator.setting in IfErr result (λ error. BreaksOff node D.device flush_it desk.old error (store_of desk.new.journal)) }
-    ensures cause { TellsFault DriveError.Device (faults_in D.device (store_of desk.old.journal)) (faults_in D.device (store_of desk.new.journal)) result }
+    ensures cause { ReportsFault DriveError.Device (faults_in D.device (store_of desk.old.journal)) (faults_in D.device (store_of desk.new.journal)) result }
     ensures never_output { IfErr result (λ error. error ≢ DriveError.Output) }
 {
     unless_failed(desk.flush())
@@ -233,7 +233,7 @@ fn checkpoint<S: Sign, D: StopDisk>(desk: &mut Desk<'_, S, D>) -> Result<(), Dri
     ensures disks { is_two (store_of desk.new.journal) ≡ is_two (store_of desk.old.journal) }
     ensures count { desk.new.book.accepted ≡ desk.old.book.accepted }
     ensures err { let node = node_of S.scheme desk.old.book.validator.setting in IfErr result (λ error. BreaksOff node D.device settle_all desk.old error (store_of desk.new.journal)) }
-    ensures cause { TellsFault DriveError.Device (faults_in D.device (store_of desk.old.journal)) (faults_in D.device (store_of desk.new.journal)) result }
+    ensures cause { ReportsFault DriveError.Device (faults_in D.device (store_of desk.old.journal)) (faults_in D.device (store_of desk.new.journal)) result }
     ensures never_output { IfErr result (λ error. error ≢ DriveError.Output) }
 {
     unless_failed(desk.checkpoint())

@@ -2,9 +2,9 @@
 
 ghost use Rattle.std.specs.Prelude.{◌≡◌, ◌≢◌, ◌⊎◌, ◌<◌, ◌≤◌, true, false, All, IfOk, IfErr, OnOk, OnErr, vec_len};
 ghost use Rattle.journal.specs.Areas.{alone, pair};
-ghost use Rattle.journal.specs.Journal.{TellsFaultBack};
+ghost use Rattle.journal.specs.Journal.{ReportsFaultBack};
 ghost use Rattle.journal.specs.Pairs.{areas_in};
-ghost use Rattle.journal.specs.Stores.{faults_in, faults_of_both, TellsFaultsBack};
+ghost use Rattle.journal.specs.Stores.{faults_in, faults_of_both, ReportsFaultsBack};
 ghost use Rattle.book.specs.declared.book.TheConstants.{MAX_ACCEPTED};
 ghost use Rattle.desk.specs.Disks.{Leaves};
 ghost use Rattle.validator.specs.Setting.{node_of};
@@ -121,7 +121,7 @@ pub fn drive<'a, S: Sign, D: StopDisk, W: Write>(
     ensures given_out_err { let node = node_of S.scheme config.now in OnErr result (EachRunOn node (alone (D.device.content disk)) (GivesOutNoLess node (script_of commands.items) (W.contents writer.old) (W.contents writer.new))) }
 
     // The error is Device exactly where the disk has failed.
-    ensures cause { TellsFaultBack D.device (λ left. left) DriveError.Device disk result }
+    ensures cause { ReportsFaultBack D.device (λ left. left) DriveError.Device disk result }
 {
     match drive_store(alloc, config, Store::One(disk), commands, writer) {
         Ok(Store::One(disk)) => Ok(disk),
@@ -156,7 +156,7 @@ pub fn drive_pair<'a, S: Sign, D: StopDisk, W: Write>(
     ensures given_out_err { let node = node_of S.scheme config.now in OnErr result (EachRunOn node (pair (D.device.content first) (D.device.content second)) (GivesOutNoLess node (script_of commands.items) (W.contents writer.old) (W.contents writer.new))) }
 
     // The error is Device exactly where a disk has failed.
-    ensures cause { TellsFaultsBack (faults_of_both D.device) (λ left. left) DriveError.Device (first, second) result }
+    ensures cause { ReportsFaultsBack (faults_of_both D.device) (λ left. left) DriveError.Device (first, second) result }
 {
     any_on_two(&commands);
     match drive_store(alloc, config, Store::Two(first, second), commands, writer) {
@@ -195,7 +195,7 @@ fn drive_store<'a, S: Sign, D: StopDisk, W: Write>(
         ⊎ IsCutShort node (script_of commands.items) failed.error (areas_in D.device store) (areas_in D.device failed.disk) (Leaves D.device failed.disk) (W.contents writer.old) (W.contents writer.new)) }
     ensures given_out { let node = node_of S.scheme config.now in OnOk result (EachRunOn node (areas_in D.device store) (GivesOut node (script_of commands.items) (W.contents writer.old) (W.contents writer.new))) }
     ensures given_out_err { let node = node_of S.scheme config.now in OnErr result (EachRunOn node (areas_in D.device store) (GivesOutNoLess node (script_of commands.items) (W.contents writer.old) (W.contents writer.new))) }
-    ensures cause { TellsFaultsBack (faults_in D.device) (λ left. left) DriveError.Device store result }
+    ensures cause { ReportsFaultsBack (faults_in D.device) (λ left. left) DriveError.Device store result }
 {
     let mut desk = open(alloc, config, store)?;
     for command in commands {

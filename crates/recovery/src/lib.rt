@@ -6,6 +6,6 @@ mod driving;
 
 pub use driving::{Command, DriveError, drive, drive_pair};
 pub use opening::{
-    can_tell, checkpoint, decoded_stands_for, reopen, reopen_pair, what_stands_is_decoded,
+    can_report, checkpoint, decoded_stands_for, reopen, reopen_pair, what_stands_is_decoded,
     worlds_are_decoded, write_configuration,
 };

@@ -11,7 +11,7 @@ ghost use Rattle.spec_model.specs.Holdings as holdings;
 ghost use Rattle.spec_model.specs.Nodes.{node_view, quorum};
 ghost use Rattle.spec_model.specs.Ordering as ordering;
 ghost use Rattle.spec_model.specs.Slots.{same_digest};
-ghost use Rattle.wire.specs.Spelling.{spelling};
+ghost use Rattle.wire.specs.Encoding.{encoding};
 ghost use Rattle.wire.specs.declared.message.Message.TheVariants as message;
 
 use crate::held::{certificates_held, listed_floor, listed_top};
@@ -163,7 +163,7 @@ fn is_one_needed<S: Sign>(node: &Node<S>, kept: &KeptHeader, votes: &[VoteEntry]
 
 /// The bytes of a certificate with this header and no votes.
 fn certificate_bytes(alloc: Global, header: &HeaderBody) -> Result<Vec<u8>, AllocError>
-    ensures { IfOk result (λ bytes. bytes.items ≡ spelling (message.Certificate (record { header = header.now; votes = [] }))) }
+    ensures { IfOk result (λ bytes. bytes.items ≡ encoding (message.Certificate (record { header = header.now; votes = [] }))) }
 {
     let header = header.try_clone()?;
     let votes = VoteEntries::new(alloc);

@@ -12,12 +12,12 @@ mod loading;
 mod parts;
 mod pieces;
 mod reading;
-mod told;
+mod reported;
 mod writing;
 
 pub use fault::LoadFault;
 pub use kept::{Checkpoint, KeptBatch, KeptHeader, KeptVote};
 pub use loading::load_fault;
 pub use reading::checkpoint_read;
-pub use told::load_answer;
+pub use reported::load_answer;
 pub use writing::state_records;

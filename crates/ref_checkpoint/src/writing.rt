@@ -3,7 +3,7 @@
 ghost use Rattle.std.specs.Prelude.{◌≡◌, ◌<◌, ◌≤◌, ◌*◌, ◌++◌, ◌∷◌, List, ℕ, length, map, take, drop, IfOk, OnOk, flat_map, if◌then◌else◌};
 ghost use Rattle.std.specs.Int.{w16, w64, to_be_bytes};
 ghost use Rattle.spec_checkpoint.specs.Records as records;
-ghost use Rattle.wire.specs.Spelling.{spelling, vote_entry_bytes};
+ghost use Rattle.wire.specs.Encoding.{encoding, vote_entry_bytes};
 ghost use Rattle.ref_checkpoint.specs.Lists.{contents};
 
 use crate::kept::{Checkpoint, KeptBatch, KeptHeader, KeptVote};
@@ -125,7 +125,7 @@ fn header_record(alloc: Global, kept: &KeptHeader) -> Result<Vec<u8>, AllocError
 
 /// The bytes of a message, with a record's kind in the place of the message's tag.
 fn of_kind(alloc: Global, kind: u8, message: &Message) -> Result<Vec<u8>, AllocError>
-    ensures { IfOk result (λ bytes. bytes.items ≡ kind ∷ drop 1 (spelling message.now)) }
+    ensures { IfOk result (λ bytes. bytes.items ≡ kind ∷ drop 1 (encoding message.now)) }
 {
     let text = encode(alloc, message)?;
     let mut bytes = Vec::new(alloc);

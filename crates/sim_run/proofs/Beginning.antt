@@ -8,7 +8,7 @@ use Rattle.admission.specs.declared.tables.Tables.{Tables}
 use Rattle.diskmodel.specs.Disk.{AtEachMoment, Device}
 use Rattle.flusher.specs.Rounds.{journal_of, seat_of, is_down, HoldsAfter, IsFlusherOf}
 use Rattle.flusher.specs.declared.flusher.Flusher.{Flusher}
-use Rattle.journal.specs.Areas.{Areas, alone, pair, pair_of, generation_of, tells, moved, stands_at, stands_in, IsOlder}
+use Rattle.journal.specs.Areas.{Areas, alone, pair, pair_of, generation_of, reports, moved, stands_at, stands_in, IsOlder}
 use Rattle.journal.specs.Configuration.{shaped_version}
 use Rattle.journal.specs.Format.{group_of, kept_at, kept, walk, only_records, stands}
 use Rattle.journal.specs.Journal.{disk_of, spare_of, IsAlive, IsAlivePair, IsNewPair}
@@ -19,7 +19,7 @@ use Rattle.journal.specs.declared.side.Side.{Side}
 use Rattle.journal.specs.declared.side.Side.TheVariants.{First, Second}
 use Rattle.journal.specs.declared.spare.Spare.{Spare}
 use Rattle.journal.specs.declared.version.Version.{Version}
-use Rattle.journal.proofs.Telling.{tells_short, tells_closed, tells_first, both_older, at_rest_older}
+use Rattle.journal.proofs.Reporting.{reports_short, reports_closed, reports_first, both_older, at_rest_older}
 use Rattle.journal.proofs.Walks.{goes, walk_closed, stands_short}
 use Rattle.node_seats.specs.Sights.{SeatView}
 use Rattle.node_seats.specs.declared.view.Marked.{Marked}
@@ -32,13 +32,13 @@ use Rattle.opening.proofs.Empty.{scans_long, walk_open}
 use Rattle.opening.proofs.FirstGroups.{walk_from}
 use Rattle.opening.proofs.Laws.{configuration_shape}
 use Rattle.opening.proofs.PairLaws.{own_free, own_by_bytes}
-use Rattle.opening.proofs.PairTelling.{pair_alone, decoded_pair_records}
+use Rattle.opening.proofs.PairReporting.{pair_alone, decoded_pair_records}
 use Rattle.sigface.specs.Scheme.{Scheme}
 use Rattle.spec_machine.proofs.AfterAll.{after_none, legal_none}
 use Rattle.spec_machine.specs.Machine.{fresh}
 use Rattle.spec_machine.specs.Sound.{IsSound}
 use Rattle.spec_model.specs.Nodes.{Node, IsNode}
-use Rattle.spec_records.specs.Records.{CanTell}
+use Rattle.spec_records.specs.Records.{CanReport}
 use Rattle.spec_world.specs.Runs.{AreKeys}
 use Rattle.spec_world.specs.World.{own_configuration, as_fresh, Holds}
 use Rattle.validator.specs.Setting.{ConfigView, node_of}
@@ -94,10 +94,10 @@ ok_same : (one other : List Record) → ◌≡◌ {A = Result (List Record) ℕ}
 ok_same one other same = cc
 
 -- a file that stands for no record tells nothing
-tells_of_none : (left : List ℕ) → stands left ≡ Ok [] → tells left ≡ None
+reports_of_none : (left : List ℕ) → stands left ≡ Ok [] → reports left ≡ None
 unfolding stands
-tells_of_none left none = elim (cases_lt (length left) 2) [
-  | inl short ↦ tells_short left short
+reports_of_none left none = elim (cases_lt (length left) 2) [
+  | inl short ↦ reports_short left short
   | inr long ↦ by_first left long none
 ]
   where
@@ -106,10 +106,10 @@ tells_of_none left none = elim (cases_lt (length left) 2) [
         walk_open gate rest place is_open (walked ∙ ap (λ (l : List Record). Ok (l, place)) (ok_same records [] is))
     by_read gate rest (Err place) is_open walked is = cc
 
-    by_first : (file : List ℕ) → 2 ≤ length file → stands file ≡ Ok [] → tells file ≡ None
+    by_first : (file : List ℕ) → 2 ≤ length file → stands file ≡ Ok [] → reports file ≡ None
     by_first [] long is = absurd (omega (arith, long))
     by_first (gate ∷ rest) long is = elim (cases_eq gate 0) [
-      | inl closed ↦ tells_closed gate rest closed
+      | inl closed ↦ reports_closed gate rest closed
       | inr is_open ↦ absurd (by_read gate rest (walk 0 0 (gate ∷ rest)) is_open refl (sym (ap only_records (scans_long (gate ∷ rest) long)) ∙ is))
     ]
 
@@ -122,9 +122,9 @@ one_of_group (bytes ∷ []) more own above same = ap (λ (l : List Record). (get
 one_of_group (bytes ∷ other ∷ others) more own above same = absurd (omega (arith, ap length same))
 
 -- one that stands for a configuration alone has the generation 0
-tells_of_one : (left own : List ℕ) (version : Version) → stands left ≡ Ok (kept_at 0 own ∷ []) → shaped_version own ≡ Some version → tells left ≡ Some (Some 0)
+reports_of_one : (left own : List ℕ) (version : Version) → stands left ≡ Ok (kept_at 0 own ∷ []) → shaped_version own ≡ Some version → reports left ≡ Some (Some 0)
 unfolding stands generation_of
-tells_of_one left own version is shape = elim (cases_lt (length left) 2) [
+reports_of_one left own version is shape = elim (cases_lt (length left) 2) [
   | inl short ↦ absurd (some_record (sym (stands_short left short) ∙ is))
   | inr long ↦ by_first left long is
 ]
@@ -136,16 +136,16 @@ tells_of_one left own version is shape = elim (cases_lt (length left) 2) [
     generation_is group are = ap generation_of are ∙ ap (option_map (λ (v : Version). 0)) shape
 
     by_read : (gate : ℕ) (rest : List ℕ) (read : Result (List Record × ℕ) ℕ) → gate ≢ 0 → 1 ≤ length rest → walk 0 0 (gate ∷ rest) ≡ read → only_records read ≡ Ok (kept_at 0 own ∷ [])
-        → tells (gate ∷ rest) ≡ Some (Some 0)
+        → reports (gate ∷ rest) ≡ Some (Some 0)
     by_read gate rest (Err place) is_open some walked found = absurd (cc)
     by_read gate rest (Ok (records, place)) is_open some walked found =
         let on = goes 0 gate rest (records, place) is_open walked in
         let above = walk_from rest 1 (4 + length on.body) on.more on.on in
         let group = one_of_group on.records on.more.0 own above (ap (λ (f : List Record × ℕ). f.0) (sym on.is) ∙ ok_same records (kept_at 0 own ∷ []) found) in
-        tells_first gate rest is_open some
+        reports_first gate rest is_open some
         ∙ ap Some (ap (option_and_then (λ body. option_and_then generation_of (group_of body))) on.at_body ∙ ap (option_and_then generation_of) on.is_group ∙ generation_is on.records group)
 
-    by_first : (file : List ℕ) → 2 ≤ length file → stands file ≡ Ok (kept_at 0 own ∷ []) → tells file ≡ Some (Some 0)
+    by_first : (file : List ℕ) → 2 ≤ length file → stands file ≡ Ok (kept_at 0 own ∷ []) → reports file ≡ Some (Some 0)
     by_first [] long found = absurd (omega (arith, long))
     by_first (gate ∷ rest) long found = elim (cases_eq gate 0) [
       | inl closed ↦
@@ -180,7 +180,7 @@ module _ {D : Type 0} (device : Device D) where
   -- the other area is older, and the one that is read tells its generation, unless the journal is new
   record IsBeside (live : D) (rest : D) (side : Side) (level : ℕ) : Type 0 where
     pub older : IsOlder level (device.content rest)
-    pub of_generation : (tells (device.content live) ≡ Some (Some level)) ⊎ IsNewPair (device.content live) (device.content rest) side level
+    pub of_generation : (reports (device.content live) ≡ Some (Some level)) ⊎ IsNewPair (device.content live) (device.content rest) side level
 
   beside_by : (live : D) (spare : Option (Spare D)) → IsSome spare → IfSome spare (IsAlivePair device live)
       → IsBeside live (option_map_or (λ (s : Spare D). s.disk) spare live) (option_map_or (λ (s : Spare D). s.side) spare First) (option_map_or (λ (s : Spare D). s.generation) spare 0)
@@ -201,10 +201,10 @@ module _ {D : Type 0} (device : Device D) where
         let beside = beside_by (disk_of journal) (spare_of journal) two alive.pair in
         elim beside.of_generation [
           | inr new ↦ new
-          | inl told ↦
+          | inl reported ↦
               let now_empty = ap stands_in (sym (areas_are journal other two)) ∙ empty in
-              let none = stands_by (side_in journal) live (sym (both_older (side_in journal) (generation_in journal) live other told beside.older) ∙ now_empty) in
-              absurd (some_decoded (sym (tells_of_none live none) ∙ told))
+              let none = stands_by (side_in journal) live (sym (both_older (side_in journal) (generation_in journal) live other reported beside.older) ∙ now_empty) in
+              absurd (some_decoded (sym (reports_of_none live none) ∙ reported))
         ]
       where
         some_decoded : ◌≡◌ {A = Option (Option ℕ)} None (Some (Some (generation_in journal))) → ⊥
@@ -214,7 +214,7 @@ module _ {D : Type 0} (device : Device D) where
     file_none = stands_short live (omega (arith, ap length new_pair.empty))
 
     -- and then the first one gets the configuration, in a version that can tell the committee
-    module _ (version : Version) (tell : CanTell version node.charter) (new : Journal D) (same : spare_of new ≡ spare_of journal)
+    module _ (version : Version) (report : CanReport version node.charter) (new : Journal D) (same : spare_of new ≡ spare_of journal)
         (keeps : AtEachMoment device (disk_of journal) (disk_of new) (KeepsOrBegins version node live))
         (counts_now : (disk : D) (t : ℕ) (c : List ℕ) → t ≤ device.clock disk → device.outcome disk c → device.outcome_since disk t c)
         (is_outcome : (disk : D) → device.outcome disk (device.content disk)) (some : stands (device.content (disk_of new)) ≢ Ok []) where
@@ -242,20 +242,20 @@ module _ {D : Type 0} (device : Device D) where
 
       both_stand : stands_in (pair later other) ≡ Ok (kept_at 0 row ∷ [])
       both_stand =
-          both_older First 0 later other (tells_of_one later row version written (configuration_shape version node sound keys)) (inl (tells_short other (omega (arith, new_pair.other_short))))
+          both_older First 0 later other (reports_of_one later row version written (configuration_shape version node sound keys)) (inl (reports_short other (omega (arith, new_pair.other_short))))
           ∙ written
 
       begun_decoded : decoded_in node (pair later other) ≡ Ok (fresh node)
       begun_decoded =
           let own = kept_at 0 row in
-          decoded_pair_records node (pair later other) (own ∷ []) tt both_stand ∙ pair_alone node own (own_free node own (own_by_bytes node own version sound keys tell refl))
+          decoded_pair_records node (pair later other) (own ∷ []) tt both_stand ∙ pair_alone node own (own_free node own (own_by_bytes node own version sound keys report refl))
 
       begun_holds : IsSound node (fresh node) → Holds node (pair later other) (fresh node)
       begun_holds fresh_sound = record {
         front = row ∷ [];
         in_first = 1;
         base = fresh node;
-        begins = as_fresh version tell refl refl refl;
+        begins = as_fresh version report refl refl refl;
         events = [];
         journal = record {
           records = kept_at 0 row ∷ [];
@@ -271,4 +271,4 @@ module _ {D : Type 0} (device : Device D) where
 
       pub begun_in : (tables : Tables) → AreAtSound node tables (fresh node) → HoldsIn node (areas_of device new) tables
       begun_in tables at = subst (λ (areas : Areas). HoldsIn node areas tables) (sym areas_then)
-          (record { state = fresh node; told_as = begun_decoded; holds = begun_holds at.sound; at = at })
+          (record { state = fresh node; decoded_as = begun_decoded; holds = begun_holds at.sound; at = at })

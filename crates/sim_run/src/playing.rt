@@ -33,7 +33,7 @@ pub fn run<R: Wait, I: Read + Drop, W: Write, E: Write>(
     let mut gathered = Gathered::new(alloc);
     let ending = match play(rt, alloc, &mut script, writer, &mut gathered) {
         Ok(_) => None,
-        Err(ending) => Some(told(&mut gathered, ending)),
+        Err(ending) => Some(reported(&mut gathered, ending)),
     };
     if gathered.write_to(writer).is_err() {
         return 5;
@@ -42,7 +42,7 @@ pub fn run<R: Wait, I: Read + Drop, W: Write, E: Write>(
         None => 0,
         Some(ending) => {
             if let Ending::BadCommand = &ending {
-                tell_bad_line(alloc, errors, script.number());
+                report_bad_line(alloc, errors, script.number());
             }
             status_of(&ending)
         }
@@ -82,7 +82,7 @@ fn status_of(ending: &Ending) -> u8 {
 }
 
 // Adds the line of the ending, if it has one.
-fn told(gathered: &mut Gathered, ending: Ending) -> Ending {
+fn reported(gathered: &mut Gathered, ending: Ending) -> Ending {
     match ending {
         Ending::Fault(error) => match gathered.add_fault(&error) {
             Ok(()) => Ending::Fault(error),
@@ -92,7 +92,7 @@ fn told(gathered: &mut Gathered, ending: Ending) -> Ending {
     }
 }
 
-fn tell_bad_line<E: Write>(alloc: Global, errors: &mut E, number: u64) {
+fn report_bad_line<E: Write>(alloc: Global, errors: &mut E, number: u64) {
     if let Ok(line) = format!(in alloc; "line {number}: bad command\n") {
         let _ = errors.write_all(line.as_bytes());
     }
@@ -185,12 +185,12 @@ fn obey<'a, R: Wait, I: Read + Drop, W: Write>(
         return Err(Ending::BadCommand);
     };
     let (next, answer) = step(rt, alloc, running, labels, command)?;
-    let goes_on = tell(script, writer, gathered, labels, &answer)?;
+    let goes_on = report(script, writer, gathered, labels, &answer)?;
     Ok((next, goes_on))
 }
 
 // Writes the answer, and reads the next line; gives whether there is one.
-fn tell<I: Read + Drop, W: Write>(
+fn report<I: Read + Drop, W: Write>(
     script: &mut Script<I>,
     writer: &mut W,
     gathered: &mut Gathered,

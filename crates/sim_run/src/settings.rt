@@ -3,7 +3,7 @@
 
 use committee::{Committee, CommitteeError};
 use journal::Version;
-use opening::can_tell;
+use opening::can_report;
 use sigface::HashSign;
 use sim_script::{BATCHES, DEPTH, OWN, Setting, committee_file, signer};
 use std::alloc::{AllocError, Global};
@@ -39,7 +39,7 @@ impl Settings {
             Setting::FirstVersion => settings.version = Version::First,
         }
         match settings.committee(alloc)? {
-            Some(committee) if can_tell(settings.version, &committee) => Ok(Some(settings)),
+            Some(committee) if can_report(settings.version, &committee) => Ok(Some(settings)),
             _ => Ok(None),
         }
     }

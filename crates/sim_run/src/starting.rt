@@ -5,7 +5,7 @@ ghost use Rattle.journal.specs.Areas.{stands_in};
 ghost use Rattle.journal.specs.Journal.{spare_of, IsAlive};
 ghost use Rattle.journal.specs.Pairs.{areas_of};
 ghost use Rattle.opening.specs.Laws.{HoldsIn};
-ghost use Rattle.spec_records.specs.Records.{CanTell};
+ghost use Rattle.spec_records.specs.Records.{CanReport};
 ghost use Rattle.validator.specs.Setting.{node_of};
 ghost use Rattle.sim_run.specs.Running.{AreOne};
 
@@ -13,7 +13,7 @@ use crate::ending::Ending;
 use diskmodel::Disk;
 use journal::{Journal, Version};
 use node::{Flusher, Node, Seat};
-use opening::{can_tell, reopen_pair, write_configuration};
+use opening::{can_report, reopen_pair, write_configuration};
 use sigface::Sign;
 use std::alloc::Global;
 use validator::{Config, Validator};
@@ -48,7 +48,7 @@ pub fn start_in_first_version<'a, S: Sign, D: Disk + Drop>(
 {
     match Journal::open_pair(alloc, first, second) {
         Ok((journal, records)) => {
-            if records.is_empty() && can_tell(Version::First, config.committee()) {
+            if records.is_empty() && can_report(Version::First, config.committee()) {
                 return begin_in_first_version(alloc, config, journal);
             }
             let (first, second) = journal.into_disks();
@@ -67,7 +67,7 @@ fn begin_in_first_version<'a, S: Sign, D: Disk + Drop>(
     requires alive { IsAlive D.device journal }
     requires pair { IsSome (spare_of journal) }
     requires empty { stands_in (areas_of D.device journal) ≡ Ok [] }
-    requires can_tell { CanTell Version.First config.now.charter }
+    requires can_report { CanReport Version.First config.now.charter }
     ensures { IfOk result (λ started. AreOne S.scheme D.device config.now started.0 started.1 started.2) }
 {
     config.limits_hold();

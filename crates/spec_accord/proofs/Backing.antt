@@ -24,13 +24,13 @@ use Rattle.spec_laws.proofs.Meeting.{any_to}
 use Rattle.spec_laws.proofs.SlotsGrow.{completed-header}
 use Rattle.spec_laws.proofs.Votes.{one_header, slot_is}
 use Rattle.spec_accord.specs.Members.{Party, bodies_in, Signed, signed_in, HasVote, IsParty, IsMoment}
-use Rattle.spec_accord.proofs.Reading.{AreTold, signed_voted}
-use Rattle.spec_accord.proofs.Telling.{HasEvent, vote_event, certificate_event}
-use Rattle.spec_accord.proofs.Telling.{mapped_in, header_told, certificate_told}
+use Rattle.spec_accord.proofs.Reading.{AreReported, signed_voted}
+use Rattle.spec_accord.proofs.Reporting.{HasEvent, vote_event, certificate_event}
+use Rattle.spec_accord.proofs.Reporting.{mapped_in, header_reported, certificate_reported}
 
 -- a header is told of, and members who are a quorum voted for it, each honest one of them for good
-pub record IsBacked (party : Party) (Told : HeaderBody → Type 0) (body : HeaderBody) : Type 0 where
-  pub told : Told body
+pub record IsBacked (party : Party) (Reported : HeaderBody → Type 0) (body : HeaderBody) : Type 0 where
+  pub reported : Reported body
   pub voters : ℕ → Bool
   pub enough : quorum_of party.charter ≤ weight party.charter voters
   pub voted : (member : ℕ) → party.honest member ≡ true → voters member ≡ true → HasVote party member body
@@ -59,15 +59,15 @@ signs body member vote on =
     )
 
 -- What a member held at one moment, of which all headers are told of. Its own vote for an own header of a quorum's is one for good.
-module _ (party : Party) (signed : ℕ → Digest → Bool) (is : IsParty party signed) (Told : HeaderBody → Type 0) (all : AreTold party Told)
-    (holder : ℕ) (history : History) (at : IsMoment party signed holder history) (tells : (body : HeaderBody) → Contains (bodies_in history) body → Told body) where
+module _ (party : Party) (signed : ℕ → Digest → Bool) (is : IsParty party signed) (Reported : HeaderBody → Type 0) (all : AreReported party Reported)
+    (holder : ℕ) (history : History) (at : IsMoment party signed holder history) (reports : (body : HeaderBody) → Contains (bodies_in history) body → Reported body) where
   -- an honest member's good vote in it is one that it has for good
-  vote_stays : (m : Message) → HasEvent history m → (body : HeaderBody) → Told body → (vote : Signed) → Contains (signed_in m) vote → vote.digest ≡ certificate_digest body
+  vote_stays : (m : Message) → HasEvent history m → (body : HeaderBody) → Reported body → (vote : Signed) → Contains (signed_in m) vote → vote.digest ≡ certificate_digest body
       → party.honest vote.signer.0 ≡ true → is_signed party.charter party.accepts vote.signer vote.digest vote.signature ≡ true → HasVote party vote.signer.0 body
-  vote_stays m brought body told vote inside same by good =
+  vote_stays m brought body reported vote inside same by good =
       let inside' = subst (λ (x : Message). Contains (signed_in x) vote) (sym brought.is) inside in
       let gave = at.unforged brought.event brought.inside vote inside' by good in
-      signed_voted party signed is Told all vote.signer.0 by body told
+      signed_voted party signed is Reported all vote.signer.0 by body reported
       (subst (λ (d : Digest). signed vote.signer.0 d ≡ true) same gave)
 
   -- ---- certificates that came in
@@ -77,33 +77,33 @@ module _ (party : Party) (signed : ℕ → Digest → Bool) (is : IsParty party 
   IsGood digest entry = is_signed party.charter party.accepts entry.voter digest entry.signature ≡ true
 
   -- whose vote is good has it for good
-  entry_stays : (c : Certificate) → HasEvent history (message.Certificate c) → Told c.header → (entry : VoteEntry) → Contains c.votes entry
+  entry_stays : (c : Certificate) → HasEvent history (message.Certificate c) → Reported c.header → (entry : VoteEntry) → Contains c.votes entry
       → IsGood (certificate_digest c.header) entry → (member : ℕ) → party.honest member ≡ true → entry.voter.0 ≡ member → HasVote party member c.header
-  entry_stays c brought told entry inside good member by same =
+  entry_stays c brought reported entry inside good member by same =
       let digest = certificate_digest c.header in
       let as_signed : VoteEntry → Signed = λ v. record { signer = v.voter; digest = digest; signature = v.signature } in
       subst (λ (k : ℕ). HasVote party k c.header) same
-      (vote_stays (message.Certificate c) brought c.header told (as_signed entry)
+      (vote_stays (message.Certificate c) brought c.header reported (as_signed entry)
       (mapped_in as_signed c.votes entry inside) refl (subst (λ (k : ℕ). party.honest k ≡ true) (sym same) by) good)
 
-  received_backed : (c : Certificate) → Contains (received history) c → IsBacked party Told c.header
+  received_backed : (c : Certificate) → Contains (received history) c → IsBacked party Reported c.header
   received_backed c inside =
       let brought = certificate_event history c inside in
       let event = brought.event in
       let m = message.Certificate c in
-      let told : Told c.header = tells c.header (certificate_told history c inside) in
+      let reported : Reported c.header = reports c.header (certificate_reported history c inside) in
       let none = passed_as party.charter party.accepts event m brought.is (at.passed event brought.inside) in
       let taken = All-contains (IsTaken (party.node holder)) history event at.legal.taken brought.inside in
       let within = subst IsMessage brought.is taken.message in
       let good = message_signed party.charter party.accepts event.sender m none in
       let quorums = message_passes party.charter party.accepts event.sender m is.sound within none in
       record {
-        told = told;
+        reported = reported;
         voters = λ member. list_any (λ (v : VoteEntry). v.voter.0 == member) c.votes;
         enough = quorums.1;
         voted = λ member by voter.
             let found = any_to (λ (v : VoteEntry). v.voter.0 == member) c.votes voter in
-            entry_stays c brought told found.0 found.1
+            entry_stays c brought reported found.0 found.1
             (All-contains (IsGood (certificate_digest c.header)) c.votes found.0 good found.1)
             member by (eqb-true _ _ found.2);
       }
@@ -111,9 +111,9 @@ module _ (party : Party) (signed : ℕ → Digest → Bool) (is : IsParty party 
   -- ---- own certificates
 
   -- another member whose vote came in has it for good
-  other_stays : (body : HeaderBody) → Told body → (vote : Vote) → Contains (votes history) vote → (member : ℕ) → party.honest member ≡ true → is_vote_on body member vote ≡ true
+  other_stays : (body : HeaderBody) → Reported body → (vote : Vote) → Contains (votes history) vote → (member : ℕ) → party.honest member ≡ true → is_vote_on body member vote ≡ true
       → HasVote party member body
-  other_stays body told vote inside member by on =
+  other_stays body reported vote inside member by on =
       let brought = vote_event history vote inside in
       let event = brought.event in
       let m = message.Vote vote in
@@ -126,7 +126,7 @@ module _ (party : Party) (signed : ℕ → Digest → Bool) (is : IsParty party 
         signature = vote.signature;
       } in
       subst (λ (k : ℕ). HasVote party k body) says.0
-      (vote_stays (message.Vote vote) brought body told one
+      (vote_stays (message.Vote vote) brought body reported one
       (Contains-first [] one) says.1 (subst (λ (k : ℕ). party.honest k ≡ true) (sym says.0) by) good)
 
   -- another one whose vote on an own header counts has it for good
@@ -141,7 +141,7 @@ module _ (party : Party) (signed : ℕ → Digest → Bool) (is : IsParty party 
             elim (given_or_none (find (is_vote_on header.body member) (votes history))) [
               | inl some ↦
                   let found = found_passes (is_vote_on header.body member) (votes history) some.0 some.1 in
-                  other_stays header.body (tells header.body (header_told history header inside)) some.0 found.1 member by found.0
+                  other_stays header.body (reports header.body (header_reported history header inside)) some.0 found.1 member by found.0
               | inr none ↦ let bad = rw none at counted in absurd cc
             ]
       ]
@@ -152,7 +152,7 @@ module _ (party : Party) (signed : ℕ → Digest → Bool) (is : IsParty party 
       → quorum_of party.charter ≤ weight party.charter (has_voted (party.node holder) history header.body) → HasVote party holder header.body
 
   module _ (own_stays : OwnStays) where
-    completed_backed : (header : Header) → Contains (headers history) header → (c : Certificate) → completed (party.node holder) history header ≡ Some c → IsBacked party Told c.header
+    completed_backed : (header : Header) → Contains (headers history) header → (c : Certificate) → completed (party.node holder) history header ≡ Some c → IsBacked party Reported c.header
     completed_backed header inside c made =
         let node = party.node holder in
         let voters = has_voted node history header.body in
@@ -164,8 +164,8 @@ module _ (party : Party) (signed : ℕ → Digest → Bool) (is : IsParty party 
               let enough : quorum_of party.charter ≤ weight party.charter voters =
               subst (λ (c : Charter). quorum_of c ≤ weight c voters) (is.charter holder at.honest) (leb-true _ _ parts.1) in
               let author : header.body.author.0 ≡ holder = eqb-true _ _ parts.0 ∙ is.number holder at.honest in
-              let backed : IsBacked party Told header.body = record {
-                told = tells header.body (header_told history header inside);
+              let backed : IsBacked party Reported header.body = record {
+                reported = reports header.body (header_reported history header inside);
                 voters = voters;
                 enough = enough;
                 voted = λ member by voted. elim (cases_eq member holder) [
@@ -173,7 +173,7 @@ module _ (party : Party) (signed : ℕ → Digest → Bool) (is : IsParty party 
                   | inr differs ↦ counted_stays header inside member by differs voted
                 ];
               } in
-              subst (IsBacked party Told) (sym (completed-header node history header c made)) backed
+              subst (IsBacked party Reported) (sym (completed-header node history header c made)) backed
           | inr not ↦ let bad = rw not at made in absurd cc
         ]
 
@@ -181,7 +181,7 @@ module _ (party : Party) (signed : ℕ → Digest → Bool) (is : IsParty party 
 
     -- each that it holds is of the genesis or backed
     pub held_backed : (c : Certificate) → Contains (certificates (party.node holder) history) c
-        → Contains (map genesis (numbers (size_of (party.node holder)))) c ⊎ IsBacked party Told c.header
+        → Contains (map genesis (numbers (size_of (party.node holder)))) c ⊎ IsBacked party Reported c.header
     held_backed c inside =
         let node = party.node holder in
         let own = filter_map (completed node history) (headers history) in

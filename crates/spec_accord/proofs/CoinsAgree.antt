@@ -47,11 +47,11 @@ coins_say : (party : Party) (signed : ℕ → Digest → Bool) (value : ℕ → 
     → (member : ℕ) → party.honest member ≡ true
     → Says value 1 (coins (party.settled member))
 coins_say party signed value is coins_are member honest place x at =
-    let tells = coins_in_turn (party.node member) (party.settled member) place x (is.legal member honest) at in
+    let reports = coins_in_turn (party.node member) (party.settled member) place x (is.legal member honest) at in
     let coin : Coin = record { wave = place + 1; value = x } in
-    let event : Event = record { sender = tells.sender; message = message.Coin coin } in
+    let event : Event = record { sender = reports.sender; message = message.Coin coin } in
     let turn : place + 1 ≡ 1 + place = omega arith in
-    coins_are.each member honest event tells.told coin refl ∙ ap value turn
+    coins_are.each member honest event reports.reported coin refl ∙ ap value turn
 
 pub coins_agree : (party : Party) (signed : ℕ → Digest → Bool) (value : ℕ → ℕ) → IsParty party signed
     → HasCoins party value

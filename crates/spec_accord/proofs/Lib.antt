@@ -13,5 +13,5 @@ pub mod Reading
 pub mod Rising
 pub mod Rooted
 pub mod Segments
-pub mod Telling
+pub mod Reporting
 pub mod Whole

@@ -19,10 +19,10 @@ use Rattle.spec_laws.proofs.InSlots.{in_slots}
 use Rattle.spec_laws.proofs.Lists.{found_passes}
 use Rattle.spec_laws.proofs.Votes.{slot_is}
 use Rattle.spec_accord.specs.Accord.{HaveOneHeader}
-use Rattle.spec_accord.specs.Members.{Party, IsTold, bodies_in, HasVote, IsParty, IsMoment, HasHeaders, IsToldAt, HeadersAgreeEver}
+use Rattle.spec_accord.specs.Members.{Party, IsReported, bodies_in, HasVote, IsParty, IsMoment, HasHeaders, IsReportedAt, HeadersAgreeEver}
 use Rattle.spec_accord.proofs.Backing.{IsBacked, passed_as, counted_stays, OwnStays, held_backed, settled_moment, settled_stays}
-use Rattle.spec_accord.proofs.Reading.{AreTold, settled_told, one_by_header, signed_header}
-use Rattle.spec_accord.proofs.Telling.{header_event, header_told, told_within}
+use Rattle.spec_accord.proofs.Reading.{AreReported, settled_reported, one_by_header, signed_header}
+use Rattle.spec_accord.proofs.Reporting.{header_event, header_reported, reported_within}
 
 -- ---- backed headers
 
@@ -53,10 +53,10 @@ not_not true h = refl
 not_not false h = absurd cc
 
 -- of one author and round there is one: an honest member voted for both
-backed_once : (party : Party) (signed : ℕ → Digest → Bool) → IsParty party signed → (Told : HeaderBody → Type 0) → AreTold party Told → (one other : HeaderBody)
-    → IsBacked party Told one → IsBacked party Told other
+backed_once : (party : Party) (signed : ℕ → Digest → Bool) → IsParty party signed → (Reported : HeaderBody → Type 0) → AreReported party Reported → (one other : HeaderBody)
+    → IsBacked party Reported one → IsBacked party Reported other
     → one.round ≡ other.round → one.author.0 ≡ other.author.0 → one ≡ other
-backed_once party signed is Told all one other backed also round author =
+backed_once party signed is Reported all one other backed also round author =
     let shared =
     shared_member party.charter (λ m. not (party.honest m)) backed.voters also.voters is.sound is.few backed.enough also.enough in
     let member = shared.member in
@@ -66,7 +66,7 @@ backed_once party signed is Told all one other backed also round author =
     let honest = not_not (party.honest member) parts.1 in
     let first = backed.voted member honest both.0 in
     let second = also.voted member honest both.1 in
-    one_by_header party signed is Told all one other backed.told also.told
+    one_by_header party signed is Reported all one other backed.reported also.reported
     (same_Some _ _ (sym first ∙ ap (λ r. voted_digest history r one.author.0) round
     ∙ ap (voted_digest history other.round) author ∙ second))
 
@@ -102,22 +102,22 @@ genesis_once one other history charters legal round author c d inside at by held
     ap (λ (x : Certificate). x.header) same
 
 -- at two moments, where each has its own headers of a quorum's for good
-module _ (party : Party) (signed : ℕ → Digest → Bool) (is : IsParty party signed) (Told : HeaderBody → Type 0) (all : AreTold party Told)
+module _ (party : Party) (signed : ℕ → Digest → Bool) (is : IsParty party signed) (Reported : HeaderBody → Type 0) (all : AreReported party Reported)
     (one other : ℕ) (history also : History) (at : IsMoment party signed one history) (then : IsMoment party signed other also)
-    (tells : (body : HeaderBody) → Contains (bodies_in history) body → Told body) (tells' : (body : HeaderBody) → Contains (bodies_in also) body → Told body)
-    (own : OwnStays party signed is Told all one history at tells) (own' : OwnStays party signed is Told all other also then tells') where
+    (reports : (body : HeaderBody) → Contains (bodies_in history) body → Reported body) (reports' : (body : HeaderBody) → Contains (bodies_in also) body → Reported body)
+    (own : OwnStays party signed is Reported all one history at reports) (own' : OwnStays party signed is Reported all other also then reports') where
   pub moments_agree : HaveOneHeader (slots (party.node one) history) (slots (party.node other) also)
   moments_agree round author c d held there =
       let first = in_slot (party.node one) history round author c held in
       let second = in_slot (party.node other) also round author d there in
       let charters = is.charter one at.honest ∙ sym (is.charter other then.honest) in
-      elim (held_backed party signed is Told all one history at tells own c first.2) [
+      elim (held_backed party signed is Reported all one history at reports own c first.2) [
         | inl genesis ↦ genesis_once (party.node one) (party.node other) also charters then.legal round author c d genesis first.0 first.1 there
-        | inr backed ↦ elim (held_backed party signed is Told all other also then tells' own' d second.2) [
+        | inr backed ↦ elim (held_backed party signed is Reported all other also then reports' own' d second.2) [
           | inl genesis ↦ sym (genesis_once (party.node other) (party.node one) history (sym charters) at.legal round author d c genesis second.0 second.1 held)
           | inr backed' ↦
               let round = first.0 ∙ sym second.0 in
-              backed_once party signed is Told all c.header d.header backed backed' round (first.1 ∙ sym second.1)
+              backed_once party signed is Reported all c.header d.header backed backed' round (first.1 ∙ sym second.1)
         ]
       ]
 
@@ -127,10 +127,10 @@ pub headers_agree : (party : Party) (signed : ℕ → Digest → Bool) → IsPar
     → party.honest one ≡ true → party.honest other ≡ true
     → HaveOneHeader (slots (party.node one) (party.settled one)) (slots (party.node other) (party.settled other))
 headers_agree party signed is one other honest also =
-    let told : (member : ℕ) → party.honest member ≡ true → (body : HeaderBody) → Contains (bodies_in (party.settled member)) body → IsTold party body =
-    λ member by body inside. record { member = member; honest = by; told = inside } in
-    moments_agree party signed is (IsTold party) (settled_told party signed is) one other (party.settled one) (party.settled other)
-    (settled_moment party signed is one honest) (settled_moment party signed is other also) (told one honest) (told other also)
+    let reported : (member : ℕ) → party.honest member ≡ true → (body : HeaderBody) → Contains (bodies_in (party.settled member)) body → IsReported party body =
+    λ member by body inside. record { member = member; honest = by; reported = inside } in
+    moments_agree party signed is (IsReported party) (settled_reported party signed is) one other (party.settled one) (party.settled other)
+    (settled_moment party signed is one honest) (settled_moment party signed is other also) (reported one honest) (reported other also)
     (λ header inside author enough. settled_stays party signed is one honest header inside)
     (λ header inside author enough. settled_stays party signed is other also header inside)
 
@@ -138,8 +138,8 @@ headers_agree party signed is one other honest also =
 
 -- another honest member voted for an own header of a quorum's, since the member and those who aren't honest are too few; so the member gave
 -- it out, and has it for good
-module _ (party : Party) (signed : ℕ → Digest → Bool) (is : IsParty party signed) (Told : HeaderBody → Type 0) (all : AreTold party Told) (given : HasHeaders party signed)
-    (holder : ℕ) (history : History) (at : IsMoment party signed holder history) (tells : (body : HeaderBody) → Contains (bodies_in history) body → Told body) where
+module _ (party : Party) (signed : ℕ → Digest → Bool) (is : IsParty party signed) (Reported : HeaderBody → Type 0) (all : AreReported party Reported) (given : HasHeaders party signed)
+    (holder : ℕ) (history : History) (at : IsMoment party signed holder history) (reports : (body : HeaderBody) → Contains (bodies_in history) body → Reported body) where
   -- another honest member has the vote for it for good
   record IsVoted (body : HeaderBody) : Type 0 where
     pub member : ℕ
@@ -165,41 +165,41 @@ module _ (party : Party) (signed : ℕ → Digest → Bool) (is : IsParty party 
         member = member;
         honest = by;
         differs = differs;
-        voted = counted_stays party signed is Told all holder history at tells header inside member by differs both.0;
+        voted = counted_stays party signed is Reported all holder history at reports header inside member by differs both.0;
       }
 
-  pub stays_ever : OwnStays party signed is Told all holder history at tells
+  pub stays_ever : OwnStays party signed is Reported all holder history at reports
   stays_ever header inside author enough =
       let by = another header inside enough in
       let body = header.body in
       let settled = party.settled by.member in
       let found = voted_from settled body.round body.author.0 (header_digest body) by.voted in
-      let told = tells body (header_told history header inside) in
-      let told' = all.settled found.0.body (record { member = by.member; honest = by.honest; told = header_told settled found.0 found.1 }) in
-      let same : found.0.body ≡ body = one_by_header party signed is Told all found.0.body body told' told found.2 in
+      let reported = reports body (header_reported history header inside) in
+      let reported' = all.settled found.0.body (record { member = by.member; honest = by.honest; reported = header_reported settled found.0 found.1 }) in
+      let same : found.0.body ≡ body = one_by_header party signed is Reported all found.0.body body reported' reported found.2 in
       let brought = header_event settled found.0 found.1 in
       let none = passed_as party.charter party.accepts brought.event (message.Header found.0) brought.is (is.passed by.member by.honest brought.event brought.inside) in
       let good = message_signed party.charter party.accepts brought.event.sender (message.Header found.0) none in
       let of : found.0.body.author.0 ≡ holder = ap (λ (b : HeaderBody). b.author.0) same ∙ author in
       let gave = given.unforged by.member by.honest brought.event brought.inside found.0 brought.is (ap party.honest of ∙ at.honest) (λ it. by.differs (sym it ∙ of)) good in
-      signed_header party signed is Told all given holder at.honest body told
+      signed_header party signed is Reported all given holder at.honest body reported
       (subst (λ (m : ℕ). signed m (header_digest body) ≡ true) of (subst (λ (b : HeaderBody). signed found.0.body.author.0 (header_digest b) ≡ true) same gave))
 
 pub headers_agree_ever : HeadersAgreeEver
 headers_agree_ever party signed is given one other history also at then clash =
-    let Told : HeaderBody → Type 0 = IsToldAt party history also in
-    let all : AreTold party Told = record {
-      fits = λ body told. elim told [
-        | inl settled ↦ (settled_told party signed is).fits body settled
+    let Reported : HeaderBody → Type 0 = IsReportedAt party history also in
+    let all : AreReported party Reported = record {
+      fits = λ body reported. elim reported [
+        | inl settled ↦ (settled_reported party signed is).fits body settled
         | inr moment ↦ elim moment [
-          | inl inside ↦ told_within (party.node one) history at.legal body inside
-          | inr inside ↦ told_within (party.node other) also then.legal body inside
+          | inl inside ↦ reported_within (party.node one) history at.legal body inside
+          | inr inside ↦ reported_within (party.node other) also then.legal body inside
         ]
       ];
-      settled = λ body told. inl told;
+      settled = λ body reported. inl reported;
       clash = clash;
     } in
-    let tells : (body : HeaderBody) → Contains (bodies_in history) body → Told body = λ body inside. inr (inl inside) in
-    let tells' : (body : HeaderBody) → Contains (bodies_in also) body → Told body = λ body inside. inr (inr inside) in
-    moments_agree party signed is Told all one other history also at then tells tells'
-    (stays_ever party signed is Told all given one history at tells) (stays_ever party signed is Told all given other also then tells')
+    let reports : (body : HeaderBody) → Contains (bodies_in history) body → Reported body = λ body inside. inr (inl inside) in
+    let reports' : (body : HeaderBody) → Contains (bodies_in also) body → Reported body = λ body inside. inr (inr inside) in
+    moments_agree party signed is Reported all one other history also at then reports reports'
+    (stays_ever party signed is Reported all given one history at reports) (stays_ever party signed is Reported all given other also then reports')

@@ -9,8 +9,8 @@ use Rattle.wire.specs.Grammar.{IsHeaderBody}
 use Rattle.wire_read.proofs.Messages.{one_body}
 use Rattle.spec_model.specs.Slots.{header_digest, certificate_digest}
 use Rattle.spec_model.specs.Words.{Digest, HeaderBody}
-use Rattle.spec_accord.specs.Members.{Party, IsTold, HaveNoClash, header_text, HasVote, IsParty, HasHeaders}
-use Rattle.spec_accord.proofs.Telling.{told_within}
+use Rattle.spec_accord.specs.Members.{Party, IsReported, HaveNoClash, header_text, HasVote, IsParty, HasHeaders}
+use Rattle.spec_accord.proofs.Reporting.{reported_within}
 
 -- what stands after one letter is one
 after_letter : (letter : ℕ) (one other : List ℕ) → letter ∷ one ≡ letter ∷ other → one ≡ other
@@ -25,10 +25,10 @@ same_front one other x y long same =
 -- ---- headers
 
 -- a header that an honest member tells of is within its limits
-told_fits : (party : Party) (signed : ℕ → Digest → Bool) → IsParty party signed → (body : HeaderBody)
-    → IsTold party body → IsHeaderBody body
-told_fits party signed is body told =
-    told_within (party.node told.member) (party.settled told.member) (is.legal told.member told.honest) body told.told
+reported_fits : (party : Party) (signed : ℕ → Digest → Bool) → IsParty party signed → (body : HeaderBody)
+    → IsReported party body → IsHeaderBody body
+reported_fits party signed is body reported =
+    reported_within (party.node reported.member) (party.settled reported.member) (is.legal reported.member reported.honest) body reported.reported
 
 -- the letters differ
 two_letters : (one other : List ℕ) → 72 ∷ one ≡ 67 ∷ other → ⊥
@@ -36,26 +36,26 @@ two_letters one other same =
     let letter : 72 ≡ 67 = ap (λ (text : List ℕ). get_or text 0 0) same in absurd (omega (arith, letter))
 
 -- headers that are told of, of a party's settled histories at least: they are within their limits, and no two texts of them share a digest
-pub record AreTold (party : Party) (Told : HeaderBody → Type 0) : Type 0 where
-  pub fits : (body : HeaderBody) → Told body → IsHeaderBody body
-  pub settled : (body : HeaderBody) → IsTold party body → Told body
-  pub clash : HaveNoClash Told
+pub record AreReported (party : Party) (Reported : HeaderBody → Type 0) : Type 0 where
+  pub fits : (body : HeaderBody) → Reported body → IsHeaderBody body
+  pub settled : (body : HeaderBody) → IsReported party body → Reported body
+  pub clash : HaveNoClash Reported
 
 -- those of the settled histories alone
-pub settled_told : (party : Party) (signed : ℕ → Digest → Bool) → IsParty party signed → AreTold party (IsTold party)
-settled_told party signed is = record { fits = told_fits party signed is; settled = λ body told. told; clash = is.clash }
+pub settled_reported : (party : Party) (signed : ℕ → Digest → Bool) → IsParty party signed → AreReported party (IsReported party)
+settled_reported party signed is = record { fits = reported_fits party signed is; settled = λ body reported. reported; clash = is.clash }
 
-module _ (party : Party) (signed : ℕ → Digest → Bool) (is : IsParty party signed) (Told : HeaderBody → Type 0) (all : AreTold party Told) where
+module _ (party : Party) (signed : ℕ → Digest → Bool) (is : IsParty party signed) (Reported : HeaderBody → Type 0) (all : AreReported party Reported) where
   -- two such headers of one digest are one
-  pub one_by_header : (one other : HeaderBody) → Told one → Told other → header_digest one ≡ header_digest other → one ≡ other
-  one_by_header one other told also same =
-      let text = all.clash.headers one other told also (ap (λ (d : Digest). d.0) same) in
-      one_body one other (all.fits one told) (all.fits other also) (after_letter 72 _ _ text)
+  pub one_by_header : (one other : HeaderBody) → Reported one → Reported other → header_digest one ≡ header_digest other → one ≡ other
+  one_by_header one other reported also same =
+      let text = all.clash.headers one other reported also (ap (λ (d : Digest). d.0) same) in
+      one_body one other (all.fits one reported) (all.fits other also) (after_letter 72 _ _ text)
 
   -- and so are two whose certificates have one digest
-  pub one_by_certificate : (one other : HeaderBody) → Told one → Told other → certificate_digest one ≡ certificate_digest other → one ≡ other
-  one_by_certificate one other told also same =
-      let text = all.clash.certificates one other told also (ap (λ (d : Digest). d.0) same) in
+  pub one_by_certificate : (one other : HeaderBody) → Reported one → Reported other → certificate_digest one ≡ certificate_digest other → one ≡ other
+  one_by_certificate one other reported also same =
+      let text = all.clash.certificates one other reported also (ap (λ (d : Digest). d.0) same) in
       let digest = header_digest_of in
       let round : HeaderBody → List ℕ = λ body. to_be_bytes w64 body.round in
       let author : HeaderBody → List ℕ = λ body. to_be_bytes w16 body.author.0 in
@@ -64,28 +64,28 @@ module _ (party : Party) (signed : ℕ → Digest → Bool) (is : IsParty party 
       sym (append_assoc (digest one) (round one) (author one)) ∙ after_letter 67 _ _ text
       ∙ append_assoc (digest other) (round other) (author other) in
       let front = same_front (digest one) (digest other) (round one ++ author one) (round other ++ author other) long parts in
-      one_by_header one other told also (ap (λ (bytes : List ℕ). record { 0 = bytes }) front)
+      one_by_header one other reported also (ap (λ (bytes : List ℕ). record { 0 = bytes }) front)
 
   -- ---- votes
 
   -- an honest member that signed a header's certificate in what it gave out has its vote for that header for good
-  pub signed_voted : (member : ℕ) → party.honest member ≡ true → (body : HeaderBody) → Told body → signed member (certificate_digest body) ≡ true → HasVote party member body
-  signed_voted member honest body told by =
+  pub signed_voted : (member : ℕ) → party.honest member ≡ true → (body : HeaderBody) → Reported body → signed member (certificate_digest body) ≡ true → HasVote party member body
+  signed_voted member honest body reported by =
       let was = is.given member honest (certificate_digest body) by in
-      let told' : Told was.body = all.settled was.body (record { member = member; honest = honest; told = was.told }) in
+      let reported' : Reported was.body = all.settled was.body (record { member = member; honest = honest; reported = was.reported }) in
       elim was.is [
-        | inl own ↦ absurd (two_letters _ _ (all.clash.both was.body body told' told (ap (λ (d : Digest). d.0) (sym own))))
+        | inl own ↦ absurd (two_letters _ _ (all.clash.both was.body body reported' reported (ap (λ (d : Digest). d.0) (sym own))))
         | inr vote ↦
-            let same = one_by_certificate body was.body told told' vote.0 in
+            let same = one_by_certificate body was.body reported reported' vote.0 in
             subst (HasVote party member) (sym same) vote.1
       ]
 
   -- and one that signed a header has it for good
-  pub signed_header : HasHeaders party signed → (member : ℕ) → party.honest member ≡ true → (body : HeaderBody) → Told body → signed member (header_digest body) ≡ true → HasVote party member body
-  signed_header headers member honest body told by =
+  pub signed_header : HasHeaders party signed → (member : ℕ) → party.honest member ≡ true → (body : HeaderBody) → Reported body → signed member (header_digest body) ≡ true → HasVote party member body
+  signed_header headers member honest body reported by =
       let was = headers.given member honest (header_digest body) by in
-      let told' : Told was.body = all.settled was.body (record { member = member; honest = honest; told = was.told }) in
+      let reported' : Reported was.body = all.settled was.body (record { member = member; honest = honest; reported = was.reported }) in
       elim was.is [
-        | inl own ↦ subst (HasVote party member) (sym (one_by_header body was.body told told' own)) was.voted
-        | inr vote ↦ absurd (two_letters _ _ (all.clash.both body was.body told told' (ap (λ (d : Digest). d.0) vote)))
+        | inl own ↦ subst (HasVote party member) (sym (one_by_header body was.body reported reported' own)) was.voted
+        | inr vote ↦ absurd (two_letters _ _ (all.clash.both body was.body reported reported' (ap (λ (d : Digest). d.0) vote)))
       ]

@@ -11,7 +11,7 @@ use Rattle.spec_model.specs.Nodes.{Node}
 use Rattle.spec_model.specs.Slots.{header_digest, certificate_digest}
 use Rattle.spec_model.specs.Words.{Author, Coin, Digest, Event, Header, HeaderBody, Message, Signature}
 use Rattle.wire.specs.Digests.{header_digest_of}
-use Rattle.wire.specs.Spelling.{header_body}
+use Rattle.wire.specs.Encoding.{header_body}
 use Rattle.wire.specs.declared.message.Message.TheVariants as message
 use Rattle.spec_accord.specs.Accord.{Agree, HaveOneHeader}
 
@@ -39,23 +39,23 @@ abbrev pub certificate_text : HeaderBody → List ℕ
 certificate_text body = 67 ∷ header_digest_of body ++ to_be_bytes w64 body.round ++ to_be_bytes w16 body.author.0
 
 -- a header is in an honest member's settled history, by itself or in a certificate
-pub record IsTold (party : Party) (body : HeaderBody) : Type 0 where
+pub record IsReported (party : Party) (body : HeaderBody) : Type 0 where
   pub member : ℕ
   pub honest : party.honest member ≡ true
-  pub told : Contains (bodies_in (party.settled member)) body
+  pub reported : Contains (bodies_in (party.settled member)) body
 
 -- no two different texts of these headers share a digest: neither those of two headers, nor those of two certificates, nor one of each
-pub record HaveNoClash (Told : HeaderBody → Type 0) : Type 0 where
-  pub headers : (one other : HeaderBody) → Told one → Told other
+pub record HaveNoClash (Reported : HeaderBody → Type 0) : Type 0 where
+  pub headers : (one other : HeaderBody) → Reported one → Reported other
       → sha256 (header_text one) ≡ sha256 (header_text other) → header_text one ≡ header_text other
-  pub certificates : (one other : HeaderBody) → Told one → Told other
+  pub certificates : (one other : HeaderBody) → Reported one → Reported other
       → sha256 (certificate_text one) ≡ sha256 (certificate_text other) → certificate_text one ≡ certificate_text other
-  pub both : (one other : HeaderBody) → Told one → Told other
+  pub both : (one other : HeaderBody) → Reported one → Reported other
       → sha256 (header_text one) ≡ sha256 (certificate_text other) → header_text one ≡ certificate_text other
 
 -- no clash among the headers in honest members' settled histories
 abbrev pub NoClash : Party → Type 0
-NoClash party = HaveNoClash (IsTold party)
+NoClash party = HaveNoClash (IsReported party)
 
 -- ---- signatures
 
@@ -88,7 +88,7 @@ HasVote party member body = voted_digest (party.settled member) body.round body.
 -- certificate of a header that it voted for
 pub record WasSigned (party : Party) (member : ℕ) (digest : Digest) : Type 0 where
   pub body : HeaderBody
-  pub told : Contains (bodies_in (party.settled member)) body
+  pub reported : Contains (bodies_in (party.settled member)) body
   pub is : (digest ≡ header_digest body) ⊎ ((digest ≡ certificate_digest body) × HasVote party member body)
 
 -- ---- agreement
@@ -149,7 +149,7 @@ pub record IsMoment (party : Party) (signed : ℕ → Digest → Bool) (member :
 -- a digest that a member signed in what it gave out is that of a header that it voted for, or that of such a header's certificate
 pub record WasVoted (party : Party) (member : ℕ) (digest : Digest) : Type 0 where
   pub body : HeaderBody
-  pub told : Contains (bodies_in (party.settled member)) body
+  pub reported : Contains (bodies_in (party.settled member)) body
   pub voted : HasVote party member body
   pub is : (digest ≡ header_digest body) ⊎ (digest ≡ certificate_digest body)
 
@@ -169,12 +169,12 @@ pub record HasHeaders (party : Party) (signed : ℕ → Digest → Bool) : Type 
       → WasVoted party member digest
 
 -- a header is in the settled history of an honest member, or in one of these two histories
-abbrev pub IsToldAt : Party → History → History → HeaderBody → Type 0
-IsToldAt party history also body = IsTold party body ⊎ Contains (bodies_in history) body ⊎ Contains (bodies_in also) body
+abbrev pub IsReportedAt : Party → History → History → HeaderBody → Type 0
+IsReportedAt party history also body = IsReported party body ⊎ Contains (bodies_in history) body ⊎ Contains (bodies_in also) body
 
 -- under these premises all certificates of one author and round that honest members ever held, settled or not, have the same header
 abbrev pub HeadersAgreeEver : Type 0
 HeadersAgreeEver = (party : Party) (signed : ℕ → Digest → Bool) → IsParty party signed → HasHeaders party signed
     → (one other : ℕ) (history also : History) → IsMoment party signed one history → IsMoment party signed other also
-    → HaveNoClash (IsToldAt party history also)
+    → HaveNoClash (IsReportedAt party history also)
     → HaveOneHeader (slots (party.node one) history) (slots (party.node other) also)

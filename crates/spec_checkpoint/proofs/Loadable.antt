@@ -13,7 +13,7 @@ use Rattle.journal.specs.declared.version.Version.{Version}
 use Rattle.journal.specs.declared.version.Version.TheVariants.{First, Second}
 use Rattle.spec_model.specs.Holdings.{is_low}
 use Rattle.spec_model.specs.Nodes.{Node, IsNode, size_of}
-use Rattle.spec_records.specs.Records.{configuration_of, CanTell}
+use Rattle.spec_records.specs.Records.{configuration_of, CanReport}
 use Rattle.spec_checkpoint.specs.Data.{Checkpoint, KeptVote}
 use Rattle.spec_checkpoint.specs.Faults.{is_vote_sound, record_tests, is_whole_sound, has_no_fault}
 use Rattle.spec_checkpoint.specs.Laws.{ReadAsWritten, OneCheckpoint, LoadsTheSound}
@@ -90,22 +90,22 @@ or_other true other is = refl
 or_other false other is = is
 
 -- the version in which a record tells the node's configuration
-record Tells (node : Node) (bytes : List ℕ) : Type 0 where
+record Reports (node : Node) (bytes : List ℕ) : Type 0 where
   pub version : Version
-  pub can : CanTell version node.charter
+  pub can : CanReport version node.charter
   pub is : bytes ≡ configuration_of version node.charter node.own
 
-told : (node : Node) (bytes : List ℕ) → is_configuration node bytes ≡ true → Tells node bytes
-told node bytes is = elim (either (bytes_eq bytes (configuration_of Second node.charter node.own)) _ is) [
+reported : (node : Node) (bytes : List ℕ) → is_configuration node bytes ≡ true → Reports node bytes
+reported node bytes is = elim (either (bytes_eq bytes (configuration_of Second node.charter node.own)) _ is) [
   | inl second ↦ record { version = Second; can = tt; is = (bytes_eq-Decides bytes (configuration_of Second node.charter node.own)).0 second }
   | inr first ↦
       let both = and_parts (list_all (λ stake. stake == 1) node.charter.stakes) (bytes_eq bytes (configuration_of First node.charter node.own)) first in
       record { version = First; can = each_one node.charter.stakes both.0; is = (bytes_eq-Decides bytes (configuration_of First node.charter node.own)).0 both.1 }
 ]
 
-tells : (node : Node) (version : Version) → CanTell version node.charter → is_configuration node (configuration_of version node.charter node.own) ≡ true
-tells node Second can = let same = configuration_of Second node.charter node.own in rw ((bytes_eq-Decides same same).1 refl) refl
-tells node First can =
+reports : (node : Node) (version : Version) → CanReport version node.charter → is_configuration node (configuration_of version node.charter node.own) ≡ true
+reports node Second can = let same = configuration_of Second node.charter node.own in rw ((bytes_eq-Decides same same).1 refl) refl
+reports node First can =
     let same = configuration_of First node.charter node.own in
     or_other (bytes_eq same (configuration_of Second node.charter node.own)) _ (both_true (are_one node.charter.stakes can) ((bytes_eq-Decides same same).1 refl))
 
@@ -135,14 +135,14 @@ unfolding load_fault
 loadable node [] is fits none = absurd cc
 loadable node (first ∷ records) is fits none =
     let parts = some_fault (is_configuration node first) (fault_of_read node (checkpoint_read node records)) (Some (at_record 0)) (λ bad. cc) none in
-    let version = told node first parts.0 in
+    let version = reported node first parts.0 in
     let read = was_read node (checkpoint_read node records) parts.1 in
     let written = was_written node records read.0 (All-tail AreBytes first records fits) read.1 in
     let sound = no_fault node read.0 read.2 in (
       read.0,
       record {
         version = version.version;
-        can_tell = version.can;
+        can_report = version.can;
         are = ap (λ row. row ∷ records) version.is ∙ ap (λ rows. configuration_of version.version node.charter node.own ∷ rows) written.1;
         written = record { canonical = written.0; others = of_others node read.0 read.0.votes (all_sound node read.0 sound).votes };
         sound = no_fault_is_sound node read.0 is written.0 sound;
@@ -154,7 +154,7 @@ unfolding load_fault
 not_at_fault node records checkpoint are =
     let own = configuration_of are.version node.charter node.own in
     let none : load_fault node (own ∷ state_records checkpoint) ≡ None =
-    rw (tells node are.version are.can_tell, is_read node checkpoint are.written.canonical) (has_none node checkpoint (sound_has_no_fault node checkpoint are.written are.sound)) in
+    rw (reports node are.version are.can_report, is_read node checkpoint are.written.canonical) (has_none node checkpoint (sound_has_no_fault node checkpoint are.written are.sound)) in
     ap (load_fault node) are.are ∙ none
 
 pub loads_the_sound : LoadsTheSound

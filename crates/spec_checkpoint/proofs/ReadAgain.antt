@@ -8,7 +8,7 @@ use Rattle.std.proofs.lemmas.List.Elements.{All-head, All-tail, All-take, All-dr
 use Rattle.wire.specs.Fields.{IsDigest}
 use Rattle.wire.specs.Reading.{Read}
 use Rattle.wire.specs.Rising.{rises}
-use Rattle.wire.specs.Spelling.{certificate_bytes}
+use Rattle.wire.specs.Encoding.{certificate_bytes}
 use Rattle.wire_read.proofs.Messages.{IsKind}
 use Rattle.wire_read.proofs.EntryLists.{IsEntry}
 use Rattle.wire_read.proofs.RisingLists.{front_rises}

@@ -11,7 +11,7 @@ use Rattle.wire.specs.Batches.{batch_body}
 use Rattle.wire.specs.Fields.{IsNumber, IsDigest}
 use Rattle.wire.specs.Reading.{◌>>=◌, Read, number_at, digest_at, round_at, batch_at, header_at, votes_at, certificate_at}
 use Rattle.wire.specs.Rising.{rises, follows}
-use Rattle.wire.specs.Spelling.{header_bytes, votes_bytes, certificate_bytes}
+use Rattle.wire.specs.Encoding.{header_bytes, votes_bytes, certificate_bytes}
 use Rattle.wire.specs.declared.error.WireError.TheVariants.{NotCanonical}
 use Rattle.wire_read.proofs.BatchBodies.{contents_take, contents_again}
 use Rattle.wire_read.proofs.EntryLists.{IsEntry, counted_take, counted_again}

@@ -23,7 +23,7 @@ use Rattle.spec_model.specs.Words.{Author, Certificate, Digest, Header, Vote, Vo
 use Rattle.wire.proofs.DigestLemmas.{are_digest_bytes}
 use Rattle.wire.specs.Fields.{IsDigest, IsRound}
 use Rattle.wire.specs.References.{IsVoteEntry}
-use Rattle.wire.specs.Spelling.{header_body}
+use Rattle.wire.specs.Encoding.{header_body}
 use Rattle.wire.specs.declared.message.Message.TheVariants as message
 use Rattle.wire_read.proofs.Messages.{one_body}
 use Rattle.spec_checkpoint.specs.Data.{KeptVote, KeptHeader, Checkpoint, IsKeptVote, IsKeptHeader, IsKeptCertificate}

@@ -10,7 +10,7 @@ use Rattle.spec_model.specs.Nodes.{Node, size_of, quorum}
 use Rattle.spec_model.specs.Ordering.{top}
 use Rattle.spec_model.specs.Slots.{same_digest}
 use Rattle.spec_model.specs.Words.{Author, Certificate, HeaderBody, Message}
-use Rattle.wire.specs.Spelling.{header_body}
+use Rattle.wire.specs.Encoding.{header_body}
 use Rattle.wire.specs.declared.message.Message.TheVariants as message
 use Rattle.spec_checkpoint.specs.Data.{KeptBatch, KeptVote, KeptHeader, Checkpoint}
 use Rattle.spec_checkpoint.specs.Meaning.{kept_vote, listed, listed_floor, state_in}

@@ -7,7 +7,7 @@ use Rattle.journal.specs.declared.version.Version.{Version}
 use Rattle.journal.specs.declared.version.Version.TheVariants.{First, Second}
 use Rattle.spec_machine.specs.Sound.{IsSound}
 use Rattle.spec_model.specs.Nodes.{Node}
-use Rattle.spec_records.specs.Records.{configuration_of, CanTell}
+use Rattle.spec_records.specs.Records.{configuration_of, CanReport}
 use Rattle.spec_checkpoint.specs.Data.{Checkpoint, IsWritten}
 use Rattle.spec_checkpoint.specs.Faults.{record_tests, is_whole_sound}
 use Rattle.spec_checkpoint.specs.Meaning.{state_in}
@@ -43,7 +43,7 @@ load_fault node (first ∷ records) = if is_configuration node first then fault_
 -- These records are the node's configuration and then those that a node writes of a sound state.
 pub record AreLoadable (node : Node) (records : List (List ℕ)) (checkpoint : Checkpoint) : Type 0 where
   pub version : Version
-  pub can_tell : CanTell version node.charter
+  pub can_report : CanReport version node.charter
   pub are : records ≡ configuration_of version node.charter node.own ∷ state_records checkpoint
   pub written : IsWritten node checkpoint
   pub sound : IsSound node (state_in node checkpoint)

@@ -3,7 +3,7 @@ use Rattle.std.specs.Prelude.{ℕ, ◌+◌, ◌-◌, ◌*◌, ◌/◌, List, ◌
 use Rattle.std.specs.List.{flat_map, range_with_len}
 use Rattle.std.specs.Int.{w16, w32, w64, to_be_bytes}
 use Rattle.wire.specs.Batches.{batch_body}
-use Rattle.wire.specs.Spelling.{header_body, votes_bytes}
+use Rattle.wire.specs.Encoding.{header_body, votes_bytes}
 use Rattle.spec_model.specs.Words.{Certificate, Digest}
 use Rattle.spec_checkpoint.specs.Data.{KeptBatch, KeptVote, KeptHeader, Checkpoint}
 

@@ -73,8 +73,8 @@ module _ (cluster : Cluster) (worlds : Worlds) (member : ℕ) (at : Stands (clus
   world : World
   world = worlds member
 
-  told : (ballot : Ballot) (voted : IsVotedFor (settled_in (worlds member)) ballot) → Contains (bodies_in (settled_in (worlds member))) voted.header.body
-  told ballot voted =
+  reported : (ballot : Ballot) (voted : IsVotedFor (settled_in (worlds member)) ballot) → Contains (bodies_in (settled_in (worlds member))) voted.header.body
+  reported ballot voted =
       Contains-append_left (map (λ header. header.body) (headers (settled_in (worlds member)))) (map (λ certificate. certificate.header) (received (settled_in (worlds member)))) voted.header.body
       (made (headers (settled_in (worlds member))) voted.header voted.there)
 
@@ -88,7 +88,7 @@ module _ (cluster : Cluster) (worlds : Worlds) (member : ℕ) (at : Stands (clus
       → WasSigned (party_of cluster worlds) member (header_digest body)
   as_header given body there is =
       let voted = voted_there given (ballot_for body) there is in
-      record { body = voted.header.body; told = told (ballot_for body) voted; is = inl (ap (λ (b : Ballot). b.header) (sym voted.is)) }
+      record { body = voted.header.body; reported = reported (ballot_for body) voted; is = inl (ap (λ (b : Ballot). b.header) (sym voted.is)) }
 
   -- or that of the certificate of one with the vote
   as_vote : (given : Given) (ballot : Ballot) → Contains (worlds member).given given → vote_given given.outgoing ≡ Some ballot
@@ -100,7 +100,7 @@ module _ (cluster : Cluster) (worlds : Worlds) (member : ℕ) (at : Stands (clus
       one_header (cluster.node member) (settled_in (worlds member)) (settled_legal (cluster.node member) (worlds member) at) header voted.there in
       record {
         body = header.body;
-        told = told ballot voted;
+        reported = reported ballot voted;
         is = inr (ap vote_digest (sym voted.is), ap (option_map (λ (h : Header). header_digest h.body)) held);
       }
 
@@ -129,15 +129,15 @@ module _ (cluster : Cluster) (worlds : Worlds) (member : ℕ) (at : Stands (clus
   voted_of given digest (put_out (output.Header header)) same there is =
       let ballot = ballot_for header.body in
       let voted = voted_there given ballot there (ap vote_given same) in
-      record { body = voted.header.body; told = told ballot voted; voted = has_vote ballot voted; is = inl (sym (same_Some _ digest is) ∙ ap (λ (b : Ballot). b.header) (sym voted.is)) }
+      record { body = voted.header.body; reported = reported ballot voted; voted = has_vote ballot voted; is = inl (sym (same_Some _ digest is) ∙ ap (λ (b : Ballot). b.header) (sym voted.is)) }
   voted_of given digest (put_out (output.Vote vote)) same there is =
       let ballot : Ballot = record { author = vote.author; round = vote.round; header = vote.header } in
       let voted = voted_there given ballot there (ap vote_given same) in
-      record { body = voted.header.body; told = told ballot voted; voted = has_vote ballot voted; is = inr (sym (same_Some _ digest is) ∙ ap vote_digest (sym voted.is)) }
+      record { body = voted.header.body; reported = reported ballot voted; voted = has_vote ballot voted; is = inr (sym (same_Some _ digest is) ∙ ap vote_digest (sym voted.is)) }
   voted_of given digest (put_out (output.Certificate certificate)) same there is =
       let ballot = ballot_for certificate.header in
       let voted = voted_there given ballot there (ap vote_given same) in
-      record { body = voted.header.body; told = told ballot voted; voted = has_vote ballot voted; is = inr (sym (same_Some _ digest is) ∙ ap vote_digest (sym voted.is)) }
+      record { body = voted.header.body; reported = reported ballot voted; voted = has_vote ballot voted; is = inr (sym (same_Some _ digest is) ∙ ap vote_digest (sym voted.is)) }
   voted_of given digest (put_out (output.Batch batch)) same there is = absurd (none-some digest is)
   voted_of given digest (put_out (output.Ack to ack)) same there is = absurd (none-some digest is)
   voted_of given digest (put_out (output.Order start digests)) same there is = absurd (none-some digest is)

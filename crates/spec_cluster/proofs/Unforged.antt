@@ -9,7 +9,7 @@ use Rattle.std.proofs.lemmas.Slice.Eq.{bytes_eq-Decides}
 use Rattle.committee.specs.Charter.{numbers, weight}
 use Rattle.header.specs.Checks.{is_signed, vote_signed}
 use Rattle.spec_accord.specs.Members.{Signed}
-use Rattle.spec_accord.proofs.Telling.{vote_event, certificate_event}
+use Rattle.spec_accord.proofs.Reporting.{vote_event, certificate_event}
 use Rattle.spec_laws.proofs.Lists.{given_or_none, Contains-nothing, Contains-cases, Contains-first, Contains-made, found_passes}
 use Rattle.spec_laws.proofs.Meeting.{any_from, mapped_from, picked_was}
 use Rattle.spec_laws.proofs.Votes.{slot_is}
@@ -140,8 +140,8 @@ module _ (cluster : Cluster) (value : ℕ → ℕ) (worlds : Worlds) (members : 
 
   module _ (one : Given) (there : Contains (worlds member).given one) where
     -- and of what it was given out at
-    told_unforged : (event : Event) (m : Message) → event.message ≡ m → Contains one.history event → NoForgery cluster worlds m
-    told_unforged event m same inside =
+    reported_unforged : (event : Event) (m : Message) → event.message ≡ m → Contains one.history event → NoForgery cluster worlds m
+    reported_unforged event m same inside =
         let begins = taken_back.held one there in
         subst (NoForgery cluster worlds) same
         (settled_unforged event (subst (λ l. Contains l event) (sym begins.parts) (Contains-append_left one.history begins.rest event inside)))
@@ -188,7 +188,7 @@ module _ (cluster : Cluster) (value : ℕ → ℕ) (worlds : Worlds) (members : 
               let signed : Signed = record { signer = vote.voter; digest = vote_signed vote.header.0 vote.round vote.author; signature = vote.signature } in
               let as_entry : VoteEntry → Digest → Signed = λ e d. record { signer = e.voter; digest = d; signature = e.signature } in
               let is_entry : signed ≡ as_entry entry (digest_of certificate.header) = (λ i. as_entry (same i) (digest i)) in
-              let unforged = told_unforged event.event (message.Vote vote) event.is event.inside in
+              let unforged = reported_unforged event.event (message.Vote vote) event.is event.inside in
               subst (λ (s : Signed). has_signed (worlds s.signer.0) s.digest ≡ true) is_entry
               (unforged signed (Contains-first [] signed)
               (subst (λ (s : Signed). cluster.honest s.signer.0 ≡ true) (sym is_entry) signer)
@@ -211,7 +211,7 @@ module _ (cluster : Cluster) (value : ℕ → ℕ) (worlds : Worlds) (members : 
                   absurd (Contains-nothing entry.0 (subst (λ (c : Certificate). Contains c.votes entry.0) (sym found.2) entry.1))
               | inr came ↦
                   let event = certificate_event history certificate came in
-                  told_unforged event.event (message.Certificate certificate) event.is event.inside signed inside signer good
+                  reported_unforged event.event (message.Certificate certificate) event.is event.inside signed inside signer good
             ]
             | inr own ↦
                 let of = Contains-made (completed node history) (headers history) certificate own in

@@ -13,7 +13,7 @@ use Rattle.spec_world.specs.Promise.{order_given}
 use Rattle.spec_world.specs.Steps.{Move, accept, IsRun}
 use Rattle.spec_world.specs.World.{Given, World}
 use Rattle.spec_cluster.specs.Cluster.{Cluster, Worlds, Turn, AreMembers, IsReached, HaveRun}
-use Rattle.spec_cluster.specs.Premises.{FewFaulty, NoTwoTexts, Fair, ComesFair, NeedsOthers, NoForgedHeader, IsToldEver}
+use Rattle.spec_cluster.specs.Premises.{FewFaulty, NoTwoTexts, Fair, ComesFair, NeedsOthers, NoForgedHeader, IsReportedEver}
 
 -- an honest member held this certificate at some settled history, now or earlier: each such history is a prefix of what is settled now
 pub record HeldIt (cluster : Cluster) (worlds : Worlds) (member : ℕ) (certificate : Certificate) : Type 0 where
@@ -73,6 +73,6 @@ abbrev pub EverAgree : Type 0
 EverAgree = (cluster : Cluster) (value : ℕ → ℕ) (worlds : Worlds) → IsCharter cluster.charter → AreMembers cluster → FewFaulty cluster → NeedsOthers cluster
     → (have : HaveRun cluster (ComesFair cluster value worlds) worlds)
     → ((member : ℕ) → cluster.honest member ≡ true → (event : Event) → Contains (have.moves member) (accept event) → NoForgedHeader cluster worlds member event)
-    → HaveNoClash (IsToldEver cluster have.moves)
+    → HaveNoClash (IsReportedEver cluster have.moves)
     → (member also : ℕ) (one other : Certificate) → HeldEver cluster have.moves member one → HeldEver cluster have.moves also other
     → one.header.author ≡ other.header.author → one.header.round ≡ other.header.round → one.header ≡ other.header

@@ -84,9 +84,9 @@ abbrev pub EqualsNeedOthers : Type 0
 EqualsNeedOthers = (cluster : Cluster) → IsCharter cluster.charter → AreMembers cluster → All (λ stake. stake ≡ 1) cluster.charter.stakes → NeedsOthers cluster
 
 -- a header in some events that came in at an honest member, settled or not
-pub record IsToldEver (cluster : Cluster) (moves : ℕ → List Move) (body : HeaderBody) : Type 0 where
+pub record IsReportedEver (cluster : Cluster) (moves : ℕ → List Move) (body : HeaderBody) : Type 0 where
   pub member : ℕ
   pub honest : cluster.honest member ≡ true
   pub events : List Event
   pub came : (event : Event) → Contains events event → Contains (moves member) (accept event)
-  pub told : Contains (bodies_in events) body
+  pub reported : Contains (bodies_in events) body

@@ -16,7 +16,7 @@ use Rattle.spec_model.specs.Admitting.{admit, is_new, coin_answer, IsLegal}
 use Rattle.spec_model.specs.Histories.{History, coins, as_coin}
 use Rattle.spec_model.specs.Nodes.{Node}
 use Rattle.spec_model.specs.States.{State, whole}
-use Rattle.spec_laws.specs.Laws.{TellsCoin}
+use Rattle.spec_laws.specs.Laws.{ReportsCoin}
 use Rattle.spec_laws.proofs.Legal.{Adds, legal-induction}
 use Rattle.spec_laws.proofs.Lists.{filter_map-push}
 
@@ -39,14 +39,14 @@ at_push xs y place x is =
     ]
 
 -- what was told of is told of later
-tells_later : (history : History) (event : Event) (wave value : ℕ) → TellsCoin history wave value → TellsCoin (history ++ event ∷ []) wave value
-tells_later history event wave value tells =
-    let coin : Event = record { sender = tells.sender; message = message.Coin (record { wave = wave; value = value }) } in
-    record { sender = tells.sender; told = Contains-append_left history (event ∷ []) coin tells.told }
+reports_later : (history : History) (event : Event) (wave value : ℕ) → ReportsCoin history wave value → ReportsCoin (history ++ event ∷ []) wave value
+reports_later history event wave value reports =
+    let coin : Event = record { sender = reports.sender; message = message.Coin (record { wave = wave; value = value }) } in
+    record { sender = reports.sender; reported = Contains-append_left history (event ∷ []) coin reports.reported }
 
 -- each coin is told of in its turn
 abbrev AreInTurn : History → Type 0
-AreInTurn history = (place value : ℕ) → slice_get (coins history) place ≡ Some value → TellsCoin history (place + 1) value
+AreInTurn history = (place value : ℕ) → slice_get (coins history) place ≡ Some value → ReportsCoin history (place + 1) value
 
 -- a coin is its wave and its value
 same_coin : (coin : Coin) (wave value : ℕ) → coin.wave ≡ wave → coin.value ≡ value → coin ≡ record { wave = wave; value = value }
@@ -57,28 +57,29 @@ same_coin coin wave value is also =
 -- by the kind of the event
 in_turn_more : (node : Node) (history : History) (sender : Author) (m : Message) → is_new (admit node history (record { sender = sender; message = m })) ≡ true
     → AreInTurn history → (place value : ℕ) → slice_get (coins history ++ option_to_list (as_coin m)) place ≡ Some value
-    → TellsCoin (history ++ (record { sender = sender; message = m }) ∷ []) (place + 1) value
+    → ReportsCoin (history ++ (record { sender = sender; message = m }) ∷ []) (place + 1) value
 in_turn_more node history sender (message.Coin coin) fresh before place value is =
     let event : Event = record { sender = sender; message = message.Coin coin } in
     elim (at_push (coins history) coin.value place value is) [
-      | inl old ↦ tells_later history event (place + 1) value (before place value old)
+      | inl old ↦ reports_later history event (place + 1) value (before place value old)
       | inr new ↦
           let wave : coin.wave ≡ place + 1 = new_coin node (whole node history) (whole node (history ++ event ∷ [])) sender coin fresh ∙ ap (λ n. n + 1) (sym new.0) in
           let same = same_coin coin (place + 1) value wave (sym new.1) in
-          record { sender = sender; told = subst (λ (c : Coin). Contains (history ++ event ∷ []) (record { sender = sender; message = message.Coin c })) same (Contains-push history event) }
+          record { sender = sender; reported = subst (λ (c : Coin). Contains (history ++ event ∷ []) (record { sender = sender; message = message.Coin c })) same (Contains-push history event) }
     ]
 in_turn_more node history sender (message.Batch batch) fresh before place value is =
-    tells_later history (record { sender = sender; message = message.Batch batch }) (place + 1) value (before place value (subst (λ l. slice_get l place ≡ Some value) (append-nil (coins history)) is))
+    reports_later history (record { sender = sender; message = message.Batch batch }) (place + 1) value (before place value (subst (λ l. slice_get l place ≡ Some value) (append-nil
+    (coins history)) is))
 in_turn_more node history sender (message.BatchAck ack) fresh before place value is =
-    tells_later history (record { sender = sender; message = message.BatchAck ack }) (place + 1) value
+    reports_later history (record { sender = sender; message = message.BatchAck ack }) (place + 1) value
     (before place value (subst (λ l. slice_get l place ≡ Some value) (append-nil (coins history)) is))
 in_turn_more node history sender (message.Header header) fresh before place value is =
-    tells_later history (record { sender = sender; message = message.Header header }) (place + 1) value
+    reports_later history (record { sender = sender; message = message.Header header }) (place + 1) value
     (before place value (subst (λ l. slice_get l place ≡ Some value) (append-nil (coins history)) is))
 in_turn_more node history sender (message.Vote vote) fresh before place value is =
-    tells_later history (record { sender = sender; message = message.Vote vote }) (place + 1) value (before place value (subst (λ l. slice_get l place ≡ Some value) (append-nil (coins history)) is))
+    reports_later history (record { sender = sender; message = message.Vote vote }) (place + 1) value (before place value (subst (λ l. slice_get l place ≡ Some value) (append-nil (coins history)) is))
 in_turn_more node history sender (message.Certificate certificate) fresh before place value is =
-    tells_later history (record { sender = sender; message = message.Certificate certificate }) (place + 1) value
+    reports_later history (record { sender = sender; message = message.Certificate certificate }) (place + 1) value
     (before place value (subst (λ l. slice_get l place ≡ Some value) (append-nil (coins history)) is))
 
 in_turn_push : (node : Node) (history : History) (event : Event) → Adds node history event → AreInTurn history → AreInTurn (history ++ event ∷ [])
@@ -86,5 +87,5 @@ in_turn_push node history event adds before place value is =
     in_turn_more node history event.sender event.message adds.new before place value
     (subst (λ l. slice_get l place ≡ Some value) (filter_map-push (λ e. as_coin e.message) history event) is)
 
-pub coins_in_turn : (node : Node) (history : History) (place value : ℕ) → IsLegal node history → slice_get (coins history) place ≡ Some value → TellsCoin history (place + 1) value
+pub coins_in_turn : (node : Node) (history : History) (place value : ℕ) → IsLegal node history → slice_get (coins history) place ≡ Some value → ReportsCoin history (place + 1) value
 coins_in_turn node history place value legal = legal-induction node AreInTurn (λ p v none. absurd cc) (in_turn_push node) history legal place value

@@ -29,14 +29,14 @@ OneCertificate = (node : Node) (history : History) (one other : Certificate) →
     → one.header.author ≡ other.header.author → one.header.round ≡ other.header.round → one ≡ other
 
 -- a history contains the coin of a wave, with this value
-pub record TellsCoin (history : History) (wave value : ℕ) : Type 0 where
+pub record ReportsCoin (history : History) (wave value : ℕ) : Type 0 where
   pub sender : Author
-  pub told : Contains history (record { sender = sender; message = message.Coin (record { wave = wave; value = value }) })
+  pub reported : Contains history (record { sender = sender; message = message.Coin (record { wave = wave; value = value }) })
 
 -- the coins of a legal history came in wave by wave: the one at each place is that of the wave one above the place
 abbrev pub CoinsInTurn : Type 0
 CoinsInTurn = (node : Node) (history : History) (place value : ℕ) → IsLegal node history → slice_get (coins history) place ≡ Some value
-    → TellsCoin history (place + 1) value
+    → ReportsCoin history (place + 1) value
 
 -- with one more event a history has, of each kind, what it had and then what the event is. A look-up finds what it found before,
 -- and the event where it found nothing

@@ -8,7 +8,7 @@ use Rattle.std.proofs.lemmas.Nat.{from_be_bytes-to_be_bytes_2}
 use Rattle.committee.specs.Charter.{Charter, IsCharter}
 use Rattle.header.specs.Checks.{fault_of, accepts_all, is_member}
 use Rattle.wire.specs.Events.{Event}
-use Rattle.wire.specs.Spelling.{spelling}
+use Rattle.wire.specs.Encoding.{encoding}
 use Rattle.wire_read.proofs.Messages.{one_message}
 use Rattle.spec_records.specs.Records.{IsChecked, OneRecord, NoConfiguration}
 
@@ -32,8 +32,8 @@ one_record charter one other committee checked also same =
     let fits' = sender_fits charter other committee also in
     let sender : one.sender.0 ≡ other.sender.0 =
     sym (from_be_bytes-to_be_bytes_2 one.sender.0 fits) ∙ ap (λ (l : List ℕ). from_be_bytes w16 (take 2 (drop 1 l))) same ∙ from_be_bytes-to_be_bytes_2 other.sender.0 fits' in
-    let after : spelling one.message ≡ spelling other.message = ap (drop 3) same in
-    let message = (one_message one.message other.message [] [] checked.message also.message (append-nil (spelling one.message) ∙ after ∙ sym (append-nil (spelling other.message)))).0 in
+    let after : encoding one.message ≡ encoding other.message = ap (drop 3) same in
+    let message = (one_message one.message other.message [] [] checked.message also.message (append-nil (encoding one.message) ∙ after ∙ sym (append-nil (encoding other.message)))).0 in
     (λ i. record { sender = record { 0 = sender i }; message = message i })
 
 pub no_configuration : NoConfiguration

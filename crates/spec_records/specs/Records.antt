@@ -7,7 +7,7 @@ use Rattle.header.specs.Checks.{fault_of, accepts_all}
 use Rattle.wire.specs.Events.{Event}
 use Rattle.wire.specs.Fields.{HasBytes}
 use Rattle.wire.specs.Grammar.{IsMessage}
-use Rattle.wire.specs.Spelling.{spelling}
+use Rattle.wire.specs.Encoding.{encoding}
 use Rattle.wire.specs.declared.keys.Author.{Author}
 use Rattle.journal.specs.Configuration.{number_of}
 use Rattle.journal.specs.declared.version.Version.{Version}
@@ -15,7 +15,7 @@ use Rattle.journal.specs.declared.version.Version.TheVariants.{First, Second}
 
 -- the record of an event: its kind, the sender, the message
 abbrev pub record_of : Event → List ℕ
-record_of event = 1 ∷ to_be_bytes w16 event.sender.0 ++ spelling event.message
+record_of event = 1 ∷ to_be_bytes w16 event.sender.0 ++ encoding event.message
 
 -- ---- a node's configuration
 
@@ -32,9 +32,9 @@ configuration_of version charter own =
     ++ to_be_bytes w16 (length charter.keys) ++ flat_map (λ key. key.0) charter.keys ++ stakes_of version charter.stakes
 
 -- a version can express a committee: the first one has no stakes, so there each stake is 1
-abbrev pub CanTell : Version → Charter → Type 0
-CanTell First charter = All (λ stake. stake ≡ 1) charter.stakes
-CanTell Second charter = ⊤
+abbrev pub CanReport : Version → Charter → Type 0
+CanReport First charter = All (λ stake. stake ≡ 1) charter.stakes
+CanReport Second charter = ⊤
 
 -- a sound committee whose keys have 32 bytes each, and an own number that fits two bytes
 pub record IsConfiguration (charter : Charter) (own : Author) : Type 0 where
@@ -62,5 +62,5 @@ NoConfiguration = (event : Event) (version : Version) (charter : Charter) (own :
 -- no two configurations that their versions can express have the same record
 abbrev pub OneConfiguration : Type 0
 OneConfiguration = (version other : Version) (charter also : Charter) (own number : Author) → IsConfiguration charter own → IsConfiguration also number
-    → CanTell version charter → CanTell other also → configuration_of version charter own ≡ configuration_of other also number
+    → CanReport version charter → CanReport other also → configuration_of version charter own ≡ configuration_of other also number
     → (charter ≡ also) × (own ≡ number)

@@ -4,12 +4,12 @@ use Rattle.std.specs.Prelude.{All}
 use Rattle.std.specs.List.{flat_map}
 use Rattle.std.proofs.lemmas.List.Elements.{All-nil, All-cons, All-head, All-tail}
 use Rattle.diskmodel.proofs.Calls.{possible_durable}
-use Rattle.journal.specs.Areas.{Areas, alone, pair, generation_of, tells, chosen, stands_in}
+use Rattle.journal.specs.Areas.{Areas, alone, pair, generation_of, reports, chosen, stands_in}
 use Rattle.journal.specs.Configuration.{size_in, has_front, is_configuration, shaped_version}
 use Rattle.journal.specs.Format.{FitsGroup, body_len, body_bytes, sized_body, group_bytes, length_field, body_at, group_of, kept_at, kept, walk, stands}
 use Rattle.journal.specs.declared.record.Record.{Record}
 use Rattle.journal.specs.declared.side.Side.TheVariants as sides
-use Rattle.journal.proofs.Telling.{tells_closed, tells_first, both_older}
+use Rattle.journal.proofs.Reporting.{reports_closed, reports_first, both_older}
 use Rattle.diskmodel.specs.Outcomes.{AreBytes}
 use Rattle.spec_world.proofs.Starting.{starts_fresh}
 use Rattle.spec_machine.specs.Machine.{fresh}
@@ -116,10 +116,10 @@ group_is_read group fits =
     let records : on.records ≡ group = sym (bytes_of-kept 0 on.records) ∙ ap bytes_of (sym same) ∙ bytes_of-kept 0 group in
     record { body = on.body; at_body = on.at_body; is_group = on.is_group ∙ ap Some records }
 
-pub tells_first_group : (group : List (List ℕ)) → FitsGroup group → tells (1 ∷ group_bytes group) ≡ Some (generation_of group)
-tells_first_group group fits =
+pub reports_first_group : (group : List (List ℕ)) → FitsGroup group → reports (1 ∷ group_bytes group) ≡ Some (generation_of group)
+reports_first_group group fits =
     let is = group_is_read group fits in
-    tells_first 1 (group_bytes group) (λ one. omega arith) (omega (arith, length-append (sized_body group) (0 ∷ [])))
+    reports_first 1 (group_bytes group) (λ one. omega arith) (omega (arith, length-append (sized_body group) (0 ∷ [])))
     ∙ ap (λ (o : Option (List ℕ)). Some (option_and_then (λ body. option_and_then generation_of (group_of body)) o)) is.at_body
     ∙ ap (λ (o : Option (List (List ℕ))). Some (option_and_then generation_of o)) is.is_group
 
@@ -147,10 +147,10 @@ shaped node sound keys =
     let is = shape_is node (omega (arith, sound.charter.size)) (omega (arith, long, stakes, both, sound.charter.staked)) in
     (λ i. cond (not_first node i) (Some First) (cond (is i) (Some Second) None))
 
-pub first_tells : (node : Node) → IsNode node → AreKeys node → tells (first_bytes node) ≡ Some (Some 0)
+pub first_reports : (node : Node) → IsNode node → AreKeys node → reports (first_bytes node) ≡ Some (Some 0)
 unfolding generation_of
-first_tells node sound keys =
-    tells_first_group (own_configuration Second node ∷ []) (configuration_fits node sound keys)
+first_reports node sound keys =
+    reports_first_group (own_configuration Second node ∷ []) (configuration_fits node sound keys)
     ∙ ap (λ (o : Option Version). Some (option_map (λ version. 0) o)) (shaped node sound keys)
 
 -- ---- runs
@@ -213,12 +213,12 @@ module _ (node : Node) (sound : IsNode node) (keys : AreKeys node) where
   }
 
   nothing_stands : stands_in (pair [] []) ≡ Ok []
-  unfolding stands_in tells chosen
+  unfolding stands_in reports chosen
   nothing_stands = refl
 
   begins_on_two : IsRun node [] (run_on (first_pair node) [] [])
   begins_on_two =
-      let told = first_tells node sound keys in
+      let reported = first_reports node sound keys in
       record {
         first = run_on (first_pair node) [] [];
         begins = inr (record {
@@ -227,10 +227,10 @@ module _ (node : Node) (sound : IsNode node) (keys : AreKeys node) where
           stands_for = as_empty nothing_stands (starts_fresh node);
           disks = first_pair node;
           opened = record {
-            holds = first_holds (pair (first_bytes node) (CLOSED ∷ [])) (both_older sides.First 0 (first_bytes node) (CLOSED ∷ []) told (inl (tells_closed 0 [] refl)));
+            holds = first_holds (pair (first_bytes node) (CLOSED ∷ [])) (both_older sides.First 0 (first_bytes node) (CLOSED ∷ []) reported (inl (reports_closed 0 [] refl)));
             ends_closed = first_ends;
             are_bytes = first_are;
-            spare = record { told = told; at_rest = inl refl; are_bytes = closed_bytes };
+            spare = record { reported = reported; at_rest = inl refl; are_bytes = closed_bytes };
           };
           is = refl;
         });

@@ -9,7 +9,7 @@ use Rattle.journal.specs.Format.{as_written, with_gate, group_bytes}
 use Rattle.journal.specs.declared.layout.TheConstants.{CLOSED}
 use Rattle.journal.specs.declared.side.Side.{Side}
 use Rattle.journal.specs.declared.version.Version.TheVariants.{Second}
-use Rattle.journal.proofs.Telling.{tells_closed, both_older}
+use Rattle.journal.proofs.Reporting.{reports_closed, both_older}
 use Rattle.journal.specs.Format.{FitsGroup}
 use Rattle.spec_checkpoint.specs.Data.{KeptVote, IsKeptBatch, IsKeptVote, IsKeptHeader, IsKeptCertificate, IsWritten, blank}
 use Rattle.wire.specs.Fields.{IsDigest}
@@ -22,7 +22,7 @@ use Rattle.spec_model.specs.Nodes.{Node, IsNode}
 use Rattle.spec_model.specs.States.{State}
 use Rattle.spec_world.specs.World.{Spare, own_configuration, BeginsAs, as_fresh, as_checkpoint, Holds, IsCheckpointOf, IsOpened, events_of, durable_in, run_on}
 use Rattle.spec_world.specs.Runs.{AreKeys, first_bytes, two_on, HistoriesBeginOnTwo}
-use Rattle.spec_world.proofs.Beginning.{empty_legal, first_holds, first_ends, first_are, closed_bytes, first_tells}
+use Rattle.spec_world.proofs.Beginning.{empty_legal, first_holds, first_ends, first_are, closed_bytes, first_reports}
 use Rattle.spec_world.proofs.Bytes.{one_more, number_bytes, configuration_are, group_are}
 use Rattle.spec_world.proofs.Checkpoints.{groups_are}
 use Rattle.spec_world.proofs.Groups.{take_none}
@@ -87,13 +87,13 @@ module _ (blank_is_fresh : BlankIsFresh) (node : Node) (sound : IsNode node) (ke
 
   first_on : (side : Side) → IsOpened node (two_on (first_bytes node) gate side 0) (kept node [])
   first_on side =
-      let told = first_tells node sound keys in
-      let reads = both_older side 0 (first_bytes node) gate told (inl (tells_closed 0 [] refl)) in
+      let reported = first_reports node sound keys in
+      let reads = both_older side 0 (first_bytes node) gate reported (inl (reports_closed 0 [] refl)) in
       record {
         holds = as_read node side (first_bytes node) (pair_of side (first_bytes node) gate) (kept node []) fresh_holds reads;
         ends_closed = first_ends node sound keys;
         are_bytes = first_are node sound keys;
-        spare = record { told = told; at_rest = inl refl; are_bytes = closed_bytes node sound keys };
+        spare = record { reported = reported; at_rest = inl refl; are_bytes = closed_bytes node sound keys };
       }
 
   module _ (generation : ℕ) (some : 1 ≤ generation) (small : generation < 2 ^ 64) where
@@ -117,13 +117,13 @@ module _ (blank_is_fresh : BlankIsFresh) (node : Node) (sound : IsNode node) (ke
     later_on side =
         let live = 1 ∷ group_bytes front in
         let areas = pair_of side live gate in
-        let reads = both_older side generation live gate nothing_kept.told (inl (tells_closed 0 [] refl)) in
+        let reads = both_older side generation live gate nothing_kept.reported (inl (reports_closed 0 [] refl)) in
         record {
           holds = checkpoint_holds node areas side generation (kept node []) (group_bytes front) (pair_is side live gate) reads sound
               (kept_is_sound node [] (empty_legal node sound)) nothing_kept;
           ends_closed = nothing_kept.ends_closed;
           are_bytes = one_more 1 (group_bytes front) (omega arith) front_are;
-          spare = record { told = nothing_kept.told; at_rest = inl refl; are_bytes = closed_bytes node sound keys };
+          spare = record { reported = nothing_kept.reported; at_rest = inl refl; are_bytes = closed_bytes node sound keys };
         }
 
   -- two disks for the empty history
@@ -153,6 +153,6 @@ histories_begin_on_two blank_is_fresh node history side generation legal keys sm
             (subst (λ (s : Option Spare). Holds node (areas_with s at.file at.rest) (kept node (world.began ++ durable_in world))) settled.beside at.holds);
         ends_closed = at.ends_closed;
         are_bytes = at.are_bytes;
-        spare = record { told = beside.told; at_rest = beside.at_rest; are_bytes = beside.are_bytes };
+        spare = record { reported = beside.reported; at_rest = beside.at_rest; are_bytes = beside.are_bytes };
       },
     )

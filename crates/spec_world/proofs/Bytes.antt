@@ -18,7 +18,7 @@ use Rattle.wire.specs.Batches.{BatchView, transaction_bytes, batch_body, IsTrans
 use Rattle.wire.specs.Fields as fields
 use Rattle.wire.specs.Grammar.{IsHeaderBody, IsMessage}
 use Rattle.wire.specs.References.{IsBatchReference, IsParentReference, IsVoteEntry, AreBatches, AreParents, AreVotes}
-use Rattle.wire.specs.Spelling.{batch_reference_bytes, parent_reference_bytes, vote_entry_bytes, batches_bytes, parents_bytes, votes_bytes, header_body, spelling}
+use Rattle.wire.specs.Encoding.{batch_reference_bytes, parent_reference_bytes, vote_entry_bytes, batches_bytes, parents_bytes, votes_bytes, header_body, encoding}
 use Rattle.wire.specs.declared.header.HeaderBody.{HeaderBody}
 use Rattle.wire.specs.declared.keys.Key.{Key}
 use Rattle.wire.specs.declared.message.Message.{Message}
@@ -89,7 +89,7 @@ body_are body is =
     let are : AreBytes lists = joined (batches_bytes body.batches) (parents_bytes body.parents) (references_are body.batches is.batches) (parents_are body.parents is.parents) in
     with_two body.author.0 (to_be_bytes w64 body.round ++ lists) (with_eight body.round lists are)
 
-message_are : (m : Message) → IsMessage m → AreBytes (spelling m)
+message_are : (m : Message) → IsMessage m → AreBytes (encoding m)
 message_are (message.Batch batch) is = one_more 1 (batch_body batch) (omega arith) (batch_are batch is)
 message_are (message.BatchAck ack) is =
     one_more 2 (to_be_bytes w16 ack.author.0 ++ ack.batch.0) (omega arith) (with_two ack.author.0 ack.batch.0 is.batch.each)
@@ -113,8 +113,8 @@ message_are (message.Coin coin) is =
 
 record_are : (node : Node) (event : Event) → IsTaken node event → AreBytes (record_of event)
 record_are node event is =
-    let rest = to_be_bytes w16 event.sender.0 ++ spelling event.message in
-    one_more 1 rest (omega arith) (with_two event.sender.0 (spelling event.message) (message_are event.message is.message))
+    let rest = to_be_bytes w16 event.sender.0 ++ encoding event.message in
+    one_more 1 rest (omega arith) (with_two event.sender.0 (encoding event.message) (message_are event.message is.message))
 
 -- the number of a version is a byte
 number_small : (version : Version) → number_of version < 256

@@ -9,7 +9,7 @@ use Rattle.std.proofs.lemmas.List.{append-nil, map-append, take_at}
 use Rattle.std.proofs.lemmas.List.Elements.{All-nil, All-cons, All-head, All-tail}
 use Rattle.std.proofs.lemmas.Nat.{from_be_bytes-to_be_bytes_8}
 use Rattle.diskmodel.specs.Outcomes.{AreBytes}
-use Rattle.journal.specs.Areas.{head_record, head_in, generation_of, tells}
+use Rattle.journal.specs.Areas.{head_record, head_in, generation_of, reports}
 use Rattle.journal.specs.Format.{FitsGroup, body_len, sized_body, with_gate, in_turn, as_written, file_with, file_bytes, kept_at, kept, stands}
 use Rattle.journal.specs.Journal.{EndsClosed, with_group}
 use Rattle.journal.specs.Snapshot.{has_room, packed_after, packed, bytes_for, FitsAlone}
@@ -25,10 +25,10 @@ use Rattle.spec_checkpoint.specs.Meaning as checkpoint
 use Rattle.spec_model.specs.Nodes.{Node, IsNode}
 use Rattle.spec_world.specs.World.{IsJournal, own_configuration, IsCheckpointOf}
 use Rattle.spec_world.specs.Runs.{AreKeys, SnapshotsAreCheckpoints}
-use Rattle.spec_world.proofs.Beginning.{configuration_short, empty_ends, shaped, tells_first_group}
+use Rattle.spec_world.proofs.Beginning.{configuration_short, empty_ends, shaped, reports_first_group}
 use Rattle.spec_world.proofs.Disks.{whole_keeps, longer_stands, longer_ends}
 use Rattle.spec_world.proofs.Recovering.{gates_at, journal_grows}
-use Rattle.spec_world.proofs.Rewriting.{keeps_telling}
+use Rattle.spec_world.proofs.Rewriting.{keeps_reporting}
 
 -- ---- groups one after the other
 
@@ -52,7 +52,7 @@ one_more groups group =
 -- a file whose first group is followed by others
 record IsFile (generation : ℕ) (records : List (List ℕ)) (file : List ℕ) : Type 0 where
   ends_closed : EndsClosed file
-  told : tells file ≡ Some (Some generation)
+  reported : reports file ≡ Some (Some generation)
   journal : IsJournal (stands file) records 2 []
   many : 2 ≤ length records
 
@@ -60,7 +60,7 @@ with_one : (generation : ℕ) (records : List (List ℕ)) (file : List ℕ) (gro
     → IsFile generation (records ++ group) (file_with file group)
 with_one generation records file group is fits = record {
   ends_closed = longer_ends file is.ends_closed group fits;
-  told = keeps_telling file (file_with file group) (Some generation) is.ends_closed is.told (whole_keeps file is.ends_closed group) ∙ is.told;
+  reported = keeps_reporting file (file_with file group) (Some generation) is.ends_closed is.reported (whole_keeps file is.ends_closed group) ∙ is.reported;
   journal = journal_grows (stands file) (stands (file_with file group)) records group 2 (length file - 1) is.journal (omega arith) is.many
       (λ found stand. gates_before file is.ends_closed found stand) (longer_stands file is.ends_closed group fits);
   many = omega (arith, is.many, length-append records group);
@@ -95,12 +95,12 @@ unfolding generation_of
 first_group node generation sound keys some small =
     let group = own_configuration Second node ∷ head_record generation ∷ [] in
     let fits : FitsGroup group = record { some = omega arith; not_many = omega arith; not_long = omega (arith, configuration_short node sound keys) } in
-    let told : tells (file_with (0 ∷ []) group) ≡ Some (Some generation) =
-    tells_first_group group fits ∙ ap (λ (o : Option Version). Some (option_and_then (λ version. head_in (head_record generation)) o)) (shaped node sound keys)
+    let reported : reports (file_with (0 ∷ []) group) ≡ Some (Some generation) =
+    reports_first_group group fits ∙ ap (λ (o : Option Version). Some (option_and_then (λ version. head_in (head_record generation)) o)) (shaped node sound keys)
     ∙ ap Some (head_back generation some small) in
     let is : IsFile generation group (file_with (0 ∷ []) group) = record {
       ends_closed = longer_ends (0 ∷ []) empty_ends group fits;
-      told = told;
+      reported = reported;
       journal = record {
         records = kept 0 group;
         stands_for = longer_stands (0 ∷ []) empty_ends group fits ∙ ap (with_group 0 group) (stands_short (0 ∷ []) (omega arith));
@@ -123,7 +123,7 @@ groups_are node generation kept_data groups bytes sound keys some small written 
     let found : IsFile generation (front ++ state_records kept_data) (1 ∷ bytes) =
     subst (λ (l : List ℕ). IsFile generation (front ++ state_records kept_data) l) (sym is)
     (subst (λ (r : List (List ℕ)). IsFile generation (front ++ r) (file_bytes (front ∷ groups))) all file) in
-    record { kept = kept_data; written = written; is = refl; journal = found.journal; told = found.told; ends_closed = found.ends_closed; are_bytes = are }
+    record { kept = kept_data; written = written; is = refl; journal = found.journal; reported = found.reported; ends_closed = found.ends_closed; are_bytes = are }
 
 -- ---- packed groups
 

@@ -31,9 +31,9 @@ use Rattle.spec_world.proofs.Orders.{begins_same, begins_trans, begins_join, sho
 use Rattle.spec_world.proofs.Recovering.{holds_more}
 use Rattle.spec_world.proofs.Standing.{IsDue, IsKept, Stands, IsAtRestBeside, IsBeside, IsRewritingAt, IsSpareAt, to_append, areas_with, side_of, spare_same, none_rewritten, fit_to_write}
 use Rattle.spec_world.proofs.Standing.{settled_accepted, first_between, legal_between, group_events, pair_is, pair_stays, reads_live, beside_older, fresh_disk, checkpoint_holds, begins_standing}
-use Rattle.spec_world.proofs.Rewriting.{keeps_telling, get_inside, made_state, last_state, made_more}
-use Rattle.journal.specs.Areas.{Areas, pair_of, other_side, tells, stands_at, stands_in, IsAtRest, rewrite_calls}
-use Rattle.journal.proofs.Telling.{at_rest_older, both_older}
+use Rattle.spec_world.proofs.Rewriting.{keeps_reporting, get_inside, made_state, last_state, made_more}
+use Rattle.journal.specs.Areas.{Areas, pair_of, other_side, reports, stands_at, stands_in, IsAtRest, rewrite_calls}
+use Rattle.journal.proofs.Reporting.{at_rest_older, both_older}
 use Rattle.spec_laws.proofs.Legal.{legal-begins}
 use Rattle.spec_machine.proofs.AfterAll.{kept_is_sound}
 use Rattle.spec_model.specs.Giving.{kept}
@@ -201,15 +201,16 @@ due_alone None appends call due = (refl, due)
 due_alone (Some rewriting) appends call due = absurd (none-some call due)
 
 -- the other disk beside a file that tells the same
-beside_longer : (spare : Option Spare) (file longer rest : List ℕ) → ((told : Option ℕ) → tells file ≡ Some told → tells longer ≡ tells file) → IsBeside spare file rest → IsBeside spare longer rest
+beside_longer : (spare : Option Spare) (file longer rest : List ℕ) → ((reported : Option ℕ) → reports file ≡ Some reported → reports longer ≡ reports file) → IsBeside spare file rest
+    → IsBeside spare longer rest
 beside_longer None file longer rest same is = tt
-beside_longer (Some spare) file longer rest same is = record { told = same (Some spare.generation) is.told ∙ is.told; at_rest = is.at_rest; are_bytes = is.are_bytes }
+beside_longer (Some spare) file longer rest same is = record { reported = same (Some spare.generation) is.reported ∙ is.reported; at_rest = is.at_rest; are_bytes = is.are_bytes }
 
 -- the file with the group that is written
 longer_beside : (node : Node) (world : World) (at : Stands node world) → FitsAsGroup (first_of (undurable_in world)) → IsBeside world.spare (file_with at.file (group_in world)) at.rest
 longer_beside node world at fits =
     beside_longer world.spare at.file (file_with at.file (group_in world)) at.rest
-    (λ told is. keeps_telling at.file (file_with at.file (group_in world)) told at.ends_closed is (whole_keeps at.file at.ends_closed (group_in world))) at.beside
+    (λ reported is. keeps_reporting at.file (file_with at.file (group_in world)) reported at.ends_closed is (whole_keeps at.file at.ends_closed (group_in world))) at.beside
 
 longer_holds : (node : Node) (world : World) (at : Stands node world) → FitsAsGroup (first_of (undurable_in world))
     → Holds node (areas_with world.spare (file_with at.file (group_in world)) at.rest) (kept node (world.began ++ with_first world))
@@ -480,7 +481,7 @@ module _ (node : Node) (world : World) (at : Stands node world) (spare : Spare) 
         are_bytes = at.are_bytes;
         holds = subst (λ (a : Areas). Holds node a (kept node (world.began ++ durable_in world))) (ap (λ (s : Option Spare). areas_with s at.file at.rest) pair) at.holds;
         rest = at.rest;
-        beside = record { told = beside.told; at_rest = beside.at_rest; are_bytes = beside.are_bytes };
+        beside = record { reported = beside.reported; at_rest = beside.at_rest; are_bytes = beside.are_bytes };
         spare = record {
           few = few;
           disk = called_state ∙ ap (λ (n : ℕ). made_state at.rest rewriting.bytes n) one_more;
@@ -515,10 +516,10 @@ module _ (node : Node) (world : World) (at : Stands node world) (spare : Spare) 
       begins_trans settled (taken_in world) world.accepted (record { rest = events_of (drop 1 world.groups); parts = sym taken }) at.taken in
       let joined = begins_join world.began settled world.accepted accepted in
       let legal : IsLegal node (world.began ++ settled) = legal-begins node (world.began ++ settled) joined.rest (subst (IsLegal node) joined.parts at.legal) in
-      let rested : IsAtRest (generation + 1) at.file = inr (generation, beside.told, omega arith) in
+      let rested : IsAtRest (generation + 1) at.file = inr (generation, beside.reported, omega arith) in
       let areas = pair_of side (1 ∷ bytes) at.file in
       let reads : stands_in areas ≡ stands_at side (1 ∷ bytes) =
-      both_older side (generation + 1) (1 ∷ bytes) at.file is.checkpoint.told (at_rest_older (generation + 1) at.file rested) in
+      both_older side (generation + 1) (1 ∷ bytes) at.file is.checkpoint.reported (at_rest_older (generation + 1) at.file rested) in
       let held_sound = kept_is_sound node (world.began ++ settled) legal in
       let held : Holds node areas (kept node (world.began ++ settled)) =
       checkpoint_holds node areas side (generation + 1) (kept node (world.began ++ settled)) bytes (pair_is side (1 ∷ bytes) at.file) reads legal.sound held_sound is.checkpoint in
@@ -531,7 +532,7 @@ module _ (node : Node) (world : World) (at : Stands node world) (spare : Spare) 
         are_bytes = All-cons (λ n. n < 256) 1 bytes (omega arith) is.checkpoint.are_bytes;
         holds = subst (λ l. Holds node areas (kept node (world.began ++ l))) durable held;
         rest = at.file;
-        beside = record { told = is.checkpoint.told; at_rest = rested; are_bytes = at.are_bytes };
+        beside = record { reported = is.checkpoint.reported; at_rest = rested; are_bytes = at.are_bytes };
         spare = fresh_disk node world at is.not_begun;
         disk = begun_disk world.phase (state spare.bytes_at_start (spare.calls ++ call ∷ [])) (1 ∷ bytes) (map record_of (first_of (drop (world.durable + 1) world.groups))) is.not_begun whole;
         fits = subst (λ (n : ℕ). All FitsAsGroup (drop (n + 1) world.groups)) (sym is.none_durable)

@@ -9,25 +9,25 @@ use Rattle.diskmodel.specs.Outcomes.{State, AreBytes, CanLeave, after, after_all
 use Rattle.diskmodel.specs.declared.call.Call.{Call}
 use Rattle.diskmodel.specs.declared.call.Call.TheVariants.{Wrote, Cut, Synced}
 use Rattle.diskmodel.proofs.Calls.{after_all-push, durable_only, possible_durable, possible_write, possible_cut}
-use Rattle.journal.specs.Areas.{tells, IsAtRest, IsOlder, IsOlderOrNew, rewrite_calls}
+use Rattle.journal.specs.Areas.{reports, IsAtRest, IsOlder, IsOlderOrNew, rewrite_calls}
 use Rattle.journal.specs.Journal.{EndsClosed}
 use Rattle.journal.proofs.Stops.{closed}
-use Rattle.journal.proofs.Telling.{tells_long, tells_closed, tells_stays, at_rest_older, torn_close, torn_cut, torn_fill, torn_open}
+use Rattle.journal.proofs.Reporting.{reports_long, reports_closed, reports_stays, at_rest_older, torn_close, torn_cut, torn_fill, torn_open}
 use Rattle.spec_world.proofs.Bytes.{one_more}
 use Rattle.spec_world.proofs.Disks.{torn_on_durable, KeepsFront}
 
 -- ---- the first group stays while others are added
 
-pub keeps_telling : (file left : List ℕ) (told : Option ℕ) → EndsClosed file → tells file ≡ Some told → KeepsFront file left → tells left ≡ tells file
-keeps_telling file left told ends is keeps =
+pub keeps_reporting : (file left : List ℕ) (reported : Option ℕ) → EndsClosed file → reports file ≡ Some reported → KeepsFront file left → reports left ≡ reports file
+keeps_reporting file left reported ends is keeps =
     let p = closed file ends in
     let gate : length file - 1 ≡ length p.front = omega (arith, p.size) in
     let front_is : take (length file - 1) file ≡ p.front = ap (λ (l : List ℕ). take (length file - 1) l) p.file_is ∙ take_at p.front (0 ∷ []) (length file - 1) (sym gate) in
     let tail = drop (length file - 1) left in
     let whole : left ≡ p.front ++ tail = sym (take-append-drop (length file - 1) left) ∙ ap (λ (l : List ℕ). l ++ tail) (keeps.0 ∙ front_is) in
-    ap tells whole
-    ∙ tells_stays p.front [] tail p.records (omega (arith, p.size, tells_long file told is)) (omega (arith, keeps.1, p.size, length-drop (length file - 1) left)) p.found
-    ∙ ap tells (sym p.file_is)
+    ap reports whole
+    ∙ reports_stays p.front [] tail p.records (omega (arith, p.size, reports_long file reported is)) (omega (arith, keeps.1, p.size, length-drop (length file - 1) left)) p.found
+    ∙ ap reports (sym p.file_is)
 
 -- what a cut of durable bytes may leave
 cut_on_durable : (file : List ℕ) (len : ℕ) (found : List ℕ) → CanLeave (after (all_durable file) (Cut len)) found → IsCut len file found
@@ -80,14 +80,14 @@ module _ (file bytes : List ℕ) where
       inl (subst (IsOlder generation) (sym (durable_only file found left)) (at_rest_older generation file at_rest))
   spare_leaves generation (suc zero) found few at_rest left = inl (torn_close generation file found at_rest (torn_on_durable file 0 (0 ∷ []) found (omega arith) left))
   spare_leaves generation (suc (suc zero)) found few at_rest left =
-      inl (inl (ap tells (durable_only (0 ∷ rest) found left) ∙ tells_closed 0 rest refl))
+      inl (inl (ap reports (durable_only (0 ∷ rest) found left) ∙ reports_closed 0 rest refl))
   spare_leaves generation (suc (suc (suc zero))) found few at_rest left = inl (torn_cut generation rest found (cut_on_durable (0 ∷ rest) 1 found left))
   spare_leaves generation (suc (suc (suc (suc zero)))) found few at_rest left =
-      inl (inl (ap tells (durable_only (0 ∷ []) found left) ∙ tells_closed 0 [] refl))
+      inl (inl (ap reports (durable_only (0 ∷ []) found left) ∙ reports_closed 0 [] refl))
   spare_leaves generation (suc (suc (suc (suc (suc zero))))) found few at_rest left =
       inl (torn_fill generation (length bytes) found (torn_on_durable (0 ∷ []) 1 bytes found (omega arith) left))
   spare_leaves generation (suc (suc (suc (suc (suc (suc zero)))))) found few at_rest left =
-      inl (inl (ap tells (durable_only (0 ∷ bytes) found (subst (λ (s : State). CanLeave s found) staged_state left)) ∙ tells_closed 0 bytes refl))
+      inl (inl (ap reports (durable_only (0 ∷ bytes) found (subst (λ (s : State). CanLeave s found) staged_state left)) ∙ reports_closed 0 bytes refl))
   spare_leaves generation (suc (suc (suc (suc (suc (suc (suc zero))))))) found few at_rest left =
       torn_open generation bytes found (torn_on_durable (0 ∷ bytes) 0 (1 ∷ []) found (omega arith)
       (subst (λ (s : State). CanLeave (after s (Wrote 0 (1 ∷ []))) found) staged_state left))

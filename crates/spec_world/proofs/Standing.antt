@@ -5,7 +5,7 @@ use Rattle.std.proofs.lemmas.List.{append-nil, take_at, drop_at, take-take}
 use Rattle.std.proofs.lemmas.List.Elements.{All-nil, All-cons, All-take, All-drop}
 use Rattle.diskmodel.specs.Outcomes.{State, AreBytes, CanLeave, after, state, all_durable}
 use Rattle.diskmodel.proofs.Calls.{after_all-push}
-use Rattle.journal.specs.Areas.{Areas, alone, pair_of, other_side, base_of, head_record, moved, tells, stands_at, stands_in, IsAtRest, IsOlder, IsOlderOrNew, rewrite_calls}
+use Rattle.journal.specs.Areas.{Areas, alone, pair_of, other_side, base_of, head_record, moved, reports, stands_at, stands_in, IsAtRest, IsOlder, IsOlderOrNew, rewrite_calls}
 use Rattle.journal.specs.Format.{scan, walk, only_records, stands}
 use Rattle.journal.specs.Journal.{EndsClosed, IsBeforeOrAfter}
 use Rattle.journal.specs.declared.record.Record.{Record}
@@ -13,7 +13,7 @@ use Rattle.journal.specs.declared.version.Version.TheVariants as versions
 use Rattle.journal.specs.declared.side.Side.{Side}
 use Rattle.journal.specs.declared.side.Side.TheVariants.{First, Second}
 use Rattle.journal.proofs.Stops.{repaired_cut}
-use Rattle.journal.proofs.Telling.{tells_long, tells_open, stands_any, at_rest_older, both_older, both_new, cuts_keep_telling}
+use Rattle.journal.proofs.Reporting.{reports_long, reports_open, stands_any, at_rest_older, both_older, both_new, cuts_keep_reporting}
 use Rattle.journal.proofs.Walks.{walk_open}
 use Rattle.spec_checkpoint.specs.Meaning as checkpoint
 use Rattle.spec_checkpoint.specs.Records.{state_records}
@@ -35,7 +35,7 @@ use Rattle.spec_world.specs.World.{Phase, not_begun, Waiting, Given, World, Hold
 use Rattle.spec_world.proofs.Disks.{stage_of, stage_after, IsAt, FitsAsGroup, fits_in, first_fits, due_first, KeepsFront, keeps_front, leaves, called}
 use Rattle.spec_world.proofs.Groups.{with_first, first_and_others}
 use Rattle.spec_world.proofs.Recovering.{ok_is, same_at, journal_at, journal_same, holds_same, holds_more, journal_long}
-use Rattle.spec_world.proofs.Rewriting.{keeps_telling, get_inside, made_state, spare_leaves, made_more}
+use Rattle.spec_world.proofs.Rewriting.{keeps_reporting, get_inside, made_state, spare_leaves, made_more}
 use Rattle.spec_world.proofs.Orders.{begins_same, begins_trans, begins_join, IsPut, IsEnded}
 
 -- ---- the invariant
@@ -63,7 +63,7 @@ side_of (Some spare) = spare.side
 
 -- the other area is at rest, beside what the one that is read tells
 pub record IsAtRestBeside (spare : Spare) (file rest : List ℕ) : Type 0 where
-  pub told : tells file ≡ Some (Some spare.generation)
+  pub reported : reports file ≡ Some (Some spare.generation)
   pub at_rest : IsAtRest spare.generation rest
   pub are_bytes : AreBytes rest
 
@@ -180,15 +180,15 @@ pair_stays None live rest also other is = is
 pair_stays (Some spare) live rest also other is = pair_is spare.side also other
 
 -- what both areas stand for is what the one that is read does, where the other one tells less
-pub reads_live : (spare : Option Spare) (live other : List ℕ) → IfSome spare (λ s. (tells live ≡ Some (Some s.generation)) × IsOlder s.generation other)
+pub reads_live : (spare : Option Spare) (live other : List ℕ) → IfSome spare (λ s. (reports live ≡ Some (Some s.generation)) × IsOlder s.generation other)
     → stands_in (areas_with spare live other) ≡ stands_at (side_of spare) live
 unfolding stands_in
 reads_live None live other older = refl
 reads_live (Some spare) live other older = both_older spare.side spare.generation live other older.0 older.1
 
-pub beside_older : (spare : Option Spare) (file rest : List ℕ) → IsBeside spare file rest → IfSome spare (λ s. (tells file ≡ Some (Some s.generation)) × IsOlder s.generation rest)
+pub beside_older : (spare : Option Spare) (file rest : List ℕ) → IsBeside spare file rest → IfSome spare (λ s. (reports file ≡ Some (Some s.generation)) × IsOlder s.generation rest)
 beside_older None file rest is = tt
-beside_older (Some spare) file rest is = (is.told, at_rest_older spare.generation rest is.at_rest)
+beside_older (Some spare) file rest is = (is.reported, at_rest_older spare.generation rest is.at_rest)
 
 -- ---- what is left of the disk that is read
 
@@ -303,7 +303,7 @@ walked_long file long = cond-false _ _ _ (le-ltb (length file) 2 long)
 pub record IsCutOff (file bytes : List ℕ) : Type 0 where
   pub ends_closed : EndsClosed bytes
   pub stand : stands bytes ≡ stands file
-  pub told : tells bytes ≡ tells file
+  pub reported : reports bytes ≡ reports file
   pub are_bytes : AreBytes bytes
 
 pub cut_off : (file : List ℕ) (records : List Record) → 2 ≤ length file → stands file ≡ Ok records → AreBytes file → (bytes : List ℕ) × IsCutOff file bytes
@@ -316,7 +316,7 @@ cut_off file records long stand are =
       record {
         ends_closed = repaired.ends_closed;
         stand = repaired.records;
-        told = cuts_keep_telling file bytes records found.0 long (sym (walked_long file long) ∙ found.1)
+        reported = cuts_keep_reporting file bytes records found.0 long (sym (walked_long file long) ∙ found.1)
             (record { front = take-take (found.0 + 1) (found.0 + 1) file (omega arith); no_shorter = omega (arith, size); no_longer = omega (arith, size) });
         are_bytes = All-take (λ number. number < 256) (found.0 + 1) file are;
       },
@@ -351,21 +351,21 @@ stands_read Second live records is = of_moved (stands live) is
     of_moved (Ok first) same = (first, refl)
     of_moved (Err gate) same = absurd cc
 
-open_two : (node : Node) (side : Side) (generation : ℕ) (live other : List ℕ) (held_state : Kept) → Holds node (pair_of side live other) held_state → tells live ≡ Some (Some generation)
+open_two : (node : Node) (side : Side) (generation : ℕ) (live other : List ℕ) (held_state : Kept) → Holds node (pair_of side live other) held_state → reports live ≡ Some (Some generation)
     → IsOlder generation other → AreBytes live → AreBytes other → (on : Opened) × IsOpened node on held_state × (is_some on.spare ≡ true)
-open_two node side generation live other held_state held told older are also =
-    let reads = both_older side generation live other told older in
+open_two node side generation live other held_state held reported older are also =
+    let reads = both_older side generation live other reported older in
     let read = stands_read side live held.journal.records (sym reads ∙ held.journal.stands_for) in
-    let cut = cut_off live read.0 (tells_long live (Some generation) told) read.1 are in
+    let cut = cut_off live read.0 (reports_long live (Some generation) reported) read.1 are in
     let rest = at_rest_of generation other older also in
-    let told_now : tells cut.0 ≡ Some (Some generation) = cut.1.told ∙ told in (
+    let reported_now : reports cut.0 ≡ Some (Some generation) = cut.1.reported ∙ reported in (
       record { bytes = cut.0; spare = Some (record { bytes = rest.0; side = side; generation = generation }) },
       record {
         holds = holds_same node (pair_of side live other) (pair_of side cut.0 rest.0) held_state held (λ is. pair_is side cut.0 rest.0)
-            (both_older side generation cut.0 rest.0 told_now (at_rest_older generation rest.0 rest.1) ∙ same_at side live cut.0 cut.1.stand ∙ sym reads);
+            (both_older side generation cut.0 rest.0 reported_now (at_rest_older generation rest.0 rest.1) ∙ same_at side live cut.0 cut.1.stand ∙ sym reads);
         ends_closed = cut.1.ends_closed;
         are_bytes = cut.1.are_bytes;
-        spare = record { told = told_now; at_rest = rest.1; are_bytes = rest.2 };
+        spare = record { reported = reported_now; at_rest = rest.1; are_bytes = rest.2 };
       },
       refl,
     )
@@ -414,7 +414,7 @@ left_as node world found at (inr held) opens =
 
 -- beside another area that tells less
 left_live : (node : Node) (world : World) (at : Stands node world) (live other : List ℕ) → LeavesLive node world at live
-    → IfSome world.spare (λ s. (tells live ≡ Some (Some s.generation)) × IsOlder s.generation other)
+    → IfSome world.spare (λ s. (reports live ≡ Some (Some s.generation)) × IsOlder s.generation other)
     → Holds node (areas_with world.spare live other) (kept node (world.began ++ durable_in world)) ⊎ Holds node (areas_with world.spare live other) (kept node (world.began ++ with_first world))
 left_live node world at live other is older =
     let spare = world.spare in
@@ -438,8 +438,8 @@ left_one node world found at none leave =
     let idle = none_alone node world.spare world.rewriting at.rest _ world.groups world.durable world.phase at.spare none in
     let is = leaves_live node world at found idle leave in
     let same : areas_with world.spare found [] ≡ alone found = ap (λ (s : Option Spare). areas_with s found []) none in
-    let older : IfSome world.spare (λ s. (tells found ≡ Some (Some s.generation)) × IsOlder s.generation []) =
-    subst (λ (s : Option Spare). IfSome s (λ t. (tells found ≡ Some (Some t.generation)) × IsOlder t.generation [])) (sym none) tt in
+    let older : IfSome world.spare (λ s. (reports found ≡ Some (Some s.generation)) × IsOlder s.generation []) =
+    subst (λ (s : Option Spare). IfSome s (λ t. (reports found ≡ Some (Some t.generation)) × IsOlder t.generation [])) (sym none) tt in
     left_as node world (alone found) at
     (subst (λ (a : Areas). Holds node a (kept node (world.began ++ durable_in world)) ⊎ Holds node a (kept node (world.began ++ with_first world))) same (left_live node world at found [] is older))
     (λ held_state held. let opened = open_one node found held_state held is.are_bytes in (opened.0, opened.1, opened.2 ∙ ap (λ (s : Option Spare). is_some s) (sym none)))
@@ -468,16 +468,16 @@ module _ (node : Node) (world : World) (at : Stands node world) (spare : Spare) 
   beside = subst (λ (s : Option Spare). IsBeside s at.file at.rest) is_spare at.beside
 
   -- the live area is read
-  older_left : LeavesLive node world at live → tells live ≡ Some (Some spare.generation) → IsOlder spare.generation other → IsLeft node world (pair_of spare.side live other)
-  older_left is told older =
+  older_left : LeavesLive node world at live → reports live ≡ Some (Some spare.generation) → IsOlder spare.generation other → IsLeft node world (pair_of spare.side live other)
+  older_left is reported older =
       let same : areas_with world.spare live other ≡ pair_of spare.side live other = ap (λ (s : Option Spare). areas_with s live other) is_spare in
-      let both : IfSome world.spare (λ s. (tells live ≡ Some (Some s.generation)) × IsOlder s.generation other) =
-      subst (λ (s : Option Spare). IfSome s (λ t. (tells live ≡ Some (Some t.generation)) × IsOlder t.generation other)) (sym is_spare) (told, older) in
+      let both : IfSome world.spare (λ s. (reports live ≡ Some (Some s.generation)) × IsOlder s.generation other) =
+      subst (λ (s : Option Spare). IfSome s (λ t. (reports live ≡ Some (Some t.generation)) × IsOlder t.generation other)) (sym is_spare) (reported, older) in
       left_as node world (pair_of spare.side live other) at
       (subst (λ (a : Areas). Holds node a (kept node (world.began ++ durable_in world)) ⊎ Holds node a (kept node (world.began ++ with_first world))) same (left_live node world at live other is both))
       (λ held_state held.
       let are = leave_bytes spare.bytes_at_start spare.calls (next_spare_call world) other also in
-      let opened = open_two node spare.side spare.generation live other held_state held told older is.are_bytes are in
+      let opened = open_two node spare.side spare.generation live other held_state held reported older is.are_bytes are in
       (opened.0, opened.1, opened.2 ∙ ap (λ (s : Option Spare). is_some s) (sym is_spare)))
 
   left_pair : (rewriting : Option Rewriting) → world.rewriting ≡ rewriting
@@ -487,7 +487,7 @@ module _ (node : Node) (world : World) (at : Stands node world) (spare : Spare) 
       let is = leaves_live node world at live none leave in
       let no_call : next_spare_call world ≡ None = ap (λ (r : Option Rewriting). option_and_then (λ one. slice_get (rewrite_calls one.bytes) one.made) r) none in
       let same : other ≡ at.rest = leaves_durable spare.bytes_at_start spare.calls (next_spare_call world) at.rest other no_call is_durable also in
-      older_left is (keeps_telling at.file live (Some spare.generation) at.ends_closed beside.told is.keeps ∙ beside.told)
+      older_left is (keeps_reporting at.file live (Some spare.generation) at.ends_closed beside.reported is.keeps ∙ beside.reported)
       (subst (IsOlder spare.generation) (sym same) (at_rest_older spare.generation at.rest beside.at_rest))
   left_pair (Some rewriting) in_flight is =
       let no_call : next_call world ≡ None = ap (λ (r : Option Rewriting). option_map_or (λ one. None) r (call_for (undurable_in world) world.phase (content_in world))) in_flight in
@@ -497,16 +497,16 @@ module _ (node : Node) (world : World) (at : Stands node world) (spare : Spare) 
       ap (λ (r : Option Rewriting). option_and_then (λ one. slice_get (rewrite_calls one.bytes) one.made) r) in_flight in
       let left = leaves_rewritten node _ world.groups world.durable world.phase spare rewriting at.rest beside.at_rest is other
       (subst (λ (c : Option Call). MayLeave spare.bytes_at_start spare.calls c other) call also) in
-      let told : tells live ≡ Some (Some spare.generation) = ap tells same ∙ beside.told in
+      let reported : reports live ≡ Some (Some spare.generation) = ap reports same ∙ beside.reported in
       let live_bytes : AreBytes live = leave_bytes world.bytes_at_start world.calls (next_call world) live leave in
       elim left [
-        | inl older ↦ older_left (record { stand = inl (ap stands same); keeps = subst (KeepsFront at.file) (sym same) (refl, omega arith); are_bytes = live_bytes }) told older
-        | inr new ↦ new_left rewriting is told live_bytes (subst EndsClosed (sym same) at.ends_closed) new.0 new.1 new.2
+        | inl older ↦ older_left (record { stand = inl (ap stands same); keeps = subst (KeepsFront at.file) (sym same) (refl, omega arith); are_bytes = live_bytes }) reported older
+        | inr new ↦ new_left rewriting is reported live_bytes (subst EndsClosed (sym same) at.ends_closed) new.0 new.1 new.2
       ]
     where
       new_left : (rewriting : Rewriting) → IsRewritingAt node (world.began ++ (world.settled ++ first_of world.groups)) world.groups world.durable world.phase spare rewriting at.rest
-          → tells live ≡ Some (Some spare.generation) → AreBytes live → EndsClosed live → (gate : ℕ) → gate ≢ 0 → other ≡ gate ∷ rewriting.bytes → IsLeft node world (pair_of spare.side live other)
-      new_left rewriting is told live_bytes live_ends gate is_open new =
+          → reports live ≡ Some (Some spare.generation) → AreBytes live → EndsClosed live → (gate : ℕ) → gate ≢ 0 → other ≡ gate ∷ rewriting.bytes → IsLeft node world (pair_of spare.side live other)
+      new_left rewriting is reported live_bytes live_ends gate is_open new =
           let bytes = rewriting.bytes in
           let generation = spare.generation in
           let checkpoint = is.checkpoint in
@@ -518,13 +518,13 @@ module _ (node : Node) (world : World) (at : Stands node world) (spare : Spare) 
           let same_history : world.began ++ (world.settled ++ first_of world.groups) ≡ history =
           ap (λ l. world.began ++ l) (λ i. sym durable i ++ first_of (sym all i)) in
           let reads : stands_in (pair_of spare.side live other) ≡ stands_at side (1 ∷ bytes) =
-          ap (λ (l : List ℕ). stands_in (pair_of spare.side live l)) new ∙ both_new spare.side generation (generation + 1) gate live bytes told checkpoint.told (omega arith) is_open in
+          ap (λ (l : List ℕ). stands_in (pair_of spare.side live l)) new ∙ both_new spare.side generation (generation + 1) gate live bytes reported checkpoint.reported (omega arith) is_open in
           let legal = legal_between node world history at (first_between node world at) in
           let held : Holds node (pair_of spare.side live other) (kept node history) =
           checkpoint_holds node (pair_of spare.side live other) side (generation + 1) (kept node history) bytes (pair_is spare.side live other) reads legal.sound (kept_is_sound node history legal)
           (subst (λ h. IsCheckpointOf node (generation + 1) (kept node h) bytes) same_history checkpoint) in
-          let told_new : tells (gate ∷ bytes) ≡ Some (Some (generation + 1)) = tells_open gate 1 bytes is_open (λ one. omega arith) ∙ checkpoint.told in
-          let at_rest : IsAtRest (generation + 1) live = inr (generation, told, omega arith) in
+          let reported_new : reports (gate ∷ bytes) ≡ Some (Some (generation + 1)) = reports_open gate 1 bytes is_open (λ one. omega arith) ∙ checkpoint.reported in
+          let at_rest : IsAtRest (generation + 1) live = inr (generation, reported, omega arith) in
           let bytes_are : AreBytes (gate ∷ bytes) = subst AreBytes new (leave_bytes spare.bytes_at_start spare.calls (next_spare_call world) other also) in
           record {
             history = history;
@@ -533,11 +533,11 @@ module _ (node : Node) (world : World) (at : Stands node world) (spare : Spare) 
             on = record { bytes = gate ∷ bytes; spare = Some (record { bytes = live; side = side; generation = generation + 1 }) };
             opened = record {
               holds = holds_same node (pair_of spare.side live other) (pair_of side (gate ∷ bytes) live) (kept node history) held (λ two. pair_is side (gate ∷ bytes) live)
-                  (both_older side (generation + 1) (gate ∷ bytes) live told_new (at_rest_older (generation + 1) live at_rest)
+                  (both_older side (generation + 1) (gate ∷ bytes) live reported_new (at_rest_older (generation + 1) live at_rest)
                   ∙ same_at side (1 ∷ bytes) (gate ∷ bytes) (stands_any gate 1 bytes is_open (λ one. omega arith)) ∙ sym reads);
               ends_closed = ends_any gate bytes is_open checkpoint.ends_closed;
               are_bytes = bytes_are;
-              spare = record { told = told_new; at_rest = at_rest; are_bytes = live_bytes };
+              spare = record { reported = reported_new; at_rest = at_rest; are_bytes = live_bytes };
             };
             as_many = ap (λ (s : Option Spare). is_some s) (sym is_spare);
           }
@@ -559,7 +559,7 @@ rest_bytes (Some rest) = rest.bytes
 begun_beside : (bytes : List ℕ) (rest : Option OpenedSpare) → IfSome rest (IsOpenedSpare bytes) → IsBeside (option_map spare_on rest) bytes (rest_bytes rest)
 unfolding rest_bytes
 begun_beside bytes None is = tt
-begun_beside bytes (Some rest) is = record { told = is.told; at_rest = is.at_rest; are_bytes = is.are_bytes }
+begun_beside bytes (Some rest) is = record { reported = is.reported; at_rest = is.at_rest; are_bytes = is.are_bytes }
 
 begun_spare : (node : Node) (history : History) (groups : List History) (durable : ℕ) (phase : Phase) (rest : Option OpenedSpare)
     → IsSpareAt node history groups durable phase (option_map spare_on rest) None (rest_bytes rest)

@@ -5,7 +5,7 @@ use Rattle.std.specs.Option.{option_map, option_map_or, option_and_then}
 use Rattle.diskmodel.specs.Outcomes.{AreBytes, IsOutcome, state}
 use Rattle.diskmodel.specs.declared.call.Call.{Call}
 use Rattle.diskmodel.specs.declared.call.Call.TheVariants.{Wrote, Synced}
-use Rattle.journal.specs.Areas.{Areas, alone, pair, pair_of, tells, stands_in, head_record, IsAtRest, rewrite_calls}
+use Rattle.journal.specs.Areas.{Areas, alone, pair, pair_of, reports, stands_in, head_record, IsAtRest, rewrite_calls}
 use Rattle.journal.specs.Format.{group_bytes, stands}
 use Rattle.journal.specs.Journal.{EndsClosed}
 use Rattle.journal.specs.declared.layout.TheConstants.{OPEN}
@@ -20,7 +20,7 @@ use Rattle.spec_model.specs.Histories.{History}
 use Rattle.spec_model.specs.Nodes.{Node}
 use Rattle.spec_model.specs.States.{State}
 use Rattle.spec_model.specs.Words.{Digest, Output}
-use Rattle.spec_records.specs.Records.{record_of, configuration_of, CanTell}
+use Rattle.spec_records.specs.Records.{record_of, configuration_of, CanReport}
 use Rattle.journal.specs.declared.version.Version.{Version}
 use Rattle.journal.specs.declared.version.Version.TheVariants.{Second}
 
@@ -136,8 +136,8 @@ own_configuration version node = configuration_of version node.charter node.own
 -- the fresh state, after the node's configuration alone; or, on two disks, the state of a checkpoint after the configuration and a head.
 -- The configuration's version can express the node's committee: the first one can only where each stake is 1.
 pub data BeginsAs (node : Node) (areas : Areas) (front : List (List ℕ)) (in_first : ℕ) (base : State) : Type 0 where
-  as_fresh : (version : Version) → CanTell version node.charter → front ≡ own_configuration version node ∷ [] → in_first ≡ 1 → base ≡ fresh node → BeginsAs node areas front in_first base
-  as_checkpoint : (version : Version) (generation : ℕ) (kept : Checkpoint) → IsPair areas → CanTell version node.charter → IsWritten node kept
+  as_fresh : (version : Version) → CanReport version node.charter → front ≡ own_configuration version node ∷ [] → in_first ≡ 1 → base ≡ fresh node → BeginsAs node areas front in_first base
+  as_checkpoint : (version : Version) (generation : ℕ) (kept : Checkpoint) → IsPair areas → CanReport version node.charter → IsWritten node kept
       → front ≡ own_configuration version node ∷ head_record generation ∷ state_records kept → in_first ≡ 2 → base ≡ checkpoint.state_in node kept
       → BeginsAs node areas front in_first base
 
@@ -165,7 +165,7 @@ pub record IsCheckpointOf (node : Node) (generation : ℕ) (state_kept : State) 
   pub written : IsWritten node kept
   pub is : checkpoint.state_in node kept ≡ state_kept
   pub journal : IsJournal (stands (OPEN ∷ bytes)) (own_configuration Second node ∷ head_record generation ∷ state_records kept) 2 []
-  pub told : tells (OPEN ∷ bytes) ≡ Some (Some generation)
+  pub reported : reports (OPEN ∷ bytes) ≡ Some (Some generation)
   pub ends_closed : EndsClosed (OPEN ∷ bytes)
   pub are_bytes : AreBytes bytes
 
@@ -253,7 +253,7 @@ run_on opened began given = record {
 
 -- the spare disk is at rest, beside the area that is read with these bytes
 pub record IsOpenedSpare (bytes : List ℕ) (spare : OpenedSpare) : Type 0 where
-  pub told : tells bytes ≡ Some (Some spare.generation)
+  pub reported : reports bytes ≡ Some (Some spare.generation)
   pub at_rest : IsAtRest spare.generation spare.bytes
   pub are_bytes : AreBytes spare.bytes
 

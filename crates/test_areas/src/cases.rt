@@ -6,7 +6,7 @@ use crate::openings::{put_gates, reopened, reopened_store};
 use crate::rewritings::{Checkpoint, Fault, Made, appended, begun, rewritten};
 use crate::stops::Trial;
 use crate::words::{
-    Told, Word, listed, parted, put, put_bytes, put_calls, put_count, told_bad, words_of,
+    Reported, Word, listed, parted, put, put_bytes, put_calls, put_count, reported_bad, words_of,
 };
 use diskmodel::MemDisk;
 use journal::Store;
@@ -45,46 +45,46 @@ impl Cases {
     }
 
     /// Carries out a command, and adds the lines of its answer.
-    pub fn obey(&mut self, command: &str, answer: &mut String) -> Told {
+    pub fn obey(&mut self, command: &str, answer: &mut String) -> Reported {
         let (name, rest) = parted(command);
         let words = words_of(self.alloc, rest)?;
         self.obey_words(name, words.as_slice(), answer)
     }
 
-    fn obey_words(&mut self, name: &str, words: &[Word], answer: &mut String) -> Told {
+    fn obey_words(&mut self, name: &str, words: &[Word], answer: &mut String) -> Reported {
         match (name, words) {
             ("areas", [Word::Bytes(first), Word::Bytes(second)]) => self.set(first, second),
             ("add", [Word::Number(count), Word::Number(len)]) => self.add(*count, *len),
-            ("stops", [Word::Number(area)]) => self.tell_stops(*area, answer),
-            ("seconds", [Word::Number(area)]) => self.tell_seconds(*area, answer),
+            ("stops", [Word::Number(area)]) => self.report_stops(*area, answer),
+            ("seconds", [Word::Number(area)]) => self.report_seconds(*area, answer),
             ("begin", [Word::Bytes(configuration)]) => self.start(configuration, answer),
             ("records", _) => self.take_records(words, answer),
             ("append", _) => self.append(words, answer),
             (_, []) => self.obey_alone(name, answer),
-            _ => told_bad(answer),
+            _ => reported_bad(answer),
         }
     }
 
     /// Commands with no word.
-    fn obey_alone(&mut self, name: &str, answer: &mut String) -> Told {
+    fn obey_alone(&mut self, name: &str, answer: &mut String) -> Reported {
         match name {
             "open" => self.open(answer),
             "loose" => self.open_loose(answer),
             "store" => self.open_both(answer),
             "one" => self.open_one(answer),
-            "gates" => self.tell_gates(answer),
-            "tell" => self.tell(answer),
+            "gates" => self.report_gates(answer),
+            "tell" => self.report(answer),
             "rewrite" => self.rewrite(Made::Whole, answer),
             "draft" => self.rewrite(Made::Draft, answer),
             "alike" => self.compare(answer),
-            "failures" => self.tell_failures(answer),
-            "openings" => Opening::new(self.alloc, &self.areas)?.tell(answer),
-            _ => told_bad(answer),
+            "failures" => self.report_failures(answer),
+            "openings" => Opening::new(self.alloc, &self.areas)?.report(answer),
+            _ => reported_bad(answer),
         }
     }
 
     /// `areas FIRST SECOND` sets the bytes of both areas.
-    fn set(&mut self, first: &[u8], second: &[u8]) -> Told {
+    fn set(&mut self, first: &[u8], second: &[u8]) -> Reported {
         self.areas = Areas {
             first: first.to_vec(self.alloc)?,
             second: second.to_vec(self.alloc)?,
@@ -93,18 +93,18 @@ impl Cases {
     }
 
     /// `records RECORD ..` sets the records of a checkpoint.
-    fn take_records(&mut self, words: &[Word], answer: &mut String) -> Told {
+    fn take_records(&mut self, words: &[Word], answer: &mut String) -> Reported {
         match listed(self.alloc, words)? {
             Some(records) => {
                 self.records = records;
                 Ok(())
             }
-            None => told_bad(answer),
+            None => reported_bad(answer),
         }
     }
 
     /// `add COUNT LENGTH` adds `count` records of zeros, each with this length.
-    fn add(&mut self, count: u64, len: u64) -> Told {
+    fn add(&mut self, count: u64, len: u64) -> Reported {
         for _ in 0..count {
             let record = vec![in self.alloc; 0; len.min(MOST_BYTES) as usize]?;
             self.records.push(record)?;
@@ -113,19 +113,19 @@ impl Cases {
     }
 
     /// `open` opens the journal on both areas, which keep what the opening leaves.
-    fn open(&mut self, answer: &mut String) -> Told {
+    fn open(&mut self, answer: &mut String) -> Reported {
         let disks = reopened(self.alloc, Disks::of(self.alloc, &self.areas)?, answer);
         self.keep(&disks, answer)
     }
 
     /// `loose` does the same where nothing on the disks was synced before.
-    fn open_loose(&mut self, answer: &mut String) -> Told {
+    fn open_loose(&mut self, answer: &mut String) -> Reported {
         let disks = reopened(self.alloc, Disks::loose(self.alloc, &self.areas)?, answer);
         self.keep(&disks, answer)
     }
 
     // Keeps the bytes of the disks, and reports where a stop might leave something else.
-    fn keep(&mut self, disks: &Disks, answer: &mut String) -> Told {
+    fn keep(&mut self, disks: &Disks, answer: &mut String) -> Reported {
         self.areas = Areas::on(self.alloc, disks)?;
         put(
             answer,
@@ -139,20 +139,20 @@ impl Cases {
     }
 
     /// `store` opens the journal on both areas by `open_store`.
-    fn open_both(&mut self, answer: &mut String) -> Told {
+    fn open_both(&mut self, answer: &mut String) -> Reported {
         let disks = Disks::of(self.alloc, &self.areas)?;
         let store = Store::Two(disks.first, disks.second);
         self.keep_store(reopened_store(self.alloc, store, answer), answer)
     }
 
     /// `one` opens the journal on the first area alone.
-    fn open_one(&mut self, answer: &mut String) -> Told {
+    fn open_one(&mut self, answer: &mut String) -> Reported {
         let disks = Disks::of(self.alloc, &self.areas)?;
         let store = Store::One(disks.first);
         self.keep_store(reopened_store(self.alloc, store, answer), answer)
     }
 
-    fn keep_store(&mut self, store: Store<MemDisk>, answer: &mut String) -> Told {
+    fn keep_store(&mut self, store: Store<MemDisk>, answer: &mut String) -> Reported {
         put(answer, "\n");
         match store {
             Store::One(disk) => self.areas.first = disk.bytes().to_vec(self.alloc)?,
@@ -162,30 +162,30 @@ impl Cases {
     }
 
     /// `gates` opens the journal, and shows how many records follow each gate.
-    fn tell_gates(&self, answer: &mut String) -> Told {
+    fn report_gates(&self, answer: &mut String) -> Reported {
         let _ = put_gates(self.alloc, Disks::of(self.alloc, &self.areas)?, answer);
         put(answer, "\n");
         Ok(())
     }
 
-    /// `tell` shows the bytes of both areas.
-    fn tell(&self, answer: &mut String) -> Told {
+    /// `report` shows the bytes of both areas.
+    fn report(&self, answer: &mut String) -> Reported {
         put_area(answer, &self.areas.first);
         put_area(answer, &self.areas.second);
         Ok(())
     }
 
     /// `begin CONFIGURATION` appends the first group of all.
-    fn start(&mut self, configuration: &[u8], answer: &mut String) -> Told {
+    fn start(&mut self, configuration: &[u8], answer: &mut String) -> Reported {
         let disks = Disks::of(self.alloc, &self.areas)?;
         let disks = begun(self.alloc, disks, configuration.to_vec(self.alloc)?, answer)?;
         self.keep(&disks, answer)
     }
 
     /// `append RECORD ..` appends a group.
-    fn append(&mut self, words: &[Word], answer: &mut String) -> Told {
+    fn append(&mut self, words: &[Word], answer: &mut String) -> Reported {
         let Some(records) = listed(self.alloc, words)? else {
-            return told_bad(answer);
+            return reported_bad(answer);
         };
         let disks = Disks::of(self.alloc, &self.areas)?;
         let disks = appended(self.alloc, disks, records, answer)?;
@@ -193,7 +193,7 @@ impl Cases {
     }
 
     /// `rewrite` and `draft` rewrite the journal to a checkpoint. The calls of both disks are shown.
-    fn rewrite(&mut self, made: Made, answer: &mut String) -> Told {
+    fn rewrite(&mut self, made: Made, answer: &mut String) -> Reported {
         let mut text = String::new(self.alloc);
         let opened = reopened(self.alloc, Disks::of(self.alloc, &self.areas)?, &mut text);
         let disks = Disks::of(self.alloc, &self.areas)?;
@@ -211,7 +211,7 @@ impl Cases {
     }
 
     /// `alike` shows whether a rewriting leaves the same bytes for both ways of making its checkpoint. The areas stay as they are.
-    fn compare(&self, answer: &mut String) -> Told {
+    fn compare(&self, answer: &mut String) -> Reported {
         let whole = self.rewritten_by(Made::Whole)?;
         let draft = self.rewritten_by(Made::Draft)?;
         put(
@@ -241,21 +241,21 @@ impl Cases {
     }
 
     /// `stops AREA` stops a rewriting of this area at each moment.
-    fn tell_stops(&self, area: u64, answer: &mut String) -> Told {
+    fn report_stops(&self, area: u64, answer: &mut String) -> Reported {
         let checkpoint = self.checkpoint(Made::Whole);
-        Trial::new(self.alloc, &self.areas, checkpoint, area == 1)?.tell_stops(answer)
+        Trial::new(self.alloc, &self.areas, checkpoint, area == 1)?.report_stops(answer)
     }
 
     /// `seconds AREA` does the same, and then stops the opening after that, too.
-    fn tell_seconds(&self, area: u64, answer: &mut String) -> Told {
+    fn report_seconds(&self, area: u64, answer: &mut String) -> Reported {
         let checkpoint = self.checkpoint(Made::Whole);
-        Trial::new(self.alloc, &self.areas, checkpoint, area == 1)?.tell_seconds(answer)
+        Trial::new(self.alloc, &self.areas, checkpoint, area == 1)?.report_seconds(answer)
     }
 
     /// `failures` lets each call of a rewriting fail in turn.
-    fn tell_failures(&self, answer: &mut String) -> Told {
+    fn report_failures(&self, answer: &mut String) -> Reported {
         let checkpoint = self.checkpoint(Made::Draft);
-        Trial::new(self.alloc, &self.areas, checkpoint, false)?.tell_failures(answer)
+        Trial::new(self.alloc, &self.areas, checkpoint, false)?.report_failures(answer)
     }
 }
 

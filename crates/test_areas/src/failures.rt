@@ -1,8 +1,8 @@
 //! Openings of both areas in which a device call fails or the machine stops, and the openings after them.
 
 use crate::disks::{Areas, Disks, FILLS, Fill, longest, outcome};
-use crate::openings::{reopened, told};
-use crate::words::{Told, put, put_count};
+use crate::openings::{reopened, reported};
+use crate::words::{Reported, put, put_count};
 use diskmodel::CallKind;
 use std::alloc::{AllocError, Global};
 
@@ -39,7 +39,7 @@ type Call = (CallKind, u64);
 impl<'a> Opening<'a> {
     /// The opening of these areas.
     pub fn new(alloc: Global, areas: &'a Areas) -> Result<Opening<'a>, AllocError> {
-        let answer = told(alloc, areas)?;
+        let answer = reported(alloc, areas)?;
         Ok(Opening {
             alloc,
             areas,
@@ -49,7 +49,7 @@ impl<'a> Opening<'a> {
 
     /// Shows for each kind of call how many of them failed in turn, and what the openings after that answered. Reads aren't counted, since
     /// how often the files are read is no part of the format.
-    pub fn tell(&self, answer: &mut String) -> Told {
+    pub fn report(&self, answer: &mut String) -> Reported {
         for (kind, name) in KINDS {
             let count = self.counted(kind)?;
             put(answer, name);
@@ -115,7 +115,7 @@ impl<'a> Opening<'a> {
     }
 
     // Stops the machine at this call, once for each outcome of this area.
-    fn stop_each(&self, disks: &Disks, call: Call, is_second: bool, count: &mut Count) -> Told {
+    fn stop_each(&self, disks: &Disks, call: Call, is_second: bool, count: &mut Count) -> Reported {
         for (fill, _) in FILLS {
             self.stop_fill(disks, call, is_second, fill, count)?;
         }
@@ -129,7 +129,7 @@ impl<'a> Opening<'a> {
         is_second: bool,
         fill: Fill,
         count: &mut Count,
-    ) -> Told {
+    ) -> Reported {
         for length in 0..=longest(disks.of_area(is_second)) {
             if let Some(bytes) = outcome(self.alloc, disks.of_area(is_second), fill, length)? {
                 self.stop(call, is_second, bytes, count)?;
@@ -138,7 +138,7 @@ impl<'a> Opening<'a> {
         Ok(())
     }
 
-    fn stop(&self, call: Call, is_second: bool, bytes: Vec<u8>, count: &mut Count) -> Told {
+    fn stop(&self, call: Call, is_second: bool, bytes: Vec<u8>, count: &mut Count) -> Reported {
         let mut text = String::new(self.alloc);
         let mut disks = self.played(call, &mut text)?;
         let is_left = disks.stop(is_second, bytes);

@@ -52,12 +52,12 @@ fn is_right(rt: &HostRuntime, name: &str) -> Result<bool, Ending> {
 /// Makes each call that allocates, again where an allocation failed, and prints whether all of them gave the right result.
 fn remembers(rt: &HostRuntime) -> Result<bool, Ending> {
     let is_right = is_steady(rt.alloc())?;
-    let told = if is_right {
+    let reported = if is_right {
         "as expected"
     } else {
         "not as expected"
     };
-    writeln!(io::writer(rt), "memory: {told}")?;
+    writeln!(io::writer(rt), "memory: {reported}")?;
     Ok(is_right)
 }
 

@@ -35,7 +35,7 @@ fn opened(alloc: Global, first: MemDisk, second: MemDisk, text: &mut String) -> 
 }
 
 /// The answer of an opening on disks with these bytes, all of them synced.
-pub fn told(alloc: Global, areas: &Areas) -> Result<String, AllocError> {
+pub fn reported(alloc: Global, areas: &Areas) -> Result<String, AllocError> {
     let mut text = String::new(alloc);
     let _ = reopened(alloc, Disks::of(alloc, areas)?, &mut text);
     Ok(text)

@@ -1,9 +1,9 @@
 //! Rewritings that are stopped at each moment, or in which a call fails, and what the openings after them find.
 
 use crate::disks::{Areas, Disks, FILLS, Fill, longest, longest_outcome, outcome};
-use crate::openings::{reopened, told};
+use crate::openings::{reopened, reported};
 use crate::rewritings::{Checkpoint, Fault, rewritten};
-use crate::words::{Told, put, put_count};
+use crate::words::{Reported, put, put_count};
 use diskmodel::CallKind;
 use std::alloc::{AllocError, Global};
 
@@ -60,11 +60,11 @@ impl<'a> Trial<'a> {
         checkpoint: Checkpoint<'a>,
         is_second: bool,
     ) -> Result<Trial<'a>, AllocError> {
-        let before = told(alloc, areas)?;
+        let before = reported(alloc, areas)?;
         let disks = Disks::of(alloc, areas)?;
         let mut text = String::new(alloc);
         let disks = rewritten(alloc, disks, checkpoint, Fault::none(), &mut text)?;
-        let after = told(alloc, &Areas::on(alloc, &disks)?)?;
+        let after = reported(alloc, &Areas::on(alloc, &disks)?)?;
         Ok(Trial {
             alloc,
             areas,
@@ -76,14 +76,14 @@ impl<'a> Trial<'a> {
     }
 
     /// Shows for each number of calls before a stop what openings find after the stop.
-    pub fn tell_stops(&self, answer: &mut String) -> Told {
+    pub fn report_stops(&self, answer: &mut String) -> Reported {
         for done in 0..=CALLS.len() {
-            self.tell_moment(done, answer)?;
+            self.report_moment(done, answer)?;
         }
         Ok(())
     }
 
-    fn tell_moment(&self, done: usize, answer: &mut String) -> Told {
+    fn report_moment(&self, done: usize, answer: &mut String) -> Reported {
         put_count(answer, "after call ", done as u64, "");
         for (fill, name) in FILLS {
             put(answer, ", ");
@@ -130,7 +130,7 @@ impl<'a> Trial<'a> {
         fill: Fill,
         length: usize,
         found: &mut Found,
-    ) -> Told {
+    ) -> Reported {
         let disk = disks.of_area(self.is_second);
         let Some(bytes) = outcome(self.alloc, disk, fill, length)? else {
             return Ok(());
@@ -154,14 +154,14 @@ impl<'a> Trial<'a> {
     }
 
     /// Shows the answer of each call of a rewriting that fails, and what an opening finds after that.
-    pub fn tell_failures(&self, answer: &mut String) -> Told {
+    pub fn report_failures(&self, answer: &mut String) -> Reported {
         for done in 0..CALLS.len() {
-            self.tell_failure(done, answer)?;
+            self.report_failure(done, answer)?;
         }
         Ok(())
     }
 
-    fn tell_failure(&self, done: usize, answer: &mut String) -> Told {
+    fn report_failure(&self, done: usize, answer: &mut String) -> Reported {
         put_count(answer, "call ", done.saturating_add(1) as u64, ": ");
         let disks = self.played(done, answer)?;
         let mut text = String::new(self.alloc);
@@ -176,14 +176,14 @@ impl<'a> Trial<'a> {
 
     /// Shows for each number of calls before a stop what is found at last, where an opening after the stop is stopped too, at each of its
     /// calls that change or sync a disk.
-    pub fn tell_seconds(&self, answer: &mut String) -> Told {
+    pub fn report_seconds(&self, answer: &mut String) -> Reported {
         for done in 0..=CALLS.len() {
-            self.tell_second(done, answer)?;
+            self.report_second(done, answer)?;
         }
         Ok(())
     }
 
-    fn tell_second(&self, done: usize, answer: &mut String) -> Told {
+    fn report_second(&self, done: usize, answer: &mut String) -> Reported {
         let mut found = Found::none();
         for (fill, _) in FILLS {
             self.stop_openings(done, fill, &mut found)?;
@@ -193,14 +193,14 @@ impl<'a> Trial<'a> {
         Ok(())
     }
 
-    fn stop_openings(&self, done: usize, fill: Fill, found: &mut Found) -> Told {
+    fn stop_openings(&self, done: usize, fill: Fill, found: &mut Found) -> Reported {
         for kind in [CallKind::Write, CallKind::Cut, CallKind::Sync] {
             self.stop_kind(done, fill, kind, found)?;
         }
         Ok(())
     }
 
-    fn stop_kind(&self, done: usize, fill: Fill, kind: CallKind, found: &mut Found) -> Told {
+    fn stop_kind(&self, done: usize, fill: Fill, kind: CallKind, found: &mut Found) -> Reported {
         for count in 1..MOST_CALLS {
             if !self.stop_opening(done, fill, Fault { kind, count }, found)? {
                 break;
@@ -236,7 +236,7 @@ impl<'a> Trial<'a> {
         fault: Fault,
         next: Fill,
         found: &mut Found,
-    ) -> Told {
+    ) -> Reported {
         let mut text = String::new(self.alloc);
         let mut disks = self.opened(done, fill, fault, &mut text)?;
         let Some(bytes) = longest_outcome(self.alloc, disks.of_area(self.is_second), next)? else {

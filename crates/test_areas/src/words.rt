@@ -3,7 +3,7 @@
 use diskmodel::{Call, MemDisk};
 use journal::{Journal, JournalError, Record};
 use std::alloc::{AllocError, Global};
-pub use test_cases::{Told, bad, put};
+pub use test_cases::{Reported, bad, put};
 use test_cases::{bytes_of, write_hex};
 
 /// A word that follows a command's name.
@@ -55,7 +55,7 @@ pub fn listed(alloc: Global, words: &[Word]) -> Result<Option<Vec<Vec<u8>>>, All
 }
 
 /// Adds the answer to a line that is no command.
-pub fn told_bad(answer: &mut String) -> Told {
+pub fn reported_bad(answer: &mut String) -> Reported {
     bad(answer);
     Ok(())
 }

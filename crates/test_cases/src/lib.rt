@@ -9,4 +9,4 @@ mod words;
 pub use digits::{bytes_of, write_hex};
 pub use files::names_of;
 pub use playing::{Ending, Player};
-pub use words::{Told, bad, put};
+pub use words::{Reported, bad, put};

@@ -3,7 +3,7 @@
 use std::alloc::AllocError;
 
 /// The result of carrying out a command: an error if an allocation failed.
-pub type Told = Result<(), AllocError>;
+pub type Reported = Result<(), AllocError>;
 
 /// Adds a part.
 pub fn put(answer: &mut String, part: &str) {

@@ -7,7 +7,7 @@ use Rattle.journal.specs.declared.journal.Journal.{Journal}
 use Rattle.journal.specs.declared.spare.Spare.{Spare}
 use Rattle.journal.specs.declared.version.Version.{Version}
 use Rattle.journal.specs.Configuration.{shaped_version}
-use Rattle.journal.specs.Areas.{generation_of, tells}
+use Rattle.journal.specs.Areas.{generation_of, reports}
 use Rattle.journal.specs.Journal.{disk_of, spare_of, IsAlive, IsAlivePair}
 use Rattle.journal.specs.Pairs.{generation_in}
 
@@ -16,15 +16,15 @@ nobody X some = absurd cc
 
 -- one that has more than a closed gate tells its generation
 begun_of : {D : Type 0} (device : Device D) (live : D) (spare : Option (Spare D)) → IfSome spare (IsAlivePair device live) → IsSome spare
-    → 2 ≤ length (device.content live) → tells (device.content live) ≡ Some (Some (option_map_or (λ (s : Spare D). s.generation) spare 0))
+    → 2 ≤ length (device.content live) → reports (device.content live) ≡ Some (Some (option_map_or (λ (s : Spare D). s.generation) spare 0))
 begun_of {D} device live None pair some long = absurd (nobody (Spare D) some)
 begun_of device live (Some spare) pair some long = elim pair.of_generation [
-  | inl told ↦ told
+  | inl reported ↦ reported
   | inr new ↦ absurd (omega (arith, long, ap length new.empty))
 ]
 
 pub begun : {D : Type 0} (device : Device D) (journal : Journal D) → IsAlive device journal → IsSome (spare_of journal)
-    → 2 ≤ length (device.content (disk_of journal)) → tells (device.content (disk_of journal)) ≡ Some (Some (generation_in journal))
+    → 2 ≤ length (device.content (disk_of journal)) → reports (device.content (disk_of journal)) ≡ Some (Some (generation_in journal))
 begun device journal alive some long = begun_of device (disk_of journal) (spare_of journal) alive.pair some long
 
 -- a configuration alone is of generation 0

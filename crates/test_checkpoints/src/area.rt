@@ -9,7 +9,7 @@ use diskmodel::{Disk, MemDisk};
 use journal::{Group, Journal, Snapshot, shaped_version};
 use sigface::HashSign;
 use std::alloc::{AllocError, Global};
-use test_cases::{Told, write_hex};
+use test_cases::{Reported, write_hex};
 use validator::Validator;
 
 /// Adds the bytes of an area that was rewritten to a validator's checkpoint: the second area of a journal in memory, whose first one has
@@ -17,7 +17,11 @@ use validator::Validator;
 ///
 /// # Errors
 /// An allocation failed, or the journal couldn't be written.
-pub fn tell_area(alloc: Global, validator: &Validator<'_, HashSign>, answer: &mut String) -> Told {
+pub fn report_area(
+    alloc: Global,
+    validator: &Validator<'_, HashSign>,
+    answer: &mut String,
+) -> Reported {
     let first = MemDisk::new(alloc, Vec::new(alloc))?;
     let second = MemDisk::new(alloc, Vec::new(alloc))?;
     let Ok((mut journal, _)) = Journal::open_pair(alloc, first, second) else {
@@ -31,7 +35,11 @@ pub fn tell_area(alloc: Global, validator: &Validator<'_, HashSign>, answer: &mu
 }
 
 /// Writes the configuration to the first area, and the checkpoint to the second.
-fn write(alloc: Global, journal: &mut Journal<MemDisk>, validator: &Validator<'_, HashSign>) -> Told
+fn write(
+    alloc: Global,
+    journal: &mut Journal<MemDisk>,
+    validator: &Validator<'_, HashSign>,
+) -> Reported
     requires alive { IsAlive ⟦<MemDisk as Disk>⟧.device journal.old }
     requires pair { IsSome (spare_of journal.old) }
     ensures pair { IsSome (spare_of journal.new) }
@@ -81,7 +89,7 @@ fn first_group(alloc: Global, configuration: Vec<u8>) -> Result<Option<Group>, A
 }
 
 /// Rewrites the spare area to the validator's checkpoint.
-fn rewrite(journal: &mut Journal<MemDisk>, validator: &Validator<'_, HashSign>) -> Told
+fn rewrite(journal: &mut Journal<MemDisk>, validator: &Validator<'_, HashSign>) -> Reported
     requires alive { IsAlive ⟦<MemDisk as Disk>⟧.device journal.old }
     requires pair { IsSome (spare_of journal.old) }
     ensures pair { IsSome (spare_of journal.new) }
@@ -101,7 +109,7 @@ fn snapshot(validator: &Validator<'_, HashSign>) -> Result<Snapshot, AllocError>
 }
 
 #[tactic(auto, using(crate::proofs::Begun::begun))]
-fn rewrite_to(journal: &mut Journal<MemDisk>, snapshot: Snapshot) -> Told
+fn rewrite_to(journal: &mut Journal<MemDisk>, snapshot: Snapshot) -> Reported
     requires alive { IsAlive ⟦<MemDisk as Disk>⟧.device journal.old }
     requires pair { IsSome (spare_of journal.old) }
     requires begun { 2 ≤ length (⟦<MemDisk as Disk>⟧.device.content (disk_of journal.old)) }

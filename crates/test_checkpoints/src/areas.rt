@@ -2,7 +2,7 @@
 
 use diskmodel::MemDisk;
 use std::alloc::{AllocError, Global};
-use test_cases::Told;
+use test_cases::Reported;
 
 /// The values of a gate that was opened, and of a closed one.
 const OPEN: u8 = 1;
@@ -91,7 +91,7 @@ pub fn are_alike(left: &MemDisk, right: &MemDisk) -> bool {
 }
 
 /// Appends a group of this many batches of member 2, numbered from this one on, and opens the gate before it.
-pub fn add_batches(area: &mut Vec<u8>, from: u32, count: u32) -> Told {
+pub fn add_batches(area: &mut Vec<u8>, from: u32, count: u32) -> Reported {
     if let Some(gate) = area.last_mut() {
         *gate = OPEN;
     }

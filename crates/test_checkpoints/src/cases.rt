@@ -1,11 +1,11 @@
 //! The cases of a file: lists of records, and histories.
 
 use crate::histories::{Counts, History, Setup};
-use crate::list::told;
+use crate::list::reported;
 use crate::lists::Lists;
 use std::alloc::Global;
 use std::io::{BufRead, Write};
-use test_cases::{Ending, Player, Told};
+use test_cases::{Ending, Player, Reported};
 
 /// The command that precedes the events of a history; these end at the next title.
 const EVENTS: &str = "tell outputs";
@@ -34,17 +34,17 @@ impl Cases {
     }
 
     /// Begins a case.
-    pub fn begin(&mut self) -> Told {
+    pub fn begin(&mut self) -> Reported {
         self.lists.begin();
         self.setup.begin()
     }
 
     /// Carries out a command, and adds the lines of its answer.
-    pub fn obey(&mut self, command: &str, answer: &mut String) -> Told {
+    pub fn obey(&mut self, command: &str, answer: &mut String) -> Reported {
         let (name, _) = command.split_once(' ').unwrap_or((command, ""));
         match name {
             "set" | "stakes" => self.setup.obey(command, answer),
-            "loads" => self.counts.tell(answer),
+            "loads" => self.counts.report(answer),
             _ => self.lists.obey(command, answer),
         }
     }
@@ -111,6 +111,6 @@ where
 {
     let mut answer = String::new(rt.alloc());
     let obeyed = history.obey(player.command(), &mut answer);
-    told(obeyed, &mut answer)?;
+    reported(obeyed, &mut answer)?;
     player.answered(answer.as_str())
 }

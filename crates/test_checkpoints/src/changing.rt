@@ -1,10 +1,10 @@
 //! Lists in which one byte is changed, and the results of loading them.
 
-use crate::loading::{copied, load, told_load};
+use crate::loading::{copied, load, reported_load};
 use crate::nodes::Member;
 use ref_checkpoint::load_answer;
 use std::alloc::Global;
-use test_cases::Told;
+use test_cases::Reported;
 use validator::LoadError;
 
 /// For how many places of records faults are counted one by one.
@@ -73,17 +73,17 @@ impl Counts {
         self.others = self.others.saturating_add(1);
     }
 
-    fn tell(&self, answer: &mut String) -> Told {
+    fn report(&self, answer: &mut String) -> Reported {
         writeln!(answer, "lists: {}", self.lists)?;
-        tell_count("Ok", self.loaded, answer)?;
+        report_count("Ok", self.loaded, answer)?;
         for place in 0..PLACES {
-            self.tell_place(place, answer)?;
+            self.report_place(place, answer)?;
         }
-        tell_count("3 UnsoundWhole", self.unsound_whole, answer)?;
-        tell_count("not as the plain program", self.others, answer)
+        report_count("3 UnsoundWhole", self.unsound_whole, answer)?;
+        report_count("not as the plain program", self.others, answer)
     }
 
-    fn tell_place(&self, place: usize, answer: &mut String) -> Told {
+    fn report_place(&self, place: usize, answer: &mut String) -> Reported {
         match self.unsound.get(place) {
             Some(count) if *count > 0 => writeln!(answer, "2 Unsound {place}: {count}"),
             _ => Ok(()),
@@ -92,7 +92,7 @@ impl Counts {
 }
 
 /// Adds how often a result occurred, if it did.
-fn tell_count(name: &str, count: u64, answer: &mut String) -> Told {
+fn report_count(name: &str, count: u64, answer: &mut String) -> Reported {
     if count == 0 {
         return Ok(());
     }
@@ -116,7 +116,7 @@ pub fn change_bytes(
     change: Change,
     records: &[Vec<u8>],
     answer: &mut String,
-) -> Told {
+) -> Reported {
     let mut changing = Changing {
         alloc,
         member,
@@ -127,11 +127,11 @@ pub fn change_bytes(
     for place in 0..records.len() {
         changing.change_record(place)?;
     }
-    changing.counts.tell(answer)
+    changing.counts.report(answer)
 }
 
 impl Changing<'_> {
-    fn change_record(&mut self, place: usize) -> Told {
+    fn change_record(&mut self, place: usize) -> Reported {
         let length = match self.records.get(place) {
             None => 0,
             Some(record) => record.len(),
@@ -142,7 +142,7 @@ impl Changing<'_> {
         Ok(())
     }
 
-    fn change_byte(&mut self, place: usize, at: usize) -> Told {
+    fn change_byte(&mut self, place: usize, at: usize) -> Reported {
         let Some(byte) = self.byte(place, at) else {
             return Ok(());
         };
@@ -168,12 +168,12 @@ impl Changing<'_> {
     }
 
     /// Loads the list with this byte in both ways, and counts the result.
-    fn try_value(&mut self, place: usize, at: usize, value: u8) -> Told {
+    fn try_value(&mut self, place: usize, at: usize, value: u8) -> Reported {
         self.set_byte(place, at, value);
         let plain = load_answer(self.alloc, &self.member.node, &self.records)?;
         let found = load(self.alloc, &self.member.config, &self.records);
-        let told = told_load(self.alloc, found)?;
-        if told == plain {
+        let reported = reported_load(self.alloc, found)?;
+        if reported == plain {
             self.counts.count(found);
         } else {
             self.counts.count_other();

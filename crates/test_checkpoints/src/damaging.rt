@@ -5,7 +5,7 @@ use crate::disks::Disks;
 use crate::migrating::{NO_SUM, Opened, is_node, reopened, sum_after};
 use crate::nodes::Member;
 use std::alloc::{AllocError, Global};
-use test_cases::Told;
+use test_cases::Reported;
 
 /// A result without a node, and how often it occurred.
 #[derive(Drop)]
@@ -53,27 +53,27 @@ impl<'a> Damages<'a> {
     }
 
     /// Changes each byte of the area to each other value, and shows how often each result occurred.
-    pub fn tell_all(&mut self, answer: &mut String) -> Told {
+    pub fn report_all(&mut self, answer: &mut String) -> Reported {
         for place in 0..self.areas.of_area(self.is_second).len() {
             self.change(place)?;
         }
-        self.tell(answer)
+        self.report(answer)
     }
 
-    fn change(&mut self, place: usize) -> Told {
+    fn change(&mut self, place: usize) -> Reported {
         for more in 1..=u8::MAX {
             self.open(place, more)?;
         }
         Ok(())
     }
 
-    fn open(&mut self, place: usize, more: u8) -> Told {
+    fn open(&mut self, place: usize, more: u8) -> Reported {
         let areas = self.areas.changed(self.alloc, self.is_second, place, more)?;
         let text = found(self.alloc, self.member, &areas)?;
         self.count(text.as_str())
     }
 
-    fn count(&mut self, text: &str) -> Told {
+    fn count(&mut self, text: &str) -> Reported {
         if text == self.unchanged.as_str() {
             self.same = self.same.saturating_add(1);
             return Ok(());
@@ -86,7 +86,7 @@ impl<'a> Damages<'a> {
         add_refused(self.alloc, &mut self.refused, text)
     }
 
-    fn tell(&self, answer: &mut String) -> Told {
+    fn report(&self, answer: &mut String) -> Reported {
         writeln!(answer, "{} the same", self.same)?;
         writeln!(answer, "{} another node, sum {}", self.other, self.sum)?;
         for Refused { text, times } in &self.refused {
@@ -102,7 +102,7 @@ fn found(alloc: Global, member: &Member, areas: &Areas) -> Result<String, AllocE
     Ok(text)
 }
 
-fn add_refused(alloc: Global, refused: &mut Vec<Refused>, text: &str) -> Told {
+fn add_refused(alloc: Global, refused: &mut Vec<Refused>, text: &str) -> Reported {
     for one in refused.iter_mut() {
         if one.text.as_str() == text {
             one.times = one.times.saturating_add(1);

@@ -3,7 +3,7 @@
 use crate::areas::Areas;
 use diskmodel::{Call, CallKind, Disk, MemDisk, StopDisk, Switch};
 use std::alloc::{AllocError, Global};
-use test_cases::Told;
+use test_cases::Reported;
 
 /// The two disks of a journal.
 #[derive(Drop)]
@@ -140,7 +140,7 @@ fn is_durable(disk: &MemDisk) -> bool {
 }
 
 /// Adds what may be left for each length that is tried, with this byte wherever the disk may have lost what was synced.
-fn add_torn(alloc: Global, disk: &MemDisk, byte: u8, outcomes: &mut Vec<Vec<u8>>) -> Told {
+fn add_torn(alloc: Global, disk: &MemDisk, byte: u8, outcomes: &mut Vec<Vec<u8>>) -> Reported {
     for length in lengths(alloc, disk)? {
         let left = torn(alloc, disk, byte, length)?;
         if disk.can_leave(&left) {
@@ -160,7 +160,7 @@ fn lengths(alloc: Global, disk: &MemDisk) -> Result<Vec<usize>, AllocError> {
     Ok(lengths)
 }
 
-fn add_once(lengths: &mut Vec<usize>, length: usize) -> Told {
+fn add_once(lengths: &mut Vec<usize>, length: usize) -> Reported {
     if !lengths.contains(&length) {
         lengths.push(length)?;
     }

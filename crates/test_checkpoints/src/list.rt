@@ -10,7 +10,7 @@ use ref_checkpoint::{checkpoint_read, load_answer, state_records};
 use sigface::HashSign;
 use sim_script::FormError;
 use std::alloc::{AllocError, Global};
-use test_cases::{Told, bad};
+use test_cases::{Reported, bad};
 
 /// A list of records, with the node of its case and the events that follow it.
 #[derive(Clone, Copy)]
@@ -27,7 +27,7 @@ impl List<'_> {
         match name {
             "load" | "load-all" | "load-none" => self.load(answer),
             "play" | "play-new" => {
-                told(self.play(name, words, answer), answer)?;
+                reported(self.play(name, words, answer), answer)?;
                 Ok(false)
             }
             _ => {
@@ -64,7 +64,7 @@ impl List<'_> {
     }
 
     /// Adds how often which result occurs when one byte of the list is changed.
-    fn change(&self, name: &str, answer: &mut String) -> Told {
+    fn change(&self, name: &str, answer: &mut String) -> Reported {
         let change = match name {
             "change-values" => Change::Values,
             "change-bits" => Change::Bits,
@@ -98,7 +98,7 @@ fn is_written_alike(
 }
 
 /// The result of playing a case: an error if an allocation failed.
-pub fn told(played: Result<(), FormError>, answer: &mut String) -> Told {
+pub fn reported(played: Result<(), FormError>, answer: &mut String) -> Reported {
     match played {
         Ok(()) => Ok(()),
         Err(FormError::Memory) => Err(AllocError),

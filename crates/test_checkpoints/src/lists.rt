@@ -7,7 +7,7 @@ use crate::records::{bytes_in, configuration_record, head_record};
 use header::Node;
 use sigface::HashSign;
 use std::alloc::Global;
-use test_cases::{Told, bad, write_hex};
+use test_cases::{Reported, bad, write_hex};
 
 /// The node of a case, the list that its commands are writing down, and the events that follow it.
 #[derive(Drop)]
@@ -53,7 +53,7 @@ impl Lists {
     }
 
     /// Carries out a command, and adds the lines of its answer.
-    pub fn obey(&mut self, command: &str, answer: &mut String) -> Told {
+    pub fn obey(&mut self, command: &str, answer: &mut String) -> Reported {
         let (name, words) = command.split_once(' ').unwrap_or((command, ""));
         match name {
             "checkpoint" => Ok(()),
@@ -66,7 +66,7 @@ impl Lists {
         }
     }
 
-    fn set_member(&mut self, words: &str, answer: &mut String) -> Told {
+    fn set_member(&mut self, words: &str, answer: &mut String) -> Reported {
         self.member = member_of(self.alloc, words)?;
         if self.member.is_none() {
             bad(answer);
@@ -75,7 +75,7 @@ impl Lists {
     }
 
     /// Adds one more record to the list: the bytes after the colon.
-    fn add_record(&mut self, words: &str, answer: &mut String) -> Told {
+    fn add_record(&mut self, words: &str, answer: &mut String) -> Reported {
         let digits = words.strip_prefix(":").unwrap_or(words);
         match bytes_in(self.alloc, digits)? {
             Some(record) => self.records.push(record)?,
@@ -85,7 +85,7 @@ impl Lists {
     }
 
     /// Ends the list with this command, and begins the next one.
-    fn end(&mut self, name: &str, words: &str, answer: &mut String) -> Told {
+    fn end(&mut self, name: &str, words: &str, answer: &mut String) -> Reported {
         match &self.member {
             None => bad(answer),
             Some(member) => {
@@ -105,19 +105,24 @@ impl Lists {
     }
 
     /// Adds the bytes of a record that no list writes down.
-    fn spell(&self, name: &str, words: &str, answer: &mut String) -> Told {
+    fn spell(&self, name: &str, words: &str, answer: &mut String) -> Reported {
         match (name, &self.member) {
             ("record-of-configuration", Some(member)) => {
-                tell_record(&configuration_record(self.alloc, &member.node)?, answer)
+                report_record(&configuration_record(self.alloc, &member.node)?, answer)
             }
-            ("record-of-head", _) => tell_record(&head_record(self.alloc, words)?, answer),
+            ("record-of-head", _) => report_record(&head_record(self.alloc, words)?, answer),
             _ => Ok(bad(answer)),
         }
     }
 }
 
 /// Completes the list for the command that ends it. Only for `load-all` does the list have the configuration, its first record, itself.
-fn complete(alloc: Global, node: &Node<HashSign>, name: &str, records: &mut Vec<Vec<u8>>) -> Told {
+fn complete(
+    alloc: Global,
+    node: &Node<HashSign>,
+    name: &str,
+    records: &mut Vec<Vec<u8>>,
+) -> Reported {
     match name {
         "load-all" => {}
         "load-none" => records.clear(),
@@ -126,7 +131,7 @@ fn complete(alloc: Global, node: &Node<HashSign>, name: &str, records: &mut Vec<
     Ok(())
 }
 
-fn tell_record(record: &[u8], answer: &mut String) -> Told {
+fn report_record(record: &[u8], answer: &mut String) -> Reported {
     write_hex(answer, record)?;
     answer.push_str("\n")
 }

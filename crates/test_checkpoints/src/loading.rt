@@ -4,7 +4,7 @@ use crate::nodes::Member;
 use crate::records::configuration_record;
 use sigface::HashSign;
 use std::alloc::{AllocError, Global};
-use test_cases::Told;
+use test_cases::Reported;
 use validator::{Config, LoadError, Loading, Validator};
 
 /// A copy of a list of records.
@@ -17,7 +17,7 @@ pub fn copied(alloc: Global, records: &[Vec<u8>]) -> Result<Vec<Vec<u8>>, AllocE
 }
 
 /// Adds why records can't be loaded, as files of cases have it.
-pub fn tell_error(error: LoadError, text: &mut String) -> Told {
+pub fn report_error(error: LoadError, text: &mut String) -> Reported {
     match error {
         LoadError::Unsound(place) => write!(text, "{error} {place}"),
         _ => write!(text, "{error}"),
@@ -25,12 +25,12 @@ pub fn tell_error(error: LoadError, text: &mut String) -> Told {
 }
 
 /// The result of loading, as files of cases have it. A failed allocation is no result.
-pub fn told_load(alloc: Global, answer: Result<(), LoadError>) -> Result<String, AllocError> {
+pub fn reported_load(alloc: Global, answer: Result<(), LoadError>) -> Result<String, AllocError> {
     let mut text = String::new(alloc);
     match answer {
         Ok(()) => text.push_str("Ok")?,
         Err(LoadError::Memory) => return Err(AllocError),
-        Err(error) => tell_error(error, &mut text)?,
+        Err(error) => report_error(error, &mut text)?,
     }
     Ok(text)
 }
@@ -74,10 +74,10 @@ pub fn compare_loads(
     records: &[Vec<u8>],
     plain: &str,
     answer: &mut String,
-) -> Told {
-    let at_once = told_load(alloc, load(alloc, &member.config, records))?;
+) -> Reported {
+    let at_once = reported_load(alloc, load(alloc, &member.config, records))?;
     compare("at once", at_once.as_str(), plain, answer)?;
-    let one_by_one = told_load(alloc, load_one_by_one(alloc, &member.config, records))?;
+    let one_by_one = reported_load(alloc, load_one_by_one(alloc, &member.config, records))?;
     compare("record by record", one_by_one.as_str(), plain, answer)?;
     if plain == "Ok" && !is_kept_alike(alloc, member, records)? {
         answer.push_str("kept otherwise\n")?;
@@ -85,7 +85,7 @@ pub fn compare_loads(
     Ok(())
 }
 
-fn compare(way: &str, found: &str, plain: &str, answer: &mut String) -> Told {
+fn compare(way: &str, found: &str, plain: &str, answer: &mut String) -> Reported {
     if found == plain {
         return Ok(());
     }

@@ -17,8 +17,8 @@ mod nodes;
 mod pairs;
 mod playing;
 mod records;
+mod reporting;
 mod stopping;
-mod telling;
 
 use cases::Cases;
 use std::fs;
@@ -50,12 +50,12 @@ fn is_right(rt: &HostRuntime, name: &str) -> Result<bool, Ending> {
     let mut player = Player::new(rt.alloc(), name, text.as_slice(), io::writer(rt));
     play_each(rt, &mut player, &mut cases)?;
     let right = player.end()?;
-    tell_same(rt, name, cases.written_alike())?;
+    report_same(rt, name, cases.written_alike())?;
     Ok(right)
 }
 
 /// Prints for how many lists the records were written again, if for any.
-fn tell_same(rt: &HostRuntime, name: &str, same: u64) -> Result<(), Ending> {
+fn report_same(rt: &HostRuntime, name: &str, same: u64) -> Result<(), Ending> {
     if same > 0 {
         writeln!(
             io::writer(rt),

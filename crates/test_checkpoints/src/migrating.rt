@@ -11,7 +11,7 @@ use journal::{Failed, Journal, JournalError};
 use opening::{reopen, reopen_pair};
 use sigface::HashSign;
 use std::alloc::{AllocError, Global};
-use test_cases::{Told, write_hex};
+use test_cases::{Reported, write_hex};
 use validator::Validator;
 use wire::{Author, Round};
 
@@ -41,12 +41,12 @@ pub fn reopened(alloc: Global, member: &Member, disks: Disks) -> Result<Opened, 
     let Disks { first, second } = disks;
     match reopen_pair(alloc, &member.config, first, second) {
         Ok((validator, journal)) => {
-            tell_found(&validator, journal.generation(), &mut text)?;
+            report_found(&validator, journal.generation(), &mut text)?;
             let disks = disks_of(journal);
             Ok(Opened { text, disks })
         }
         Err(Failed { error, disk }) => {
-            tell_error(error, &mut text)?;
+            report_error(error, &mut text)?;
             let disks = Disks {
                 first: disk.0,
                 second: disk.1,
@@ -64,7 +64,7 @@ fn disks_of(journal: Journal<MemDisk>) -> Disks
 }
 
 /// Adds why an opening failed.
-fn tell_error(error: JournalError, text: &mut String) -> Told {
+fn report_error(error: JournalError, text: &mut String) -> Reported {
     match error {
         JournalError::Damaged(gate) => write!(text, "{error} {gate}"),
         _ => write!(text, "{error}"),
@@ -72,9 +72,13 @@ fn tell_error(error: JournalError, text: &mut String) -> Told {
 }
 
 /// Adds the generation, the vote for the peer's header of the round, the round, and the length of the order.
-fn tell_found(validator: &Validator<'_, HashSign>, generation: u64, text: &mut String) -> Told {
+fn report_found(
+    validator: &Validator<'_, HashSign>,
+    generation: u64,
+    text: &mut String,
+) -> Reported {
     write!(text, "generation {generation}, vote ")?;
-    tell_vote(validator, text)?;
+    report_vote(validator, text)?;
     let (round, ordered) = (validator.round(), validator.order().len());
     write!(text, ", round {round}, order {ordered}")
 }
@@ -84,7 +88,7 @@ pub fn is_node(text: &str) -> bool {
     text.starts_with("generation ")
 }
 
-fn tell_vote(validator: &Validator<'_, HashSign>, text: &mut String) -> Told {
+fn report_vote(validator: &Validator<'_, HashSign>, text: &mut String) -> Reported {
     let Ok(round) = Round::new(ROUND) else {
         return Err(AllocError);
     };
@@ -95,11 +99,16 @@ fn tell_vote(validator: &Validator<'_, HashSign>, text: &mut String) -> Told {
 }
 
 /// Opens both areas, and shows what is found and the bytes of both areas after that.
-pub fn tell_opened(alloc: Global, member: &Member, areas: &Areas, answer: &mut String) -> Told {
+pub fn report_opened(
+    alloc: Global,
+    member: &Member,
+    areas: &Areas,
+    answer: &mut String,
+) -> Reported {
     let opened = opened_again(alloc, member, Disks::of(alloc, areas)?)?;
     writeln!(answer, "{}", opened.text)?;
-    tell_area("first", opened.disks.first.bytes(), answer)?;
-    tell_area("second", opened.disks.second.bytes(), answer)
+    report_area("first", opened.disks.first.bytes(), answer)?;
+    report_area("second", opened.disks.second.bytes(), answer)
 }
 
 /// Opens both disks, and once more if an allocation failed, of the opening or of a disk. The second opening has to give the result that the
@@ -113,15 +122,15 @@ fn opened_again(alloc: Global, member: &Member, disks: Disks) -> Result<Opened, 
 }
 
 /// Opens one disk with these bytes, and shows what is found and its bytes after that.
-pub fn tell_opened_alone(
+pub fn report_opened_alone(
     alloc: Global,
     member: &Member,
     bytes: &[u8],
     answer: &mut String,
-) -> Told {
+) -> Reported {
     let (text, disk) = opened_alone_again(alloc, member, bytes)?;
     writeln!(answer, "{text}")?;
-    tell_area("alone", disk.bytes(), answer)
+    report_area("alone", disk.bytes(), answer)
 }
 
 /// Opens one disk, and once more if an allocation or the disk failed.
@@ -147,17 +156,17 @@ fn reopened_alone(
     let mut text = String::new(alloc);
     match reopen(alloc, &member.config, disk) {
         Ok((validator, journal)) => {
-            tell_found(&validator, journal.generation(), &mut text)?;
+            report_found(&validator, journal.generation(), &mut text)?;
             Ok((text, journal.into_disk()))
         }
         Err(Failed { error, disk }) => {
-            tell_error(error, &mut text)?;
+            report_error(error, &mut text)?;
             Ok((text, disk))
         }
     }
 }
 
-fn tell_area(name: &str, bytes: &[u8], answer: &mut String) -> Told {
+fn report_area(name: &str, bytes: &[u8], answer: &mut String) -> Reported {
     if bytes.len() > MANY_BYTES {
         return writeln!(answer, "{name} {}, sum {}", bytes.len(), sum(bytes));
     }
@@ -183,24 +192,29 @@ pub fn sum_after(before: u64, bytes: &[u8]) -> u64 {
 }
 
 /// Opens both areas with one of them cut to each length, and shows from which length on which answer is given.
-pub fn tell_lengths(
+pub fn report_lengths(
     alloc: Global,
     member: &Member,
     areas: &Areas,
     is_second: bool,
     answer: &mut String,
-) -> Told {
+) -> Reported {
     let mut last = String::new(alloc);
     for length in 0..=areas.of_area(is_second).len() {
         let left = areas.cut(alloc, is_second, length)?;
         let found = reopened(alloc, member, Disks::of(alloc, &left)?)?;
-        tell_change(length, &found, &mut last, answer)?;
+        report_change(length, &found, &mut last, answer)?;
     }
     Ok(())
 }
 
 /// Shows the answer of an opening, and how long both areas are then, if it differs from the last one.
-fn tell_change(length: usize, opened: &Opened, last: &mut String, answer: &mut String) -> Told {
+fn report_change(
+    length: usize,
+    opened: &Opened,
+    last: &mut String,
+    answer: &mut String,
+) -> Reported {
     let mut text = opened.text.clone()?;
     if is_node(text.as_str()) {
         let (first, second) = (&opened.disks.first, &opened.disks.second);

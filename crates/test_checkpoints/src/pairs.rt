@@ -2,12 +2,12 @@
 
 use crate::areas::{Areas, add_batches};
 use crate::damaging::Damages;
-use crate::migrating::{tell_lengths, tell_opened, tell_opened_alone};
+use crate::migrating::{report_lengths, report_opened, report_opened_alone};
 use crate::nodes::Member;
 use crate::records::bytes_in;
 use crate::stopping::Trial;
 use std::alloc::Global;
-use test_cases::{Told, bad};
+use test_cases::{Reported, bad};
 
 /// The areas that the commands so far have set.
 #[derive(Drop)]
@@ -47,7 +47,7 @@ impl Pair {
         name: &str,
         words: &str,
         answer: &mut String,
-    ) -> Told {
+    ) -> Reported {
         match (name, member) {
             ("first" | "second", _) => self.set(name, words, answer),
             ("batches", _) => self.add(words, answer),
@@ -57,7 +57,7 @@ impl Pair {
     }
 
     /// Sets the bytes of an area: those after the colon.
-    fn set(&mut self, name: &str, words: &str, answer: &mut String) -> Told {
+    fn set(&mut self, name: &str, words: &str, answer: &mut String) -> Reported {
         let digits = words.strip_prefix(":").unwrap_or(words);
         match (name, bytes_in(self.alloc, digits)?) {
             ("first", Some(bytes)) => self.areas.first = bytes,
@@ -68,7 +68,7 @@ impl Pair {
     }
 
     /// Appends a group to an area, given the area's name, the number of the first batch, and how many batches there are.
-    fn add(&mut self, words: &str, answer: &mut String) -> Told {
+    fn add(&mut self, words: &str, answer: &mut String) -> Reported {
         let words: Vec<&str> = words.split(' ').collect(self.alloc)?;
         let [name, from, count] = words.as_slice() else {
             return Ok(bad(answer));
@@ -82,28 +82,28 @@ impl Pair {
 
     /// Opens both areas: with no call failing, with each call failing in turn, with stops, or with an area cut to each length or changed in
     /// each byte.
-    fn open(&self, member: &Member, name: &str, words: &str, answer: &mut String) -> Told {
+    fn open(&self, member: &Member, name: &str, words: &str, answer: &mut String) -> Reported {
         let (alloc, areas) = (self.alloc, &self.areas);
         match (name, words) {
-            ("open", "") => tell_opened(alloc, member, areas, answer),
-            ("open-alone", "") => tell_opened_alone(alloc, member, &areas.first, answer),
-            ("open-failing", "") => Trial::new(alloc, member, areas)?.tell_failing(answer),
-            ("open-stopping", "") => Trial::new(alloc, member, areas)?.tell_stopping(answer),
-            ("open-cut", "first") => tell_lengths(alloc, member, areas, false, answer),
-            ("open-cut", "second") => tell_lengths(alloc, member, areas, true, answer),
-            ("open-changed", "first") => tell_changed(alloc, member, areas, false, answer),
-            ("open-changed", "second") => tell_changed(alloc, member, areas, true, answer),
+            ("open", "") => report_opened(alloc, member, areas, answer),
+            ("open-alone", "") => report_opened_alone(alloc, member, &areas.first, answer),
+            ("open-failing", "") => Trial::new(alloc, member, areas)?.report_failing(answer),
+            ("open-stopping", "") => Trial::new(alloc, member, areas)?.report_stopping(answer),
+            ("open-cut", "first") => report_lengths(alloc, member, areas, false, answer),
+            ("open-cut", "second") => report_lengths(alloc, member, areas, true, answer),
+            ("open-changed", "first") => report_changed(alloc, member, areas, false, answer),
+            ("open-changed", "second") => report_changed(alloc, member, areas, true, answer),
             _ => Ok(bad(answer)),
         }
     }
 }
 
-fn tell_changed(
+fn report_changed(
     alloc: Global,
     member: &Member,
     areas: &Areas,
     is_second: bool,
     answer: &mut String,
-) -> Told {
-    Damages::new(alloc, member, areas, is_second)?.tell_all(answer)
+) -> Reported {
+    Damages::new(alloc, member, areas, is_second)?.report_all(answer)
 }

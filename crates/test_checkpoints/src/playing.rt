@@ -3,10 +3,10 @@
 ghost use Rattle.std.specs.Prelude.{◌≡◌, None};
 ghost use Rattle.header.specs.Checks.{fault_of, accepts_all};
 
-use crate::area::tell_area;
-use crate::loading::{kept_records, loaded, tell_error};
+use crate::area::report_area;
+use crate::loading::{kept_records, loaded, report_error};
 use crate::nodes::Member;
-use crate::telling::{tell_outputs, tell_records};
+use crate::reporting::{report_outputs, report_records};
 use header::{Checked, check};
 use sigface::{HashSign, HashVerify};
 use sim_script::{Command, FormError, Labels, define_batch, define_header, message_of, parse};
@@ -44,7 +44,7 @@ pub fn play_loaded(
     match loaded(alloc, &member.config, records) {
         Err(LoadError::Memory) => Err(FormError::Memory),
         Err(error) => {
-            tell_error(error, answer)?;
+            report_error(error, answer)?;
             Ok(answer.push_str("\n")?)
         }
         Ok(validator) => play_on(alloc, validator, play, answer),
@@ -107,31 +107,31 @@ impl Playing<'_> {
         requires { fault_of self.old.validator.setting.charter accepts_all event ≡ None }
     {
         let step = self.validator.step(event);
-        tell_step(&step, answer)
+        report_step(&step, answer)
     }
 
     /// Shows the records of a checkpoint, and an area that was rewritten to it, if these are asked for.
     fn look(&self, looks: &str, answer: &mut String) -> Result<(), FormError> {
         if looks.contains("records") {
-            tell_records(&kept_records(&self.validator)?, answer)?;
+            report_records(&kept_records(&self.validator)?, answer)?;
         }
         if looks.contains("area") {
-            tell_area(self.alloc, &self.validator, answer)?;
+            report_area(self.alloc, &self.validator, answer)?;
         }
         Ok(())
     }
 }
 
 /// Adds the answer to an event, and its outputs.
-fn tell_step(step: &Result<Step, Refusal>, answer: &mut String) -> Result<(), FormError> {
+fn report_step(step: &Result<Step, Refusal>, answer: &mut String) -> Result<(), FormError> {
     match step {
         Ok(Step::New(outputs)) => {
             answer.push_str("new\n")?;
-            Ok(tell_outputs(outputs, answer)?)
+            Ok(report_outputs(outputs, answer)?)
         }
         Ok(Step::Known(outputs)) => {
             answer.push_str("known\n")?;
-            Ok(tell_outputs(outputs, answer)?)
+            Ok(report_outputs(outputs, answer)?)
         }
         Err(Refusal::Memory) => Err(FormError::Memory),
         Err(refusal) => Ok(writeln!(answer, "refused {refusal}")?),

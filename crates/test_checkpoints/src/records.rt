@@ -5,7 +5,7 @@ use committee::Committee;
 use header::Node;
 use sigface::HashSign;
 use std::alloc::{AllocError, Global};
-use test_cases::{Told, bytes_of};
+use test_cases::{Reported, bytes_of};
 use wire::Author;
 
 /// The kind of a configuration, and the version with stakes.
@@ -38,7 +38,7 @@ fn add_word(alloc: Global, word: &str, bytes: &mut Vec<u8>) -> Result<bool, Allo
     Ok(true)
 }
 
-fn add_times(part: &[u8], times: u32, bytes: &mut Vec<u8>) -> Told {
+fn add_times(part: &[u8], times: u32, bytes: &mut Vec<u8>) -> Reported {
     for _ in 0..times {
         bytes.extend_from_slice(part)?;
     }
@@ -61,7 +61,7 @@ pub fn configuration_record(alloc: Global, node: &Node<HashSign>) -> Result<Vec<
     Ok(record)
 }
 
-fn add_keys(committee: &Committee, record: &mut Vec<u8>) -> Told {
+fn add_keys(committee: &Committee, record: &mut Vec<u8>) -> Reported {
     for member in 0..committee.size() {
         if let Some(key) = committee.key(Author(member)) {
             record.extend_from_slice(&key.0)?;
@@ -70,7 +70,7 @@ fn add_keys(committee: &Committee, record: &mut Vec<u8>) -> Told {
     Ok(())
 }
 
-fn add_stakes(committee: &Committee, record: &mut Vec<u8>) -> Told {
+fn add_stakes(committee: &Committee, record: &mut Vec<u8>) -> Reported {
     for member in 0..committee.size() {
         if let Some(stake) = committee.stake(Author(member)) {
             record.extend_from_slice(&(stake as u32).to_be_bytes())?;

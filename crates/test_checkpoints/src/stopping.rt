@@ -6,7 +6,7 @@ use crate::migrating::{DEVICE, Opened, reopened};
 use crate::nodes::Member;
 use diskmodel::CallKind;
 use std::alloc::{AllocError, Global};
-use test_cases::Told;
+use test_cases::Reported;
 
 /// Each kind of call that changes a disk or syncs it, with its name.
 const KINDS: [(CallKind, &str); 3] = [
@@ -38,7 +38,7 @@ impl Count {
         }
     }
 
-    fn tell(&self, answer: &mut String) -> Told {
+    fn report(&self, answer: &mut String) -> Reported {
         writeln!(answer, "then the same {}, others {}", self.same, self.other)
     }
 }
@@ -69,18 +69,18 @@ impl<'a> Trial<'a> {
     }
 
     /// Makes each call fail in turn, and opens the same disks again.
-    pub fn tell_failing(&self, answer: &mut String) -> Told {
-        self.tell_failing_reads(answer)?;
+    pub fn report_failing(&self, answer: &mut String) -> Reported {
+        self.report_failing_reads(answer)?;
         for (kind, name) in KINDS {
             let (calls, count) = self.count_failing(kind)?;
             write!(answer, "{name} fails {calls}, ")?;
-            count.tell(answer)?;
+            count.report(answer)?;
         }
         Ok(())
     }
 
     /// Reads aren't counted, since how often the disks are read is no part of the format.
-    fn tell_failing_reads(&self, answer: &mut String) -> Told {
+    fn report_failing_reads(&self, answer: &mut String) -> Reported {
         let (calls, count) = self.count_failing(CallKind::Read)?;
         if calls > 0 && count.other == 0 {
             return answer.push_str("read fails, then the same\n");
@@ -119,20 +119,20 @@ impl<'a> Trial<'a> {
     }
 
     /// Stops the machine before each call of the opening and after the last one, and opens what is left.
-    pub fn tell_stopping(&self, answer: &mut String) -> Told {
+    pub fn report_stopping(&self, answer: &mut String) -> Reported {
         let mut counts = [Count::none(); FILL_COUNT];
         for (kind, _) in KINDS {
             self.stop_before(kind, &mut counts)?;
         }
         self.stop_each(&self.opened.disks, &mut counts)?;
         for place in 0..FILL_COUNT {
-            tell_fill(place, &counts, answer)?;
+            report_fill(place, &counts, answer)?;
         }
         Ok(())
     }
 
     /// Stops the machine before each call of this kind.
-    fn stop_before(&self, kind: CallKind, counts: &mut [Count]) -> Told {
+    fn stop_before(&self, kind: CallKind, counts: &mut [Count]) -> Reported {
         for number in 1..MOST_CALLS {
             match self.failed(kind, number)? {
                 Some(disks) => self.stop_each(&disks, counts)?,
@@ -143,7 +143,7 @@ impl<'a> Trial<'a> {
     }
 
     /// Stops the machine with these disks, once for each outcome of each disk.
-    fn stop_each(&self, disks: &Disks, counts: &mut [Count]) -> Told {
+    fn stop_each(&self, disks: &Disks, counts: &mut [Count]) -> Reported {
         for place in 0..FILL_COUNT {
             if let (Some((fill, _)), Some(count)) = (FILLS.get(place), counts.get_mut(place)) {
                 self.stop_both(disks, *fill, count)?;
@@ -153,7 +153,7 @@ impl<'a> Trial<'a> {
     }
 
     /// Does the same with this fill.
-    fn stop_both(&self, disks: &Disks, fill: Fill, count: &mut Count) -> Told {
+    fn stop_both(&self, disks: &Disks, fill: Fill, count: &mut Count) -> Reported {
         for is_second in [false, true] {
             for left in outcomes(self.alloc, disks.of_area(is_second), fill)? {
                 self.stop(disks, is_second, left, count)?;
@@ -163,7 +163,7 @@ impl<'a> Trial<'a> {
     }
 
     /// Stops the machine so that it leaves these bytes of an area, and opens what is left.
-    fn stop(&self, disks: &Disks, is_second: bool, left: Vec<u8>, count: &mut Count) -> Told {
+    fn stop(&self, disks: &Disks, is_second: bool, left: Vec<u8>, count: &mut Count) -> Reported {
         let mut again = disks.again(self.alloc, self.areas)?;
         let may = again.stop(is_second, left);
         let is_same = self.is_same(again)?;
@@ -173,11 +173,11 @@ impl<'a> Trial<'a> {
 }
 
 /// Shows for the fill at a place how many stops there were, and what was found after them.
-fn tell_fill(place: usize, counts: &[Count], answer: &mut String) -> Told {
+fn report_fill(place: usize, counts: &[Count], answer: &mut String) -> Reported {
     let (Some((_, name)), Some(count)) = (FILLS.get(place), counts.get(place)) else {
         return Ok(());
     };
     let stops = count.same.saturating_add(count.other);
     write!(answer, "{name}: stops {stops}, ")?;
-    count.tell(answer)
+    count.report(answer)
 }

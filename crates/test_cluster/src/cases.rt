@@ -2,8 +2,8 @@
 
 use crate::disks::{Grip, GrippedDisk, disks_of, new_grips};
 use crate::moves::{call_of, coin, delivery, gift, leaving, member, parted};
+use crate::reporting::{report_error, report_move, report_order, report_outputs, report_proposal};
 use crate::schedules::{play_broken, play_tolerated};
-use crate::telling::{tell_error, tell_move, tell_order, tell_outputs, tell_proposal};
 use crate::threads::{circulate, meet};
 use cluster::{Cluster, Move};
 use sigface::{HashSign, HashVerify};
@@ -13,7 +13,7 @@ use std::alloc::{AllocError, Global};
 use std::mem;
 use std::sync::Wait;
 use std::thread::Threads;
-use test_cases::{Told, bad};
+use test_cases::{Reported, bad};
 use wire::Author;
 
 /// A cluster, the labels that the case has defined, and a grip on each node's disk.
@@ -43,7 +43,7 @@ impl<'a> ClusterCases<'a> {
     }
 
     /// Begins a case.
-    pub fn begin(&mut self) -> Told {
+    pub fn begin(&mut self) -> Reported {
         self.labels = Labels::new(self.alloc);
         self.grips = new_grips(self.alloc, MEMBERS)?;
         self.plan = Vec::new(self.alloc);
@@ -52,7 +52,7 @@ impl<'a> ClusterCases<'a> {
     }
 
     /// Carries out a command, and adds the lines of its answer.
-    pub fn obey<R>(&mut self, rt: &R, command: &str, answer: &mut String) -> Told
+    pub fn obey<R>(&mut self, rt: &R, command: &str, answer: &mut String) -> Reported
     where
         R: Threads + Wait + Sync,
     {
@@ -78,7 +78,7 @@ impl<'a> ClusterCases<'a> {
     }
 
     /// `form` and `pack` define a header and a batch, as in a script.
-    fn define(&mut self, command: &str, answer: &mut String) -> Told {
+    fn define(&mut self, command: &str, answer: &mut String) -> Reported {
         let defined = match parse(command.as_bytes()) {
             Some(Command::Form(form)) => define_header(self.alloc, &mut self.labels, &form),
             Some(Command::Pack(pack)) => define_batch(self.alloc, &mut self.labels, &pack),
@@ -87,29 +87,29 @@ impl<'a> ClusterCases<'a> {
         match defined {
             Ok(()) => Ok(()),
             Err(FormError::Memory) => Err(AllocError),
-            Err(_) => told_bad(answer),
+            Err(_) => reported_bad(answer),
         }
     }
 
     /// `cluster COUNT` opens a node for each of the first `COUNT` members.
-    fn open(&mut self, words: &str, answer: &mut String) -> Told {
+    fn open(&mut self, words: &str, answer: &mut String) -> Reported {
         let count = words.parse().unwrap_or(0);
         let Some(configs) = self.settings.first(count) else {
-            return told_bad(answer);
+            return reported_bad(answer);
         };
         let disks = disks_of(self.alloc, &self.grips, count)?;
         if disks.len() != configs.len() {
-            return told_bad(answer);
+            return reported_bad(answer);
         }
         match Cluster::new(self.alloc, configs, disks, HashVerify) {
             Ok(cluster) => self.cluster = Some(cluster),
-            Err(error) => tell_error(answer, error),
+            Err(error) => report_error(answer, error),
         }
         Ok(())
     }
 
     /// `plan MOVE` keeps a move, which has to be one for which no disk has to be prepared.
-    fn plan(&mut self, words: &str, answer: &mut String) -> Told {
+    fn plan(&mut self, words: &str, answer: &mut String) -> Reported {
         let (name, words) = parted(words);
         let step = match name {
             "deliver" => delivery(words),
@@ -127,24 +127,24 @@ impl<'a> ClusterCases<'a> {
 
     /// `play COUNT` opens a node for each of the first `COUNT` members, and applies the planned moves, whose answers it
     /// shows.
-    fn play(&mut self, words: &str, answer: &mut String) -> Told {
+    fn play(&mut self, words: &str, answer: &mut String) -> Reported {
         let count = words.parse().unwrap_or(0);
         let Some(configs) = self.settings.first(count) else {
-            return told_bad(answer);
+            return reported_bad(answer);
         };
         let disks = disks_of(self.alloc, &self.grips, count)?;
         if disks.len() != configs.len() {
-            return told_bad(answer);
+            return reported_bad(answer);
         }
         let moves = mem::replace(&mut self.plan, Vec::new(self.alloc));
         match Cluster::play(self.alloc, configs, disks, HashVerify, moves) {
             Ok((cluster, answers)) => {
                 self.cluster = Some(cluster);
                 for outcome in answers {
-                    tell_move(answer, outcome);
+                    report_move(answer, outcome);
                 }
             }
-            Err(error) => tell_error(answer, error),
+            Err(error) => report_error(answer, error),
         }
         Ok(())
     }
@@ -152,23 +152,23 @@ impl<'a> ClusterCases<'a> {
     /// Makes a move, if there is one.
     fn apply(&mut self, step: Option<Move>, answer: &mut String) {
         match (&mut self.cluster, step) {
-            (Some(cluster), Some(step)) => tell_move(answer, cluster.apply(step)),
+            (Some(cluster), Some(step)) => report_move(answer, cluster.apply(step)),
             _ => bad(answer),
         }
     }
 
     /// `give NODE from SENDER MESSAGE`.
-    fn give(&mut self, words: &str, answer: &mut String) -> Told {
+    fn give(&mut self, words: &str, answer: &mut String) -> Reported {
         let step = gift(self.alloc, &self.labels, words)?;
         self.apply(step, answer);
         Ok(())
     }
 
     /// Carries out `stop NODE LEAVING`, where LEAVING says what the stop leaves of the node's disk.
-    fn stop(&mut self, words: &str, answer: &mut String) -> Told {
+    fn stop(&mut self, words: &str, answer: &mut String) -> Reported {
         let (node, how) = parted(words);
         let (Some(node), Some(how)) = (member(node), leaving(self.alloc, how)?) else {
-            return told_bad(answer);
+            return reported_bad(answer);
         };
         if let Some(grip) = self.grip(node) {
             grip.leave(how);
@@ -201,9 +201,9 @@ impl<'a> ClusterCases<'a> {
             return bad(answer);
         };
         match name {
-            "propose" => tell_proposal(answer, &self.labels, cluster.propose(node)),
-            "order" => tell_order(answer, &self.labels, cluster.given_order(node)),
-            "outputs" => tell_outputs(answer, cluster.outputs(node)),
+            "propose" => report_proposal(answer, &self.labels, cluster.propose(node)),
+            "order" => report_order(answer, &self.labels, cluster.given_order(node)),
+            "outputs" => report_outputs(answer, cluster.outputs(node)),
             _ => bad(answer),
         }
     }
@@ -215,7 +215,7 @@ fn flush(words: &str) -> Option<Move> {
 }
 
 // Adds the answer to a line that is no command.
-fn told_bad(answer: &mut String) -> Told {
+fn reported_bad(answer: &mut String) -> Reported {
     bad(answer);
     Ok(())
 }

@@ -5,8 +5,8 @@
 mod cases;
 mod disks;
 mod moves;
+mod reporting;
 mod schedules;
-mod telling;
 mod threads;
 
 use cases::ClusterCases;

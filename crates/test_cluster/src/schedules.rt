@@ -14,7 +14,7 @@ use report::Report;
 use schedule::{Honest, Schedule};
 use sim_members::Settings;
 use std::alloc::Global;
-use test_cases::{Told, bad};
+use test_cases::{Reported, bad};
 
 /// How many schedules are played, how many moves each has, the start value of the random numbers, and the depth of the committee.
 #[derive(Clone, Copy)]
@@ -26,16 +26,16 @@ struct Task {
 }
 
 /// `schedules COUNT MOVES START DEPTH`, with as many dishonest members as are tolerated: shows the results of the moves.
-pub fn play_tolerated(alloc: Global, words: &str, answer: &mut String) -> Told {
+pub fn play_tolerated(alloc: Global, words: &str, answer: &mut String) -> Reported {
     play_all(alloc, Honest::Three, words, answer)
 }
 
 /// `broken COUNT MOVES START DEPTH`: the same with one more dishonest member.
-pub fn play_broken(alloc: Global, words: &str, answer: &mut String) -> Told {
+pub fn play_broken(alloc: Global, words: &str, answer: &mut String) -> Reported {
     play_all(alloc, Honest::Two, words, answer)
 }
 
-fn play_all(alloc: Global, honest: Honest, words: &str, answer: &mut String) -> Told {
+fn play_all(alloc: Global, honest: Honest, words: &str, answer: &mut String) -> Reported {
     let Some(task) = task_of(words) else {
         bad(answer);
         return Ok(());
@@ -45,7 +45,7 @@ fn play_all(alloc: Global, honest: Honest, words: &str, answer: &mut String) -> 
     for number in 0..task.count {
         play(alloc, &settings, honest, task, number, &mut report)?;
     }
-    report.tell(task.start, answer);
+    report.write_to(task.start, answer);
     Ok(())
 }
 
@@ -70,7 +70,7 @@ fn play(
     task: Task,
     number: u64,
     report: &mut Report,
-) -> Told {
+) -> Reported {
     let start = task.start.wrapping_add(number);
     let mut schedule = Schedule::new(alloc, settings, honest, task.depth, start)?;
     move_all(&mut schedule, task.moves, report)?;
@@ -78,7 +78,7 @@ fn play(
     Ok(())
 }
 
-fn move_all(schedule: &mut Schedule<'_>, moves: u64, report: &mut Report) -> Told {
+fn move_all(schedule: &mut Schedule<'_>, moves: u64, report: &mut Report) -> Reported {
     for _ in 0..moves {
         schedule.advance(report)?;
     }

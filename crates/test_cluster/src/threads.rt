@@ -2,7 +2,7 @@
 
 ghost use Rattle.std.specs.Prelude.{◌≡◌, ◌+◌, [], length, vec_len, All, IfOk, OnOk};
 
-use crate::telling::{put_shown, tell_error};
+use crate::reporting::{put_shown, report_error};
 use cluster::{Applied, Cluster, ClusterError, Move};
 use diskmodel::{Disk, Gate, MemDisk};
 use sigface::{HashSign, HashVerify};
@@ -84,7 +84,7 @@ where
             answer,
             "one waited in vain, or made another number of turns\n",
         ),
-        Err(error) => tell_error(answer, error),
+        Err(error) => report_error(answer, error),
     }
 }
 
@@ -124,12 +124,12 @@ where
     R: Threads + Wait + Sync,
 {
     let turns = words.parse().unwrap_or(0);
-    if let Err(error) = tell_after(rt, alloc, settings, turns, answer) {
-        tell_error(answer, error);
+    if let Err(error) = report_after(rt, alloc, settings, turns, answer) {
+        report_error(answer, error);
     }
 }
 
-fn tell_after<R>(
+fn report_after<R>(
     rt: &R,
     alloc: Global,
     settings: &Settings,
@@ -146,7 +146,7 @@ where
     give_own(&mut nodes, Author(3))?;
     let mut nodes = run_after(rt, alloc, nodes, turns)?;
     for node in 0..4 {
-        tell_known(&mut nodes, Author(node), answer)?;
+        report_known(&mut nodes, Author(node), answer)?;
     }
     Ok(())
 }
@@ -167,7 +167,7 @@ fn give_own(nodes: &mut Nodes<'_>, node: Author) -> Result<(), ClusterError>
 }
 
 // Shows how many outputs a node has, and in how many deliveries of one of them to another node that one knows it.
-fn tell_known(
+fn report_known(
     nodes: &mut Nodes<'_>,
     node: Author,
     answer: &mut String,

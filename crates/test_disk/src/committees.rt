@@ -1,6 +1,6 @@
 //! Nodes of committees whose members sign with the test pair: the key of each is its number plus 1, 32 times.
 
-use crate::words::Told;
+use crate::words::Reported;
 use committee::{Committee, CommitteeError, DEFAULT_DEPTH};
 use header::Node;
 use sigface::HashSign;
@@ -97,7 +97,7 @@ fn committee_of(
 }
 
 /// Adds the line of a committee file that has the keys of this many members.
-fn put_keys(file: &mut String, count: usize) -> Told {
+fn put_keys(file: &mut String, count: usize) -> Reported {
     file.push_str("members = [")?;
     let mut byte = 0u8;
     for _ in 0..count {
@@ -110,7 +110,7 @@ fn put_keys(file: &mut String, count: usize) -> Told {
 }
 
 /// Adds the line of a committee file that has the stakes.
-fn put_stakes(file: &mut String, stakes: &[u64]) -> Told {
+fn put_stakes(file: &mut String, stakes: &[u64]) -> Reported {
     file.push_str("stakes = [")?;
     for stake in stakes {
         write!(file, "{stake}, ")?;

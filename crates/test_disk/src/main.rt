@@ -19,7 +19,7 @@ use std::rt::Files;
 use std::sync::Wait;
 use std::thread::Threads;
 use store::{StoreCases, laws_hold};
-use test_cases::{Ending, Player, Told, names_of};
+use test_cases::{Ending, Player, Reported, names_of};
 use validator::Config;
 
 /// What the commands of a case work on.
@@ -40,14 +40,14 @@ impl<'a> Cases<'a> {
         })
     }
 
-    fn begin(&mut self) -> Told {
+    fn begin(&mut self) -> Reported {
         self.has_store = false;
         self.live.begin();
         self.store.begin()
     }
 
     /// `store` begins a case of the store.
-    fn obey<R>(&mut self, rt: &R, command: &str, answer: &mut String) -> Told
+    fn obey<R>(&mut self, rt: &R, command: &str, answer: &mut String) -> Reported
     where
         R: Files<File = File> + AllocGlobal + Threads + Wait + Sync,
     {

@@ -1,6 +1,6 @@
 //! Disks in memory.
 
-use crate::words::Told;
+use crate::words::Reported;
 use diskmodel::{CallKind, MemDisk, StopDisk};
 use sim_run::losing;
 use std::alloc::{AllocError, Global};
@@ -36,7 +36,7 @@ pub fn stopped(alloc: Global, disk: MemDisk) -> Result<MemDisk, AllocError> {
 }
 
 /// Stops a disk so that it leaves these bytes.
-pub fn stop_with(alloc: Global, disk: &mut MemDisk, bytes: &[u8]) -> Told {
+pub fn stop_with(alloc: Global, disk: &mut MemDisk, bytes: &[u8]) -> Reported {
     disk.choose(bytes.to_vec(alloc)?);
     disk.stop();
     Ok(())

@@ -11,6 +11,7 @@ mod checkpoints;
 mod damages;
 mod disks;
 mod draws;
+mod encoding;
 mod events;
 mod failures;
 mod files;
@@ -23,7 +24,6 @@ mod openings;
 mod rounds;
 mod running;
 mod scripts;
-mod spelling;
 mod stops;
 mod stores;
 mod takers;
@@ -39,7 +39,7 @@ use sigface::HashSign;
 use std::alloc::{AllocError, Global};
 use stores::Store;
 use validator::Config;
-use words::{Told, Word, parted, words_of};
+use words::{Reported, Word, parted, words_of};
 use worlds::Worlds;
 
 /// What the commands of a case work on, new in each case.
@@ -68,7 +68,7 @@ impl<'a> StoreCases<'a> {
     }
 
     /// Begins a case.
-    pub fn begin(&mut self) -> Told {
+    pub fn begin(&mut self) -> Reported {
         self.has_node = false;
         self.areas.begin();
         self.store.begin()?;
@@ -76,7 +76,7 @@ impl<'a> StoreCases<'a> {
     }
 
     /// Carries out a command, and adds the lines of its answer.
-    pub fn obey(&mut self, command: &str, answer: &mut String) -> Told {
+    pub fn obey(&mut self, command: &str, answer: &mut String) -> Reported {
         let (name, rest) = parted(command);
         if name == "areas" {
             return self.areas.play(rest, answer);
@@ -91,7 +91,7 @@ impl<'a> StoreCases<'a> {
     }
 
     /// `node` or `file` makes the case one of the node, since some names of commands mean something else for the store.
-    fn obey_words(&mut self, name: &str, words: &[Word], answer: &mut String) -> Told {
+    fn obey_words(&mut self, name: &str, words: &[Word], answer: &mut String) -> Reported {
         match name {
             "lists" => return self.worlds.obey(words, answer),
             "node" | "file" => self.has_node = true,
@@ -103,7 +103,7 @@ impl<'a> StoreCases<'a> {
         }
     }
 
-    fn obey_store(&mut self, name: &str, words: &[Word], answer: &mut String) -> Told {
+    fn obey_store(&mut self, name: &str, words: &[Word], answer: &mut String) -> Reported {
         match (name, words) {
             ("event", [Word::Number(sender), Word::Bytes(message)]) => {
                 self.areas.add(*sender, message)

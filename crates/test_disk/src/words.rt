@@ -2,7 +2,7 @@
 
 use diskmodel::{CallKind, DiskFault};
 use std::fmt::Display;
-pub use test_cases::{Told, bad, put};
+pub use test_cases::{Reported, bad, put};
 
 /// The kind of call of this name.
 pub fn call_of(name: &str) -> Option<CallKind> {
@@ -21,7 +21,7 @@ pub fn parted(text: &str) -> (&str, &str) {
 }
 
 /// Adds a line that says how a call of a disk failed, if it did.
-pub fn tell_fault(answer: &mut String, outcome: Result<(), DiskFault>) {
+pub fn report_fault(answer: &mut String, outcome: Result<(), DiskFault>) {
     if let Err(fault) = outcome {
         put_shown(answer, "", &fault, "\n");
     }

@@ -8,5 +8,5 @@ use Rattle.wire.specs.Lists.{Begins}
 pub begins : {X : Type 0} {same : X → X → Bool} → ((a b : X) → Decides (same a b) (a ≡ b)) → (one other : List X) (found : Bool)
     → found ≡ starts_with same other one → Decides found (Begins one other)
 begins decides one other found is =
-    let told = starts_is decides other one found is in
-    ((λ yes. record { rest = drop (length one) other; parts = told.0 yes }), λ b. told.1 b.rest b.parts)
+    let reported = starts_is decides other one found is in
+    ((λ yes. record { rest = drop (length one) other; parts = reported.0 yes }), λ b. reported.1 b.rest b.parts)

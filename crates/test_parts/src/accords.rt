@@ -56,7 +56,7 @@ impl Accords {
             "made" => self.make(words),
             "first" => self.begin(words),
             "next" => self.follow(words, answer),
-            "counts" => Ok(self.tell_counts(answer)?),
+            "counts" => Ok(self.report_counts(answer)?),
             _ => Err(FormError::BadCommand),
         }
     }
@@ -94,8 +94,8 @@ impl Accords {
         Ok(())
     }
 
-    fn tell_counts(&mut self, answer: &mut String) -> Result<(), AllocError> {
-        self.counts.tell(answer)?;
+    fn report_counts(&mut self, answer: &mut String) -> Result<(), AllocError> {
+        self.counts.report(answer)?;
         self.counts = Counts::none();
         Ok(())
     }

@@ -16,7 +16,7 @@ use std::alloc::{AllocError, Global};
 use std::fs;
 use std::io::{self, BufRead, Write};
 use std::process::ExitCode;
-use test_cases::{Ending, Player, Told, names_of};
+use test_cases::{Ending, Player, Reported, names_of};
 
 /// What a case is about.
 #[derive(Clone, Copy)]
@@ -52,7 +52,7 @@ impl Cases {
         })
     }
 
-    fn begin(&mut self) -> Told {
+    fn begin(&mut self) -> Reported {
         self.about = About::Definitions;
         self.parts.begin();
         self.definitions.begin()?;
@@ -60,7 +60,7 @@ impl Cases {
     }
 
     /// The first command `parts`, `validator` or `accords` starts a case of that kind, any other command one of the definitions.
-    fn obey(&mut self, rt: &HostRuntime, command: &str, answer: &mut String) -> Told {
+    fn obey(&mut self, rt: &HostRuntime, command: &str, answer: &mut String) -> Reported {
         match self.about {
             About::Parts => self.parts.obey(command, answer),
             About::Validator => self.validator.obey(rt, command, answer),
@@ -120,8 +120,8 @@ fn are_alike(
         Err(FormError::Memory) => return Err(Ending::Memory),
         Err(_) => false,
     };
-    let told = if alike { "alike" } else { "not alike" };
-    write!(io::writer(rt), "{name}: restored, {told}\n{answer}")?;
+    let reported = if alike { "alike" } else { "not alike" };
+    write!(io::writer(rt), "{name}: restored, {reported}\n{answer}")?;
     Ok(alike)
 }
 
@@ -130,9 +130,9 @@ fn has_enough(rt: &HostRuntime, restores: bool, counts: &Counts) -> Result<bool,
     if !restores {
         return Ok(true);
     }
-    let mut told = String::new(rt.alloc());
-    counts.tell(&mut told)?;
-    write!(io::writer(rt), "{told}")?;
+    let mut reported = String::new(rt.alloc());
+    counts.report(&mut reported)?;
+    write!(io::writer(rt), "{reported}")?;
     Ok(counts.are_enough())
 }
 

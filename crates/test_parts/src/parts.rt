@@ -22,7 +22,7 @@ mod words;
 use ordering::{Ordering, is_ordering};
 use std::alloc::Global;
 use tables::Tables;
-use words::Told;
+use words::Reported;
 pub use words::{list, parted, whether};
 
 /// What the commands of a case work on.
@@ -48,7 +48,7 @@ impl Parts {
     }
 
     /// Carries out a command, and adds the lines of its answer.
-    pub fn obey(&mut self, command: &str, answer: &mut String) -> Told {
+    pub fn obey(&mut self, command: &str, answer: &mut String) -> Reported {
         let (name, words) = parted(command, ' ');
         if is_ordering(name) {
             self.ordering.obey(name, words, answer)

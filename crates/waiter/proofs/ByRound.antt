@@ -18,17 +18,17 @@ use Rattle.waiter.specs.Waiting.{Waits}
 pub at_same : (one other : ℕ) → is_at (nat_cmp one) other ≡ (other == one)
 at_same one other = grind (arith, common_steps)
 
-abbrev pub told : Option (List Event) → List Event
-told found = option_map_or (λ (events : List Event). events) found []
+abbrev pub reported : Option (List Event) → List Event
+reported found = option_map_or (λ (events : List Event). events) found []
 
 -- what a tree has after its entry of a round was changed
 pub held_updated : (old new : List (ℕ × List Event)) (round : ℕ) (w : Option (List Event)) (events : List Event)
     → ((q : ℕ) → lookup (is_at (nat_cmp q)) new ≡ cond (is_at (nat_cmp round) q) w (lookup (is_at (nat_cmp q)) old))
-    → told w ≡ events → HeldWith (held_in old) (held_in new) round events
+    → reported w ≡ events → HeldWith (held_in old) (held_in new) round events
 held_updated old new round w events more is other =
-    ap told (more other ∙ ap (λ b. cond b w (lookup (is_at (nat_cmp other)) old)) (at_same round other)) ∙ by (other == round)
+    ap reported (more other ∙ ap (λ b. cond b w (lookup (is_at (nat_cmp other)) old)) (at_same round other)) ∙ by (other == round)
   where
-    by : (b : Bool) → told (cond b w (lookup (is_at (nat_cmp other)) old)) ≡ cond b events (held_in old other)
+    by : (b : Bool) → reported (cond b w (lookup (is_at (nat_cmp other)) old)) ≡ cond b events (held_in old other)
     by true = is
     by false = refl
 

@@ -11,16 +11,16 @@ last_of-cons x y rest d =
     let two : suc (suc (length rest)) - 1 ≡ suc (length rest) = omega arith in
     ap (λ (k : ℕ). get_or (y ∷ rest) k d) one ∙ sym (ap (λ (k : ℕ). get_or (x ∷ y ∷ rest) k d) two)
 
-last_tells : {X : Type 0} (before : X → Bool) (xs : List X) (d : X) → 0 < length xs → follows before xs ≡ before (get_or xs (length xs - 1) d)
-last_tells before [] d h = absurd (omega arith)
-last_tells before (x ∷ []) d h = refl
-last_tells before (x ∷ y ∷ rest) d h = last_tells before (y ∷ rest) d (omega arith) ∙ ap before (last_of-cons x y rest d)
+last_reports : {X : Type 0} (before : X → Bool) (xs : List X) (d : X) → 0 < length xs → follows before xs ≡ before (get_or xs (length xs - 1) d)
+last_reports before [] d h = absurd (omega arith)
+last_reports before (x ∷ []) d h = refl
+last_reports before (x ∷ y ∷ rest) d h = last_reports before (y ∷ rest) d (omega arith) ∙ ap before (last_of-cons x y rest d)
 
 -- the last element tells what may follow
 pub follows-last : {X : Type 0} (before : X → Bool) (xs : List X) (x : X) → slice_get xs (length xs - 1) ≡ Some x → follows before xs ≡ before x
 follows-last before xs x e =
     let within : length xs - 1 < length xs = slice_get_within xs (length xs - 1) x e in
-    last_tells before xs x (omega arith) ∙ ap before (get_or_from_slice_get xs (length xs - 1) x x e)
+    last_reports before xs x (omega arith) ∙ ap before (get_or_from_slice_get xs (length xs - 1) x x e)
 
 -- what both is true, each is
 pub both-are : (a b : Bool) → (a && b) ≡ true → (a ≡ true) × (b ≡ true)

@@ -4,7 +4,7 @@ use Rattle.std.specs.Int.{w16, w64, to_be_bytes}
 use Rattle.sha2.specs.Sha256.{sha256}
 use Rattle.wire.specs.declared.header.HeaderBody.{HeaderBody}
 use Rattle.wire.specs.Batches.{BatchView, batch_body}
-use Rattle.wire.specs.Spelling.{body_bytes, header_body}
+use Rattle.wire.specs.Encoding.{body_bytes, header_body}
 
 -- the digest of a batch: of the letter B and the batch's body
 abbrev pub batch_digest_of : BatchView → List ℕ

@@ -11,7 +11,7 @@ use Rattle.wire.specs.declared.message.Message.TheVariants as message
 use Rattle.wire.specs.Fields.{IsAuthor, IsDigest, IsSignature, IsRound, IsWave}
 use Rattle.wire.specs.Batches.{IsBatch}
 use Rattle.wire.specs.References.{AreBatches, AreParents, AreVotes}
-use Rattle.wire.specs.Spelling.{spelling}
+use Rattle.wire.specs.Encoding.{encoding}
 
 -- an acknowledgement is by a member, of a batch's digest
 pub record IsAck (a : BatchAck) : Type 0 where
@@ -59,4 +59,4 @@ IsMessage (message.Coin c) = IsCoin c
 
 -- a message, and its one encoding in bytes
 abbrev pub Spells : Message → List ℕ → Type 0
-Spells m bytes = IsMessage m × (bytes ≡ spelling m)
+Spells m bytes = IsMessage m × (bytes ≡ encoding m)

@@ -3,7 +3,7 @@ pub mod Rising
 pub mod References
 pub mod Fields
 pub mod Batches
-pub mod Spelling
+pub mod Encoding
 pub mod Putting
 pub mod Digests
 pub mod Reading

@@ -9,7 +9,7 @@ use Rattle.wire.specs.declared.output.Output.TheVariants as output
 use Rattle.wire.specs.declared.limits.TheConstants.{MAX_ORDER_DIGESTS}
 use Rattle.wire.specs.Fields.{IsDigest}
 use Rattle.wire.specs.Grammar.{IsMessage}
-use Rattle.wire.specs.Spelling.{spelling, length_of}
+use Rattle.wire.specs.Encoding.{encoding, length_of}
 
 -- the receiver of an output: a member's number, FFFF for all members, or FFFE for the host
 abbrev pub receiver_of : Output → ℕ
@@ -34,11 +34,11 @@ order_bytes start digests = 7 ∷ to_be_bytes w64 start ++ digests_bytes digests
 
 -- the content of an output: a message, or a piece of the order
 abbrev pub content_of : Output → List ℕ
-content_of (output.Batch b) = spelling (message.Batch b)
-content_of (output.Ack to ack) = spelling (message.BatchAck ack)
-content_of (output.Header h) = spelling (message.Header h)
-content_of (output.Vote v) = spelling (message.Vote v)
-content_of (output.Certificate c) = spelling (message.Certificate c)
+content_of (output.Batch b) = encoding (message.Batch b)
+content_of (output.Ack to ack) = encoding (message.BatchAck ack)
+content_of (output.Header h) = encoding (message.Header h)
+content_of (output.Vote v) = encoding (message.Vote v)
+content_of (output.Certificate c) = encoding (message.Certificate c)
 content_of (output.Order start digests) = order_bytes start digests
 
 -- the length of an output's content

@@ -66,7 +66,7 @@ impl Batch {
         body: &[u8],
     ) -> Result<Batch, AllocError>
         requires fits { IsBatch (contents_of author worker count body.now) }
-        requires spelled { body.now ≡ batch_body (contents_of author worker count body.now) }
+        requires encoded { body.now ≡ batch_body (contents_of author worker count body.now) }
         ensures { IfOk result (λ batch. batch ≡ contents_of author worker count body.now) }
     {
         let body = Vec::from_slice(alloc, body)?;

@@ -6,7 +6,7 @@ ghost use Rattle.sha2.specs.Sha256.{sha256};
 ghost use Rattle.sha2.specs.Hashers.{Holds256};
 ghost use Rattle.wire.specs.declared.limits.TheConstants.{MAX_BATCHES, MAX_PARENTS};
 ghost use Rattle.std.specs.List.{flat_map};
-ghost use Rattle.wire.specs.Spelling.{batch_reference_bytes, parent_reference_bytes, parents_bytes, body_bytes};
+ghost use Rattle.wire.specs.Encoding.{batch_reference_bytes, parent_reference_bytes, parents_bytes, body_bytes};
 ghost use Rattle.wire.specs.Digests.{batch_digest_of, header_digest_of, certificate_digest_of, genesis_digest_of};
 
 use crate::batch::Batch;

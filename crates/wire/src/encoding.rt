@@ -2,7 +2,7 @@
 
 ghost use Rattle.std.specs.Prelude.{◌≡◌, ℕ, List, ◌≤◌, ◌+◌, ◌*◌, ◌++◌, ◌∷◌, length, take, IfOk, OnOk, OnErr};
 ghost use Rattle.wire.specs.declared.limits.TheConstants.{MAX_BATCH_BYTES, MAX_BATCHES, MAX_FRAME_BYTES, MAX_PARENTS, MAX_VOTES};
-ghost use Rattle.wire.specs.Spelling.{batch_reference_bytes, parent_reference_bytes, vote_entry_bytes, batches_bytes, parents_bytes, votes_bytes, header_body, header_body_len, spelling, length_of};
+ghost use Rattle.wire.specs.Encoding.{batch_reference_bytes, parent_reference_bytes, vote_entry_bytes, batches_bytes, parents_bytes, votes_bytes, header_body, header_body_len, encoding, length_of};
 ghost use Rattle.wire.specs.Putting.{Keeps};
 ghost use Rattle.wire.specs.Fields.{IsDigest, IsSignature};
 ghost use Rattle.wire.specs.Batches.{IsBatch};
@@ -81,7 +81,7 @@ pub(crate) fn put_digest(out: &mut Vec<u8>, digest: &Digest) -> Result<(), Alloc
 }
 
 pub(crate) fn put_batch(out: &mut Vec<u8>, batch: &Batch) -> Result<(), AllocError>
-    ensures bytes { OnOk result (out.new.items ≡ out.old.items ++ spelling (Message.Batch batch.now)) }
+    ensures bytes { OnOk result (out.new.items ≡ out.old.items ++ encoding (Message.Batch batch.now)) }
     ensures len { OnOk result (length out.new.items ≡ length out.old.items + length_of (Message.Batch batch.now)) }
     ensures limit { OnOk result (length_of (Message.Batch batch.now) ≤ 1 + MAX_BATCH_BYTES) }
     ensures fits { OnOk result (IsBatch batch.now) }
@@ -226,7 +226,7 @@ fn write_header_body(area: &mut [u8], place: usize, tag: u8, header: &HeaderBody
 
 // The bytes of an acknowledgement, with its tag.
 fn ack_bytes(ack: &BatchAck) -> [u8; ACK_BYTES]
-    ensures { result ≡ spelling (Message.BatchAck ack.now) }
+    ensures { result ≡ encoding (Message.BatchAck ack.now) }
 {
     let mut bytes = [ACK_TAG; ACK_BYTES];
     bytes[1..3].copy_from_slice(&two_bytes(ack.author.0));
@@ -235,7 +235,7 @@ fn ack_bytes(ack: &BatchAck) -> [u8; ACK_BYTES]
 }
 
 pub(crate) fn put_ack(out: &mut Vec<u8>, ack: &BatchAck) -> Result<(), AllocError>
-    ensures bytes { OnOk result (out.new.items ≡ out.old.items ++ spelling (Message.BatchAck ack.now)) }
+    ensures bytes { OnOk result (out.new.items ≡ out.old.items ++ encoding (Message.BatchAck ack.now)) }
     ensures len { OnOk result (length out.new.items ≡ length out.old.items + 35) }
     ensures fits { OnOk result (IsAck ack.now) }
     ensures kept { Keeps out.old.items out.new.items }
@@ -246,7 +246,7 @@ pub(crate) fn put_ack(out: &mut Vec<u8>, ack: &BatchAck) -> Result<(), AllocErro
 
 fn write_header(area: &mut [u8], place: usize, header: &Header) -> usize
     requires room { place + length_of (Message.Header header.now) ≤ length area.old }
-    ensures bytes { take result area.new ≡ take place area.old ++ spelling (Message.Header header.now) }
+    ensures bytes { take result area.new ≡ take place area.old ++ encoding (Message.Header header.now) }
     ensures next { result ≡ place + length_of (Message.Header header.now) }
     ensures len { length area.new ≡ length area.old }
 {
@@ -255,7 +255,7 @@ fn write_header(area: &mut [u8], place: usize, header: &Header) -> usize
 }
 
 pub(crate) fn put_header(out: &mut Vec<u8>, header: &Header) -> Result<(), AllocError>
-    ensures bytes { OnOk result (out.new.items ≡ out.old.items ++ spelling (Message.Header header.now)) }
+    ensures bytes { OnOk result (out.new.items ≡ out.old.items ++ encoding (Message.Header header.now)) }
     ensures len { OnOk result (length out.new.items ≡ length out.old.items + length_of (Message.Header header.now)) }
     ensures limit { OnOk result (length_of (Message.Header header.now) ≤ 1 + (14 + 34 * (MAX_BATCHES + MAX_PARENTS) + 64)) }
     ensures fits { OnOk result (IsHeader header.now) }
@@ -269,7 +269,7 @@ pub(crate) fn put_header(out: &mut Vec<u8>, header: &Header) -> Result<(), Alloc
 
 fn write_vote(area: &mut [u8], place: usize, vote: &Vote) -> usize
     requires room { place + 109 ≤ length area.old }
-    ensures bytes { take result area.new ≡ take place area.old ++ spelling (Message.Vote vote.now) }
+    ensures bytes { take result area.new ≡ take place area.old ++ encoding (Message.Vote vote.now) }
     ensures next { result ≡ place + 109 }
     ensures len { length area.new ≡ length area.old }
 {
@@ -282,7 +282,7 @@ fn write_vote(area: &mut [u8], place: usize, vote: &Vote) -> usize
 }
 
 pub(crate) fn put_vote(out: &mut Vec<u8>, vote: &Vote) -> Result<(), AllocError>
-    ensures bytes { OnOk result (out.new.items ≡ out.old.items ++ spelling (Message.Vote vote.now)) }
+    ensures bytes { OnOk result (out.new.items ≡ out.old.items ++ encoding (Message.Vote vote.now)) }
     ensures len { OnOk result (length out.new.items ≡ length out.old.items + 109) }
     ensures fits { OnOk result (IsVote vote.now) }
     ensures kept { Keeps out.old.items out.new.items }
@@ -295,7 +295,7 @@ pub(crate) fn put_vote(out: &mut Vec<u8>, vote: &Vote) -> Result<(), AllocError>
 
 fn write_certificate(area: &mut [u8], place: usize, certificate: &Certificate) -> usize
     requires room { place + length_of (Message.Certificate certificate.now) ≤ length area.old }
-    ensures bytes { take result area.new ≡ take place area.old ++ spelling (Message.Certificate certificate.now) }
+    ensures bytes { take result area.new ≡ take place area.old ++ encoding (Message.Certificate certificate.now) }
     ensures next { result ≡ place + length_of (Message.Certificate certificate.now) }
     ensures len { length area.new ≡ length area.old }
 {
@@ -307,7 +307,7 @@ pub(crate) fn put_certificate(
     out: &mut Vec<u8>,
     certificate: &Certificate,
 ) -> Result<(), AllocError>
-    ensures bytes { OnOk result (out.new.items ≡ out.old.items ++ spelling (Message.Certificate certificate.now)) }
+    ensures bytes { OnOk result (out.new.items ≡ out.old.items ++ encoding (Message.Certificate certificate.now)) }
     ensures len { OnOk result (length out.new.items ≡ length out.old.items + length_of (Message.Certificate certificate.now)) }
     ensures limit { OnOk result (length_of (Message.Certificate certificate.now) ≤ 1 + (14 + 34 * (MAX_BATCHES + MAX_PARENTS) + (2 + 66 * MAX_VOTES))) }
     ensures fits { OnOk result (IsCertificate certificate.now) }
@@ -321,7 +321,7 @@ pub(crate) fn put_certificate(
 
 // The bytes of a coin, with its tag.
 fn coin_bytes(coin: &Coin) -> [u8; COIN_BYTES]
-    ensures { result ≡ spelling (Message.Coin coin.now) }
+    ensures { result ≡ encoding (Message.Coin coin.now) }
 {
     let mut bytes = [COIN_TAG; COIN_BYTES];
     bytes[1..9].copy_from_slice(&eight_bytes(coin.wave.number()));
@@ -330,7 +330,7 @@ fn coin_bytes(coin: &Coin) -> [u8; COIN_BYTES]
 }
 
 fn put_coin(out: &mut Vec<u8>, coin: &Coin) -> Result<(), AllocError>
-    ensures bytes { OnOk result (out.new.items ≡ out.old.items ++ spelling (Message.Coin coin.now)) }
+    ensures bytes { OnOk result (out.new.items ≡ out.old.items ++ encoding (Message.Coin coin.now)) }
     ensures len { OnOk result (length out.new.items ≡ length out.old.items + 17) }
     ensures kept { Keeps out.old.items out.new.items }
 {
@@ -348,7 +348,7 @@ fn header_body_length(header: &HeaderBody) -> usize
 // The length of a batch message, in bytes.
 pub(crate) fn batch_length(batch: &Batch) -> usize
     ensures len { result ≡ length_of (Message.Batch batch.now) }
-    ensures spelled { result ≡ length (spelling (Message.Batch batch.now)) }
+    ensures encoded { result ≡ length (encoding (Message.Batch batch.now)) }
     ensures limit { result ≤ 1 + MAX_BATCH_BYTES }
 {
     1 + batch.body().len()
@@ -373,7 +373,7 @@ pub(crate) fn certificate_length(certificate: &Certificate) -> usize
 
 /// The length of a message's encoding, in bytes.
 pub fn encoded_len(message: &Message) -> usize
-    ensures len { result ≡ length (spelling message.now) }
+    ensures len { result ≡ length (encoding message.now) }
     // A message fits a frame, together with its sender.
     ensures limit { result ≤ 1 + MAX_BATCH_BYTES }
 {
@@ -391,7 +391,7 @@ pub fn encoded_len(message: &Message) -> usize
 /// Adds the encoding of a message to these bytes. On `AllocError` an allocation failed, and a part of the encoding may have been added.
 #[tactic(auto, using(crate::proofs::Joining::rest_at_refusal))]
 pub fn encode_onto(out: &mut Vec<u8>, message: &Message) -> Result<(), AllocError>
-    ensures bytes { OnOk result (out.new.items ≡ out.old.items ++ spelling message.now) }
+    ensures bytes { OnOk result (out.new.items ≡ out.old.items ++ encoding message.now) }
     ensures message { OnOk result (IsMessage message.now) }
     ensures len { OnOk result (length out.new.items ≡ length out.old.items + length_of message.now) }
     // A message fits a frame, together with its sender.
@@ -411,7 +411,7 @@ pub fn encode_onto(out: &mut Vec<u8>, message: &Message) -> Result<(), AllocErro
 
 /// The encoding of a message. On `AllocError` an allocation failed.
 pub fn encode(alloc: Global, message: &Message) -> Result<Vec<u8>, AllocError>
-    ensures spelling { IfOk result (λ bytes. Spells message.now bytes.items) }
+    ensures encoding { IfOk result (λ bytes. Spells message.now bytes.items) }
     ensures len { IfOk result (λ bytes. length bytes.items ≡ length_of message.now) }
     // A message fits a frame, together with its sender.
     ensures limit { IfOk result (λ bytes. length bytes.items ≤ 1 + MAX_BATCH_BYTES) }

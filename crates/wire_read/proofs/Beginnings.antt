@@ -17,7 +17,7 @@ use Rattle.wire.specs.declared.round.TheConstants.Wave.{MAX as MAX_WAVE}
 use Rattle.wire.specs.Batches.{has_room}
 use Rattle.wire.specs.Grammar.{IsMessage}
 use Rattle.wire.specs.References.{batch_follows, parent_follows, vote_follows}
-use Rattle.wire.specs.Spelling.{spelling}
+use Rattle.wire.specs.Encoding.{encoding}
 use Rattle.wire.specs.Reading.{◌>>=◌, Read, number_at, bytes_at, author_at, digest_at, signature_at, round_at, wave_at, count_at, more_at, batch_reference_at, batches_at}
 use Rattle.wire.specs.Reading.{parent_reference_at, parents_at, vote_entry_at, votes_at, transaction_at, transactions_at, batch_at, ack_at, header_body_at, header_at, vote_at}
 use Rattle.wire.specs.Reading.{certificate_at, coin_at, tagged_at, message_of}
@@ -266,10 +266,10 @@ short_by m bytes more (Err e) other (inl short) is some = ap (λ f. Err f) short
 short_by m bytes more (Err e) other (inr same) is some = let bad = sym same ∙ is in absurd cc
 
 -- each proper prefix of a spelling ends within a field
-pub beginnings_are_short : (m : Message) (bytes more : List ℕ) → IsMessage m → spelling m ≡ bytes ++ more → 0 < length more → message_of bytes ≡ Err Short
+pub beginnings_are_short : (m : Message) (bytes more : List ℕ) → IsMessage m → encoding m ≡ bytes ++ more → 0 < length more → message_of bytes ≡ Err Short
 unfolding message_of
 beginnings_are_short m bytes more fits parts some =
-    let all : tagged_at (bytes ++ more) ≡ Ok (m, []) = ap tagged_at (sym parts ∙ sym (append-nil (spelling m))) ∙ tagged_again m [] fits in
+    let all : tagged_at (bytes ++ more) ≡ Ok (m, []) = ap tagged_at (sym parts ∙ sym (append-nil (encoding m))) ∙ tagged_again m [] fits in
     short_by m bytes more (tagged_at bytes) (tagged_at (bytes ++ more)) (tagged_goes bytes more) all some
 
 still_some : (one other both : ℕ) → both ≡ one + other → (one == 0) ≡ false → (both == 0) ≡ false

@@ -33,7 +33,7 @@ use Rattle.wire.specs.Reading.{parent_reference_at, parents_at, vote_entry_at, v
 use Rattle.wire.specs.Reading.{certificate_at, coin_at, tagged_at, message_of}
 use Rattle.wire_read.specs.Table.{Field, Part, one, many, bytes, number, round, wave, rising_digest, rising_member, transaction_len, header_body, parts_of, next_entry, next_part, next}
 use Rattle.wire_read.specs.Table.{HasFault, HasNone}
-use Rattle.wire_read.proofs.Cuts.{Next, past, Told, one_told, told_fault, has_fault, told_none, has_none}
+use Rattle.wire_read.proofs.Cuts.{Next, past, Reported, one_reported, reported_fault, has_fault, reported_none, has_none}
 
 abbrev said_by : Result Message WireError → Option WireError
 said_by (Ok m) = None
@@ -41,7 +41,7 @@ said_by (Err fault) = Some fault
 
 -- reading gives what the table tells of these bytes, where these fields come
 abbrev Goes : Next → List ℕ → Result Message WireError → Type 0
-Goes n text read = Told n text (said_by read)
+Goes n text read = Reported n text (said_by read)
 
 -- ---- one field
 
@@ -73,7 +73,7 @@ passes field n text read (Some fault) is long said goes =
     let enough : ltb (length text) field.width ≡ false = le-ltb _ _ long in
     rw goes (record { fields = []; rest = text; whole = refl; pass = tt; ends = rw (is, enough) said })
 
-ends_within : (field : Field) (n : Next) (text : List ℕ) → n [] ≡ Some field → nat_lt (length text) field.width ≡ true → Told n text (Some Short)
+ends_within : (field : Field) (n : Next) (text : List ℕ) → n [] ≡ Some field → nat_lt (length text) field.width ≡ true → Reported n text (Some Short)
 ends_within field n text is short = record { fields = []; rest = text; whole = refl; pass = tt; ends = rw (is, short) refl }
 
 field_then : {X : Type 0} (value : List ℕ → X) (field : Field) (n : Next) (text : List ℕ) (k : X × List ℕ → Result Message WireError) → n [] ≡ Some field
@@ -387,10 +387,10 @@ by_tag tag text =
     or_else tag 1 text (tag_1 text) (λ n1. or_else tag 2 text (tag_2 text) (λ n2. or_else tag 3 text (tag_3 text) (λ n3.
     or_else tag 4 text (tag_4 text) (λ n4. or_else tag 5 text (tag_5 text) (λ n5. or_else tag 6 text (tag_6 text) (λ n6. bad_tag tag text n1 n2 n3 n4 n5 n6))))))
 
-told : (text : List ℕ) → Told next text (said_by (message_of text))
+reported : (text : List ℕ) → Reported next text (said_by (message_of text))
 unfolding next message_of
-told [] = record { fields = []; rest = []; whole = refl; pass = tt; ends = unfold tagged_at in refl }
-told (tag ∷ text) = passes (sized 1 (λ v. if is_in_range 1 6 (from_be_bytes w8 v) then None else Some BadTag)) next (tag ∷ text) (tagged_at (tag ∷ text) >>= whole) _ refl (omega arith) refl
+reported [] = record { fields = []; rest = []; whole = refl; pass = tt; ends = unfold tagged_at in refl }
+reported (tag ∷ text) = passes (sized 1 (λ v. if is_in_range 1 6 (from_be_bytes w8 v) then None else Some BadTag)) next (tag ∷ text) (tagged_at (tag ∷ text) >>= whole) _ refl (omega arith) refl
     (by_tag tag text)
 
 -- ---- the law
@@ -415,12 +415,12 @@ none_by (Err other) ok = absurd cc
 
 pub by_fault : (bytes : List ℕ) (fault : WireError) → (message_of bytes ≡ Err fault) ↔ HasFault bytes fault
 by_fault bytes fault = (
-  λ e. has_fault bytes fault (subst (λ (read : Result Message WireError). Told next bytes (said_by read)) e (told bytes)),
-  λ t. fault_by (message_of bytes) fault (one_told next bytes (said_by (message_of bytes)) (Some fault) (told bytes) (told_fault bytes fault t)),
+  λ e. has_fault bytes fault (subst (λ (read : Result Message WireError). Reported next bytes (said_by read)) e (reported bytes)),
+  λ t. fault_by (message_of bytes) fault (one_reported next bytes (said_by (message_of bytes)) (Some fault) (reported bytes) (reported_fault bytes fault t)),
 )
 
 pub by_none : (bytes : List ℕ) → IsOk (message_of bytes) ↔ HasNone bytes
 by_none bytes = (
-  λ ok. has_none bytes (subst (λ (said : Option WireError). Told next bytes said) (none_by (message_of bytes) ok) (told bytes)),
-  λ t. ok_by (message_of bytes) (one_told next bytes (said_by (message_of bytes)) None (told bytes) (told_none bytes t)),
+  λ ok. has_none bytes (subst (λ (said : Option WireError). Reported next bytes said) (none_by (message_of bytes) ok) (reported bytes)),
+  λ t. ok_by (message_of bytes) (one_reported next bytes (said_by (message_of bytes)) None (reported bytes) (reported_none bytes t)),
 )

@@ -23,7 +23,7 @@ abbrev pub Ends : Option Field → List ℕ → Option WireError → Type 0
 Ends o rest None = (rest ≡ []) × (o ≡ None)
 Ends o rest (Some fault) = fault_at o rest ≡ Some fault
 
-pub record Told (n : Next) (bytes : List ℕ) (said : Option WireError) : Type 0 where
+pub record Reported (n : Next) (bytes : List ℕ) (said : Option WireError) : Type 0 where
   pub fields : List (List ℕ)
   pub rest : List ℕ
   pub whole : bytes ≡ concat fields ++ rest
@@ -95,19 +95,19 @@ one_fault n (v ∷ p) (u ∷ q) x y said says e pass passes ends end =
     let rest : concat p ++ x ≡ concat q ++ y = sym (drop_at v (concat p ++ x) (length v) refl) ∙ ap (λ (l : List ℕ). drop (length v) l) all ∙ drop_at u (concat q ++ y) (length v) (sym len) in
     one_fault (past n v) p q x y said says rest pass.1 (subst (λ (w : List ℕ). AllPass (past n w) q) (sym same) passes.1) ends (subst (λ (w : List ℕ). Ends (n (w ∷ q)) y says) (sym same) end)
 
-pub one_told : (n : Next) (bytes : List ℕ) (said says : Option WireError) → Told n bytes said → Told n bytes says → said ≡ says
-one_told n bytes said says t u = one_fault n t.fields u.fields t.rest u.rest said says (sym t.whole ∙ u.whole) t.pass u.pass t.ends u.ends
+pub one_reported : (n : Next) (bytes : List ℕ) (said says : Option WireError) → Reported n bytes said → Reported n bytes says → said ≡ says
+one_reported n bytes said says t u = one_fault n t.fields u.fields t.rest u.rest said says (sym t.whole ∙ u.whole) t.pass u.pass t.ends u.ends
 
 -- ---- what the table tells
 
-pub told_fault : (text : List ℕ) (fault : WireError) → HasFault text fault → Told next text (Some fault)
-told_fault text fault t = record { fields = t.0; rest = t.1; whole = t.2.whole; pass = all_pass next t.0 t.2.pass; ends = t.3 }
+pub reported_fault : (text : List ℕ) (fault : WireError) → HasFault text fault → Reported next text (Some fault)
+reported_fault text fault t = record { fields = t.0; rest = t.1; whole = t.2.whole; pass = all_pass next t.0 t.2.pass; ends = t.3 }
 
-pub has_fault : (text : List ℕ) (fault : WireError) → Told next text (Some fault) → HasFault text fault
+pub has_fault : (text : List ℕ) (fault : WireError) → Reported next text (Some fault) → HasFault text fault
 has_fault text fault t = (t.fields, t.rest, record { whole = t.whole; pass = each_passes next t.fields t.pass }, t.ends)
 
-pub told_none : (text : List ℕ) → HasNone text → Told next text None
-told_none text t = record { fields = t.0; rest = []; whole = t.1.whole; pass = all_pass next t.0 t.1.pass; ends = (refl, t.2) }
+pub reported_none : (text : List ℕ) → HasNone text → Reported next text None
+reported_none text t = record { fields = t.0; rest = []; whole = t.1.whole; pass = all_pass next t.0 t.1.pass; ends = (refl, t.2) }
 
-pub has_none : (text : List ℕ) → Told next text None → HasNone text
+pub has_none : (text : List ℕ) → Reported next text None → HasNone text
 has_none text t = (t.fields, record { whole = subst (λ (l : List ℕ). text ≡ concat t.fields ++ l) t.ends.0 t.whole; pass = each_passes next t.fields t.pass }, t.ends.1)

@@ -21,7 +21,7 @@ use Rattle.wire.specs.declared.message.Message.{Message}
 use Rattle.wire.specs.declared.message.Message.TheVariants as message
 use Rattle.wire.specs.Batches.{batch_body, IsBatch}
 use Rattle.wire.specs.Grammar.{IsAck, IsHeaderBody, IsHeader, IsVote, IsCertificate, IsCoin, IsMessage, Spells}
-use Rattle.wire.specs.Spelling.{ack_bytes, batches_bytes, parents_bytes, votes_bytes, header_body, header_bytes, vote_bytes, certificate_bytes, coin_bytes, spelling}
+use Rattle.wire.specs.Encoding.{ack_bytes, batches_bytes, parents_bytes, votes_bytes, header_body, header_bytes, vote_bytes, certificate_bytes, coin_bytes, encoding}
 use Rattle.wire.specs.Reading.{◌>>=◌, Read, number_at, author_at, digest_at, signature_at, round_at, wave_at, batches_at, parents_at, votes_at, batch_at, ack_at, header_body_at, header_at}
 use Rattle.wire.specs.Reading.{vote_at, certificate_at, coin_at, tagged_at, message_of, Gives}
 use Rattle.wire_read.proofs.Steps.{bind_ok, held_ok, ok_is, IsBytes, IsBytes-rest, Takes, Takes-then}
@@ -175,13 +175,13 @@ vote_again v rest is =
       signature_again v.signature rest is.signature,
     ) refl
 
-vote_spelled : (bytes : List ℕ) (x : Vote × List ℕ) → IsBytes bytes → vote_at bytes ≡ Ok x → Takes bytes (vote_bytes x.0) x.1 × IsVote x.0
-vote_spelled bytes x fits e =
+vote_encoded : (bytes : List ℕ) (x : Vote × List ℕ) → IsBytes bytes → vote_at bytes ≡ Ok x → Takes bytes (vote_bytes x.0) x.1 × IsVote x.0
+vote_encoded bytes x fits e =
     let t = vote_takes bytes x fits e in
     (subst (λ (l : List ℕ). Takes bytes l x.1) (sym (vote_text-is x.0)) t.0, t.1)
 
 pub vote_kind : IsKind vote_at vote_bytes IsVote
-vote_kind = record { takes = vote_spelled; again = vote_again }
+vote_kind = record { takes = vote_encoded; again = vote_again }
 
 -- ---- certificates and coins
 
@@ -238,33 +238,33 @@ of_kind at wrap bytes = at bytes >>= λ y. Ok (wrap y.0, y.1)
 
 -- a message of a kind is spelled by its tag and what it has
 record IsTagged {X : Type 0} (tag : ℕ) (text : X → List ℕ) (Fits : X → Type 0) (wrap : X → Message) : Type 0 where
-  text_is : (x : X) → spelling (wrap x) ≡ tag ∷ text x
+  text_is : (x : X) → encoding (wrap x) ≡ tag ∷ text x
   fits : (x : X) → Fits x → IsMessage (wrap x)
 
 kind_takes : {X : Type 0} (at : List ℕ → Read X) (text : X → List ℕ) (Fits : X → Type 0) (wrap : X → Message) (tag : ℕ) (is : IsKind at text Fits) (tagged : IsTagged tag text Fits wrap)
     (bytes : List ℕ) (x : Message × List ℕ)
-    → IsBytes bytes → of_kind at wrap bytes ≡ Ok x → Takes (tag ∷ bytes) (spelling x.0) x.1 × IsMessage x.0
+    → IsBytes bytes → of_kind at wrap bytes ≡ Ok x → Takes (tag ∷ bytes) (encoding x.0) x.1 × IsMessage x.0
 kind_takes {X} at text Fits wrap tag is tagged bytes x fits e =
     let a = bind_ok (at bytes) (λ y. Ok (wrap y.0, y.1)) x e in
     let t = is.takes bytes a.0 fits a.1 in
     let made : Message × List ℕ = (wrap a.0.0, a.0.1) in
-    let whole : tag ∷ bytes ≡ spelling (wrap a.0.0) ++ a.0.1 = rw (tagged.text_is a.0.0) (ap (λ (w : List ℕ). tag ∷ w) t.0.parts) in
-    subst (λ (y : Message × List ℕ). Takes (tag ∷ bytes) (spelling y.0) y.1 × IsMessage y.0) (ok_is made x a.2) (record { parts = whole; rest_fits = t.0.rest_fits }, tagged.fits a.0.0 t.1)
+    let whole : tag ∷ bytes ≡ encoding (wrap a.0.0) ++ a.0.1 = rw (tagged.text_is a.0.0) (ap (λ (w : List ℕ). tag ∷ w) t.0.parts) in
+    subst (λ (y : Message × List ℕ). Takes (tag ∷ bytes) (encoding y.0) y.1 × IsMessage y.0) (ok_is made x a.2) (record { parts = whole; rest_fits = t.0.rest_fits }, tagged.fits a.0.0 t.1)
 
 -- of a chain of tags, the first that is there is taken
 tag_takes : (tag here : ℕ) (bytes : List ℕ) (x : Message × List ℕ) (one other : Read Message)
-    → (one ≡ Ok x → Takes (here ∷ bytes) (spelling x.0) x.1 × IsMessage x.0) → (other ≡ Ok x → Takes (tag ∷ bytes) (spelling x.0) x.1 × IsMessage x.0)
-    → cond (eqb tag here) one other ≡ Ok x → Takes (tag ∷ bytes) (spelling x.0) x.1 × IsMessage x.0
+    → (one ≡ Ok x → Takes (here ∷ bytes) (encoding x.0) x.1 × IsMessage x.0) → (other ≡ Ok x → Takes (tag ∷ bytes) (encoding x.0) x.1 × IsMessage x.0)
+    → cond (eqb tag here) one other ≡ Ok x → Takes (tag ∷ bytes) (encoding x.0) x.1 × IsMessage x.0
 tag_takes tag here bytes x one other if_one if_other e =
     elim (chosen (eqb tag here) one other (Ok x) e) [
-      | inl p ↦ subst (λ (t : ℕ). Takes (t ∷ bytes) (spelling x.0) x.1 × IsMessage x.0) (sym (eqb-true tag here p.0)) (if_one p.1)
+      | inl p ↦ subst (λ (t : ℕ). Takes (t ∷ bytes) (encoding x.0) x.1 × IsMessage x.0) (sym (eqb-true tag here p.0)) (if_one p.1)
       | inr p ↦ if_other p.1
     ]
 
-no_message : (tag : ℕ) (bytes : List ℕ) (x : Message × List ℕ) (none : Read Message) → none ≡ Err BadTag → none ≡ Ok x → Takes (tag ∷ bytes) (spelling x.0) x.1 × IsMessage x.0
+no_message : (tag : ℕ) (bytes : List ℕ) (x : Message × List ℕ) (none : Read Message) → none ≡ Err BadTag → none ≡ Ok x → Takes (tag ∷ bytes) (encoding x.0) x.1 × IsMessage x.0
 no_message tag bytes x none is e = absurd cc
 
-tagged_takes : (bytes : List ℕ) (x : Message × List ℕ) → IsBytes bytes → tagged_at bytes ≡ Ok x → Takes bytes (spelling x.0) x.1 × IsMessage x.0
+tagged_takes : (bytes : List ℕ) (x : Message × List ℕ) → IsBytes bytes → tagged_at bytes ≡ Ok x → Takes bytes (encoding x.0) x.1 × IsMessage x.0
 unfolding tagged_at
 tagged_takes [] x fits e = absurd cc
 tagged_takes (tag ∷ bytes) x fits e =
@@ -278,7 +278,7 @@ tagged_takes (tag ∷ bytes) x fits e =
     tag_takes tag 6 bytes x _ _ (kind_takes coin_at coin_bytes IsCoin (λ c. message.Coin c) 6 coin_kind (record { text_is = λ _. refl; fits = λ _ h. h }) bytes x rest) (
     no_message tag bytes x (Err BadTag) refl)))))) e
 
-pub tagged_again : (m : Message) (rest : List ℕ) → IsMessage m → tagged_at (spelling m ++ rest) ≡ Ok (m, rest)
+pub tagged_again : (m : Message) (rest : List ℕ) → IsMessage m → tagged_at (encoding m ++ rest) ≡ Ok (m, rest)
 unfolding tagged_at
 tagged_again (message.Batch b) rest is = rw (contents_again b rest is) refl
 tagged_again (message.BatchAck a) rest is = rw (ack_again a rest is) refl
@@ -288,35 +288,35 @@ tagged_again (message.Certificate c) rest is = rw (certificate_again c rest is) 
 tagged_again (message.Coin c) rest is = rw (coin_again c rest is) refl
 
 -- what the bytes are read as is a message, and they are its spelling
-pub is_spelled : (bytes : List ℕ) (m : Message) → IsBytes bytes → message_of bytes ≡ Ok m → Spells m bytes
+pub is_encoded : (bytes : List ℕ) (m : Message) → IsBytes bytes → message_of bytes ≡ Ok m → Spells m bytes
 unfolding message_of
-is_spelled bytes m fits e =
+is_encoded bytes m fits e =
     let a = bind_ok (tagged_at bytes) (λ m. cond (eqb (length m.1) 0) (Ok m.0) (Err Trailing)) m e in
     let g = held_ok (eqb (length a.0.1) 0) Trailing (Ok a.0.0) m a.2 in
     let t = tagged_takes bytes a.0 fits a.1 in
     let nothing : a.0.1 ≡ [] = nil_from_length a.0.1 (eqb-true _ _ g.0) in
-    let whole : bytes ≡ spelling a.0.0 = t.0.parts ∙ ap (λ (r : List ℕ). spelling a.0.0 ++ r) nothing ∙ append-nil (spelling a.0.0) in
+    let whole : bytes ≡ encoding a.0.0 = t.0.parts ∙ ap (λ (r : List ℕ). encoding a.0.0 ++ r) nothing ∙ append-nil (encoding a.0.0) in
     subst (λ (y : Message). Spells y bytes) (ok_is a.0.0 m g.1) (t.1, whole)
 
 -- the spelling of a message is read as that message
-pub is_read : (m : Message) → IsMessage m → message_of (spelling m) ≡ Ok m
+pub is_read : (m : Message) → IsMessage m → message_of (encoding m) ≡ Ok m
 unfolding message_of
 is_read m is =
-    let whole : tagged_at (spelling m) ≡ Ok (m, []) = ap tagged_at (sym (append-nil (spelling m))) ∙ tagged_again m [] is in
+    let whole : tagged_at (encoding m) ≡ Ok (m, []) = ap tagged_at (sym (append-nil (encoding m))) ∙ tagged_again m [] is in
     rw whole refl
 
 pub is_found : (bytes : List ℕ) (r : Result Message WireError) → IsBytes bytes → Gives (λ m. m) r (message_of bytes) → IfOk r (λ m. Spells m bytes)
-is_found bytes (Ok m) fits given = is_spelled bytes m fits given
+is_found bytes (Ok m) fits given = is_encoded bytes m fits given
 is_found bytes (Err e) fits given = tt
 
 -- two messages whose spellings are prefixes of the same bytes are one
-pub one_message : (m n : Message) (x y : List ℕ) → IsMessage m → IsMessage n → spelling m ++ x ≡ spelling n ++ y → (m ≡ n) × (x ≡ y)
+pub one_message : (m n : Message) (x y : List ℕ) → IsMessage m → IsMessage n → encoding m ++ x ≡ encoding n ++ y → (m ≡ n) × (x ≡ y)
 one_message m n x y is-m is-n e =
     let same = ok_is (m, x) (n, y) (sym (tagged_again m x is-m) ∙ ap tagged_at e ∙ tagged_again n y is-n) in
     (ap (λ (p : Message × List ℕ). p.0) same, ap (λ (p : Message × List ℕ). p.1) same)
 
 -- bytes after a message are refused as such
-pub trailing : (m : Message) (rest : List ℕ) → IsMessage m → 0 < length rest → message_of (spelling m ++ rest) ≡ Err Trailing
+pub trailing : (m : Message) (rest : List ℕ) → IsMessage m → 0 < length rest → message_of (encoding m ++ rest) ≡ Err Trailing
 unfolding message_of
 trailing m rest is some =
     let left : eqb (length rest) 0 ≡ false = ne_eqb (length rest) 0 (λ e. omega (arith, some, e)) in

@@ -86,6 +86,6 @@ body_is author worker count len bytes first second rest fits by of has =
     record {
       within = omega (arith, ap (λ (l : List ℕ). length l) found.0.parts, length-append (batch_body b) rest, long);
       fits = subst IsBatch (sym is) found.1;
-      spelled = front ∙ ap batch_body (sym is);
+      encoded = front ∙ ap batch_body (sym is);
       reads = subst (λ (c : BatchView). batch_at bytes ≡ Ok (c, drop len bytes)) (sym is) (subst (λ (l : List ℕ). batch_at bytes ≡ Ok (b, l)) (sym back) read);
     }

@@ -12,7 +12,7 @@ use Rattle.wire.specs.declared.limits.TheConstants.{MAX_BATCHES, MAX_PARENTS, MA
 use Rattle.wire.specs.Rising.{rises, follows}
 use Rattle.wire.specs.References.{IsBatchReference, IsParentReference, IsVoteEntry, AreBatches, AreParents, AreVotes}
 use Rattle.wire.specs.References.{batch_before, batch_follows, parent_before, parent_follows, vote_before, vote_follows}
-use Rattle.wire.specs.Spelling.{batch_reference_bytes, parent_reference_bytes, vote_entry_bytes, batches_bytes, parents_bytes, votes_bytes}
+use Rattle.wire.specs.Encoding.{batch_reference_bytes, parent_reference_bytes, vote_entry_bytes, batches_bytes, parents_bytes, votes_bytes}
 use Rattle.wire.specs.Reading.{◌>>=◌, Read, number_at, author_at, digest_at, signature_at, batch_reference_at, batches_at, parent_reference_at, parents_at, vote_entry_at, votes_at}
 use Rattle.wire.proofs.RisingLemmas.{both-are, rises-push}
 use Rattle.wire_read.proofs.Steps.{bind_ok, held_ok, ok_is, IsBytes, Takes, Takes-then}

@@ -24,5 +24,5 @@ pub record HasTransactions (count len : ℕ) (bytes rest : List ℕ) : Type 0 wh
 pub record HasBody (author : Author) (worker count len : ℕ) (bytes : List ℕ) : Type 0 where
   pub within : len ≤ length bytes
   pub fits : IsBatch (contents_of author worker count (take len bytes))
-  pub spelled : take len bytes ≡ batch_body (contents_of author worker count (take len bytes))
+  pub encoded : take len bytes ≡ batch_body (contents_of author worker count (take len bytes))
   pub reads : batch_at bytes ≡ Ok (contents_of author worker count (take len bytes), drop len bytes)

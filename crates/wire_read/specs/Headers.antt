@@ -1,7 +1,7 @@
 -- The bodies of headers, and their encodings.
 use Rattle.std.specs.Prelude.{◌≡◌}
 use Rattle.wire.specs.Grammar.{IsHeaderBody}
-use Rattle.wire.specs.Spelling.{header_body}
+use Rattle.wire.specs.Encoding.{header_body}
 use Rattle.wire.specs.declared.header.HeaderBody.{HeaderBody}
 
 -- no two header bodies within their limits have the same encoding

@@ -5,7 +5,7 @@ ghost use Rattle.wire.specs.declared.error.WireError.{WireError};
 ghost use Rattle.wire.specs.declared.error.WireError.TheVariants.{Short, Trailing};
 ghost use Rattle.wire.specs.declared.message.Message.{Message};
 ghost use Rattle.wire.specs.Grammar.{IsMessage, Spells};
-ghost use Rattle.wire.specs.Spelling.{spelling};
+ghost use Rattle.wire.specs.Encoding.{encoding};
 ghost use Rattle.wire.specs.Reading.{Gives, ack_at, header_body_at, header_at, vote_at, certificate_at, coin_at, tagged_at, message_of};
 ghost use Rattle.wire_read.specs.Headers.{OneBody};
 ghost use Rattle.wire_read.specs.Table.{HasFault, HasNone};
@@ -134,8 +134,8 @@ pub fn decode(alloc: Global, bytes: &[u8]) -> Result<Message, WireError>
 
 /// No encoding of a message is a prefix of another one: if two messages, each followed by bytes, are the same bytes, the messages are equal
 /// and so are the bytes that follow.
-pub fn one_spelling()
-    ensures { (m n : Message) (x y : List ℕ) → IsMessage m → IsMessage n → spelling m ++ x ≡ spelling n ++ y → (m ≡ n) × (x ≡ y) }
+pub fn one_encoding()
+    ensures { (m n : Message) (x y : List ℕ) → IsMessage m → IsMessage n → encoding m ++ x ≡ encoding n ++ y → (m ≡ n) × (x ≡ y) }
 {}
 
 /// No two header bodies within their limits have the same encoding.
@@ -145,12 +145,12 @@ pub fn one_body()
 
 /// A message followed by any bytes is refused as `Trailing`.
 pub fn what_follows_is_trailing()
-    ensures { (m : Message) (rest : List ℕ) → IsMessage m → 0 < length rest → message_of (spelling m ++ rest) ≡ Err Trailing }
+    ensures { (m : Message) (rest : List ℕ) → IsMessage m → 0 < length rest → message_of (encoding m ++ rest) ≡ Err Trailing }
 {}
 
 /// Each proper prefix of a message's encoding is refused as `Short`.
 pub fn beginnings_are_short()
-    ensures { (m : Message) (bytes more : List ℕ) → IsMessage m → spelling m ≡ bytes ++ more → 0 < length more → message_of bytes ≡ Err Short }
+    ensures { (m : Message) (bytes more : List ℕ) → IsMessage m → encoding m ≡ bytes ++ more → 0 < length more → message_of bytes ≡ Err Short }
 {}
 
 /// Any refusal but `Short` stays the same, whatever bytes follow: it is for the first fault from the left.

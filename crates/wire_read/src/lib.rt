@@ -10,7 +10,7 @@ mod transactions;
 
 pub use decoding::{
     beginnings_are_short, certificate_of, decode, faults_by_the_table, faults_stay, header_of,
-    one_body, one_spelling, what_follows_is_trailing,
+    one_body, one_encoding, what_follows_is_trailing,
 };
 pub use frames::{FrameReader, one_split};
 pub use lists::votes_of;

@@ -12,7 +12,7 @@ ghost use Rattle.spec_model.specs.Holdings as holdings;
 ghost use Rattle.spec_model.specs.Nodes.{node_view};
 ghost use Rattle.spec_model.specs.Slots.{same_digest};
 ghost use Rattle.wire.specs.declared.message.Message.TheVariants as message;
-ghost use Rattle.checkpoint.specs.Judging.{AreHeldAs, IsHeldAs, NoneFails, TellsFirst};
+ghost use Rattle.checkpoint.specs.Judging.{AreHeldAs, IsHeldAs, NoneFails, ReportsFirst};
 
 use crate::error::LoadError;
 use crate::reading::ReadBatch;
@@ -38,7 +38,7 @@ pub fn sound_batches<S: Sign>(
     ensures ok { OnOk result (NoneFails first (faults.batch_tests (node_view S.scheme node.now) [] batches.items)) }
     ensures digested { IfOk result (λ found. All IsUnderItsDigest found.items) }
     ensures held { IfOk result (λ found. AreHeldAs batches.items (values_of found.items)) }
-    ensures err { IfErr result (TellsFirst first (faults.batch_tests (node_view S.scheme node.now) [] batches.items)) }
+    ensures err { IfErr result (ReportsFirst first (faults.batch_tests (node_view S.scheme node.now) [] batches.items)) }
 {
     let mut digests = BTreeSet::new(alloc);
     let mut found = Vec::with_capacity(alloc, batches.len())?;

@@ -4,7 +4,7 @@ ghost use Rattle.std.specs.Prelude.{◌≡◌, ◌+◌, ◌<◌, ◌^◌, All, l
 ghost use Rattle.spec_model.specs.Nodes.{node_view};
 ghost use Rattle.spec_model.specs.Slots.{certificate_digest};
 ghost use Rattle.sequencer.specs.Restored.{AreListed};
-ghost use Rattle.checkpoint.specs.Judging.{NoneFails, TellsFirst, is_certificate_sound_at, passes_itself, slots_at};
+ghost use Rattle.checkpoint.specs.Judging.{NoneFails, ReportsFirst, is_certificate_sound_at, passes_itself, slots_at};
 ghost use Rattle.checkpoint.specs.Kept.{certificate_of};
 
 use crate::error::LoadError;
@@ -83,7 +83,7 @@ pub fn test_certificates<S: Sign>(
     requires listed { AreListed list.now }
     requires passed { passed.now ≡ map (passes_itself (node_view S.scheme node.now)) (map certificate_of list.now) }
     ensures ok { let seen = node_view S.scheme node.now in OnOk result (NoneFails first (map (is_certificate_sound_at seen floor (slots_at seen floor list.now)) (map certificate_of list.now))) }
-    ensures err { let seen = node_view S.scheme node.now in IfErr result (TellsFirst first (map (is_certificate_sound_at seen floor (slots_at seen floor list.now)) (map certificate_of list.now))) }
+    ensures err { let seen = node_view S.scheme node.now in IfErr result (ReportsFirst first (map (is_certificate_sound_at seen floor (slots_at seen floor list.now)) (map certificate_of list.now))) }
 {
     let mut place = first;
     for index in 0..list.len() {

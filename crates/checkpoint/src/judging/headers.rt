@@ -7,9 +7,9 @@ ghost use Rattle.sequencer.specs.Restored.{AreListed, listed};
 ghost use Rattle.spec_checkpoint.specs.Faults as faults;
 ghost use Rattle.spec_model.specs.Holdings as holdings;
 ghost use Rattle.spec_model.specs.Nodes.{node_view};
-ghost use Rattle.wire.specs.Spelling.{spelling};
+ghost use Rattle.wire.specs.Encoding.{encoding};
 ghost use Rattle.wire.specs.declared.message.Message.TheVariants as message;
-ghost use Rattle.checkpoint.specs.Judging.{HasOwnVote, NoneFails, TellsFirst, is_header_sound_at, is_completed_well_at, slots_at};
+ghost use Rattle.checkpoint.specs.Judging.{HasOwnVote, NoneFails, ReportsFirst, is_header_sound_at, is_completed_well_at, slots_at};
 ghost use Rattle.checkpoint.specs.Kept.{header_of};
 
 use crate::error::LoadError;
@@ -43,7 +43,7 @@ pub fn sound_headers<S: Sign>(
     ensures ok { let seen = node_view S.scheme node.now in OnOk result (NoneFails first (map (is_header_sound_at seen floor (slots_at seen floor list.now)) headers.items)) }
     ensures voted { IfOk result (λ found. All (HasOwnVote (node_view S.scheme node.now)) found.items) }
     ensures same { IfOk result (λ found. map header_of found.items ≡ headers.items) }
-    ensures err { let seen = node_view S.scheme node.now in IfErr result (TellsFirst first (map (is_header_sound_at seen floor (slots_at seen floor list.now)) headers.items)) }
+    ensures err { let seen = node_view S.scheme node.now in IfErr result (ReportsFirst first (map (is_header_sound_at seen floor (slots_at seen floor list.now)) headers.items)) }
 {
     let mut found = Vec::with_capacity(alloc, headers.len())?;
     let mut place = first;
@@ -187,7 +187,7 @@ fn same_body(alloc: Global, one: &HeaderBody, other: &HeaderBody) -> Result<bool
 
 /// The bytes of a certificate with this header and no votes.
 fn certificate_bytes(alloc: Global, header: &HeaderBody) -> Result<Vec<u8>, AllocError>
-    ensures { IfOk result (λ bytes. bytes.items ≡ spelling (message.Certificate (record { header = header.now; votes = [] }))) }
+    ensures { IfOk result (λ bytes. bytes.items ≡ encoding (message.Certificate (record { header = header.now; votes = [] }))) }
 {
     let header = header.try_clone()?;
     let votes = VoteEntries::new(alloc);

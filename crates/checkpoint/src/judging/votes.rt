@@ -3,7 +3,7 @@
 ghost use Rattle.std.specs.Prelude.{◌≡◌, ◌+◌, ◌<◌, ◌^◌, length, map, OnOk, IfErr};
 ghost use Rattle.spec_model.specs.Holdings as holdings;
 ghost use Rattle.spec_model.specs.Nodes.{node_view};
-ghost use Rattle.checkpoint.specs.Judging.{NoneFails, TellsFirst, is_vote_sound_at};
+ghost use Rattle.checkpoint.specs.Judging.{NoneFails, ReportsFirst, is_vote_sound_at};
 ghost use Rattle.checkpoint.specs.Kept.{vote_of};
 
 use crate::error::LoadError;
@@ -24,7 +24,7 @@ pub fn test_votes<S: Sign>(
 ) -> Result<(), LoadError>
     requires { first + length votes.now < 2 ^ 64 }
     ensures ok { OnOk result (NoneFails first (map (is_vote_sound_at (node_view S.scheme node.now) floor) (map vote_of votes.now))) }
-    ensures err { IfErr result (TellsFirst first (map (is_vote_sound_at (node_view S.scheme node.now) floor) (map vote_of votes.now))) }
+    ensures err { IfErr result (ReportsFirst first (map (is_vote_sound_at (node_view S.scheme node.now) floor) (map vote_of votes.now))) }
 {
     let mut place = first;
     for vote in votes {

@@ -2,7 +2,7 @@
 
 ghost use Rattle.std.specs.Prelude.{◌≡◌, ◌++◌, ◌∷◌, length, drop, flat_map, IfOk, OnOk};
 ghost use Rattle.std.specs.Int.{w16, to_be_bytes};
-ghost use Rattle.wire.specs.Spelling.{spelling, vote_entry_bytes};
+ghost use Rattle.wire.specs.Encoding.{encoding, vote_entry_bytes};
 ghost use Rattle.spec_checkpoint.specs.Records as records;
 ghost use Rattle.checkpoint.specs.Kept.{vote_of, header_of};
 
@@ -57,7 +57,7 @@ pub fn certificate_record(alloc: Global, certificate: &Certificate) -> Result<Ve
 
 /// The bytes of a message, with a record's kind in the place of the message's tag.
 fn of_kind(alloc: Global, kind: u8, message: &Message) -> Result<Vec<u8>, AllocError>
-    ensures { IfOk result (λ bytes. bytes.items ≡ kind ∷ drop 1 (spelling message.now)) }
+    ensures { IfOk result (λ bytes. bytes.items ≡ kind ∷ drop 1 (encoding message.now)) }
 {
     let mut bytes = encode(alloc, message)?;
     if let Some(tag) = bytes.first_mut() {

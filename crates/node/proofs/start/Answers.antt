@@ -5,7 +5,7 @@ use Rattle.journal.specs.Pairs.{areas_in, areas_of, store_of}
 use Rattle.journal.specs.declared.journal.Journal.{Journal}
 use Rattle.opening.specs.Laws.{IsReadIn}
 use Rattle.opening.specs.Renewing.{KeepsStatesIn, IsNewest}
-use Rattle.opening.proofs.Telling.{ok_weaker}
+use Rattle.opening.proofs.Reporting.{ok_weaker}
 use Rattle.std.specs.Prelude.{IsSome}
 use Rattle.std.proofs.lemmas.Result.{err_from_is_err_and}
 use Rattle.validator.specs.Setting.{node_of}

@@ -3,7 +3,7 @@
 ghost use Rattle.std.specs.Prelude.{◌≡◌, None};
 ghost use Rattle.header.specs.Checks.{fault_of, accepts_all};
 
-use crate::histories::labelled::{tell_order, tell_outputs, tell_proposal};
+use crate::histories::labelled::{report_order, report_outputs, report_proposal};
 use header::{Checked, check};
 use sigface::{HashSign, HashVerify};
 use sim_script::{FormError, Labels, message_of, parse};
@@ -85,11 +85,11 @@ fn answer_of(
         Ok(Step::New(outputs)) => {
             is_new = true;
             writeln!(lines, "new {}", before.saturating_add(1))?;
-            tell_outputs(labels, outputs, &mut lines)?;
+            report_outputs(labels, outputs, &mut lines)?;
         }
         Ok(Step::Known(outputs)) => {
             writeln!(lines, "known {before}")?;
-            tell_outputs(labels, outputs, &mut lines)?;
+            report_outputs(labels, outputs, &mut lines)?;
         }
         Err(Refusal::Memory) => return Err(FormError::Memory),
         Err(refusal) => writeln!(lines, "refused {refusal}")?,
@@ -108,8 +108,8 @@ pub fn looked(
     match name {
         "floor" => writeln!(line, "floor {}", floor(validator))?,
         "round" => writeln!(line, "round {}", round(validator))?,
-        "order" => tell_order(labels, validator.order(), &mut line)?,
-        _ => tell_proposal(labels, proposal(validator)?, &mut line)?,
+        "order" => report_order(labels, validator.order(), &mut line)?,
+        _ => report_proposal(labels, proposal(validator)?, &mut line)?,
     }
     Ok(line)
 }

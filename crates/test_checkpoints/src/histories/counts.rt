@@ -1,6 +1,6 @@
 //! How many validators were loaded along the histories of a file, and how much they were tested.
 
-use test_cases::Told;
+use test_cases::Reported;
 
 /// How many events a loaded validator takes, if its history has as many.
 pub const EVENTS: u64 = 50;
@@ -39,7 +39,7 @@ impl Counts {
     }
 
     /// Shows the counts.
-    pub fn tell(&self, answer: &mut String) -> Told {
+    pub fn report(&self, answer: &mut String) -> Reported {
         let (loaded, whole, answers) = (self.loaded, self.whole, self.answers);
         writeln!(
             answer,

@@ -4,11 +4,11 @@ use crate::histories::answers::{answered, looked};
 use crate::histories::counts::Counts;
 use crate::histories::labelled::label_genesis;
 use crate::histories::loaded::Loaded;
-use crate::loading::{kept_records, loaded, tell_error};
+use crate::loading::{kept_records, loaded, report_error};
 use sigface::HashSign;
 use sim_script::{Command, FormError, Labels, define_batch, define_header, parse};
 use std::alloc::{AllocError, Global};
-use test_cases::Told;
+use test_cases::Reported;
 use validator::{Config, LoadError, Validator};
 
 /// After how many events another validator is loaded.
@@ -75,11 +75,11 @@ impl<'c> History<'c> {
     }
 
     /// Shows something of the validator. Each loaded validator has to show the same.
-    fn look(&self, name: &str, answer: &mut String) -> Told {
-        let told = looked(self.alloc, &self.labels, &self.validator, name)?;
-        answer.push_str(told.as_str())?;
+    fn look(&self, name: &str, answer: &mut String) -> Reported {
+        let reported = looked(self.alloc, &self.labels, &self.validator, name)?;
+        answer.push_str(reported.as_str())?;
         for one in &self.loaded {
-            one.look(&self.labels, name, told.as_str(), answer)?;
+            one.look(&self.labels, name, reported.as_str(), answer)?;
         }
         Ok(())
     }
@@ -89,17 +89,17 @@ impl<'c> History<'c> {
         if self.events % BETWEEN == 0 {
             self.load(answer)?;
         }
-        let told = answered(
+        let reported = answered(
             self.alloc,
             &self.labels,
             &mut self.validator,
             line,
             self.new,
         )?;
-        answer.push_str(told.lines.as_str())?;
-        self.take_loaded(line, told.lines.as_str(), answer)?;
+        answer.push_str(reported.lines.as_str())?;
+        self.take_loaded(line, reported.lines.as_str(), answer)?;
         self.events = self.events.saturating_add(1);
-        self.new = self.new.saturating_add(u64::from(told.is_new));
+        self.new = self.new.saturating_add(u64::from(reported.is_new));
         Ok(self.end_first(answer)?)
     }
 
@@ -107,22 +107,22 @@ impl<'c> History<'c> {
     fn take_loaded(
         &mut self,
         line: &str,
-        told: &str,
+        reported: &str,
         answer: &mut String,
     ) -> Result<(), FormError> {
         for one in &mut self.loaded {
-            one.take(&self.labels, line, self.new, told, answer)?;
+            one.take(&self.labels, line, self.new, reported, answer)?;
         }
         self.counts.answer(self.loaded.len() as u64);
         Ok(())
     }
 
     /// Loads one more validator from the records.
-    fn load(&mut self, answer: &mut String) -> Told {
+    fn load(&mut self, answer: &mut String) -> Reported {
         match loaded(self.alloc, self.config, &kept_records(&self.validator)?) {
             Err(LoadError::Memory) => Err(AllocError),
             Err(error) => {
-                tell_error(error, answer)?;
+                report_error(error, answer)?;
                 answer.push_str(" is what loading is answered\n")
             }
             Ok(validator) => {
@@ -134,7 +134,7 @@ impl<'c> History<'c> {
     }
 
     /// Ends the oldest of the loaded validators, if it took all its events.
-    fn end_first(&mut self, answer: &mut String) -> Told {
+    fn end_first(&mut self, answer: &mut String) -> Reported {
         match self.loaded.first() {
             Some(first) if first.is_done() => {}
             _ => return Ok(()),
@@ -145,7 +145,7 @@ impl<'c> History<'c> {
     }
 
     /// Ends the history: compares the records of the loaded validators that have not taken all their events.
-    pub fn end(&self, answer: &mut String) -> Told {
+    pub fn end(&self, answer: &mut String) -> Reported {
         let records = kept_records(&self.validator)?;
         for one in &self.loaded {
             one.compare_records(&records, answer)?;

@@ -2,7 +2,7 @@
 
 use sim_script::{Form, FormError, Labels, define_header};
 use std::alloc::Global;
-use test_cases::Told;
+use test_cases::Reported;
 use wire::{
     Author, BatchReference, Certificate, Digest, Header, Output, batch_digest, certificate_digest,
     genesis_digest, header_digest,
@@ -48,42 +48,42 @@ fn genesis_label(certificate: &Digest) -> &'static str {
 }
 
 /// Adds a line for each output.
-pub fn tell_outputs(labels: &Labels, outputs: &[Output], answer: &mut String) -> Told {
+pub fn report_outputs(labels: &Labels, outputs: &[Output], answer: &mut String) -> Reported {
     for output in outputs {
         answer.push_str("out ")?;
-        tell_output(labels, output, answer)?;
+        report_output(labels, output, answer)?;
         answer.push_str("\n")?;
     }
     Ok(())
 }
 
-fn tell_output(labels: &Labels, output: &Output, answer: &mut String) -> Told {
+fn report_output(labels: &Labels, output: &Output, answer: &mut String) -> Reported {
     match output {
-        Output::Batch(batch) => tell_batch(labels, "batch", &batch_digest(batch), answer),
-        Output::Ack { ack, .. } => tell_batch(labels, "ack", &ack.batch, answer),
+        Output::Batch(batch) => report_batch(labels, "batch", &batch_digest(batch), answer),
+        Output::Ack { ack, .. } => report_batch(labels, "ack", &ack.batch, answer),
         Output::Header(header) => {
-            tell_header(labels, "header", &header_digest(&header.body), answer)
+            report_header(labels, "header", &header_digest(&header.body), answer)
         }
-        Output::Vote(vote) => tell_header(labels, "vote", &vote.header, answer),
-        Output::Certificate(certificate) => tell_certificate(labels, certificate, answer),
+        Output::Vote(vote) => report_header(labels, "vote", &vote.header, answer),
+        Output::Certificate(certificate) => report_certificate(labels, certificate, answer),
         Output::Order { start, digests } => {
             write!(answer, "order {start}")?;
-            tell_labels(labels, digests.as_slice(), answer)
+            report_labels(labels, digests.as_slice(), answer)
         }
     }
 }
 
-fn tell_batch(labels: &Labels, kind: &str, digest: &Digest, answer: &mut String) -> Told {
+fn report_batch(labels: &Labels, kind: &str, digest: &Digest, answer: &mut String) -> Reported {
     let label = labels.batch_name(digest).unwrap_or("-");
     write!(answer, "{kind} {label}")
 }
 
-fn tell_header(labels: &Labels, kind: &str, digest: &Digest, answer: &mut String) -> Told {
+fn report_header(labels: &Labels, kind: &str, digest: &Digest, answer: &mut String) -> Reported {
     let label = labels.header_name(digest).unwrap_or("-");
     write!(answer, "{kind} {label}")
 }
 
-fn tell_certificate(labels: &Labels, certificate: &Certificate, answer: &mut String) -> Told {
+fn report_certificate(labels: &Labels, certificate: &Certificate, answer: &mut String) -> Reported {
     let body = &certificate.header;
     let digest = certificate_digest(&header_digest(body), body.round, body.author);
     let label = label_of(labels, &digest);
@@ -97,7 +97,7 @@ fn tell_certificate(labels: &Labels, certificate: &Certificate, answer: &mut Str
 }
 
 /// Adds the labels of the certificates with these digests, each after a blank.
-fn tell_labels(labels: &Labels, digests: &[Digest], answer: &mut String) -> Told {
+fn report_labels(labels: &Labels, digests: &[Digest], answer: &mut String) -> Reported {
     for digest in digests {
         answer.push_str(" ")?;
         answer.push_str(label_of(labels, digest))?;
@@ -106,25 +106,25 @@ fn tell_labels(labels: &Labels, digests: &[Digest], answer: &mut String) -> Told
 }
 
 /// Adds a line with an order.
-pub fn tell_order(labels: &Labels, digests: &[Digest], answer: &mut String) -> Told {
+pub fn report_order(labels: &Labels, digests: &[Digest], answer: &mut String) -> Reported {
     answer.push_str("order")?;
     if digests.is_empty() {
         answer.push_str(" none")?;
     }
-    tell_labels(labels, digests, answer)?;
+    report_labels(labels, digests, answer)?;
     answer.push_str("\n")
 }
 
 /// Adds a line with a proposal: the round, the parents and the batches.
-pub fn tell_proposal(labels: &Labels, proposal: Option<Header>, answer: &mut String) -> Told {
+pub fn report_proposal(labels: &Labels, proposal: Option<Header>, answer: &mut String) -> Reported {
     match proposal {
-        Some(header) => tell_proposed(labels, &header, answer),
+        Some(header) => report_proposed(labels, &header, answer),
         None => answer.push_str("proposes none\n"),
     }
 }
 
 /// Adds the line of a proposed header.
-fn tell_proposed(labels: &Labels, header: &Header, answer: &mut String) -> Told {
+fn report_proposed(labels: &Labels, header: &Header, answer: &mut String) -> Reported {
     let round = header.body.round.number();
     write!(answer, "proposes {round}")?;
     let mut mark = " ";
@@ -133,11 +133,11 @@ fn tell_proposed(labels: &Labels, header: &Header, answer: &mut String) -> Told 
         answer.push_str(label_of(labels, &parent.certificate))?;
         mark = ",";
     }
-    tell_batches(labels, header.body.batches.as_slice(), answer)
+    report_batches(labels, header.body.batches.as_slice(), answer)
 }
 
 /// Adds the labels of the batches that a header names, or a dash, and ends the line.
-fn tell_batches(labels: &Labels, batches: &[BatchReference], answer: &mut String) -> Told {
+fn report_batches(labels: &Labels, batches: &[BatchReference], answer: &mut String) -> Reported {
     if batches.is_empty() {
         answer.push_str(" -")?;
     }

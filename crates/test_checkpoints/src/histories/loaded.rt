@@ -6,7 +6,7 @@ use crate::loading::kept_records;
 use sigface::HashSign;
 use sim_script::{FormError, Labels};
 use std::alloc::Global;
-use test_cases::Told;
+use test_cases::Reported;
 use validator::Validator;
 
 /// A validator that was loaded after some events. If its answer differs from that of the validator from whose records it was loaded, the
@@ -43,29 +43,35 @@ impl<'c> Loaded<'c> {
         labels: &Labels,
         line: &str,
         before: u64,
-        told: &str,
+        reported: &str,
         answer: &mut String,
     ) -> Result<(), FormError> {
         let own = answered(self.alloc, labels, &mut self.validator, line, before)?;
         self.left = self.left.saturating_sub(1);
-        Ok(self.compare(own.lines.as_str(), told, answer)?)
+        Ok(self.compare(own.lines.as_str(), reported, answer)?)
     }
 
     /// Shows something of the validator; it has to be this line.
-    pub fn look(&self, labels: &Labels, name: &str, told: &str, answer: &mut String) -> Told {
+    pub fn look(
+        &self,
+        labels: &Labels,
+        name: &str,
+        reported: &str,
+        answer: &mut String,
+    ) -> Reported {
         let own = looked(self.alloc, labels, &self.validator, name)?;
-        self.compare(own.as_str(), told, answer)
+        self.compare(own.as_str(), reported, answer)
     }
 
-    fn compare(&self, own: &str, told: &str, answer: &mut String) -> Told {
-        if own == told {
+    fn compare(&self, own: &str, reported: &str, answer: &mut String) -> Reported {
+        if own == reported {
             return Ok(());
         }
         writeln!(answer, "loaded after {}: {own}", self.after)
     }
 
     /// Compares its checkpoint with these records.
-    pub fn compare_records(&self, records: &[Vec<u8>], answer: &mut String) -> Told {
+    pub fn compare_records(&self, records: &[Vec<u8>], answer: &mut String) -> Reported {
         if kept_records(&self.validator)?.as_slice() == records {
             return Ok(());
         }

@@ -3,7 +3,7 @@
 use crate::nodes::{Member, member_of};
 use sim_script::BATCHES;
 use std::alloc::{AllocError, Global};
-use test_cases::{Told, bad};
+use test_cases::{Reported, bad};
 
 /// The depth and the stakes of the committee of a history.
 #[derive(Drop)]
@@ -24,13 +24,13 @@ impl Setup {
     }
 
     /// Begins a case, with four members of equal stakes.
-    pub fn begin(&mut self) -> Told {
+    pub fn begin(&mut self) -> Reported {
         self.stakes.clear();
         self.stakes.push_str("1,1,1,1")
     }
 
     /// `set depth` and `stakes`.
-    pub fn obey(&mut self, command: &str, answer: &mut String) -> Told {
+    pub fn obey(&mut self, command: &str, answer: &mut String) -> Reported {
         if let Some(stakes) = command.strip_prefix("stakes ") {
             self.stakes.clear();
             return self.stakes.push_str(stakes);

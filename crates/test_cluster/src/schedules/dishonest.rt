@@ -10,7 +10,7 @@ use header::make;
 use sim_members::MEMBERS;
 use sim_script::{Proposed, certificate, signer, vote};
 use std::alloc::{AllocError, Global};
-use test_cases::Told;
+use test_cases::Reported;
 use wire::{
     Author, BatchReference, Certificate, Digest, Header, Message, ParentReference, Round, Vote,
     batch_digest, genesis_digest,
@@ -30,14 +30,14 @@ const LAST_APART: u64 = 6;
 
 impl<'a> Schedule<'a> {
     /// Where a node is given this header as its own, each dishonest member makes a face of its round, if it does.
-    pub fn make_faces(&mut self, own: usize) -> Told {
+    pub fn make_faces(&mut self, own: usize) -> Reported {
         for author in self.honest.count()..MEMBERS {
             self.make_face(Author(author), own)?;
         }
         Ok(())
     }
 
-    fn make_face(&mut self, author: Author, own: usize) -> Told {
+    fn make_face(&mut self, author: Author, own: usize) -> Reported {
         let drawn = self.draws.below(4);
         let Some(made) = self.headers.get(own) else {
             return Ok(());
@@ -155,7 +155,7 @@ impl<'a> Schedule<'a> {
         round: Round,
         face: u64,
         parents: &Vec<ParentReference>,
-    ) -> Told {
+    ) -> Reported {
         let named = match self.plan {
             Plan::Split => face as usize,
             _ => self.draws.below(64) as usize,
@@ -226,7 +226,7 @@ impl<'a> Schedule<'a> {
     }
 
     /// The certificate of a dishonest member's header can be gathered: each node wants it, some later.
-    pub fn gather(&mut self, header: usize) -> Told {
+    pub fn gather(&mut self, header: usize) -> Reported {
         self.headers.certify(header);
         let Some(made) = self.headers.get(header) else {
             return Ok(());

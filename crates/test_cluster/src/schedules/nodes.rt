@@ -320,11 +320,11 @@ impl<'a> Schedule<'a> {
         if noted.pending == 0 || noted.down {
             return self.go_on(node);
         }
-        self.tell_to_fail(node, call, count)?;
+        self.report_to_fail(node, call, count)?;
         Ok(self.flush_as(kind, node))
     }
 
-    fn tell_to_fail(&self, node: Author, call: CallKind, count: u64) -> Result<(), AllocError> {
+    fn report_to_fail(&self, node: Author, call: CallKind, count: u64) -> Result<(), AllocError> {
         match self.grips.get(node.0 as usize) {
             Some(grip) if grip.fail(call, count) => Ok(()),
             _ => Err(AllocError),

@@ -5,7 +5,7 @@ use sigface::{HashVerify, Sign, Verify};
 use sim_members::MEMBERS;
 use sim_script::signer;
 use std::alloc::Global;
-use test_cases::Told;
+use test_cases::Reported;
 use wire::{
     Author, Certificate, Coin, Digest, Header, HeaderBody, Message, Output, Signature, Vote,
     certificate_digest, header_digest,
@@ -78,7 +78,7 @@ impl Premises {
     }
 
     /// Notes what an honest member signed in what it put out.
-    pub fn note(&mut self, signer: Author, output: &Output) -> Told {
+    pub fn note(&mut self, signer: Author, output: &Output) -> Reported {
         let digest = match output {
             Output::Header(header) => header_digest(&header.body),
             Output::Vote(vote) => voted(vote),
@@ -90,7 +90,7 @@ impl Premises {
     }
 
     /// Tests a message that a node is given.
-    pub fn test(&mut self, to: Author, message: &Message) -> Told {
+    pub fn test(&mut self, to: Author, message: &Message) -> Reported {
         match message {
             Message::Header(header) => self.test_header(to, header),
             Message::Vote(vote) => {
@@ -104,7 +104,7 @@ impl Premises {
     }
 
     /// Tests an output that a node is given.
-    pub fn test_output(&mut self, to: Author, output: &Output) -> Told {
+    pub fn test_output(&mut self, to: Author, output: &Output) -> Reported {
         match output {
             Output::Header(header) => self.test_header(to, header),
             Output::Vote(vote) => {
@@ -116,7 +116,7 @@ impl Premises {
         }
     }
 
-    fn test_header(&mut self, to: Author, header: &Header) -> Told {
+    fn test_header(&mut self, to: Author, header: &Header) -> Reported {
         let author = header.body.author;
         if author != to {
             self.test_signed(author, header_digest(&header.body), &header.signature);
@@ -128,7 +128,7 @@ impl Premises {
         self.test_signed(vote.voter, voted(vote), &vote.signature);
     }
 
-    fn test_certificate(&mut self, certificate: &Certificate) -> Told {
+    fn test_certificate(&mut self, certificate: &Certificate) -> Reported {
         let digest = certified(&certificate.header);
         for vote in certificate.votes.as_slice() {
             self.test_signed(vote.voter, digest, &vote.signature);
@@ -150,7 +150,7 @@ impl Premises {
         self.signed.iter().any(|signed| signed.signer == signed_by && signed.digest == digest)
     }
 
-    fn test_coin(&mut self, coin: Coin) -> Told {
+    fn test_coin(&mut self, coin: Coin) -> Reported {
         if self.coins.iter().any(|other| other.wave == coin.wave && other.value != coin.value) {
             self.hold = false;
         }
@@ -158,7 +158,7 @@ impl Premises {
         Ok(())
     }
 
-    fn test_text(&mut self, body: &HeaderBody) -> Told {
+    fn test_text(&mut self, body: &HeaderBody) -> Reported {
         if self.texts.iter().any(|text| text.is_same(body)) {
             return Ok(());
         }

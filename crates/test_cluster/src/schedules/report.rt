@@ -1,11 +1,11 @@
 //! The results of the moves of schedules.
 
 use super::schedule::{Answered, Schedule};
-use crate::telling::tell_move;
+use crate::reporting::report_move;
 use cluster::{Applied, ClusterError};
 use std::alloc::Global;
 use std::collections::BTreeMap;
-use test_cases::{Told, put};
+use test_cases::{Reported, put};
 use validator::Refusal;
 use wire::Author;
 
@@ -60,7 +60,7 @@ impl Report {
     }
 
     /// Counts a move.
-    pub fn count(&mut self, answered: &Answered) -> Told {
+    pub fn count(&mut self, answered: &Answered) -> Reported {
         self.add_line(answered);
         match answered.outcome {
             Ok(Applied::Reopened(_)) => increase(&mut self.stops),
@@ -78,11 +78,11 @@ impl Report {
         self.line.clear();
         put(&mut self.line, answered.kind);
         put(&mut self.line, ": ");
-        tell_move(&mut self.line, answered.outcome);
+        report_move(&mut self.line, answered.outcome);
         self.sum = added(self.sum, self.line.as_bytes());
     }
 
-    fn count_line(&mut self) -> Told {
+    fn count_line(&mut self) -> Reported {
         if let Some(count) = self.counts.get_mut(self.line.as_str()) {
             increase(count);
             return Ok(());
@@ -126,31 +126,31 @@ impl Report {
     }
 
     /// Shows the whole report.
-    pub fn tell(&self, start: u64, answer: &mut String) {
+    pub fn write_to(&self, start: u64, answer: &mut String) {
         let _ = writeln!(answer, "start {start}");
         for (line, count) in &self.counts {
             let _ = writeln!(answer, "{line} {count}");
         }
-        tell_count(answer, "stops", self.stops);
-        tell_count(answer, "equivocations", self.equivocations);
-        tell_count(answer, "deliveries lost", self.lost);
-        tell_count(answer, "growths of orders", self.growths);
-        tell_count(answer, "longest order", self.longest as u64);
-        tell_count(answer, "schedules with orders", self.grown);
-        tell_count(answer, "of these with all premises of agreement", self.fair);
-        tell_count(
+        report_count(answer, "stops", self.stops);
+        report_count(answer, "equivocations", self.equivocations);
+        report_count(answer, "deliveries lost", self.lost);
+        report_count(answer, "growths of orders", self.growths);
+        report_count(answer, "longest order", self.longest as u64);
+        report_count(answer, "schedules with orders", self.grown);
+        report_count(answer, "of these with all premises of agreement", self.fair);
+        report_count(
             answer,
             "schedules with orders of unlike length",
             self.unlike,
         );
-        tell_count(answer, "schedules with waves skipped", self.skipped);
-        tell_count(answer, "schedules with dishonest leaders", self.dishonest);
-        tell_count(answer, "schedules with floors risen", self.risen);
-        tell_count(answer, "sum", self.sum);
-        self.tell_wrong(answer);
+        report_count(answer, "schedules with waves skipped", self.skipped);
+        report_count(answer, "schedules with dishonest leaders", self.dishonest);
+        report_count(answer, "schedules with floors risen", self.risen);
+        report_count(answer, "sum", self.sum);
+        self.report_wrong(answer);
     }
 
-    fn tell_wrong(&self, answer: &mut String) {
+    fn report_wrong(&self, answer: &mut String) {
         let wrong = self.wrong;
         let _ = match self.first_wrong {
             Some(start) => writeln!(answer, "wrong {wrong}, first in the schedule from {start}"),
@@ -159,7 +159,7 @@ impl Report {
     }
 }
 
-fn tell_count(answer: &mut String, name: &str, count: u64) {
+fn report_count(answer: &mut String, name: &str, count: u64) {
     let _ = writeln!(answer, "{name} {count}");
 }
 

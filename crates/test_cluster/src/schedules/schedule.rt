@@ -12,7 +12,7 @@ use cluster::{Applied, Cluster, ClusterError};
 use sigface::{HashSign, HashVerify};
 use sim_members::{MEMBERS, Settings};
 use std::alloc::{AllocError, Global};
-use test_cases::Told;
+use test_cases::Reported;
 use wire::{Author, Batch, Digest, MAX_TRANSACTION_BYTES, OpenBatch, Output, header_digest};
 
 /// Waves that have coins.
@@ -179,7 +179,7 @@ impl<'a> Schedule<'a> {
     }
 
     /// Makes a move, and counts its result.
-    pub fn advance(&mut self, report: &mut Report) -> Told {
+    pub fn advance(&mut self, report: &mut Report) -> Reported {
         let answered = self.step()?;
         report.count(&answered)?;
         let node = answered.node;
@@ -235,7 +235,7 @@ impl<'a> Schedule<'a> {
     }
 
     // Looks at what a node put out since it was last looked at.
-    fn look(&mut self, node: Author) -> Told {
+    fn look(&mut self, node: Author) -> Reported {
         let outputs = self.cluster.outputs(node).unwrap_or(0);
         for output in self.known.of(node).outputs..outputs {
             self.look_at(node, output)?;
@@ -244,7 +244,7 @@ impl<'a> Schedule<'a> {
         Ok(())
     }
 
-    fn look_at(&mut self, node: Author, output: u64) -> Told {
+    fn look_at(&mut self, node: Author, output: u64) -> Reported {
         if let Some(given) = self.cluster.output(node, output) {
             self.premises.note(node, given)?;
         }
@@ -290,7 +290,7 @@ impl<'a> Schedule<'a> {
     }
 
     // A vote is wanted by the header's author, if that has a node. A dishonest member gathers those on its own headers.
-    fn look_at_vote(&mut self, wish: Wish, header: usize, voter: Author) -> Told {
+    fn look_at_vote(&mut self, wish: Wish, header: usize, voter: Author) -> Reported {
         self.headers.add_vote(header, voter);
         match self.author_of(header) {
             Some(author) if author < self.first_dishonest() => self.known.offer(author, wish),
@@ -307,7 +307,7 @@ impl<'a> Schedule<'a> {
     }
 
     // A header and a certificate are wanted by all others.
-    fn offer_to_others(&mut self, node: Author, wish: Wish) -> Told {
+    fn offer_to_others(&mut self, node: Author, wish: Wish) -> Reported {
         for other in 0..self.honest.count() {
             if Author(other) != node {
                 self.known.offer(Author(other), wish)?;
@@ -317,7 +317,7 @@ impl<'a> Schedule<'a> {
     }
 
     // The dishonest members' votes on a node's own header are wanted by the node.
-    fn offer_votes(&mut self, node: Author, header: usize) -> Told {
+    fn offer_votes(&mut self, node: Author, header: usize) -> Reported {
         for voter in self.honest.count()..MEMBERS {
             self.known
                 .offer(node, Wish::of(header, Part::Vote(Author(voter))))?;

@@ -5,7 +5,7 @@ ghost use Rattle.std.specs.Prelude.{◌<◌};
 use super::headers::{Made, PARENTS};
 use std::alloc::Global;
 use std::mem;
-use test_cases::Told;
+use test_cases::Reported;
 use wire::{Author, Digest};
 
 /// The greatest number of nodes.
@@ -139,7 +139,7 @@ impl Wishes {
     }
 
     // It wants this, unless it was offered that.
-    fn offer(&mut self, wish: Wish) -> Told {
+    fn offer(&mut self, wish: Wish) -> Reported {
         let Some(content) = wish.content else {
             return Ok(());
         };
@@ -174,7 +174,7 @@ impl Wishes {
     }
 
     // It took something new.
-    fn take(&mut self, wish: Option<Wish>) -> Told {
+    fn take(&mut self, wish: Option<Wish>) -> Reported {
         self.noted.pending = self.noted.pending.saturating_add(1);
         let Some(wish) = wish else {
             return Ok(());
@@ -187,7 +187,7 @@ impl Wishes {
     }
 
     // It has a certificate or a batch.
-    fn get(&mut self, content: Content) -> Told {
+    fn get(&mut self, content: Content) -> Reported {
         match content.part {
             Part::Certificate => {
                 self.mark(content.number, HAS)?;
@@ -253,7 +253,7 @@ impl Wishes {
     }
 
     // It was stopped and opened again: it wants what it had taken since it settled last before all else.
-    fn reopen(&mut self) -> Told {
+    fn reopen(&mut self) -> Reported {
         self.lose_all();
         self.unsettled.append(&mut self.wanted)?;
         mem::swap(&mut self.unsettled, &mut self.wanted);
@@ -316,17 +316,17 @@ impl Known {
     }
 
     /// A node wants this, unless it was offered that.
-    pub fn offer(&mut self, node: Author, wish: Wish) -> Told {
+    pub fn offer(&mut self, node: Author, wish: Wish) -> Reported {
         self.nodes[place(node)].offer(wish)
     }
 
     /// A node took something new.
-    pub fn take(&mut self, node: Author, wish: Option<Wish>) -> Told {
+    pub fn take(&mut self, node: Author, wish: Option<Wish>) -> Reported {
         self.nodes[place(node)].take(wish)
     }
 
     /// A node has this, if it is a certificate or a batch.
-    pub fn get(&mut self, node: Author, content: Content) -> Told {
+    pub fn get(&mut self, node: Author, content: Content) -> Reported {
         self.nodes[place(node)].get(content)
     }
 
@@ -346,7 +346,7 @@ impl Known {
     }
 
     /// A node wants this after all else.
-    pub fn put_back(&mut self, node: Author, wish: Wish) -> Told {
+    pub fn put_back(&mut self, node: Author, wish: Wish) -> Reported {
         self.nodes[place(node)].wanted.push(wish)?;
         Ok(())
     }
@@ -369,7 +369,7 @@ impl Known {
     }
 
     /// A node was stopped and opened again: it wants what it had accepted since it last settled.
-    pub fn reopen(&mut self, node: Author) -> Told {
+    pub fn reopen(&mut self, node: Author) -> Reported {
         self.nodes[place(node)].reopen()
     }
 

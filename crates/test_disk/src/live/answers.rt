@@ -10,26 +10,26 @@ use wire_read::FrameReader;
 const SHOWN_BYTES: usize = 13;
 
 /// Adds a line for each output, with the length of its body and its first bytes, and a line for each line of the errors.
-pub fn tell_seen(alloc: Global, seen: &Seen, answer: &mut String) {
+pub fn report_seen(alloc: Global, seen: &Seen, answer: &mut String) {
     match FrameReader::new(alloc).feed(&seen.output) {
-        Ok(bodies) => tell_outputs(&bodies, answer),
+        Ok(bodies) => report_outputs(&bodies, answer),
         Err(_) => put(answer, "no frames\n"),
     }
-    tell_errors(&seen.errors, answer);
+    report_errors(&seen.errors, answer);
 }
 
-/// As `tell_seen`, with one line for all outputs: how many there are, and a sum over their frames.
-pub fn tell_sum(alloc: Global, seen: &Seen, answer: &mut String) {
+/// As `report_seen`, with one line for all outputs: how many there are, and a sum over their frames.
+pub fn report_sum(alloc: Global, seen: &Seen, answer: &mut String) {
     match FrameReader::new(alloc).feed(&seen.output) {
         Ok(bodies) => put_count(answer, "", bodies.len() as u64, " outputs, "),
         Err(_) => put(answer, "no frames, "),
     }
     put_sum(answer, &seen.output);
     put(answer, "\n");
-    tell_errors(&seen.errors, answer);
+    report_errors(&seen.errors, answer);
 }
 
-fn tell_outputs(bodies: &[Vec<u8>], answer: &mut String) {
+fn report_outputs(bodies: &[Vec<u8>], answer: &mut String) {
     for body in bodies {
         put_count(answer, "out ", body.len() as u64, " ");
         put_hex(answer, body.get(..SHOWN_BYTES).unwrap_or(body));
@@ -38,14 +38,14 @@ fn tell_outputs(bodies: &[Vec<u8>], answer: &mut String) {
 }
 
 /// Adds the lines of the errors, except those before the first one that says that the node is down.
-pub fn tell_errors(errors: &[u8], answer: &mut String) {
+pub fn report_errors(errors: &[u8], answer: &mut String) {
     match str::from_utf8(errors) {
-        Ok(text) => tell_lines(text, answer),
+        Ok(text) => report_lines(text, answer),
         Err(_) => put(answer, "no text\n"),
     }
 }
 
-fn tell_lines(text: &str, answer: &mut String) {
+fn report_lines(text: &str, answer: &mut String) {
     let from = text.find("refused 2 Down").unwrap_or(0);
     for line in text.get(from..).unwrap_or(text).lines() {
         put(answer, "line ");

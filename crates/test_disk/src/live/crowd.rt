@@ -126,12 +126,12 @@ where
     requires pair { IsTrue rewrites → IsSome (spare_of (journal_of rounds.flusher)) }
 {
     let (caller, watcher) = (rounds.caller(config)?, rounds.caller(config)?);
-    let (told, flushed) = thread::join(
+    let (reported, flushed) = thread::join(
         rt,
         move || submit_each(rt, alloc, caller),
         move || flush_all(rt, rounds, watcher, rewrites),
     );
-    put(answer, told?.as_str());
+    put(answer, reported?.as_str());
     flushed
 }
 
@@ -146,9 +146,9 @@ where
 {
     let members = members_of(alloc, &mut caller)?;
     let found = thread::map_vec(rt, members, &|member| submit_batches(rt, alloc, member))?;
-    let mut told = String::new(alloc);
-    tell_tickets(alloc, found, &mut told)?;
-    Ok(told)
+    let mut reported = String::new(alloc);
+    report_tickets(alloc, found, &mut reported)?;
+    Ok(reported)
 }
 
 fn members_of<'n, 'a>(
@@ -245,7 +245,7 @@ fn flush<R: Wait>(
     Ok(())
 }
 
-fn tell_tickets(
+fn report_tickets(
     alloc: Global,
     found: Vec<Result<Vec<u64>, Ending>>,
     answer: &mut String,

@@ -1,7 +1,7 @@
 //! Commands to the disk that is open.
 
-use crate::live::folder::tell_bytes;
-use crate::live::words::{Told, bad, joined, parted, put_count, tell_fault};
+use crate::live::folder::report_bytes;
+use crate::live::words::{Reported, bad, joined, parted, put_count, report_fault};
 use disk_file::FileDisk;
 use diskmodel::{Disk, DiskFault};
 use std::alloc::Global;
@@ -13,12 +13,12 @@ pub fn obey_disk(
     name: &str,
     rest: &str,
     answer: &mut String,
-) -> Told {
+) -> Reported {
     let (first, second) = parted(rest);
     let place = first.parse().unwrap_or(0);
     match name {
-        "len" => tell_len(disk.len(), answer),
-        "sync" => tell_fault(answer, disk.sync()),
+        "len" => report_len(disk.len(), answer),
+        "sync" => report_fault(answer, disk.sync()),
         "cut" => cut(disk, place, answer),
         "write" => return write(alloc, disk, place, second, answer),
         "read" => return read(alloc, disk, place, second, answer),
@@ -27,22 +27,28 @@ pub fn obey_disk(
     Ok(())
 }
 
-fn tell_len(outcome: Result<u64, DiskFault>, answer: &mut String) {
+fn report_len(outcome: Result<u64, DiskFault>, answer: &mut String) {
     match outcome {
         Ok(len) => put_count(answer, "", len, "\n"),
-        Err(fault) => tell_fault(answer, Err(fault)),
+        Err(fault) => report_fault(answer, Err(fault)),
     }
 }
 
 fn cut(disk: &mut FileDisk, at: u64, answer: &mut String) {
     match disk.len() {
-        Ok(len) if at <= len => tell_fault(answer, disk.cut(at)),
+        Ok(len) if at <= len => report_fault(answer, disk.cut(at)),
         Ok(_) => bad(answer),
-        Err(fault) => tell_fault(answer, Err(fault)),
+        Err(fault) => report_fault(answer, Err(fault)),
     }
 }
 
-fn write(alloc: Global, disk: &mut FileDisk, at: u64, digits: &str, answer: &mut String) -> Told {
+fn write(
+    alloc: Global,
+    disk: &mut FileDisk,
+    at: u64,
+    digits: &str,
+    answer: &mut String,
+) -> Reported {
     if let Some(bytes) = joined(alloc, digits)? {
         write_at(disk, at, &bytes, answer);
     }
@@ -51,13 +57,13 @@ fn write(alloc: Global, disk: &mut FileDisk, at: u64, digits: &str, answer: &mut
 
 fn write_at(disk: &mut FileDisk, at: u64, bytes: &[u8], answer: &mut String) {
     match disk.len() {
-        Ok(len) if at <= len => tell_fault(answer, disk.write_at(at, bytes)),
+        Ok(len) if at <= len => report_fault(answer, disk.write_at(at, bytes)),
         Ok(_) => bad(answer),
-        Err(fault) => tell_fault(answer, Err(fault)),
+        Err(fault) => report_fault(answer, Err(fault)),
     }
 }
 
-fn read(alloc: Global, disk: &mut FileDisk, at: u64, count: &str, answer: &mut String) -> Told {
+fn read(alloc: Global, disk: &mut FileDisk, at: u64, count: &str, answer: &mut String) -> Reported {
     let mut buffer = vec![in alloc; 0; count.parse().unwrap_or(0)]?;
     read_at(disk, at, &mut buffer, answer);
     Ok(())
@@ -67,10 +73,10 @@ fn read_at(disk: &mut FileDisk, at: u64, buffer: &mut [u8], answer: &mut String)
     let count = buffer.len() as u64;
     match disk.len() {
         Ok(len) if at <= len && count <= len - at => match disk.read_at(at, buffer) {
-            Ok(()) => tell_bytes(answer, buffer),
-            Err(fault) => tell_fault(answer, Err(fault)),
+            Ok(()) => report_bytes(answer, buffer),
+            Err(fault) => report_fault(answer, Err(fault)),
         },
         Ok(_) => bad(answer),
-        Err(fault) => tell_fault(answer, Err(fault)),
+        Err(fault) => report_fault(answer, Err(fault)),
     }
 }

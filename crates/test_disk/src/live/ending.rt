@@ -1,6 +1,6 @@
 //! Why a test ends early.
 
-use crate::live::words::Told;
+use crate::live::words::Reported;
 use diskmodel::TooManyTold;
 use header::CheckError;
 use journal::{Failed, JournalError};
@@ -20,7 +20,7 @@ pub enum Ending {
 
 impl Ending {
     /// Adds a line to the answer of a command that ended early. On `AllocError` an allocation failed.
-    pub fn tell(ended: Result<(), Ending>, answer: &mut String) -> Told {
+    pub fn write_to(ended: Result<(), Ending>, answer: &mut String) -> Reported {
         match ended {
             Ok(()) => Ok(()),
             Err(Ending::Memory) => Err(AllocError),

@@ -49,7 +49,7 @@ pub fn fail_each<R: Wait>(
     };
     for count in 1..MOST {
         let (is_settled, disk) = carry_out(rt, alloc, Plan::Call(kind, count), answer)?;
-        tell_left(alloc, disk, answer)?;
+        report_left(alloc, disk, answer)?;
         if is_settled {
             return Ok(());
         }
@@ -57,7 +57,7 @@ pub fn fail_each<R: Wait>(
     Err(Ending::Unexpected)
 }
 
-fn tell_left(alloc: Global, disk: MemDisk, answer: &mut String) -> Result<(), Ending> {
+fn report_left(alloc: Global, disk: MemDisk, answer: &mut String) -> Result<(), Ending> {
     let kept = events_on(alloc, disk_with(alloc, disk.bytes())?)?;
     let lost = events_on(alloc, stopped(alloc, disk)?)?;
     put_count(answer, "kept ", kept, "");
@@ -135,35 +135,35 @@ fn play<R: Wait>(
     match plan {
         Plan::Down => {
             switch.fail(CallKind::Sync, 1)?;
-            tell_down(rt, alloc, rounds, caller, answer)
+            report_down(rt, alloc, rounds, caller, answer)
         }
         Plan::Call(kind, count) => {
             submit_header(rt, alloc, caller, Author(1))?;
-            let told = switch.fail(kind, count)?;
-            tell_round(rt, rounds, answer);
-            switch.take_back(told);
+            let reported = switch.fail(kind, count)?;
+            report_round(rt, rounds, answer);
+            switch.take_back(reported);
             Ok(())
         }
     }
 }
 
-fn tell_down<R: Wait>(
+fn report_down<R: Wait>(
     rt: &R,
     alloc: Global,
     rounds: &mut Rounds<'_, '_, HashSign, MemDisk>,
     caller: &mut Caller<'_, '_, HashSign>,
     answer: &mut String,
 ) -> Result<(), Ending> {
-    tell_submit(rt, alloc, caller, answer)?;
-    tell_round(rt, rounds, answer);
-    tell_round(rt, rounds, answer);
-    tell_submit(rt, alloc, caller, answer)?;
-    tell_reads(rt, caller, Round::new(1)?, answer);
-    tell_counts(rt, caller, answer);
-    tell_proposal(rt, caller, answer)
+    report_submit(rt, alloc, caller, answer)?;
+    report_round(rt, rounds, answer);
+    report_round(rt, rounds, answer);
+    report_submit(rt, alloc, caller, answer)?;
+    report_reads(rt, caller, Round::new(1)?, answer);
+    report_counts(rt, caller, answer);
+    report_proposal(rt, caller, answer)
 }
 
-fn tell_submit<R: Wait>(
+fn report_submit<R: Wait>(
     rt: &R,
     alloc: Global,
     caller: &mut Caller<'_, '_, HashSign>,
@@ -177,7 +177,7 @@ fn tell_submit<R: Wait>(
     Ok(())
 }
 
-fn tell_round<R: Wait>(
+fn report_round<R: Wait>(
     rt: &R,
     rounds: &mut Rounds<'_, '_, HashSign, MemDisk>,
     answer: &mut String,
@@ -188,7 +188,7 @@ fn tell_round<R: Wait>(
     }
 }
 
-fn tell_reads<R: Wait>(
+fn report_reads<R: Wait>(
     rt: &R,
     caller: &mut Caller<'_, '_, HashSign>,
     first: Round,
@@ -205,13 +205,13 @@ fn tell_reads<R: Wait>(
     }
 }
 
-fn tell_counts<R: Wait>(rt: &R, caller: &mut Caller<'_, '_, HashSign>, answer: &mut String) {
+fn report_counts<R: Wait>(rt: &R, caller: &mut Caller<'_, '_, HashSign>, answer: &mut String) {
     put_count(answer, "accepted ", caller.accepted(), "");
     put_count(answer, ", synced ", caller.synced(), "");
     put_count(answer, ", round ", caller.round_now(rt), "\n");
 }
 
-fn tell_proposal<R: Wait>(
+fn report_proposal<R: Wait>(
     rt: &R,
     caller: &mut Caller<'_, '_, HashSign>,
     answer: &mut String,

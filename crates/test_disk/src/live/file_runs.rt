@@ -1,7 +1,7 @@
 //! Runs over files.
 
-use crate::live::answers::tell_errors;
-use crate::live::words::{Told, put_number};
+use crate::live::answers::report_errors;
+use crate::live::words::{Reported, put_number};
 use node_run::{CHECKPOINT_BYTES, run};
 use std::alloc::Global;
 use std::fs::File;
@@ -16,7 +16,7 @@ pub fn run_files<R: Files<File = File> + AllocGlobal + Threads + Wait + Sync>(
     alloc: Global,
     words: &str,
     answer: &mut String,
-) -> Told {
+) -> Reported {
     let mut args = Vec::new(alloc);
     for word in words.split_whitespace() {
         args.push(String::from_str(alloc, word)?)?;
@@ -32,7 +32,7 @@ pub fn run_files<R: Files<File = File> + AllocGlobal + Threads + Wait + Sync>(
         writer,
         &mut errors,
     );
-    tell_errors(&errors, answer);
+    report_errors(&errors, answer);
     put_number(answer, "status", ran.ending.status() as u64);
     Ok(())
 }

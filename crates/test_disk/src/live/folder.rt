@@ -1,8 +1,8 @@
 //! The folder, and the file in it that is open as a disk.
 
 use crate::live::disks::obey_disk;
-use crate::live::journals::{records_of, tell_opening};
-use crate::live::words::{Told, parted, put, put_hex, put_shown};
+use crate::live::journals::{records_of, report_opening};
+use crate::live::words::{Reported, parted, put, put_hex, put_shown};
 use disk_file::{FileDisk, OpenError};
 use std::alloc::Global;
 use std::fs::{self, File};
@@ -28,13 +28,13 @@ impl Folder {
         name: &str,
         rest: &str,
         answer: &mut String,
-    ) -> Told {
+    ) -> Reported {
         match name {
             "open" => self.open(rt, rest, answer),
             "front" => self.open_front(rt, rest, answer),
             "close" => self.disk = None,
             "journal" => return self.journal(rest, answer),
-            "file" => tell_file(rt, rest, answer),
+            "file" => report_file(rt, rest, answer),
             "again" => drop(opened(FileDisk::open(rt, self.alloc, rest), answer)),
             "folder" => {
                 let _ = fs::create_dir(rt, rest);
@@ -47,7 +47,7 @@ impl Folder {
         Ok(())
     }
 
-    fn obey_open(&mut self, name: &str, rest: &str, answer: &mut String) -> Told {
+    fn obey_open(&mut self, name: &str, rest: &str, answer: &mut String) -> Reported {
         match &mut self.disk {
             Some(disk) => obey_disk(self.alloc, disk, name, rest, answer),
             None => answer.push_str("no disk\n"),
@@ -69,10 +69,10 @@ impl Folder {
     }
 
     // Opens a journal on the open disk and appends a group of the records, if there are any. The disk is closed then.
-    fn journal(&mut self, rest: &str, answer: &mut String) -> Told {
+    fn journal(&mut self, rest: &str, answer: &mut String) -> Reported {
         let records = records_of(self.alloc, rest)?;
         if let Some(disk) = self.disk.take() {
-            self.disk = Some(tell_opening(self.alloc, disk, records, answer));
+            self.disk = Some(report_opening(self.alloc, disk, records, answer));
         }
         Ok(())
     }
@@ -93,15 +93,15 @@ fn opened(outcome: Result<FileDisk, OpenError>, answer: &mut String) -> Option<F
 }
 
 // Adds the bytes of a file, even if a disk has it open.
-fn tell_file<R: Files<File = File> + AllocGlobal>(rt: &R, name: &str, answer: &mut String) {
+fn report_file<R: Files<File = File> + AllocGlobal>(rt: &R, name: &str, answer: &mut String) {
     match fs::read(rt, name) {
-        Ok(bytes) => tell_bytes(answer, &bytes),
+        Ok(bytes) => report_bytes(answer, &bytes),
         Err(_) => put(answer, "no file\n"),
     }
 }
 
 /// A line of an `x` and these bytes.
-pub fn tell_bytes(answer: &mut String, bytes: &[u8]) {
+pub fn report_bytes(answer: &mut String, bytes: &[u8]) {
     put(answer, "x");
     put_hex(answer, bytes);
     put(answer, "\n");

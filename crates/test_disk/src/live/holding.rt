@@ -135,7 +135,7 @@ where
         Kind::Round => put_number(answer, "settled", flushed?),
         Kind::Checkpoint => put_number(answer, "generation", flushed?),
     }
-    tell_outputs(rt, &mut caller, answer);
+    report_outputs(rt, &mut caller, answer);
     flush_rest(rt, rounds, &mut caller, answer)
 }
 
@@ -147,7 +147,7 @@ fn flush_rest<R: Wait, D: Disk + Drop>(
     answer: &mut String,
 ) -> Result<(), Ending> {
     put_number(answer, "settled", rounds.round(rt)?);
-    tell_outputs(rt, caller, answer);
+    report_outputs(rt, caller, answer);
     Ok(())
 }
 
@@ -170,12 +170,12 @@ where
     requires pair { IsSome (spare_of (journal_of rounds.flusher)) }
 {
     let before = doors.close();
-    let (flushed, told) = thread::join(
+    let (flushed, reported) = thread::join(
         rt,
         move || flush(rt, rounds, kind),
         move || submit_more(rt, alloc, doors, before, caller),
     );
-    put(answer, told?.as_str());
+    put(answer, reported?.as_str());
     Ok(flushed)
 }
 
@@ -202,61 +202,69 @@ fn submit_more<R: Wait>(
     before: u64,
     mut caller: Caller<'_, '_, HashSign>,
 ) -> Result<String, Ending> {
-    let mut told = String::new(alloc);
+    let mut reported = String::new(alloc);
     let (first, second) = (before.saturating_add(1), before.saturating_add(2));
     let mut is_held = wait(&doors.reached, first);
-    let ended = tell_more(rt, alloc, &mut caller, &mut told);
+    let ended = report_more(rt, alloc, &mut caller, &mut reported);
     doors.let_go(first);
     is_held = wait(&doors.reached, second) && is_held;
-    put_number(&mut told, "synced", caller.synced());
+    put_number(&mut reported, "synced", caller.synced());
     doors.let_go(u64::MAX);
     if !is_held {
         return Err(Ending::Unexpected);
     }
     ended?;
-    Ok(told)
+    Ok(reported)
 }
 
-fn tell_more<R: Wait>(
+fn report_more<R: Wait>(
     rt: &R,
     alloc: Global,
     caller: &mut Caller<'_, '_, HashSign>,
-    told: &mut String,
+    reported: &mut String,
 ) -> Result<(), Ending> {
-    put_number(told, "ticket", submit_header(rt, alloc, caller, Author(2))?);
-    put_number(told, "ticket", submit_header(rt, alloc, caller, Author(3))?);
-    put_number(told, "accepted", caller.accepted());
-    put_number(told, "synced", caller.synced());
-    tell_voted(rt, alloc, caller, told)
+    put_number(
+        reported,
+        "ticket",
+        submit_header(rt, alloc, caller, Author(2))?,
+    );
+    put_number(
+        reported,
+        "ticket",
+        submit_header(rt, alloc, caller, Author(3))?,
+    );
+    put_number(reported, "accepted", caller.accepted());
+    put_number(reported, "synced", caller.synced());
+    report_voted(rt, alloc, caller, reported)
 }
 
-fn tell_voted<R: Wait>(
+fn report_voted<R: Wait>(
     rt: &R,
     alloc: Global,
     caller: &mut Caller<'_, '_, HashSign>,
-    told: &mut String,
+    reported: &mut String,
 ) -> Result<(), Ending> {
     let voted = caller.peek_voted(rt, Author(2), Round::new(1)?);
     let expected = header_of(alloc, caller.config(), Author(2))?;
     match voted.as_ref() == expected.header_digest() {
-        true => put(told, "the vote is for the header of 2\n"),
-        false => put(told, "the vote is for another header\n"),
+        true => put(reported, "the vote is for the header of 2\n"),
+        false => put(reported, "the vote is for another header\n"),
     }
     Ok(())
 }
 
 // Adds how many records are synced, and the next two outputs.
-fn tell_outputs<R: Wait>(rt: &R, caller: &mut Caller<'_, '_, HashSign>, told: &mut String) {
-    put_number(told, "synced", caller.synced());
+fn report_outputs<R: Wait>(rt: &R, caller: &mut Caller<'_, '_, HashSign>, reported: &mut String) {
+    put_number(reported, "synced", caller.synced());
     for _ in 0..2 {
-        tell_collected(&caller.collect(rt), told);
+        report_collected(&caller.collect(rt), reported);
     }
 }
 
-fn tell_collected(output: &Option<Output>, told: &mut String) {
+fn report_collected(output: &Option<Output>, reported: &mut String) {
     match output {
-        Some(Output::Vote(vote)) => put_number(told, "the vote for", vote.author.0 as u64),
-        Some(_) => put(told, "another output\n"),
-        None => put(told, "no output\n"),
+        Some(Output::Vote(vote)) => put_number(reported, "the vote for", vote.author.0 as u64),
+        Some(_) => put(reported, "another output\n"),
+        None => put(reported, "no output\n"),
     }
 }

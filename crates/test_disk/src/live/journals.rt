@@ -23,7 +23,7 @@ pub fn records_of(alloc: Global, rest: &str) -> Result<Vec<Vec<u8>>, AllocError>
 }
 
 /// Opens a journal on a disk, shows its records, appends a group of these records, if there are any, and gives the disk back.
-pub fn tell_opening(
+pub fn report_opening(
     alloc: Global,
     disk: FileDisk,
     records: Vec<Vec<u8>>,

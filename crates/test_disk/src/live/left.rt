@@ -13,7 +13,7 @@ use std::alloc::Global;
 use std::sync::Wait;
 
 /// Adds the order of a node that is opened on these disks, and its round.
-pub fn tell_node<R: Wait>(
+pub fn report_node<R: Wait>(
     rt: &R,
     alloc: Global,
     store: Store<MemDisk>,
@@ -35,16 +35,16 @@ pub fn tell_node<R: Wait>(
 
 /// Two words are given. Adds whether the journal was rewritten at least as many times as the first one says, or else how many times; and
 /// whether fewer bytes of events follow its checkpoint than the second one says, or else how many bytes.
-pub fn tell_rewritten(alloc: Global, store: Store<MemDisk>, words: &str, answer: &mut String) {
+pub fn report_rewritten(alloc: Global, store: Store<MemDisk>, words: &str, answer: &mut String) {
     let (least, most) = words.split_once(' ').unwrap_or((words, ""));
     let (least, most) = (least.parse().unwrap_or(u64::MAX), most.parse().unwrap_or(0));
     match found_on(alloc, store) {
-        Some(found) => tell_found(&found, least, most, answer),
+        Some(found) => report_found(&found, least, most, answer),
         None => put(answer, "no journal\n"),
     }
 }
 
-fn tell_found(found: &Found, least: u64, most: u64, answer: &mut String) {
+fn report_found(found: &Found, least: u64, most: u64, answer: &mut String) {
     let (_, bytes) = found.events();
     match found.generation >= least {
         true => put_count(answer, "rewritten at least ", least, " times"),

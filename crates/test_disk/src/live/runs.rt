@@ -1,13 +1,13 @@
 //! Runs of a node.
 
-use crate::live::answers::{tell_seen, tell_sum};
+use crate::live::answers::{report_seen, report_sum};
 use crate::live::ending::Ending;
 use crate::live::file_runs::run_files;
 use crate::live::journals::found_on;
-use crate::live::left::{tell_node, tell_rewritten};
+use crate::live::left::{report_node, report_rewritten};
 use crate::live::rounds::OtherRounds;
 use crate::live::streams::{Lines, NoClock, Output, Seen, Step, Steps};
-use crate::live::words::{Told, bad, call_of, joined, put_count, put_len};
+use crate::live::words::{Reported, bad, call_of, joined, put_count, put_len};
 use diskmodel::{CallKind, MemDisk, Switch};
 use journal::Store;
 use node_io::Blocking;
@@ -64,24 +64,24 @@ impl Runs {
         name: &str,
         words: &str,
         answer: &mut String,
-    ) -> Told {
+    ) -> Reported {
         match name {
             "run" => self.run(rt, answer),
             "sum" => self.sum(rt, answer),
-            "opened" => self.tell_opened(rt, answer),
+            "opened" => self.report_opened(rt, answer),
             "files" => run_files(rt, self.alloc, words, answer),
             _ => self.prepare(name, words, answer),
         }
     }
 
-    fn prepare(&mut self, name: &str, words: &str, answer: &mut String) -> Told {
+    fn prepare(&mut self, name: &str, words: &str, answer: &mut String) -> Reported {
         match name {
-            "length" => self.tell_lengths(answer),
-            "areas" => return self.tell_areas(answer),
-            "rewritten" => tell_rewritten(self.alloc, self.store()?, words, answer),
+            "length" => self.report_lengths(answer),
+            "areas" => return self.report_areas(answer),
+            "rewritten" => report_rewritten(self.alloc, self.store()?, words, answer),
             "pair" => self.second = Some(Vec::new(self.alloc)),
             "every" => self.every = words.parse().unwrap_or(CHECKPOINT_BYTES),
-            "rounds" => return Ending::tell(self.add_rounds(words), answer),
+            "rounds" => return Ending::write_to(self.add_rounds(words), answer),
             "text" => return self.put_line(words),
             "own" => return self.set_own(words),
             "fail" => self.fail(words, answer),
@@ -92,7 +92,7 @@ impl Runs {
         Ok(())
     }
 
-    fn put_step(&mut self, name: &str, words: &str, answer: &mut String) -> Told {
+    fn put_step(&mut self, name: &str, words: &str, answer: &mut String) -> Reported {
         match (name, words.parse::<usize>()) {
             ("await", Ok(count)) => self.add(Step::Await(count)),
             ("block", _) => self.add(Step::Block),
@@ -101,7 +101,7 @@ impl Runs {
         }
     }
 
-    fn put_bytes(&mut self, name: &str, words: &str, answer: &mut String) -> Told {
+    fn put_bytes(&mut self, name: &str, words: &str, answer: &mut String) -> Reported {
         let Some(bytes) = joined(self.alloc, words)? else {
             bad(answer);
             return Ok(());
@@ -115,18 +115,18 @@ impl Runs {
         Ok(())
     }
 
-    fn add(&mut self, step: Step) -> Told {
+    fn add(&mut self, step: Step) -> Reported {
         self.steps.push_back(step)?;
         Ok(())
     }
 
-    fn set_own(&mut self, words: &str) -> Told {
+    fn set_own(&mut self, words: &str) -> Reported {
         self.own = Some(String::from_str(self.alloc, words)?);
         Ok(())
     }
 
     // Adds one more line.
-    fn put_line(&mut self, words: &str) -> Told {
+    fn put_line(&mut self, words: &str) -> Reported {
         self.text.push_str(words)?;
         self.text.push_str("\n")
     }
@@ -151,17 +151,17 @@ impl Runs {
     }
 
     // Runs a node on the disks; shows a line for each output, and how many events the journal has.
-    fn run<R: Threads + Wait + Sync>(&mut self, rt: &R, answer: &mut String) -> Told {
+    fn run<R: Threads + Wait + Sync>(&mut self, rt: &R, answer: &mut String) -> Reported {
         let (status, seen) = self.carry_out(rt)?;
-        tell_seen(self.alloc, &seen, answer);
+        report_seen(self.alloc, &seen, answer);
         put_count(answer, "status ", status as u64, ", ");
-        self.tell_events(answer)
+        self.report_events(answer)
     }
 
     // Runs a node and shows a sum over the outputs.
-    fn sum<R: Threads + Wait + Sync>(&mut self, rt: &R, answer: &mut String) -> Told {
+    fn sum<R: Threads + Wait + Sync>(&mut self, rt: &R, answer: &mut String) -> Reported {
         let (status, seen) = self.carry_out(rt)?;
-        tell_sum(self.alloc, &seen, answer);
+        report_sum(self.alloc, &seen, answer);
         put_count(answer, "status ", status as u64, "\n");
         Ok(())
     }
@@ -224,7 +224,7 @@ impl Runs {
     }
 
     // Keeps the bytes of the disks; no bytes where the disks are lost.
-    fn keep(&mut self, left: Option<Store<MemDisk>>) -> Told {
+    fn keep(&mut self, left: Option<Store<MemDisk>>) -> Reported {
         self.disk.clear();
         match left {
             Some(Store::One(disk)) => self.disk = disk.bytes().to_vec(self.alloc)?,
@@ -237,7 +237,7 @@ impl Runs {
         Ok(())
     }
 
-    fn tell_lengths(&self, answer: &mut String) {
+    fn report_lengths(&self, answer: &mut String) {
         put_len(answer, &self.disk);
         if let Some(second) = &self.second {
             put_len(answer, second);
@@ -245,7 +245,7 @@ impl Runs {
     }
 
     // Adds how many events the journal has.
-    fn tell_events(&self, answer: &mut String) -> Told {
+    fn report_events(&self, answer: &mut String) -> Reported {
         match found_on(self.alloc, self.store()?) {
             Some(found) if !found.records.is_empty() => {
                 let (count, _) = found.events();
@@ -257,7 +257,7 @@ impl Runs {
     }
 
     // Adds the length of the area that is read, and of the other one.
-    fn tell_areas(&self, answer: &mut String) -> Told {
+    fn report_areas(&self, answer: &mut String) -> Reported {
         let Some(found) = found_on(self.alloc, self.store()?) else {
             return answer.push_str("no journal\n");
         };
@@ -269,8 +269,8 @@ impl Runs {
     }
 
     // Adds what a node shows that is opened on the disks.
-    fn tell_opened<R: Wait>(&self, rt: &R, answer: &mut String) -> Told {
-        Ending::tell(tell_node(rt, self.alloc, self.store()?, answer), answer)
+    fn report_opened<R: Wait>(&self, rt: &R, answer: &mut String) -> Reported {
+        Ending::write_to(report_node(rt, self.alloc, self.store()?, answer), answer)
     }
 }
 

@@ -5,7 +5,7 @@ use crate::live::runs::Runs;
 use crate::live::scripts::Script;
 use crate::live::threads::obey_threads;
 use crate::live::trial::obey_script;
-use crate::live::words::{Told, parted};
+use crate::live::words::{Reported, parted};
 use std::alloc::Global;
 use std::fs::File;
 use std::rt::Files;
@@ -47,7 +47,7 @@ impl Case {
     }
 
     /// Carries out a command, and adds the lines of its answer.
-    pub fn obey<R>(&mut self, rt: &R, command: &str, answer: &mut String) -> Told
+    pub fn obey<R>(&mut self, rt: &R, command: &str, answer: &mut String) -> Reported
     where
         R: Files<File = File> + AllocGlobal + Threads + Wait + Sync,
     {

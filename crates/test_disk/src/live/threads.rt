@@ -4,13 +4,19 @@ use crate::live::crowd::crowd;
 use crate::live::ending::Ending;
 use crate::live::failing::{fail_each, go_down};
 use crate::live::holding::hold;
-use crate::live::words::Told;
+use crate::live::words::Reported;
 use std::alloc::Global;
 use std::sync::Wait;
 use std::thread::Threads;
 
 /// Carries out a command, which is a test of its own, and adds the lines of its answer.
-pub fn obey_threads<R>(rt: &R, alloc: Global, name: &str, words: &str, answer: &mut String) -> Told
+pub fn obey_threads<R>(
+    rt: &R,
+    alloc: Global,
+    name: &str,
+    words: &str,
+    answer: &mut String,
+) -> Reported
 where
     R: Threads + Wait + Sync,
 {
@@ -21,5 +27,5 @@ where
         "fail" => fail_each(rt, alloc, words, answer),
         _ => Err(Ending::Unexpected),
     };
-    Ending::tell(ended, answer)
+    Ending::write_to(ended, answer)
 }

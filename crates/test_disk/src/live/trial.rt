@@ -4,7 +4,7 @@ use crate::committees::{FOUR, OWN, own_config};
 use crate::live::script_ends::{Input, Taker};
 use crate::live::scripts::Script;
 use crate::live::words::{
-    Told, bad, put, put_count, put_hex, put_len, put_number, put_shown, put_text,
+    Reported, bad, put, put_count, put_hex, put_len, put_number, put_shown, put_text,
 };
 use header::check;
 use sha2::{Digest, Sha256};
@@ -25,7 +25,7 @@ pub fn obey_script<R: Wait>(
     name: &str,
     rest: &str,
     answer: &mut String,
-) -> Told {
+) -> Reported {
     match name {
         "|" => return script.add_lines(1, rest),
         "keep" => return keep(script, kept),
@@ -49,7 +49,7 @@ pub fn obey_script<R: Wait>(
     Ok(())
 }
 
-fn keep(script: &Script, kept: &mut Vec<u8>) -> Told {
+fn keep(script: &Script, kept: &mut Vec<u8>) -> Reported {
     kept.clear();
     kept.extend_from_slice(&script.bytes)
 }

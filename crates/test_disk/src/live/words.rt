@@ -1,6 +1,6 @@
 //! The words of a command, and the parts of its answer.
 
-pub use crate::words::{Told, bad, call_of, parted, put, put_count, put_shown, tell_fault};
+pub use crate::words::{Reported, bad, call_of, parted, put, put_count, put_shown, report_fault};
 use std::alloc::{AllocError, Global};
 use std::str;
 use test_cases::{bytes_of, write_hex};
@@ -26,7 +26,7 @@ pub fn add_word(alloc: Global, word: &str, bytes: &mut Vec<u8>) -> Result<bool, 
     Ok(true)
 }
 
-fn add_times(part: &[u8], times: u32, bytes: &mut Vec<u8>) -> Told {
+fn add_times(part: &[u8], times: u32, bytes: &mut Vec<u8>) -> Reported {
     for _ in 0..times {
         bytes.extend_from_slice(part)?;
     }

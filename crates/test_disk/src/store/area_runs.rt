@@ -8,7 +8,7 @@ use crate::store::area_disks::Disks;
 use crate::store::area_steps::Step;
 use crate::store::areas::Listed;
 use crate::store::headers::{event, message_in};
-use crate::store::words::{Told, parted, put, put_count, put_shown};
+use crate::store::words::{Reported, parted, put, put_count, put_shown};
 use book::EVENT_RECORD;
 use checkpoint::{configuration_record, kept_records};
 use diskmodel::{CallKind, Disk, KeptBytes, MemDisk, Switch};
@@ -81,7 +81,7 @@ impl<'l, 'a> Run<'l, 'a> {
     }
 
     /// Makes the steps, from two empty areas on, and adds the result of each.
-    pub fn play(&mut self, steps: &[Step], answer: &mut String) -> Told {
+    pub fn play(&mut self, steps: &[Step], answer: &mut String) -> Reported {
         let mut disks = Disks::new(self.alloc, &self.switch)?;
         let mut place = 0usize;
         for _ in 0..steps.len() {
@@ -91,7 +91,7 @@ impl<'l, 'a> Run<'l, 'a> {
             place = place.saturating_add(1);
             match step {
                 Step::Open(kind, count) => {
-                    self.tell_call(*kind, *count);
+                    self.report_call(*kind, *count);
                     let after = steps.get(place..).unwrap_or(&[]);
                     let (left, made) = self.open(disks, after, answer)?;
                     disks = left;
@@ -106,18 +106,18 @@ impl<'l, 'a> Run<'l, 'a> {
     }
 
     /// Sets the count-th call of a kind to fail; 0 sets none.
-    fn tell_call(&self, kind: CallKind, count: u64) {
+    fn report_call(&self, kind: CallKind, count: u64) {
         if count > 0 {
             let _ = self.switch.fail(kind, count);
         }
     }
 
     /// Sets one of these calls to fail, counted from 1; 0 sets none.
-    fn tell_one(&self, calls: &[(CallKind, u64)], call: u64) {
+    fn report_one(&self, calls: &[(CallKind, u64)], call: u64) {
         if call > 0
             && let Some((kind, count)) = calls.get((call - 1) as usize)
         {
-            self.tell_call(*kind, *count);
+            self.report_call(*kind, *count);
         }
     }
 
@@ -176,7 +176,7 @@ impl<'l, 'a> Run<'l, 'a> {
 
     /// Adds what was read: the generation, how many records precede the events, a sum over those records, and the events' numbers. The
     /// state is then that after these events.
-    fn find(&mut self, generation: u64, records: &[Record], answer: &mut String) -> Told {
+    fn find(&mut self, generation: u64, records: &[Record], answer: &mut String) -> Reported {
         let front = records
             .iter()
             .position(|record| record.bytes.as_slice().first() == Some(&EVENT_RECORD))
@@ -194,7 +194,7 @@ impl<'l, 'a> Run<'l, 'a> {
     }
 
     /// Sets the state to that after a checkpoint and this many events.
-    fn go_back(&mut self, generation: usize, events: usize) -> Told {
+    fn go_back(&mut self, generation: usize, events: usize) -> Reported {
         let base = self.bases.get(generation).copied().unwrap_or(0);
         self.bases.truncate(generation.saturating_add(1));
         self.history.truncate(base.saturating_add(events));
@@ -208,7 +208,7 @@ impl<'l, 'a> Run<'l, 'a> {
         Ok(())
     }
 
-    fn replay(&mut self, place: usize) -> Told {
+    fn replay(&mut self, place: usize) -> Reported {
         if let Some(number) = self.history.get(place).copied() {
             let _ = self.arrive(number)?;
         }
@@ -263,7 +263,7 @@ impl<'l, 'a> Run<'l, 'a> {
     }
 
     /// Makes a step that needs no journal.
-    fn make_alone(&mut self, step: Step, answer: &mut String) -> Told {
+    fn make_alone(&mut self, step: Step, answer: &mut String) -> Reported {
         match step {
             Step::Accept(number) => return self.accept(number, answer),
             Step::Take(count) => self.groups.push_back(count)?,
@@ -278,7 +278,7 @@ impl<'l, 'a> Run<'l, 'a> {
     }
 
     /// An event comes in. Adds whether it is new, known, or refused for the reason with this number.
-    fn accept(&mut self, number: usize, answer: &mut String) -> Told {
+    fn accept(&mut self, number: usize, answer: &mut String) -> Reported {
         match self.arrive(number)? {
             Some(Ok(Stepped::New(_))) => {
                 self.history.push(number)?;
@@ -311,7 +311,7 @@ impl<'l, 'a> Run<'l, 'a> {
     }
 
     /// Takes everything for a checkpoint of the next generation. Adds how many records it has.
-    fn take_all(&mut self, generation: usize, answer: &mut String) -> Told {
+    fn take_all(&mut self, generation: usize, answer: &mut String) -> Reported {
         self.snapshot = kept_records(self.alloc, self.config.own(), self.validator.tables())?;
         self.bases.truncate(generation.saturating_add(1));
         self.bases.push(self.history.len())?;
@@ -355,7 +355,7 @@ impl<'l, 'a> Run<'l, 'a> {
             return Ok(true);
         };
         let count = group.records_count() as usize;
-        self.tell_one(&APPEND, call);
+        self.report_one(&APPEND, call);
         if !append_to(journal, group, answer) {
             return Ok(false);
         }
@@ -384,7 +384,7 @@ impl<'l, 'a> Run<'l, 'a> {
             put_word(answer, "bad");
             return Ok(true);
         };
-        self.tell_one(&REWRITING, call);
+        self.report_one(&REWRITING, call);
         if !rewrite_to(journal, snapshot, answer) {
             return Ok(false);
         }

@@ -2,7 +2,7 @@
 
 use crate::store::area_runs::Run;
 use crate::store::area_steps::steps_of;
-use crate::store::words::Told;
+use crate::store::words::Reported;
 use book::EVENT_RECORD;
 use sigface::HashSign;
 use std::alloc::Global;
@@ -43,7 +43,7 @@ impl<'a> AreaLists<'a> {
     }
 
     /// `event SENDER MESSAGE` adds an event.
-    pub fn add(&mut self, sender: u64, message: &[u8]) -> Told {
+    pub fn add(&mut self, sender: u64, message: &[u8]) -> Reported {
         let sender = Author(u16::try_from(sender).unwrap_or(u16::MAX));
         let [high, low] = sender.0.to_be_bytes();
         let mut record = vec![in self.alloc; EVENT_RECORD, high, low]?;
@@ -58,7 +58,7 @@ impl<'a> AreaLists<'a> {
     }
 
     /// `areas STEP ..` makes these steps, from two empty areas on.
-    pub fn play(&self, steps: &str, answer: &mut String) -> Told {
+    pub fn play(&self, steps: &str, answer: &mut String) -> Reported {
         let steps = steps_of(self.alloc, steps)?;
         Run::new(self.alloc, self.config, &self.events)?.play(&steps, answer)
     }

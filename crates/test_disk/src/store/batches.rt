@@ -1,7 +1,7 @@
 //! Batches of one transaction each, enough of them to fill groups.
 
 use crate::store::scripts::Line;
-use crate::store::words::Told;
+use crate::store::words::Reported;
 use std::alloc::{AllocError, Global};
 use wire::{Author, BATCH_TAG};
 
@@ -9,7 +9,7 @@ use wire::{Author, BATCH_TAG};
 const AUTHOR: u8 = 2;
 
 /// Adds this many batches, each with a transaction of this many bytes: its number in four bytes, and then zeros.
-pub fn come_in(alloc: Global, lines: &mut Vec<Line>, count: u32, len: u32) -> Told {
+pub fn come_in(alloc: Global, lines: &mut Vec<Line>, count: u32, len: u32) -> Reported {
     for number in 0..count {
         let sender = Author(u16::from(AUTHOR));
         let message = message(alloc, number, len)?;

@@ -2,11 +2,13 @@
 
 use crate::memory::taken;
 use crate::store::checkpoints::put_checkpoint;
-use crate::store::disks::tell_if;
-use crate::store::headers::{Named, batch, body, event, header, tell_output, vote};
+use crate::store::disks::report_if;
+use crate::store::headers::{Named, batch, body, event, header, report_output, vote};
 use crate::store::rounds::{Putting, put_groups};
 use crate::store::stores::Store;
-use crate::store::words::{Told, Word, bad, put, put_count, put_number, put_shown, told_bad};
+use crate::store::words::{
+    Reported, Word, bad, put, put_count, put_number, put_shown, reported_bad,
+};
 use book::{OwnBook, Receipt};
 use committee::Committee;
 use sigface::HashSign;
@@ -49,7 +51,7 @@ pub fn own_book(
 
 impl Store<'_> {
     /// Commands with no word: groups of the book in flight to the disk, and what the book shows of itself.
-    pub fn obey_book(&mut self, name: &str, answer: &mut String) -> Told {
+    pub fn obey_book(&mut self, name: &str, answer: &mut String) -> Reported {
         match name {
             "put" => return self.put(Putting::Written, answer),
             "flush" => return self.put(Putting::Settled, answer),
@@ -57,16 +59,16 @@ impl Store<'_> {
             "checkpoint" => return self.checkpoint(0, answer),
             "checkpoint_failing" => return self.checkpoint(2, answer),
             "release" => self.release(answer),
-            "down" => tell_if(answer, self.book.is_down()),
+            "down" => report_if(answer, self.book.is_down()),
             "fault" => self.book.fail(),
-            "refusals" => tell_refusals(answer),
+            "refusals" => report_refusals(answer),
             _ => bad(answer),
         }
         Ok(())
     }
 
     /// Gives the book a member's vote for an author's header of a round.
-    pub fn take_vote(&mut self, author: u64, round: u64, answer: &mut String) -> Told {
+    pub fn take_vote(&mut self, author: u64, round: u64, answer: &mut String) -> Reported {
         match slot(author, round) {
             Some((author, round)) => self.accept(OTHER, vote(OTHER, author, round), answer),
             None => bad(answer),
@@ -75,17 +77,17 @@ impl Store<'_> {
     }
 
     /// Gives the book, or a validator without one, the header of an author and a round, with certificates of some members as parents.
-    pub fn take_header(&mut self, name: &str, words: &[Word], answer: &mut String) -> Told {
+    pub fn take_header(&mut self, name: &str, words: &[Word], answer: &mut String) -> Reported {
         let [
             Word::Number(author),
             Word::Number(round),
             Word::Bytes(members),
         ] = words
         else {
-            return told_bad(answer);
+            return reported_bad(answer);
         };
         let (Some(named), Some((author, round))) = (named_of(name), slot(*author, *round)) else {
-            return told_bad(answer);
+            return reported_bad(answer);
         };
         let message = header(body(self.alloc, named, author, round, members)?);
         if name == "step" {
@@ -100,13 +102,13 @@ impl Store<'_> {
             return bad(answer);
         };
         match self.book.accept(event) {
-            Ok(receipt) => tell_receipt(answer, receipt),
-            Err(refusal) => tell_refusal(answer, refusal),
+            Ok(receipt) => report_receipt(answer, receipt),
+            Err(refusal) => report_refusal(answer, refusal),
         }
     }
 
     /// Gives the book this many different batches of member 1, whose records have this length; shows the answer to the last.
-    pub fn fill(&mut self, count: u64, len: usize, answer: &mut String) -> Told {
+    pub fn fill(&mut self, count: u64, len: usize, answer: &mut String) -> Reported {
         for number in 0..count {
             answer.clear();
             match batch(self.alloc, OTHER, number, len)? {
@@ -117,20 +119,20 @@ impl Store<'_> {
         Ok(())
     }
 
-    fn put(&mut self, putting: Putting, answer: &mut String) -> Told {
+    fn put(&mut self, putting: Putting, answer: &mut String) -> Reported {
         let disk = taken(self.alloc, &mut self.disk)?;
         self.disk = put_groups(self.alloc, &mut self.book, disk, putting, answer);
         Ok(())
     }
 
     /// Makes a checkpoint, with the count-th write to the disk set to fail; 0 sets none. The opening makes the first write.
-    fn checkpoint(&mut self, count: u64, answer: &mut String) -> Told {
+    fn checkpoint(&mut self, count: u64, answer: &mut String) -> Reported {
         put_checkpoint(self.alloc, self.config, &mut self.book, count, answer)
     }
 
     fn release(&mut self, answer: &mut String) {
         match self.book.release() {
-            Some(output) => tell_output(self.book.committee(), answer, &output),
+            Some(output) => report_output(self.book.committee(), answer, &output),
             None => put(answer, "none\n"),
         }
     }
@@ -158,21 +160,21 @@ fn step(
     sender: Author,
     message: Message,
     answer: &mut String,
-) -> Told {
+) -> Reported {
     let mut validator = Validator::new(alloc, config)?;
     let Some(event) = event(validator.committee(), sender, message) else {
-        return told_bad(answer);
+        return reported_bad(answer);
     };
     put_count(answer, "from ", u64::from(event.sender().0), "");
     put_count(answer, " to ", u64::from(config.own().0), ": ");
     let is_new = validator.is_new(&event);
     let step = validator.step(event);
-    tell_step(config.committee(), is_new, step, answer);
+    report_step(config.committee(), is_new, step, answer);
     Ok(())
 }
 
 /// Adds the answer to an event, and whether `is_new` had said that it is new.
-fn tell_step(
+fn report_step(
     committee: &Committee,
     is_new: bool,
     step: Result<Step, Refusal>,
@@ -182,7 +184,7 @@ fn tell_step(
         Ok(Step::New(outputs)) => {
             put_shown(answer, "New ", &is_new, "\n");
             for output in &outputs {
-                tell_output(committee, answer, output);
+                report_output(committee, answer, output);
             }
         }
         Ok(Step::Known(_)) => {
@@ -191,23 +193,23 @@ fn tell_step(
         Err(refusal) => {
             let _ = write!(answer, "Refused({refusal:?}) ");
             put_shown(answer, "", &is_new, "\n");
-            tell_refusal(answer, refusal);
+            report_refusal(answer, refusal);
         }
     }
 }
 
-fn tell_receipt(answer: &mut String, receipt: Receipt) {
+fn report_receipt(answer: &mut String, receipt: Receipt) {
     put(answer, if receipt.new { "new" } else { "known" });
     put_number(answer, receipt.ticket);
     put(answer, "\n");
 }
 
-fn tell_refusal(answer: &mut String, refusal: Refusal) {
+fn report_refusal(answer: &mut String, refusal: Refusal) {
     put_shown(answer, "", &refusal, "\n");
 }
 
-fn tell_refusals(answer: &mut String) {
+fn report_refusals(answer: &mut String) {
     for refusal in &REFUSALS {
-        tell_refusal(answer, *refusal);
+        report_refusal(answer, *refusal);
     }
 }

@@ -5,7 +5,7 @@ ghost use Rattle.journal.specs.Journal.{disk_of, spare_of, IsAlive};
 
 use crate::memory::{disk_with, failing_disk};
 use crate::store::area_runs::{add_first, own_configuration};
-use crate::store::words::{Told, bad, put_count, put_shown};
+use crate::store::words::{Reported, bad, put_count, put_shown};
 use book::OwnBook;
 use diskmodel::{CallKind, Disk, MemDisk};
 use journal::Journal;
@@ -21,7 +21,7 @@ pub fn put_checkpoint(
     own: &mut OwnBook<'_, HashSign>,
     count: u64,
     answer: &mut String,
-) -> Told {
+) -> Reported {
     let first = disk_with(alloc, &[])?;
     let other = failing_disk(alloc, &[], CallKind::Write, count)?;
     let Ok((mut journal, _)) = Journal::open_pair(alloc, first, other) else {

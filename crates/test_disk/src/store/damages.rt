@@ -1,7 +1,7 @@
 //! Openings of a node on a file that is cut or changed at each of several places.
 
-use crate::store::openings::told;
-use crate::store::words::{Told, put, put_count, put_other};
+use crate::store::openings::reported;
+use crate::store::words::{Reported, put, put_count, put_other};
 use sigface::HashSign;
 use std::alloc::{AllocError, Global};
 use std::ops::RangeInclusive;
@@ -14,11 +14,11 @@ pub fn lengths(
     file: &[u8],
     lengths: RangeInclusive<u64>,
     answer: &mut String,
-) -> Told {
+) -> Reported {
     let mut before = String::new(alloc);
     for length in lengths {
         if let Some(bytes) = file.get(..length as usize) {
-            let text = told(alloc, config, bytes)?;
+            let text = reported(alloc, config, bytes)?;
             put_other(answer, length, text, &mut before);
         }
     }
@@ -40,21 +40,21 @@ pub fn changes(
     places: RangeInclusive<u64>,
     values: u64,
     answer: &mut String,
-) -> Told {
+) -> Reported {
     let mut counts = Vec::new(alloc);
     let step = 256 / values.clamp(1, 255).saturating_add(1);
     for place in places {
         for turn in 1..=values {
             let more = (turn.wrapping_mul(step) % 256) as u8;
-            let text = told_changed(alloc, config, file, place, more)?;
+            let text = reported_changed(alloc, config, file, place, more)?;
             add_one(&mut counts, text)?;
         }
     }
-    tell_counts(&counts, answer);
+    report_counts(&counts, answer);
     Ok(())
 }
 
-fn tell_counts(counts: &[Count], answer: &mut String) {
+fn report_counts(counts: &[Count], answer: &mut String) {
     for Count { text, times } in counts {
         put_count(answer, "", *times, " ");
         put(answer, text.as_str());
@@ -63,7 +63,7 @@ fn tell_counts(counts: &[Count], answer: &mut String) {
 }
 
 /// The answer for a file with this number added to one byte.
-fn told_changed(
+fn reported_changed(
     alloc: Global,
     config: &Config<HashSign>,
     file: &[u8],
@@ -74,10 +74,10 @@ fn told_changed(
     if let Some(byte) = bytes.get_mut(place as usize) {
         *byte = byte.wrapping_add(more);
     }
-    told(alloc, config, &bytes)
+    reported(alloc, config, &bytes)
 }
 
-fn add_one(counts: &mut Vec<Count>, text: String) -> Told {
+fn add_one(counts: &mut Vec<Count>, text: String) -> Reported {
     for one in counts.iter_mut() {
         if one.text.as_str() == text.as_str() {
             one.times = one.times.saturating_add(1);

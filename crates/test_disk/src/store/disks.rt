@@ -1,34 +1,36 @@
 //! Commands to the disk in memory.
 
 use crate::memory::disk_with;
-use crate::store::journals::{tell_errors, tell_stands};
+use crate::store::journals::{report_errors, report_stands};
 use crate::store::stores::Store;
-use crate::store::words::{Told, Word, bad, put, put_bytes, put_number, tell_fault, told_bad};
+use crate::store::words::{
+    Reported, Word, bad, put, put_bytes, put_number, report_fault, reported_bad,
+};
 use diskmodel::{Call, Disk, MemDisk, StopDisk};
 
 impl Store<'_> {
     /// Commands with no word: to the disk, to the journal on it, or to the book.
-    pub fn obey_alone(&mut self, name: &str, answer: &mut String) -> Told {
+    pub fn obey_alone(&mut self, name: &str, answer: &mut String) -> Reported {
         match name {
-            "sync" => tell_fault(answer, self.disk.sync()),
+            "sync" => report_fault(answer, self.disk.sync()),
             "stop" => self.disk.stop(),
-            "tell" => tell_disk(&mut self.disk, answer),
-            "calls" => tell_calls(self.disk.calls(), answer),
+            "tell" => report_disk(&mut self.disk, answer),
+            "calls" => report_calls(self.disk.calls(), answer),
             "open" => return self.attempt(None, answer),
-            "stands" => tell_stands(self.alloc, self.disk.bytes(), answer),
-            "errors" => tell_errors(answer),
+            "stands" => report_stands(self.alloc, self.disk.bytes(), answer),
+            "errors" => report_errors(answer),
             _ => return self.obey_book(name, answer),
         }
         Ok(())
     }
 
     /// `cut PLACE` cuts the disk to a length up to its own.
-    pub fn cut(&mut self, words: &[Word], answer: &mut String) -> Told {
+    pub fn cut(&mut self, words: &[Word], answer: &mut String) -> Reported {
         let [Word::Number(place)] = words else {
-            return told_bad(answer);
+            return reported_bad(answer);
         };
         if *place <= self.disk.bytes().len() as u64 {
-            tell_fault(answer, self.disk.cut(*place));
+            report_fault(answer, self.disk.cut(*place));
         } else {
             bad(answer);
         }
@@ -36,17 +38,17 @@ impl Store<'_> {
     }
 
     /// `fail CALL COUNT` sets the count-th of these calls to fail.
-    pub fn fail(&mut self, words: &[Word], answer: &mut String) -> Told {
+    pub fn fail(&mut self, words: &[Word], answer: &mut String) -> Reported {
         let [Word::Call(kind), Word::Number(count)] = words else {
-            return told_bad(answer);
+            return reported_bad(answer);
         };
         self.disk.fail(*kind, *count)
     }
 
     /// Writes bytes at a place within the disk.
-    pub fn write(&mut self, place: u64, bytes: &[u8], answer: &mut String) -> Told {
+    pub fn write(&mut self, place: u64, bytes: &[u8], answer: &mut String) -> Reported {
         if place <= self.disk.bytes().len() as u64 {
-            tell_fault(answer, self.disk.write_at(place, bytes));
+            report_fault(answer, self.disk.write_at(place, bytes));
         } else {
             bad(answer);
         }
@@ -54,31 +56,31 @@ impl Store<'_> {
     }
 
     /// Adds whether a stop may leave these bytes.
-    pub fn tell_can(&self, bytes: &[u8], answer: &mut String) -> Told {
-        tell_if(answer, self.disk.can_leave(bytes));
+    pub fn report_can(&self, bytes: &[u8], answer: &mut String) -> Reported {
+        report_if(answer, self.disk.can_leave(bytes));
         Ok(())
     }
 
     /// Replaces the disk by one with these bytes.
-    pub fn renew(&mut self, bytes: &[u8]) -> Told {
+    pub fn renew(&mut self, bytes: &[u8]) -> Reported {
         self.disk = disk_with(self.alloc, bytes)?;
         Ok(())
     }
 
     /// Chooses what the next stop leaves.
-    pub fn choose(&mut self, bytes: &[u8]) -> Told {
+    pub fn choose(&mut self, bytes: &[u8]) -> Reported {
         self.disk.choose(bytes.to_vec(self.alloc)?);
         Ok(())
     }
 
     /// Adds this many bytes from a place on.
-    pub fn read(&mut self, place: u64, count: u64, answer: &mut String) -> Told {
+    pub fn read(&mut self, place: u64, count: u64, answer: &mut String) -> Reported {
         let len = self.disk.bytes().len() as u64;
         if place > len || count > len - place {
-            return told_bad(answer);
+            return reported_bad(answer);
         }
         let mut buffer = vec![in self.alloc; 0; count as usize]?;
-        tell_fault(answer, self.disk.read_at(place, &mut buffer));
+        report_fault(answer, self.disk.read_at(place, &mut buffer));
         put(answer, "read");
         put_bytes(answer, &buffer);
         put(answer, "\n");
@@ -87,12 +89,12 @@ impl Store<'_> {
 }
 
 /// Adds whether something holds.
-pub fn tell_if(answer: &mut String, holds: bool) {
+pub fn report_if(answer: &mut String, holds: bool) {
     put(answer, if holds { "yes\n" } else { "no\n" });
 }
 
 /// Adds what is left of a file on a disk: that all of it is, or the bytes.
-pub fn tell_left(text: &mut String, disk: &MemDisk, file: &[u8]) {
+pub fn report_left(text: &mut String, disk: &MemDisk, file: &[u8]) {
     if disk.durable() != disk.bytes() {
         put(text, ", not firm");
     } else if disk.bytes() == file {
@@ -104,7 +106,7 @@ pub fn tell_left(text: &mut String, disk: &MemDisk, file: &[u8]) {
 }
 
 /// Adds the length, what a read gives, the bytes of the last sync, and the places that were written since then.
-fn tell_disk(disk: &mut MemDisk, answer: &mut String) {
+fn report_disk(disk: &mut MemDisk, answer: &mut String) {
     put(answer, "bytes");
     if let Ok(len) = disk.len() {
         put_number(answer, len);
@@ -121,7 +123,7 @@ fn tell_disk(disk: &mut MemDisk, answer: &mut String) {
     put(answer, "\n");
 }
 
-fn tell_calls(calls: &[Call], answer: &mut String) {
+fn report_calls(calls: &[Call], answer: &mut String) {
     for call in calls {
         match call {
             Call::Wrote { place, bytes } => {

@@ -3,7 +3,7 @@
 use crate::memory::{failing_disk, stop_with};
 use crate::store::openings::opened;
 use crate::store::scripts::Script;
-use crate::store::words::{Told, put, put_once};
+use crate::store::words::{Reported, put, put_once};
 use diskmodel::{CallKind, MemDisk};
 use sigface::HashSign;
 use std::alloc::{AllocError, Global};
@@ -28,14 +28,14 @@ pub struct Trial<'a> {
 
 impl Trial<'_> {
     /// Adds the answer of the opening or the script, and then the answers of the openings on its outcomes, each answer once.
-    pub fn tell(&self, answer: &mut String) -> Told {
+    pub fn write_to(&self, answer: &mut String) -> Reported {
         let disk = self.play(answer)?;
         put(answer, "\n");
         let longest = disk.bytes().len().max(disk.durable().len());
         for fill in 0..FILLS {
             for length in 0..=longest {
                 if length % FILLS == fill || length == longest {
-                    self.tell_outcome(&disk, length, fill, answer)?;
+                    self.report_outcome(&disk, length, fill, answer)?;
                 }
             }
         }
@@ -43,16 +43,16 @@ impl Trial<'_> {
     }
 
     /// Adds how a node is opened after a stop that leaves the bytes of this length and fill, if that is possible.
-    fn tell_outcome(
+    fn report_outcome(
         &self,
         disk: &MemDisk,
         length: usize,
         fill: usize,
         answer: &mut String,
-    ) -> Told {
+    ) -> Reported {
         let bytes = outcome(self.alloc, disk, length, fill)?;
         if disk.can_leave(&bytes) {
-            self.tell_after(&bytes, answer)?;
+            self.report_after(&bytes, answer)?;
         }
         Ok(())
     }
@@ -67,7 +67,7 @@ impl Trial<'_> {
     }
 
     /// Adds how a node is opened after a stop that leaves these bytes, unless the same was added already.
-    fn tell_after(&self, outcome: &[u8], answer: &mut String) -> Told {
+    fn report_after(&self, outcome: &[u8], answer: &mut String) -> Reported {
         let mut text = String::new(self.alloc);
         let mut disk = self.play(&mut text)?;
         stop_with(self.alloc, &mut disk, outcome)?;

@@ -1,15 +1,15 @@
 //! Journals on a file that is cut or changed at each of several places. A line is added wherever the answer changes.
 
 use crate::memory::disk_with;
-use crate::store::disks::tell_left;
+use crate::store::disks::report_left;
 use crate::store::journals::{attempt, put_records};
-use crate::store::words::{Told, put, put_number};
+use crate::store::words::{Reported, put, put_number};
 use diskmodel::MemDisk;
 use journal::Record;
 use std::alloc::{AllocError, Global};
 
 /// Opens the prefixes of a file, from the first of these lengths to the last.
-pub fn beginnings(alloc: Global, file: &[u8], from: u64, to: u64, answer: &mut String) -> Told {
+pub fn beginnings(alloc: Global, file: &[u8], from: u64, to: u64, answer: &mut String) -> Reported {
     for len in from..=to {
         if let Some(bytes) = file.get(..len as usize) {
             note(answer, &[len], opened(alloc, bytes, true)?);
@@ -19,7 +19,7 @@ pub fn beginnings(alloc: Global, file: &[u8], from: u64, to: u64, answer: &mut S
 }
 
 /// Opens a file with each value at each of these places, and shows only the number of its records.
-pub fn changes(alloc: Global, file: &[u8], from: u64, to: u64, answer: &mut String) -> Told {
+pub fn changes(alloc: Global, file: &[u8], from: u64, to: u64, answer: &mut String) -> Reported {
     for place in from..=to {
         for value in 0..=255 {
             let mut bytes = file.to_vec(alloc)?;
@@ -50,21 +50,21 @@ fn note(answer: &mut String, places: &[u64], text: String) {
 fn opened(alloc: Global, file: &[u8], in_full: bool) -> Result<String, AllocError> {
     let mut text = String::new(alloc);
     put(&mut text, ": ");
-    tell_opened(alloc, file, in_full, &mut text)?;
+    report_opened(alloc, file, in_full, &mut text)?;
     put(&mut text, "\n");
     Ok(text)
 }
 
 /// Adds how a file is opened, its records or how many they are, and what is left of it.
-fn tell_opened(alloc: Global, file: &[u8], in_full: bool, text: &mut String) -> Told {
+fn report_opened(alloc: Global, file: &[u8], in_full: bool, text: &mut String) -> Reported {
     let (disk, found) = attempt(alloc, disk_with(alloc, file)?, None, text)?;
     put_records(text, &found, in_full);
-    tell_left(text, &disk, file);
+    report_left(text, &disk, file);
     open_again(alloc, disk, &found, text)
 }
 
 /// Opens a disk again, which has to give the same.
-fn open_again(alloc: Global, disk: MemDisk, found: &[Record], text: &mut String) -> Told {
+fn open_again(alloc: Global, disk: MemDisk, found: &[Record], text: &mut String) -> Reported {
     let len = disk.bytes().len();
     let (disk, again) = attempt(alloc, disk, None, &mut String::new(alloc))?;
     if !are_same(&again, found) || disk.bytes().len() != len {

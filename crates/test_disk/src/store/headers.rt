@@ -143,9 +143,9 @@ pub fn event(committee: &Committee, sender: Author, message: Message) -> Option<
 
 /// Adds an output: an acknowledgement, an own header, or a vote of member 0; of a vote also whether it passes the checks, and whether it
 /// does with another signature.
-pub fn tell_output(committee: &Committee, answer: &mut String, output: &Output) {
+pub fn report_output(committee: &Committee, answer: &mut String, output: &Output) {
     match output {
-        Output::Vote(vote) => tell_vote(committee, answer, vote),
+        Output::Vote(vote) => report_vote(committee, answer, vote),
         Output::Ack { to, .. } => {
             put_count(answer, "acknowledgement for ", u64::from(to.0), "\n");
         }
@@ -156,7 +156,7 @@ pub fn tell_output(committee: &Committee, answer: &mut String, output: &Output) 
     }
 }
 
-fn tell_vote(committee: &Committee, answer: &mut String, vote: &Vote) {
+fn report_vote(committee: &Committee, answer: &mut String, vote: &Vote) {
     let (round, author) = (vote.round.number(), vote.author.0);
     let mut changed = *vote;
     changed.signature.0[63] ^= 1;

@@ -4,9 +4,9 @@ ghost use Rattle.std.specs.Prelude.{◌≡◌, None};
 ghost use Rattle.journal.specs.Journal.{spare_of, IsAlive};
 
 use crate::memory::taken;
-use crate::store::spelling::group_in;
+use crate::store::encoding::group_in;
 use crate::store::stores::Store;
-use crate::store::words::{Told, Word, put, put_bytes, put_number, put_shown};
+use crate::store::words::{Reported, Word, put, put_bytes, put_number, put_shown};
 use diskmodel::{Disk, MemDisk};
 use journal::JournalError::{ConfigMismatch, Damaged, Device, Full, Memory};
 use journal::{Group, Journal, JournalError, Record, stands};
@@ -17,19 +17,19 @@ const ERRORS: [JournalError; 5] = [Memory, Device, Damaged(15), ConfigMismatch, 
 
 impl Store<'_> {
     /// Opens the journal, and appends the records of these words.
-    pub fn append(&mut self, words: &[Word], answer: &mut String) -> Told {
+    pub fn append(&mut self, words: &[Word], answer: &mut String) -> Reported {
         let records = listed(self.alloc, words)?;
         self.attempt(records, answer)
     }
 
     /// Opens the journal, and appends `count` records of zeros, each with this length.
-    pub fn append_alike(&mut self, count: u64, len: usize, answer: &mut String) -> Told {
+    pub fn append_alike(&mut self, count: u64, len: usize, answer: &mut String) -> Reported {
         let records = alike(self.alloc, count, len)?;
         self.attempt(Some(records), answer)
     }
 
     /// Opens the journal, and appends the group with these bytes and this many records.
-    pub fn append_written(&mut self, count: u64, bytes: &[u8], answer: &mut String) -> Told {
+    pub fn append_written(&mut self, count: u64, bytes: &[u8], answer: &mut String) -> Reported {
         let disk = taken(self.alloc, &mut self.disk)?;
         self.disk = append_written(self.alloc, disk, count, bytes, answer)?;
         put(answer, "\n");
@@ -37,7 +37,7 @@ impl Store<'_> {
     }
 
     /// Opens the journal, and appends these records, if there are any.
-    pub fn attempt(&mut self, records: Option<Vec<Vec<u8>>>, answer: &mut String) -> Told {
+    pub fn attempt(&mut self, records: Option<Vec<Vec<u8>>>, answer: &mut String) -> Reported {
         let disk = taken(self.alloc, &mut self.disk)?;
         let (disk, found) = attempt(self.alloc, disk, records, answer)?;
         self.disk = disk;
@@ -117,7 +117,7 @@ fn append(
     journal: &mut Journal<MemDisk>,
     records: Vec<Vec<u8>>,
     text: &mut String,
-) -> Told
+) -> Reported
     requires alive { IsAlive ⟦<MemDisk as Disk>⟧.device journal.old }
     requires alone { spare_of journal.old ≡ None }
     ensures alone { spare_of journal.new ≡ None }
@@ -163,7 +163,7 @@ pub fn put_records(text: &mut String, records: &[Record], in_full: bool) {
 }
 
 /// Adds each error of a journal.
-pub fn tell_errors(answer: &mut String) {
+pub fn report_errors(answer: &mut String) {
     for error in &ERRORS {
         put_error(answer, *error);
         put(answer, "\n");
@@ -180,7 +180,7 @@ pub fn put_error(text: &mut String, error: JournalError) {
 }
 
 /// Adds the records that these bytes are read as.
-pub fn tell_stands(alloc: Global, bytes: &[u8], answer: &mut String) {
+pub fn report_stands(alloc: Global, bytes: &[u8], answer: &mut String) {
     match stands(alloc, bytes) {
         Ok(records) => {
             put(answer, "stands");

@@ -13,7 +13,7 @@ use crate::store::listed::Plain;
 use crate::store::running::{accept, are_of, open_book};
 use crate::store::stops::fails;
 use crate::store::tally::{Leaves, Moment, Tally, count};
-use crate::store::words::{Told, put_count};
+use crate::store::words::{Reported, put_count};
 use book::OwnBook;
 use diskmodel::{CallKind, Disk, MemDisk};
 use journal::Journal;
@@ -56,25 +56,25 @@ impl<'a> Lists<'a> {
     }
 
     /// Makes a list of this many steps, from an empty disk on.
-    pub fn play(&mut self, steps: u64) -> Told {
+    pub fn play(&mut self, steps: u64) -> Reported {
         self.disk = disk_with(self.alloc, &[])?;
         self.plain = Plain::new(self.alloc);
         self.stop(Moment::Idle, 0)?;
         for _ in 0..steps {
-            let told = match self.draws.below(16) {
+            let reported = match self.draws.below(16) {
                 0..=7 => self.accept(),
                 8..=11 => self.release(),
                 12..=14 => self.flush(),
                 _ => self.stop(Moment::Idle, 0),
             };
-            told?;
+            reported?;
         }
         Ok(())
     }
 
     /// Adds the counts, and how many answers were wrong.
-    pub fn tell(&self, answer: &mut String) -> Told {
-        self.tally.tell(answer);
+    pub fn write_to(&self, answer: &mut String) -> Reported {
+        self.tally.write_to(answer);
         put_count(answer, "wrong ", self.wrong, "\n");
         Ok(())
     }
@@ -94,7 +94,7 @@ impl<'a> Lists<'a> {
     }
 
     /// An event comes in.
-    fn accept(&mut self) -> Told
+    fn accept(&mut self) -> Reported
         ensures { KeepsInFlight ⟦<HashSign as Sign>⟧.scheme self.old.book self.new.book }
     {
         let number = self.draws.below(SENDERS * KINDS);
@@ -106,7 +106,7 @@ impl<'a> Lists<'a> {
     }
 
     /// An output goes out, if one may.
-    fn release(&mut self) -> Told
+    fn release(&mut self) -> Reported
         ensures { KeepsInFlight ⟦<HashSign as Sign>⟧.scheme self.old.book self.new.book }
     {
         let expected = self.plain.release()?;
@@ -117,7 +117,7 @@ impl<'a> Lists<'a> {
     }
 
     /// Steps that happen while a group is in flight: events come in, and outputs go out.
-    fn beside(&mut self) -> Told
+    fn beside(&mut self) -> Reported
         ensures { KeepsInFlight ⟦<HashSign as Sign>⟧.scheme self.old.book self.new.book }
     {
         self.accept()?;
@@ -126,7 +126,7 @@ impl<'a> Lists<'a> {
 
     /// Takes a group and appends it, which may fail at each device call, and then settles it unless the machine stops. A second group may
     /// follow on the same journal.
-    fn flush(&mut self) -> Told {
+    fn flush(&mut self) -> Reported {
         let (has_pending, pending) = (self.book.has_pending(), self.plain.pending());
         self.expect(has_pending == (pending > 0));
         if has_pending {
@@ -136,7 +136,7 @@ impl<'a> Lists<'a> {
         }
     }
 
-    fn flush_pending(&mut self) -> Told {
+    fn flush_pending(&mut self) -> Reported {
         let gate = self.disk.bytes().len().saturating_sub(1);
         let failing = moment_of(self.draws.below(12));
         arm(&mut self.disk, failing)?;
@@ -156,7 +156,7 @@ impl<'a> Lists<'a> {
         mut journal: Journal<MemDisk>,
         failing: Option<Moment>,
         gate: usize,
-    ) -> Told
+    ) -> Reported
         requires alive { IsAlive ⟦<MemDisk as Disk>⟧.device journal }
         requires alone { spare_of journal ≡ None }
     {
@@ -231,7 +231,7 @@ impl<'a> Lists<'a> {
     }
 
     /// The machine stops and begins a new run. The gate of a group in flight is at this place.
-    fn stop(&mut self, moment: Moment, gate: usize) -> Told {
+    fn stop(&mut self, moment: Moment, gate: usize) -> Reported {
         self.tally.add_stop(moment);
         let mut leaves_taken = self.leave(moment, gate)?;
         if self.draws.below(4) == 0 && self.fail_to_open()? {
@@ -265,7 +265,7 @@ impl<'a> Lists<'a> {
     }
 
     /// Stops the disk so that it leaves these bytes.
-    fn stop_disk(&mut self, found: &[u8]) -> Told {
+    fn stop_disk(&mut self, found: &[u8]) -> Reported {
         stop_with(self.alloc, &mut self.disk, found)?;
         let left = self.disk.bytes() == found;
         self.expect(left);
@@ -292,7 +292,7 @@ impl<'a> Lists<'a> {
     }
 
     /// Opens the node, whose journal has to have the records of the model's history.
-    fn open(&mut self) -> Told {
+    fn open(&mut self) -> Reported {
         match open_book(self.alloc, self.config, self.taken_disk()?) {
             Ok((book, journal)) => {
                 self.book = book;
@@ -308,7 +308,7 @@ impl<'a> Lists<'a> {
     }
 
     /// Compares what was opened with the model.
-    fn compare(&mut self) -> Told {
+    fn compare(&mut self) -> Reported {
         let (right, keeps) = (self.has_plain_records()?, self.plain.keeps_what_it_gave());
         self.expect(right && keeps);
         count(&mut self.tally.opened);
@@ -401,7 +401,7 @@ fn moment_of(number: u64) -> Option<Moment> {
 }
 
 /// Sets the call after this moment of an append to fail. The opening before it makes one sync.
-fn arm(disk: &mut MemDisk, failing: Option<Moment>) -> Told {
+fn arm(disk: &mut MemDisk, failing: Option<Moment>) -> Reported {
     match failing {
         Some(Moment::Taken) => disk.fail(CallKind::Write, 1),
         Some(Moment::Written) => disk.fail(CallKind::Sync, 2),

@@ -2,7 +2,7 @@
 
 use crate::committees::{Setting, own_setting, setting_of};
 use crate::store::scripts::{Line, Script, lines_of};
-use crate::store::words::{Told, Word, bad, numbers, told_bad};
+use crate::store::words::{Reported, Word, bad, numbers, reported_bad};
 use crate::store::{batches, damages, failures, openings, texts};
 use std::alloc::{AllocError, Global};
 use wire::Author;
@@ -28,7 +28,7 @@ impl Node {
     }
 
     /// Member 0 of four, with an empty file and no commands.
-    pub fn begin(&mut self) -> Told {
+    pub fn begin(&mut self) -> Reported {
         self.setting = own_setting(self.alloc)?;
         self.file.clear();
         self.lines.clear();
@@ -36,38 +36,38 @@ impl Node {
     }
 
     /// Carries out a command. Its words are interpreted by the function that carries it out.
-    pub fn obey(&mut self, name: &str, words: &[Word], answer: &mut String) -> Told {
+    pub fn obey(&mut self, name: &str, words: &[Word], answer: &mut String) -> Reported {
         match name {
             "node" => self.set_up(words, answer),
-            "plain" => self.tell_plain(words, answer),
+            "plain" => self.report_plain(words, answer),
             "drive" => self.drive(words, answer),
             "pair" => self.drive_pair(words, answer),
             "file" => self.lay(words, answer),
             "event" => self.add_event(words, answer),
             "batches" => self.add_batches(words, answer),
-            "lengths" => self.tell_lengths(words, answer),
-            "changes" => self.tell_changes(words, answer),
-            "fails" => self.tell_fails(words, None, answer),
-            "stops" => self.tell_fails(words, Some(self.script(&[])), answer),
+            "lengths" => self.report_lengths(words, answer),
+            "changes" => self.report_changes(words, answer),
+            "fails" => self.report_fails(words, None, answer),
+            "stops" => self.report_fails(words, Some(self.script(&[])), answer),
             _ => self.obey_alone(name, words, answer),
         }
     }
 
     /// Commands with no word.
-    fn obey_alone(&mut self, name: &str, words: &[Word], answer: &mut String) -> Told {
+    fn obey_alone(&mut self, name: &str, words: &[Word], answer: &mut String) -> Reported {
         match name {
-            _ if !words.is_empty() => told_bad(answer),
+            _ if !words.is_empty() => reported_bad(answer),
             "flush" => self.add(Line::Flush),
             "checkpoint" => self.add(Line::Checkpoint),
             "stop" => self.add(Line::Stop),
             "open" => openings::open(self.alloc, &self.setting.config, &self.file, answer),
-            _ => told_bad(answer),
+            _ => reported_bad(answer),
         }
     }
 
-    fn set_up(&mut self, words: &[Word], answer: &mut String) -> Told {
+    fn set_up(&mut self, words: &[Word], answer: &mut String) -> Reported {
         let [Word::Number(own), Word::Number(depth), stakes @ ..] = words else {
-            return told_bad(answer);
+            return reported_bad(answer);
         };
         let own = u8::try_from(*own).unwrap_or(u8::MAX);
         let stakes = numbers(self.alloc, stakes)?;
@@ -78,49 +78,49 @@ impl Node {
         Ok(())
     }
 
-    fn lay(&mut self, words: &[Word], answer: &mut String) -> Told {
+    fn lay(&mut self, words: &[Word], answer: &mut String) -> Reported {
         let [Word::Bytes(bytes)] = words else {
-            return told_bad(answer);
+            return reported_bad(answer);
         };
         self.file = bytes.to_vec(self.alloc)?;
         Ok(())
     }
 
-    fn add_event(&mut self, words: &[Word], answer: &mut String) -> Told {
+    fn add_event(&mut self, words: &[Word], answer: &mut String) -> Reported {
         let [Word::Number(sender), Word::Bytes(message)] = words else {
-            return told_bad(answer);
+            return reported_bad(answer);
         };
         let message = message.to_vec(self.alloc)?;
         let sender = Author(u16::try_from(*sender).unwrap_or(u16::MAX));
         self.add(Line::Event { sender, message })
     }
 
-    fn add(&mut self, line: Line) -> Told {
+    fn add(&mut self, line: Line) -> Reported {
         self.lines.push(line)?;
         Ok(())
     }
 
-    fn add_batches(&mut self, words: &[Word], answer: &mut String) -> Told {
+    fn add_batches(&mut self, words: &[Word], answer: &mut String) -> Reported {
         let [Word::Number(count), Word::Number(len)] = words else {
-            return told_bad(answer);
+            return reported_bad(answer);
         };
         match (u32::try_from(*count), u32::try_from(*len)) {
             (Ok(count), Ok(len)) => batches::come_in(self.alloc, &mut self.lines, count, len),
-            _ => told_bad(answer),
+            _ => reported_bad(answer),
         }
     }
 
-    fn tell_lengths(&self, words: &[Word], answer: &mut String) -> Told {
+    fn report_lengths(&self, words: &[Word], answer: &mut String) -> Reported {
         let [Word::Number(from), Word::Number(to)] = words else {
-            return told_bad(answer);
+            return reported_bad(answer);
         };
         let (alloc, config) = (self.alloc, &self.setting.config);
         damages::lengths(alloc, config, &self.file, *from..=*to, answer)
     }
 
-    fn tell_changes(&self, words: &[Word], answer: &mut String) -> Told {
+    fn report_changes(&self, words: &[Word], answer: &mut String) -> Reported {
         let [Word::Number(from), Word::Number(to), Word::Number(values)] = words else {
-            return told_bad(answer);
+            return reported_bad(answer);
         };
         let (alloc, config) = (self.alloc, &self.setting.config);
         damages::changes(alloc, config, &self.file, *from..=*to, *values, answer)
@@ -128,31 +128,31 @@ impl Node {
 
     /// Carries out the node's commands, with a flush or a stop from these words after each; or with calls of a kind that fail; or with
     /// writers that take only some of the bytes.
-    fn drive(&self, words: &[Word], answer: &mut String) -> Told {
+    fn drive(&self, words: &[Word], answer: &mut String) -> Reported {
         let after = lines_of(self.alloc, words)?;
         let script = self.script(&after);
         match words {
-            [Word::Call(kind)] => script.tell_failing(*kind, answer),
-            [Word::Bytes(text)] => script.tell_rooms(text, answer),
-            _ => script.tell(answer),
+            [Word::Call(kind)] => script.report_failing(*kind, answer),
+            [Word::Bytes(text)] => script.report_rooms(text, answer),
+            _ => script.write_to(answer),
         }
     }
 
     /// Adds what the reference implementation writes for the node's commands.
-    fn tell_plain(&self, words: &[Word], answer: &mut String) -> Told {
+    fn report_plain(&self, words: &[Word], answer: &mut String) -> Reported {
         let after = lines_of(self.alloc, words)?;
-        texts::tell(&self.script(&after), &self.setting.node, answer)
+        texts::write_to(&self.script(&after), &self.setting.node, answer)
     }
 
     /// The same on two disks, compared with the reference implementation, or with calls of a kind that fail on each disk. Words after the
     /// kind or the bytes are carried out after each command here too.
-    fn drive_pair(&self, words: &[Word], answer: &mut String) -> Told {
+    fn drive_pair(&self, words: &[Word], answer: &mut String) -> Reported {
         let after = lines_of(self.alloc, words)?;
         let script = self.script(&after);
         match words.first() {
-            Some(Word::Call(kind)) => script.tell_failing_on_two(*kind, answer),
-            Some(Word::Bytes(text)) => script.tell_rooms_on_two(text, answer),
-            _ => texts::tell_pair(&script, &self.setting.node, answer),
+            Some(Word::Call(kind)) => script.report_failing_on_two(*kind, answer),
+            Some(Word::Bytes(text)) => script.report_rooms_on_two(text, answer),
+            _ => texts::report_pair(&script, &self.setting.node, answer),
         }
     }
 
@@ -167,9 +167,14 @@ impl Node {
     }
 
     /// Opens the node, or lets it carry out a script, with a call of a kind and number set to fail.
-    fn tell_fails(&self, words: &[Word], script: Option<Script<'_>>, answer: &mut String) -> Told {
+    fn report_fails(
+        &self,
+        words: &[Word],
+        script: Option<Script<'_>>,
+        answer: &mut String,
+    ) -> Reported {
         let [Word::Call(kind), Word::Number(count)] = words else {
-            return told_bad(answer);
+            return reported_bad(answer);
         };
         let trial = failures::Trial {
             alloc: self.alloc,
@@ -179,6 +184,6 @@ impl Node {
             count: *count,
             script,
         };
-        trial.tell(answer)
+        trial.write_to(answer)
     }
 }

@@ -1,9 +1,9 @@
 //! Openings of a node, and their answers.
 
 use crate::memory::disk_with;
-use crate::store::disks::tell_left;
+use crate::store::disks::report_left;
 use crate::store::journals::put_error;
-use crate::store::words::{Told, put, put_bytes, put_count};
+use crate::store::words::{Reported, put, put_bytes, put_count};
 use diskmodel::MemDisk;
 use recovery::{reopen, reopen_pair};
 use sigface::HashSign;
@@ -15,12 +15,17 @@ use wire::{Author, Round};
 const SHOWN: usize = 4;
 
 /// Opens a node on a file, and adds what is left of the file. What is left is opened again, which has to give the same.
-pub fn open(alloc: Global, config: &Config<HashSign>, file: &[u8], answer: &mut String) -> Told {
+pub fn open(
+    alloc: Global,
+    config: &Config<HashSign>,
+    file: &[u8],
+    answer: &mut String,
+) -> Reported {
     let mut text = String::new(alloc);
     let disk = opened(alloc, config, disk_with(alloc, file)?, &mut text);
     put(answer, text.as_str());
-    tell_left(answer, &disk, file);
-    if told(alloc, config, disk.bytes())?.as_str() != text.as_str() {
+    report_left(answer, &disk, file);
+    if reported(alloc, config, disk.bytes())?.as_str() != text.as_str() {
         put(answer, ", and then otherwise");
     }
     put(answer, "\n");
@@ -28,7 +33,11 @@ pub fn open(alloc: Global, config: &Config<HashSign>, file: &[u8], answer: &mut 
 }
 
 /// The answer of opening a node on a file.
-pub fn told(alloc: Global, config: &Config<HashSign>, file: &[u8]) -> Result<String, AllocError> {
+pub fn reported(
+    alloc: Global,
+    config: &Config<HashSign>,
+    file: &[u8],
+) -> Result<String, AllocError> {
     let mut text = String::new(alloc);
     let _ = opened(alloc, config, disk_with(alloc, file)?, &mut text);
     Ok(text)
@@ -43,7 +52,7 @@ pub fn opened(
 ) -> MemDisk {
     match reopen(alloc, config, disk) {
         Ok((validator, journal)) => {
-            tell_node(&validator, text);
+            report_node(&validator, text);
             journal.into_disk()
         }
         Err(failed) => {
@@ -54,7 +63,7 @@ pub fn opened(
 }
 
 /// Opens a node on two disks, and adds the answer.
-pub fn tell_pair(
+pub fn report_pair(
     alloc: Global,
     config: &Config<HashSign>,
     first: MemDisk,
@@ -63,7 +72,7 @@ pub fn tell_pair(
 ) {
     match reopen_pair(alloc, config, first, second) {
         Ok((validator, journal)) => {
-            tell_node(&validator, answer);
+            report_node(&validator, answer);
             let _ = journal.into_store();
         }
         Err(failed) => put_error(answer, failed.error),
@@ -72,7 +81,7 @@ pub fn tell_pair(
 }
 
 /// Adds the round, the length of the order, and the votes of the first rounds, by author and round.
-fn tell_node(validator: &Validator<'_, HashSign>, text: &mut String) {
+fn report_node(validator: &Validator<'_, HashSign>, text: &mut String) {
     put_count(text, "opened, round ", validator.round(), "");
     put_count(text, ", order ", validator.order().len() as u64, "");
     for author in 0..4 {

@@ -6,7 +6,7 @@ ghost use Rattle.recovery.specs.Script.{Passes, CarriesOut};
 use crate::memory::{disk_with, failing_disk};
 use crate::store::headers::message_in;
 use crate::store::takers::Taker;
-use crate::store::words::{Told, Word, put, put_bytes, put_count, put_other, put_shown};
+use crate::store::words::{Reported, Word, put, put_bytes, put_count, put_other, put_shown};
 use book::MAX_ACCEPTED;
 use diskmodel::{CallKind, MemDisk};
 use header::check;
@@ -69,18 +69,18 @@ pub struct Script<'a> {
 
 impl Script<'_> {
     /// Adds what is written, and how long the file is then.
-    pub fn tell(&self, answer: &mut String) -> Told {
-        let _ = self.tell_on(self.disk()?, answer)?;
+    pub fn write_to(&self, answer: &mut String) -> Reported {
+        let _ = self.report_on(self.disk()?, answer)?;
         put(answer, "\n");
         Ok(())
     }
 
     /// Adds what is written if a call of this kind fails: the first one, the second one and so on, until none does.
-    pub fn tell_failing(&self, kind: CallKind, answer: &mut String) -> Told {
+    pub fn report_failing(&self, kind: CallKind, answer: &mut String) -> Reported {
         for count in 1..CALLS {
             put_count(answer, "", count, ": ");
             let disk = failing_disk(self.alloc, self.file, kind, count)?;
-            let is_carried_out = self.tell_on(disk, answer)?;
+            let is_carried_out = self.report_on(disk, answer)?;
             put(answer, "\n");
             if is_carried_out {
                 break;
@@ -91,7 +91,7 @@ impl Script<'_> {
 
     /// Carries out everything on two disks with a call of this kind failing on one of them: the first one, the second one and so on. Adds
     /// whether each time the script ended so, and whether a node could be opened on what was left.
-    pub fn tell_failing_on_two(&self, kind: CallKind, answer: &mut String) -> Told {
+    pub fn report_failing_on_two(&self, kind: CallKind, answer: &mut String) -> Reported {
         for is_second in [false, true] {
             for count in 1..CALLS {
                 let (one, other) = (self.failing(kind, count)?, self.disk()?);
@@ -102,7 +102,7 @@ impl Script<'_> {
                 };
                 let mut written = Vec::new(self.alloc);
                 match self.run_on_two(first, second, &mut written)? {
-                    Some(Err(failed)) => self.tell_again(failed, answer),
+                    Some(Err(failed)) => self.report_again(failed, answer),
                     _ => break,
                 }
             }
@@ -112,10 +112,10 @@ impl Script<'_> {
     }
 
     /// Adds what is wrong with the end of a script whose disk failed: nothing if it reports that, and a node can be opened on what is left.
-    fn tell_again(&self, failed: Failed<DriveError, (MemDisk, MemDisk)>, answer: &mut String) {
+    fn report_again(&self, failed: Failed<DriveError, (MemDisk, MemDisk)>, answer: &mut String) {
         let Failed { error, disk } = failed;
         if error != DriveError::Device {
-            tell_error(error, answer);
+            report_error(error, answer);
         }
         let (first, second) = disk;
         if reopen_pair(self.alloc, self.config, first, second).is_err() {
@@ -130,53 +130,53 @@ impl Script<'_> {
 
     /// Adds what is written to a writer that fails after some number of bytes, for each such number up to the length of the text. A line is
     /// added wherever the answer changes.
-    pub fn tell_rooms(&self, text: &[u8], answer: &mut String) -> Told {
+    pub fn report_rooms(&self, text: &[u8], answer: &mut String) -> Reported {
         let mut before = String::new(self.alloc);
         for room in 0..=text.len() {
-            let told = self.told_room(room, text)?;
-            put_other(answer, room as u64, told, &mut before);
+            let reported = self.reported_room(room, text)?;
+            put_other(answer, room as u64, reported, &mut before);
         }
         Ok(())
     }
 
-    /// As `tell_rooms`, on two disks.
-    pub fn tell_rooms_on_two(&self, text: &[u8], answer: &mut String) -> Told {
+    /// As `report_rooms`, on two disks.
+    pub fn report_rooms_on_two(&self, text: &[u8], answer: &mut String) -> Reported {
         let mut before = String::new(self.alloc);
         for room in 0..=text.len() {
-            let told = self.told_room_on_two(room, text)?;
-            put_other(answer, room as u64, told, &mut before);
+            let reported = self.reported_room_on_two(room, text)?;
+            put_other(answer, room as u64, reported, &mut before);
         }
         Ok(())
     }
 
     /// The answer on two disks, if the writer takes this many bytes of the text.
-    fn told_room_on_two(&self, room: usize, text: &[u8]) -> Result<String, AllocError> {
+    fn reported_room_on_two(&self, room: usize, text: &[u8]) -> Result<String, AllocError> {
         let mut taker = Taker::new(self.alloc, room);
-        let mut told = String::new(self.alloc);
+        let mut reported = String::new(self.alloc);
         match self.run_on_two(self.disk()?, disk_with(self.alloc, &[])?, &mut taker)? {
-            None => put(&mut told, "bad case"),
-            Some(Ok(_disks)) => put(&mut told, "carried out"),
-            Some(Err(failed)) => tell_error(failed.error, &mut told),
+            None => put(&mut reported, "bad case"),
+            Some(Ok(_disks)) => put(&mut reported, "carried out"),
+            Some(Err(failed)) => report_error(failed.error, &mut reported),
         }
-        put(&mut told, filled(text.get(..room), &taker.bytes));
-        Ok(told)
+        put(&mut reported, filled(text.get(..room), &taker.bytes));
+        Ok(reported)
     }
 
     /// The answer if the writer takes this many bytes of the text.
-    fn told_room(&self, room: usize, text: &[u8]) -> Result<String, AllocError> {
+    fn reported_room(&self, room: usize, text: &[u8]) -> Result<String, AllocError> {
         let mut taker = Taker::new(self.alloc, room);
-        let mut told = String::new(self.alloc);
+        let mut reported = String::new(self.alloc);
         match self.run(self.disk()?, &mut taker)? {
-            None => put(&mut told, "bad case"),
-            Some(Ok(_disk)) => put(&mut told, "carried out"),
-            Some(Err(failed)) => tell_error(failed.error, &mut told),
+            None => put(&mut reported, "bad case"),
+            Some(Ok(_disk)) => put(&mut reported, "carried out"),
+            Some(Err(failed)) => report_error(failed.error, &mut reported),
         }
-        put(&mut told, filled(text.get(..room), &taker.bytes));
-        Ok(told)
+        put(&mut reported, filled(text.get(..room), &taker.bytes));
+        Ok(reported)
     }
 
     /// Adds what is written if the node is on this disk, and gives whether all was carried out.
-    fn tell_on(&self, disk: MemDisk, answer: &mut String) -> Result<bool, AllocError> {
+    fn report_on(&self, disk: MemDisk, answer: &mut String) -> Result<bool, AllocError> {
         let mut written = Vec::new(self.alloc);
         match self.run(disk, &mut written)? {
             None => {
@@ -185,13 +185,13 @@ impl Script<'_> {
             }
             Some(Ok(disk)) => {
                 put(answer, "carried out");
-                tell_text(&written, answer);
+                report_text(&written, answer);
                 put_count(answer, ", file of ", disk.bytes().len() as u64, " bytes");
                 Ok(true)
             }
             Some(Err(failed)) => {
-                tell_error(failed.error, answer);
-                tell_text(&written, answer);
+                report_error(failed.error, answer);
+                report_text(&written, answer);
                 Ok(false)
             }
         }
@@ -210,7 +210,7 @@ impl Script<'_> {
                 Ok(disk)
             }
             Some(Err(failed)) => {
-                tell_error(failed.error, answer);
+                report_error(failed.error, answer);
                 Ok(failed.disk)
             }
         }
@@ -360,7 +360,7 @@ fn filled(text: Option<&[u8]>, taken: &[u8]) -> &'static str {
     }
 }
 
-fn tell_error(error: DriveError, answer: &mut String) {
+fn report_error(error: DriveError, answer: &mut String) {
     put_shown(answer, "", &error, "");
     if let DriveError::Damaged(place) = error {
         put_count(answer, " at ", place, "");
@@ -368,7 +368,7 @@ fn tell_error(error: DriveError, answer: &mut String) {
 }
 
 /// Adds how long a text is, and the text, or its SHA-256.
-pub fn tell_text(text: &[u8], answer: &mut String) {
+pub fn report_text(text: &[u8], answer: &mut String) {
     put_count(answer, ", ", text.len() as u64, " bytes");
     if text.len() > SHOWN {
         put(answer, " sha256 ");

@@ -3,7 +3,7 @@
 use crate::memory::{failing_disk, stop_with};
 use crate::store::journals::{attempt, listed, put_records};
 use crate::store::stores::Store;
-use crate::store::words::{Told, Word, put, put_number, put_once, told_bad};
+use crate::store::words::{Reported, Word, put, put_number, put_once, reported_bad};
 use diskmodel::{CallKind, Disk, MemDisk};
 use std::alloc::{AllocError, Global};
 
@@ -22,9 +22,9 @@ struct Trial<'a> {
 
 impl Store<'_> {
     /// `stops CALL COUNT RECORD ..` opens the file and appends the records, with the count-th of these calls set to fail.
-    pub fn tell_stops(&mut self, words: &[Word], answer: &mut String) -> Told {
+    pub fn report_stops(&mut self, words: &[Word], answer: &mut String) -> Reported {
         let [Word::Call(kind), Word::Number(count), records @ ..] = words else {
-            return told_bad(answer);
+            return reported_bad(answer);
         };
         let (alloc, file, kind, count) = (self.alloc, self.disk.bytes(), *kind, *count);
         let trial = Trial {
@@ -34,13 +34,13 @@ impl Store<'_> {
             kind,
             count,
         };
-        trial.tell(answer)
+        trial.write_to(answer)
     }
 }
 
 impl Trial<'_> {
     /// Adds the answers of the calls, how many outcomes a stop has, and what opening them gives, each answer once.
-    fn tell(&self, answer: &mut String) -> Told {
+    fn write_to(&self, answer: &mut String) -> Reported {
         let found = outcomes(self.alloc, &self.play(answer)?)?;
         put(answer, ", outcomes");
         put_number(answer, found.len() as u64);
@@ -115,7 +115,7 @@ fn longer(alloc: Global, disk: &MemDisk, fronts: &[Vec<u8>]) -> Result<Vec<Vec<u
     Ok(found)
 }
 
-fn lengthen(alloc: Global, disk: &MemDisk, front: &[u8], found: &mut Vec<Vec<u8>>) -> Told {
+fn lengthen(alloc: Global, disk: &MemDisk, front: &[u8], found: &mut Vec<Vec<u8>>) -> Reported {
     for value in values_at(alloc, disk, front.len())? {
         let mut longer = front.to_vec(alloc)?;
         longer.push(value)?;
@@ -134,7 +134,7 @@ fn values_at(alloc: Global, disk: &MemDisk, place: usize) -> Result<Vec<u8>, All
     Ok(values)
 }
 
-fn add_value(values: &mut Vec<u8>, value: Option<&u8>) -> Told {
+fn add_value(values: &mut Vec<u8>, value: Option<&u8>) -> Reported {
     match value {
         Some(value) if !values.contains(value) => Ok(values.push(*value)?),
         _ => Ok(()),

@@ -3,7 +3,7 @@
 use crate::memory::disk_with;
 use crate::store::books::own_book;
 use crate::store::files::{beginnings, changes};
-use crate::store::words::{Told, Word, told_bad};
+use crate::store::words::{Reported, Word, reported_bad};
 use book::OwnBook;
 use diskmodel::MemDisk;
 use sigface::HashSign;
@@ -31,7 +31,7 @@ impl<'a> Store<'a> {
     }
 
     /// An empty disk, and a book that has accepted nothing.
-    pub fn begin(&mut self) -> Told {
+    pub fn begin(&mut self) -> Reported {
         self.disk = disk_with(self.alloc, &[])?;
         self.book = own_book(self.alloc, self.config)?;
         Ok(())
@@ -39,17 +39,17 @@ impl<'a> Store<'a> {
 
     /// Carries out a command. The words of some are interpreted by the function that carries them out. The others are distinguished by the
     /// number and kinds of their words, and then by their names.
-    pub fn obey(&mut self, name: &str, words: &[Word], answer: &mut String) -> Told {
+    pub fn obey(&mut self, name: &str, words: &[Word], answer: &mut String) -> Reported {
         match name {
             "append" => self.append(words, answer),
-            "stops" => self.tell_stops(words, answer),
+            "stops" => self.report_stops(words, answer),
             "cut" => self.cut(words, answer),
             "fail" => self.fail(words, answer),
             _ => self.obey_few(name, words, answer),
         }
     }
 
-    fn obey_few(&mut self, name: &str, words: &[Word], answer: &mut String) -> Told {
+    fn obey_few(&mut self, name: &str, words: &[Word], answer: &mut String) -> Reported {
         match words {
             [] => self.obey_alone(name, answer),
             [Word::Bytes(bytes)] => self.obey_bytes(name, bytes, answer),
@@ -57,7 +57,7 @@ impl<'a> Store<'a> {
         }
     }
 
-    fn obey_more(&mut self, name: &str, words: &[Word], answer: &mut String) -> Told {
+    fn obey_more(&mut self, name: &str, words: &[Word], answer: &mut String) -> Reported {
         match words {
             [Word::Number(first), Word::Number(second)] => {
                 self.obey_numbers(name, *first, *second, answer)
@@ -69,16 +69,22 @@ impl<'a> Store<'a> {
         }
     }
 
-    fn obey_bytes(&mut self, name: &str, bytes: &[u8], answer: &mut String) -> Told {
+    fn obey_bytes(&mut self, name: &str, bytes: &[u8], answer: &mut String) -> Reported {
         match name {
             "disk" => self.renew(bytes),
             "choose" => self.choose(bytes),
-            "can" => self.tell_can(bytes, answer),
-            _ => told_bad(answer),
+            "can" => self.report_can(bytes, answer),
+            _ => reported_bad(answer),
         }
     }
 
-    fn obey_numbers(&mut self, name: &str, first: u64, second: u64, answer: &mut String) -> Told {
+    fn obey_numbers(
+        &mut self,
+        name: &str,
+        first: u64,
+        second: u64,
+        answer: &mut String,
+    ) -> Reported {
         match name {
             "read" => self.read(first, second, answer),
             "group" => self.append_alike(first, second as usize, answer),
@@ -86,7 +92,7 @@ impl<'a> Store<'a> {
             "changes" => changes(self.alloc, self.disk.bytes(), first, second, answer),
             "fill" => self.fill(first, second as usize, answer),
             "vote" => self.take_vote(first, second, answer),
-            _ => told_bad(answer),
+            _ => reported_bad(answer),
         }
     }
 
@@ -96,11 +102,11 @@ impl<'a> Store<'a> {
         number: u64,
         bytes: &[u8],
         answer: &mut String,
-    ) -> Told {
+    ) -> Reported {
         match name {
             "write" => self.write(number, bytes, answer),
             "written" => self.append_written(number, bytes, answer),
-            _ => told_bad(answer),
+            _ => reported_bad(answer),
         }
     }
 }

@@ -164,25 +164,25 @@ impl Tally {
     }
 
     /// Adds the counts, in lines.
-    pub fn tell(&self, answer: &mut String) {
-        tell_line(answer, &["new", "known"], &[self.new, self.known]);
-        tell_line(answer, &REFUSED, &self.refused);
+    pub fn write_to(&self, answer: &mut String) {
+        report_line(answer, &["new", "known"], &[self.new, self.known]);
+        report_line(answer, &REFUSED, &self.refused);
         let moved = [self.released, self.held_back];
-        tell_line(answer, &["released", "held back"], &moved);
+        report_line(answer, &["released", "held back"], &moved);
         let groups = [self.taken, self.settled, self.failed];
-        tell_line(answer, &["groups", "settled", "failed"], &groups);
-        tell_line(answer, &STOPPED, &self.stops);
+        report_line(answer, &["groups", "settled", "failed"], &groups);
+        report_line(answer, &STOPPED, &self.stops);
         let [read, lost, torn] = self.left;
         let [open, closed] = self.gates;
-        tell_line(answer, &LEFT, &[read, lost, torn, open, closed]);
+        report_line(answer, &LEFT, &[read, lost, torn, open, closed]);
         let [first, read, write, cut, second] = self.faults;
         let openings = [self.opened, first, read, write, cut, second];
-        tell_line(answer, &OPENED, &openings);
+        report_line(answer, &OPENED, &openings);
     }
 }
 
 /// Adds counts, each after its name.
-fn tell_line(answer: &mut String, names: &[&str], counts: &[u64]) {
+fn report_line(answer: &mut String, names: &[&str], counts: &[u64]) {
     for (place, count) in counts.iter().enumerate() {
         if place > 0 {
             put(answer, ", ");

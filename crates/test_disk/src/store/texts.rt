@@ -3,8 +3,8 @@
 use crate::memory::disk_with;
 use crate::store::headers::message_in;
 use crate::store::openings;
-use crate::store::scripts::{Line, Script, tell_text};
-use crate::store::words::{Told, bad, put, told_bad};
+use crate::store::scripts::{Line, Script, report_text};
+use crate::store::words::{Reported, bad, put, reported_bad};
 use diskmodel::MemDisk;
 use header::{Event, Node};
 use journal::{Journal, Record};
@@ -17,42 +17,42 @@ use wire::Author;
 const EVENT: u8 = 1;
 
 /// Adds the text of a script, and whether a node writes the same.
-pub fn tell(script: &Script, node: &Node<HashSign>, answer: &mut String) -> Told {
+pub fn write_to(script: &Script, node: &Node<HashSign>, answer: &mut String) -> Reported {
     let mut written = Vec::new(script.alloc);
     match script.run(script.disk()?, &mut written)? {
-        Some(Ok(_)) => tell_text_of(script, node, &written, answer),
-        _ => told_bad(answer),
+        Some(Ok(_)) => report_text_of(script, node, &written, answer),
+        _ => reported_bad(answer),
     }
 }
 
 /// Adds the text of a script on two disks, whether a node writes the same, and what both disks are read as after that.
-pub fn tell_pair(script: &Script, node: &Node<HashSign>, answer: &mut String) -> Told {
+pub fn report_pair(script: &Script, node: &Node<HashSign>, answer: &mut String) -> Reported {
     let alloc = script.alloc;
     let mut written = Vec::new(alloc);
     match script.run_on_two(script.disk()?, disk_with(alloc, &[])?, &mut written)? {
         Some(Ok((first, second))) => {
-            tell_text_of(script, node, &written, answer)?;
-            openings::tell_pair(alloc, script.config, first, second, answer);
+            report_text_of(script, node, &written, answer)?;
+            openings::report_pair(alloc, script.config, first, second, answer);
             Ok(())
         }
-        _ => told_bad(answer),
+        _ => reported_bad(answer),
     }
 }
 
-fn tell_text_of(
+fn report_text_of(
     script: &Script,
     node: &Node<HashSign>,
     written: &[u8],
     answer: &mut String,
-) -> Told {
+) -> Reported {
     match text_of(script, node)? {
-        Some(text) => tell_beside(&text, written, answer),
+        Some(text) => report_beside(&text, written, answer),
         None => bad(answer),
     }
     Ok(())
 }
 
-fn tell_beside(text: &[u8], written: &[u8], answer: &mut String) {
+fn report_beside(text: &[u8], written: &[u8], answer: &mut String) {
     let is_same = text == written;
     put(
         answer,
@@ -62,7 +62,7 @@ fn tell_beside(text: &[u8], written: &[u8], answer: &mut String) {
             "another text"
         },
     );
-    tell_text(text, answer);
+    report_text(text, answer);
     put(answer, "\n");
 }
 

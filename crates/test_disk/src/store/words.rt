@@ -1,7 +1,7 @@
 //! The words of a command, and the parts of its answer.
 
 use crate::words::call_of;
-pub use crate::words::{Told, bad, parted, put, put_count, put_shown, tell_fault};
+pub use crate::words::{Reported, bad, parted, put, put_count, put_shown, report_fault};
 use diskmodel::CallKind;
 use std::alloc::{AllocError, Global};
 use test_cases::{bytes_of, write_hex};
@@ -98,7 +98,7 @@ pub fn put_bytes(text: &mut String, bytes: &[u8]) {
 }
 
 /// Adds the answer to a line that is no command.
-pub fn told_bad(answer: &mut String) -> Told {
+pub fn reported_bad(answer: &mut String) -> Reported {
     bad(answer);
     Ok(())
 }

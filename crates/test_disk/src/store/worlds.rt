@@ -2,7 +2,7 @@
 
 use crate::committees::{SEVEN, own_config};
 use crate::store::lists::Lists;
-use crate::store::words::{Told, Word, put, put_count, told_bad};
+use crate::store::words::{Reported, Word, put, put_count, reported_bad};
 use std::alloc::Global;
 
 /// The results of the lists.
@@ -26,18 +26,18 @@ impl Worlds {
     }
 
     /// `lists COUNT STEPS START` makes `COUNT` lists of `STEPS` steps each, with random numbers from a start value.
-    pub fn obey(&mut self, words: &[Word], answer: &mut String) -> Told {
+    pub fn obey(&mut self, words: &[Word], answer: &mut String) -> Reported {
         match words {
             [
                 Word::Number(count),
                 Word::Number(steps),
                 Word::Number(start),
             ] => self.play(*count, *steps, *start, answer),
-            _ => told_bad(answer),
+            _ => reported_bad(answer),
         }
     }
 
-    fn play(&mut self, count: u64, steps: u64, start: u64, answer: &mut String) -> Told {
+    fn play(&mut self, count: u64, steps: u64, start: u64, answer: &mut String) -> Reported {
         let config = own_config(self.alloc, &SEVEN)?;
         let lists = Lists::new(self.alloc, &config, start)?;
         play(lists, count, steps, answer)?;
@@ -50,9 +50,9 @@ impl Worlds {
 }
 
 /// Makes this many lists of this many steps each, and adds their results.
-fn play(mut lists: Lists<'_>, count: u64, steps: u64, answer: &mut String) -> Told {
+fn play(mut lists: Lists<'_>, count: u64, steps: u64, answer: &mut String) -> Reported {
     for _ in 0..count {
         lists.play(steps)?;
     }
-    lists.tell(answer)
+    lists.write_to(answer)
 }

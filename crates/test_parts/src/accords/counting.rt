@@ -207,7 +207,7 @@ impl Counts {
     }
 
     /// Adds how many there are of each kind.
-    pub fn tell(&self, answer: &mut String) -> Result<(), AllocError> {
+    pub fn report(&self, answer: &mut String) -> Result<(), AllocError> {
         for (kind, count) in KINDS.iter().zip(&self.counts) {
             writeln!(answer, "{kind}: {count}")?;
         }

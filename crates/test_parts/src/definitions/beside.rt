@@ -1,7 +1,7 @@
 //! The tables of a node next to its history: what both answer to an event, and what both hold and decide after it.
 
 use crate::definitions::looking::proposal_line;
-use crate::definitions::played::{Played, tell_kind};
+use crate::definitions::played::{Played, report_kind};
 use crate::definitions::searching::past;
 use crate::definitions::showing::{add, batch_label, order, outputs};
 use crate::parts::{list, whether};
@@ -32,15 +32,15 @@ pub fn same(
 // ---- answers
 
 /// The text of an answer, with its outputs.
-pub fn told(played: &Played, found: &Admission) -> Result<String, AllocError> {
+pub fn reported(played: &Played, found: &Admission) -> Result<String, AllocError> {
     let mut text = String::new(played.alloc);
-    tell(played, found, &mut text)?;
+    report(played, found, &mut text)?;
     Ok(text)
 }
 
 /// Adds an answer, with its outputs.
-pub fn tell(played: &Played, found: &Admission, text: &mut String) -> Result<(), AllocError> {
-    tell_kind(found, text)?;
+pub fn report(played: &Played, found: &Admission, text: &mut String) -> Result<(), AllocError> {
+    report_kind(found, text)?;
     match found {
         Admission::New(list) | Admission::Known(list) => outputs(
             &played.labels,
@@ -65,7 +65,7 @@ pub fn compare_answers(
         return Ok(());
     };
     let by_tables = answer_by_tables(played, event)?;
-    same("answer", told(played, found)?, by_tables, answer)?;
+    same("answer", reported(played, found)?, by_tables, answer)?;
     let is_ready = is_ready(played.alloc, &played.node, &played.tables, event)?;
     match is_ready == lacks_parents(found) {
         true => whether("ready by the tables:", is_ready, answer),
@@ -75,7 +75,7 @@ pub fn compare_answers(
 
 fn answer_by_tables(played: &Played, event: &Event) -> Result<String, AllocError> {
     let found = answered(played.alloc, &played.node, &played.tables, event)?;
-    told(played, &found)
+    reported(played, &found)
 }
 
 /// What tables that are empty at first answer to each of these events.
@@ -95,21 +95,21 @@ fn answer_next(
     event: &Event,
     text: &mut String,
 ) -> Result<Tables, AllocError> {
-    match tell_next(played, &tables, event, text)? {
+    match report_next(played, &tables, event, text)? {
         true => after(played.alloc, &played.node, tables, event),
         false => Ok(tables),
     }
 }
 
 /// Adds the answer of the tables to an event, and gives whether it is new.
-fn tell_next(
+fn report_next(
     played: &Played,
     tables: &Tables,
     event: &Event,
     text: &mut String,
 ) -> Result<bool, AllocError> {
     let found = answered(played.alloc, &played.node, tables, event)?;
-    tell(played, &found, text)?;
+    report(played, &found, text)?;
     Ok(found.is_new())
 }
 

@@ -1,7 +1,7 @@
 //! A history that grows by commands, and its outputs.
 
 use crate::definitions::beside::{
-    answers_by_tables, compare_answers, compare_held, compare_states, same, tell,
+    answers_by_tables, compare_answers, compare_held, compare_states, report, same,
 };
 use crate::definitions::keeping::compare_kept;
 use crate::definitions::looking::{look, member, number, words_of};
@@ -50,7 +50,7 @@ pub struct Played {
     collected: usize,
     settled: usize,
     /// Whether outputs are shown with each answer, instead of once the event is settled.
-    tells: bool,
+    reports: bool,
     /// Whether events are gathered first and answered later.
     gathers: bool,
 }
@@ -86,7 +86,7 @@ impl Played {
             waiting: Vec::new(alloc),
             collected: 0,
             settled: 0,
-            tells: false,
+            reports: false,
             gathers: false,
         })
     }
@@ -210,12 +210,12 @@ impl Played {
         list: &Outputs,
         answer: &mut String,
     ) -> Result<(), AllocError> {
-        if self.tells {
+        if self.reports {
             return outputs(&self.labels, list.as_slice(), answer);
         }
-        let mut told = String::new(self.alloc);
-        outputs(&self.labels, list.as_slice(), &mut told)?;
-        for text in told.lines() {
+        let mut reported = String::new(self.alloc);
+        outputs(&self.labels, list.as_slice(), &mut reported)?;
+        for text in reported.lines() {
             let line = String::from_str(self.alloc, text)?;
             self.waiting.push(Waiting { ticket, line })?;
         }
@@ -273,8 +273,8 @@ impl Played {
     ) -> Result<String, AllocError> {
         let mut text = String::new(self.alloc);
         for found in &answers(self.alloc, &self.node, events)? {
-            tell(self, found, &mut text)?;
-            tell_kind(found, answer)?;
+            report(self, found, &mut text)?;
+            report_kind(found, answer)?;
         }
         Ok(text)
     }
@@ -311,7 +311,7 @@ impl Played {
             [name] => Ok(self.run_word(name, words, answer)?),
             ["stakes", stakes] => self.weigh(stakes),
             ["tell", "outputs"] => {
-                self.tells = true;
+                self.reports = true;
                 Ok(())
             }
             ["coin-from", sender, wave, value] => {
@@ -370,7 +370,7 @@ impl Played {
 }
 
 /// Adds an answer, without its outputs.
-pub fn tell_kind(found: &Admission, answer: &mut String) -> Result<(), AllocError> {
+pub fn report_kind(found: &Admission, answer: &mut String) -> Result<(), AllocError> {
     match found {
         Admission::New(_) => line("new", answer),
         Admission::Known(_) => line("known", answer),

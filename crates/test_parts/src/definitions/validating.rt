@@ -13,7 +13,7 @@ mod tally;
 use crate::definitions::looking::number;
 use crate::definitions::weighing::committee_of;
 use crate::parts::parted;
-use bodies::tell_bodies;
+use bodies::report_bodies;
 use header::Node;
 use playing::{Way, play_lines};
 use sim_script::{BATCHES, DEPTH, FormError, OWN, signer};
@@ -79,9 +79,9 @@ impl Gathered {
                 Ok(())
             }
             "stakes" => self.set_stakes(rest),
-            "play" => told(self.play(Way::beside(number(rest)), answer), answer),
-            "loads" => told(self.play(Way::loading(), answer), answer),
-            "bodies" => told(self.tell_bodies(rt, rest, answer), answer),
+            "play" => reported(self.play(Way::beside(number(rest)), answer), answer),
+            "loads" => reported(self.play(Way::loading(), answer), answer),
+            "bodies" => reported(self.report_bodies(rt, rest, answer), answer),
             _ => self.add_line(command),
         }
     }
@@ -97,7 +97,7 @@ impl Gathered {
     }
 
     /// Shows how much of the process's memory this many batches of this many transactions take.
-    fn tell_bodies(
+    fn report_bodies(
         &self,
         rt: &HostRuntime,
         words: &str,
@@ -106,11 +106,11 @@ impl Gathered {
         let (count, transactions) = parted(words, ' ');
         let stakes = self.stakes.as_str();
         let committee = committee_of(self.alloc, stakes, self.depth, self.batches)?;
-        tell_bodies(rt, committee, number(count), number(transactions), answer)
+        report_bodies(rt, committee, number(count), number(transactions), answer)
     }
 }
 
-fn told(ended: Result<(), FormError>, answer: &mut String) -> Result<(), AllocError> {
+fn reported(ended: Result<(), FormError>, answer: &mut String) -> Result<(), AllocError> {
     match ended {
         Ok(()) => Ok(()),
         Err(FormError::Memory) => Err(AllocError),

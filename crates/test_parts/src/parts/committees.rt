@@ -1,11 +1,11 @@
 //! Committees of members with these stakes.
 
 use crate::parts::members::add_members;
-use crate::parts::words::Told;
+use crate::parts::words::Reported;
 use committee::{Committee, CommitteeError};
 use std::alloc::{AllocError, Global};
 
-fn add_stakes(text: &mut String, stakes: &[u64]) -> Told {
+fn add_stakes(text: &mut String, stakes: &[u64]) -> Reported {
     text.push_str("]\nstakes = [")?;
     for stake in stakes {
         write!(text, "{stake}, ")?;

@@ -1,12 +1,12 @@
 //! Frames on a stream.
 
-use crate::parts::words::{Told, list, show};
+use crate::parts::words::{Reported, list, show};
 use std::alloc::Global;
 use wire::WireError;
 use wire_read::FrameReader;
 
 /// Shows the bodies of the frames that this piece completes, and whether the reader then has nothing of the next frame.
-pub fn feed(reader: &mut FrameReader, piece: &[u8], answer: &mut String) -> Told {
+pub fn feed(reader: &mut FrameReader, piece: &[u8], answer: &mut String) -> Reported {
     match reader.feed(piece) {
         Ok(bodies) => show_each(&bodies, answer)?,
         Err(error) => writeln!(answer, "{error}")?,
@@ -14,7 +14,7 @@ pub fn feed(reader: &mut FrameReader, piece: &[u8], answer: &mut String) -> Told
     list("empty", &[reader.is_empty() as u64], answer)
 }
 
-fn show_each(bodies: &[Vec<u8>], answer: &mut String) -> Told {
+fn show_each(bodies: &[Vec<u8>], answer: &mut String) -> Reported {
     for body in bodies {
         show(body, answer)?;
     }
@@ -22,7 +22,7 @@ fn show_each(bodies: &[Vec<u8>], answer: &mut String) -> Told {
 }
 
 /// Shows in how many of the first ways to cut the frame the reader gives its body once and has nothing left.
-pub fn count_ways(alloc: Global, ways: u64, frame: &[u8], answer: &mut String) -> Told {
+pub fn count_ways(alloc: Global, ways: u64, frame: &[u8], answer: &mut String) -> Reported {
     let mut good: u64 = 0;
     for cuts in 0..ways {
         if is_one_body(alloc, frame, cuts).unwrap_or(false) {

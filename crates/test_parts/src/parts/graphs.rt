@@ -5,14 +5,14 @@ ghost use Rattle.wire.specs.Digests.{header_digest_of, certificate_digest_of};
 
 use crate::parts::certificates::{certificate_of, digest_of};
 use crate::parts::looks::look;
-use crate::parts::words::{Told, numbers_in, parted, round_of, set_of, whether};
+use crate::parts::words::{Reported, numbers_in, parted, round_of, set_of, whether};
 use committee::Committee;
 use dag::{Added, Dag, DagRefusal, Reads};
 use std::alloc::Global;
 use wire::{Certificate, Digest, Round};
 
 /// Carries out these words on a DAG, and shows its answers.
-pub fn graph(alloc: Global, committee: &Committee, words: &str, answer: &mut String) -> Told {
+pub fn graph(alloc: Global, committee: &Committee, words: &str, answer: &mut String) -> Reported {
     let mut dag = Dag::new(alloc, committee)?;
     let mut reads = Reads::new();
     for word in words.split_whitespace() {
@@ -21,7 +21,13 @@ pub fn graph(alloc: Global, committee: &Committee, words: &str, answer: &mut Str
     Ok(())
 }
 
-fn play(alloc: Global, dag: &mut Dag, reads: &mut Reads, word: &str, answer: &mut String) -> Told {
+fn play(
+    alloc: Global,
+    dag: &mut Dag,
+    reads: &mut Reads,
+    word: &str,
+    answer: &mut String,
+) -> Reported {
     let (name, rest) = parted(word, '-');
     let numbers = numbers_in(alloc, rest)?;
     obey(alloc, dag, reads, name, &numbers, answer)
@@ -34,7 +40,7 @@ fn obey(
     name: &str,
     numbers: &[u64],
     answer: &mut String,
-) -> Told {
+) -> Reported {
     match (way_of(name), numbers) {
         (Some(way), [round, author, parents @ ..]) => {
             add(alloc, dag, way, (*round, *author), parents, answer)
@@ -74,7 +80,7 @@ fn add(
     numbers: (u64, u64),
     parents: &[u64],
     answer: &mut String,
-) -> Told {
+) -> Reported {
     let certificate = certificate_of(alloc, dag, numbers.0, numbers.1, parents)?;
     if certificate.header.author.0 >= dag.committee().size() {
         return answer.push_str("no member\n");
@@ -105,7 +111,7 @@ fn hold(dag: &mut Dag, certificate: Certificate, digest: Digest) -> Result<Added
 }
 
 // Shows the answer to a certificate.
-fn write_added(answer: &mut String, added: &Result<Added, DagRefusal>) -> Told {
+fn write_added(answer: &mut String, added: &Result<Added, DagRefusal>) -> Reported {
     match added {
         Ok(added) => writeln!(answer, "{added:?}"),
         Err(refusal) => writeln!(answer, "{refusal}"),
@@ -120,7 +126,7 @@ fn change(
     name: &str,
     numbers: &[u64],
     answer: &mut String,
-) -> Told {
+) -> Reported {
     match (name, numbers) {
         ("full", [first, last]) => full(alloc, dag, *first, *last, answer),
         ("mark", [round, authors @ ..]) => {
@@ -140,7 +146,7 @@ fn change(
 }
 
 // Adds the certificates of four members for these rounds, each with the four below as its parents; shows how many rounds were full then.
-fn full(alloc: Global, dag: &mut Dag, first: u64, last: u64, answer: &mut String) -> Told {
+fn full(alloc: Global, dag: &mut Dag, first: u64, last: u64, answer: &mut String) -> Reported {
     let mut text = String::new(alloc);
     for round in first..last.saturating_add(1) {
         full_round(alloc, dag, round, &mut text)?;
@@ -149,7 +155,7 @@ fn full(alloc: Global, dag: &mut Dag, first: u64, last: u64, answer: &mut String
     writeln!(answer, "{count}")
 }
 
-fn full_round(alloc: Global, dag: &mut Dag, round: u64, text: &mut String) -> Told {
+fn full_round(alloc: Global, dag: &mut Dag, round: u64, text: &mut String) -> Reported {
     for author in 0..4 {
         add(alloc, dag, Way::Bare, (round, author), &[0, 1, 2, 3], text)?;
     }
@@ -157,7 +163,7 @@ fn full_round(alloc: Global, dag: &mut Dag, round: u64, text: &mut String) -> To
 }
 
 // What a DAG answers about a certificate that isn't added to it.
-fn ask(alloc: Global, dag: &Dag, name: &str, numbers: &[u64], answer: &mut String) -> Told {
+fn ask(alloc: Global, dag: &Dag, name: &str, numbers: &[u64], answer: &mut String) -> Reported {
     let [round, author, parents @ ..] = numbers else {
         return answer.push_str("bad word\n");
     };

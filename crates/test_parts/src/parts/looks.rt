@@ -1,6 +1,6 @@
 //! What can be seen of a DAG.
 
-use crate::parts::words::{Told, author_of, list, round_of, set_of, whether, write_set};
+use crate::parts::words::{Reported, author_of, list, round_of, set_of, whether, write_set};
 use dag::{Dag, Reads, answers_as_admission, reach_stays, reach_stays_above};
 use wire::{Author, Round};
 
@@ -11,7 +11,7 @@ pub fn look(
     name: &str,
     numbers: &[u64],
     answer: &mut String,
-) -> Told {
+) -> Reported {
     match (name, numbers) {
         ("step", [round, authors @ ..]) => step(dag, reads, round_of(*round), authors, answer),
         (_, []) => own_look(dag, name, answer),
@@ -32,7 +32,7 @@ pub fn look(
     }
 }
 
-fn own_look(dag: &Dag, name: &str, answer: &mut String) -> Told {
+fn own_look(dag: &Dag, name: &str, answer: &mut String) -> Reported {
     match name {
         "floor" => list(name, &[dag.floor().number()], answer),
         "base" => list(name, &[dag.base().number()], answer),
@@ -53,7 +53,7 @@ fn laws(dag: &Dag) {
     reach_stays_above();
 }
 
-fn round_look(dag: &Dag, name: &str, round: Round, answer: &mut String) -> Told {
+fn round_look(dag: &Dag, name: &str, round: Round, answer: &mut String) -> Reported {
     match name {
         "count" => list(name, &[dag.count(round) as u64], answer),
         "stake" => list(name, &[dag.stake_at(round)], answer),
@@ -64,7 +64,7 @@ fn round_look(dag: &Dag, name: &str, round: Round, answer: &mut String) -> Told 
     }
 }
 
-fn slot_look(dag: &Dag, name: &str, round: Round, author: Author, answer: &mut String) -> Told {
+fn slot_look(dag: &Dag, name: &str, round: Round, author: Author, answer: &mut String) -> Reported {
     match name {
         "held" => whether(name, dag.get(round, author).is_some(), answer),
         "marked" => whether(name, dag.is_marked(round, author), answer),
@@ -76,21 +76,21 @@ fn slot_look(dag: &Dag, name: &str, round: Round, author: Author, answer: &mut S
     }
 }
 
-fn supporters(dag: &Dag, round: Round, author: Author, answer: &mut String) -> Told {
+fn supporters(dag: &Dag, round: Round, author: Author, answer: &mut String) -> Reported {
     if round.number() < dag.base().number() {
         return answer.push_str("below the base\n");
     }
     write_set(answer, "supporters", &dag.supporters(round, author))
 }
 
-fn parents(dag: &Dag, round: Round, author: Author, answer: &mut String) -> Told {
+fn parents(dag: &Dag, round: Round, author: Author, answer: &mut String) -> Reported {
     if round.number() <= dag.base().number() {
         return answer.push_str("not above the base\n");
     }
     write_set(answer, "parents", &dag.parents(round, author))
 }
 
-fn reached(dag: &Dag, round: Round, author: Author, below: Round, answer: &mut String) -> Told {
+fn reached(dag: &Dag, round: Round, author: Author, below: Round, answer: &mut String) -> Reported {
     if below.number() < dag.base().number() {
         return answer.push_str("below the base\n");
     }
@@ -100,14 +100,20 @@ fn reached(dag: &Dag, round: Round, author: Author, below: Round, answer: &mut S
     write_set(answer, "reached", &dag.reached(round, author, below))
 }
 
-fn walk(dag: &Dag, round: Round, author: Author, below: Round, answer: &mut String) -> Told {
+fn walk(dag: &Dag, round: Round, author: Author, below: Round, answer: &mut String) -> Reported {
     if round.number() < below.number() {
         return answer.push_str("not so high\n");
     }
     write_set(answer, "walk", &dag.reached(round, author, below))
 }
 
-fn step(dag: &Dag, reads: &mut Reads, round: Round, authors: &[u64], answer: &mut String) -> Told {
+fn step(
+    dag: &Dag,
+    reads: &mut Reads,
+    round: Round,
+    authors: &[u64],
+    answer: &mut String,
+) -> Reported {
     if reads.number() >= 1000 {
         return answer.push_str("too many\n");
     }
@@ -123,7 +129,7 @@ fn parent(
     author: u64,
     place: u64,
     answer: &mut String,
-) -> Told {
+) -> Reported {
     let (round, author) = (round_of(round), author_of(author));
     match dag.parent(round, author, place as usize, reads) {
         Some((parent, digest)) => {

@@ -1,21 +1,21 @@
 //! Makers of batches.
 
-use crate::parts::words::{Told, author_of, list, show};
+use crate::parts::words::{Reported, author_of, list, show};
 use batchmaker::BatchMaker;
 use std::alloc::Global;
 use wire::Batch;
 
 /// A maker for the worker of this number, of the author of this number.
-pub fn make(alloc: Global, author: u64, worker: u64, maker: &mut Option<BatchMaker>) -> Told {
+pub fn make(alloc: Global, author: u64, worker: u64, maker: &mut Option<BatchMaker>) -> Reported {
     *maker = Some(BatchMaker::new(alloc, author_of(author), author_of(worker).0)?);
     Ok(())
 }
 
 /// Pushes a transaction, and shows the batch that is given out, or the refusal.
-pub fn push(maker: &mut Option<BatchMaker>, transaction: &[u8], answer: &mut String) -> Told {
+pub fn push(maker: &mut Option<BatchMaker>, transaction: &[u8], answer: &mut String) -> Reported {
     match maker {
         Some(maker) => match maker.push(transaction) {
-            Ok(given) => tell(given, answer),
+            Ok(given) => report(given, answer),
             Err(error) => writeln!(answer, "{error}"),
         },
         None => answer.push_str("no maker\n"),
@@ -23,14 +23,14 @@ pub fn push(maker: &mut Option<BatchMaker>, transaction: &[u8], answer: &mut Str
 }
 
 /// Seals the open batch, and shows it.
-pub fn seal(maker: &mut Option<BatchMaker>, answer: &mut String) -> Told {
+pub fn seal(maker: &mut Option<BatchMaker>, answer: &mut String) -> Reported {
     match maker {
-        Some(maker) => tell(maker.seal()?, answer),
+        Some(maker) => report(maker.seal()?, answer),
         None => answer.push_str("no maker\n"),
     }
 }
 
-fn tell(given: Option<Batch>, answer: &mut String) -> Told {
+fn report(given: Option<Batch>, answer: &mut String) -> Reported {
     let Some(batch) = given else {
         return answer.push_str("none\n");
     };

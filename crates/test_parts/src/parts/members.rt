@@ -5,8 +5,8 @@ ghost use Rattle.wire.specs.declared.keys.Digest.{Digest};
 ghost use Rattle.wire.specs.declared.keys.Key.{Key};
 ghost use Rattle.wire.specs.declared.keys.Signature.{Signature};
 
-use crate::parts::messages::{is_spelled, read};
-use crate::parts::words::{Told, author_of, digest_of, list, show};
+use crate::parts::messages::{is_encoded, read};
+use crate::parts::words::{Reported, author_of, digest_of, list, show};
 use committee::Committee;
 use header::{CheckError, Checked, check, recheck};
 use sigface::{HashSign, HashVerify, Sign, Verify};
@@ -15,7 +15,7 @@ use test_cases::write_hex;
 use wire::{Author, Digest, Key, Signature};
 
 /// Starts a list of members in which the key of each is its number plus 1, 32 times.
-pub fn add_members(text: &mut String, count: u64) -> Told {
+pub fn add_members(text: &mut String, count: u64) -> Reported {
     text.push_str("members = [")?;
     for member in 0..count.min(255) as u8 {
         text.push_str("\"")?;
@@ -32,12 +32,12 @@ pub fn read_committee(
     answer: &mut String,
 ) -> Result<Option<Committee>, AllocError> {
     match Committee::read(alloc, text) {
-        Ok(committee) => tell_committee(&committee, answer).map(|_| Some(committee)),
+        Ok(committee) => report_committee(&committee, answer).map(|_| Some(committee)),
         Err(error) => writeln!(answer, "{error}").map(|_| None),
     }
 }
 
-fn tell_committee(committee: &Committee, answer: &mut String) -> Told {
+fn report_committee(committee: &Committee, answer: &mut String) -> Reported {
     let (quorum, support) = (committee.quorum(), committee.support());
     list(
         "members",
@@ -49,7 +49,7 @@ fn tell_committee(committee: &Committee, answer: &mut String) -> Told {
 }
 
 /// Shows the key of a member.
-pub fn show_key(committee: &Option<Committee>, member: u64, answer: &mut String) -> Told {
+pub fn show_key(committee: &Option<Committee>, member: u64, answer: &mut String) -> Reported {
     match committee {
         Some(committee) => match committee.key(author_of(member)) {
             Some(key) => show(&key.0, answer),
@@ -66,31 +66,31 @@ pub fn check_both(
     sender: u64,
     bytes: &[u8],
     answer: &mut String,
-) -> Told {
+) -> Reported {
     match (committee, read(alloc, bytes), read(alloc, bytes)) {
         (Some(committee), Ok(one), Ok(two)) => {
             let sender = author_of(sender);
             let first = check(committee, &HashVerify, sender, one);
-            tell_check(alloc, first, sender, bytes, answer)?;
+            report_check(alloc, first, sender, bytes, answer)?;
             let second = recheck(committee, sender, two);
-            tell_check(alloc, second, sender, bytes, answer)
+            report_check(alloc, second, sender, bytes, answer)
         }
         _ => answer.push_str("no committee, or no message\n"),
     }
 }
 
-fn tell_check(
+fn report_check(
     alloc: Global,
     checked: Result<Checked, CheckError>,
     sender: Author,
     bytes: &[u8],
     answer: &mut String,
-) -> Told {
+) -> Reported {
     match checked {
         Ok(checked) => {
             let is_sender = checked.sender() == sender;
-            let is_lent = is_spelled(alloc, checked.message(), bytes)?;
-            let is_given = is_spelled(alloc, &checked.into_message(), bytes)?;
+            let is_lent = is_encoded(alloc, checked.message(), bytes)?;
+            let is_given = is_encoded(alloc, &checked.into_message(), bytes)?;
             let kept = [is_sender as u64, is_lent as u64, is_given as u64];
             list("passed", &kept, answer)
         }
@@ -103,7 +103,7 @@ fn key_of(byte: u64) -> Key {
 }
 
 /// Shows the signature and the key of the signer with the key of 32 such bytes, and whether the verifier accepts the signature.
-pub fn sign(byte: u64, bytes: &[u8], answer: &mut String) -> Told {
+pub fn sign(byte: u64, bytes: &[u8], answer: &mut String) -> Reported {
     let (signer, digest) = (HashSign::new(key_of(byte)), digest_of(bytes));
     show(&signer.sign(&digest).0, answer)?;
     show(&signer.key().0, answer)?;
@@ -112,7 +112,7 @@ pub fn sign(byte: u64, bytes: &[u8], answer: &mut String) -> Told {
 }
 
 /// Shows whether the signature after a digest is valid for the key of 32 such bytes.
-pub fn verify(byte: u64, bytes: &[u8], answer: &mut String) -> Told {
+pub fn verify(byte: u64, bytes: &[u8], answer: &mut String) -> Reported {
     let signature = bytes.last_chunk::<64>().copied().unwrap_or([0; 64]);
     let is_good = HashVerify.verify(&key_of(byte), &digest_of(bytes), &Signature(signature));
     list("good", &[is_good as u64], answer)

@@ -1,6 +1,6 @@
 //! Messages, and the outputs of a validator.
 
-use crate::parts::words::{Told, digest_of, list, show, tell};
+use crate::parts::words::{Reported, digest_of, list, report, show};
 use std::alloc::{AllocError, Global};
 use wire::{
     Author, Batch, Certificate, Digest, HeaderBody, MAX_TRANSACTION_BYTES, Message, OpenBatch,
@@ -21,27 +21,27 @@ pub fn written(alloc: Global, message: &Message) -> Result<Vec<u8>, AllocError> 
 
 /// Whether these bytes are the message's encoding, have the length that was computed before, and are the same if they are appended to
 /// others.
-pub fn is_spelled(alloc: Global, message: &Message, bytes: &[u8]) -> Result<bool, AllocError> {
+pub fn is_encoded(alloc: Global, message: &Message, bytes: &[u8]) -> Result<bool, AllocError> {
     let mut twice = written(alloc, message)?;
-    let is_spelled = twice.as_slice() == bytes && encoded_len(message) == bytes.len();
+    let is_encoded = twice.as_slice() == bytes && encoded_len(message) == bytes.len();
     encode_onto(&mut twice, message)?;
-    Ok(is_spelled && twice.get(bytes.len()..).unwrap_or(&[]) == bytes)
+    Ok(is_encoded && twice.get(bytes.len()..).unwrap_or(&[]) == bytes)
 }
 
 /// Decodes a message and encodes it again.
-pub fn spelled_again(alloc: Global, bytes: &[u8]) -> Result<&'static str, WireError> {
+pub fn encoded_again(alloc: Global, bytes: &[u8]) -> Result<&'static str, WireError> {
     let message = read(alloc, bytes)?;
-    let is_same = is_spelled(alloc, &message, bytes)?;
+    let is_same = is_encoded(alloc, &message, bytes)?;
     Ok(if is_same { "Ok" } else { "other bytes" })
 }
 
 /// Shows how many proper prefixes are refused as `Short`, and the results of the others.
-pub fn beginnings(alloc: Global, bytes: &[u8], answer: &mut String) -> Told {
+pub fn beginnings(alloc: Global, bytes: &[u8], answer: &mut String) -> Reported {
     let mut short: u64 = 0;
     for len in 0..bytes.len() {
-        match spelled_again(alloc, bytes.get(..len).unwrap_or(&[])) {
+        match encoded_again(alloc, bytes.get(..len).unwrap_or(&[])) {
             Err(WireError::Short) => short = short.saturating_add(1),
-            other => tell(other, answer)?,
+            other => report(other, answer)?,
         }
     }
     list("short", &[short], answer)
@@ -49,18 +49,18 @@ pub fn beginnings(alloc: Global, bytes: &[u8], answer: &mut String) -> Told {
 
 /// Shows the fields of a message, whether its lists could go on with this number, and its output; that of an acknowledgement is sent to the
 /// author of this number.
-pub fn message(alloc: Global, number: u64, bytes: &[u8], answer: &mut String) -> Told {
+pub fn message(alloc: Global, number: u64, bytes: &[u8], answer: &mut String) -> Reported {
     match read(alloc, bytes) {
-        Ok(message) => tell_message(alloc, &message, number.min(255) as u8, answer),
+        Ok(message) => report_message(alloc, &message, number.min(255) as u8, answer),
         Err(error) => writeln!(answer, "{error}"),
     }
 }
 
-fn tell_message(alloc: Global, message: &Message, number: u8, answer: &mut String) -> Told {
-    tell_fields(message, number, answer)?;
+fn report_message(alloc: Global, message: &Message, number: u8, answer: &mut String) -> Reported {
+    report_fields(message, number, answer)?;
     match output_of(message, Author(number as u16))? {
         None => Ok(()),
-        Some(output) => tell_output(alloc, &output, answer),
+        Some(output) => report_output(alloc, &output, answer),
     }
 }
 
@@ -75,42 +75,42 @@ fn output_of(message: &Message, to: Author) -> Result<Option<Output>, AllocError
     }))
 }
 
-fn tell_output(alloc: Global, output: &Output, answer: &mut String) -> Told {
+fn report_output(alloc: Global, output: &Output, answer: &mut String) -> Reported {
     show(&encode_output(alloc, output)?, answer)
 }
 
-fn tell_fields(message: &Message, number: u8, answer: &mut String) -> Told {
+fn report_fields(message: &Message, number: u8, answer: &mut String) -> Reported {
     match message {
-        Message::Batch(batch) => tell_batch(batch, answer),
+        Message::Batch(batch) => report_batch(batch, answer),
         Message::BatchAck(ack) => list("acknowledgement", &[ack.author.0 as u64], answer),
-        Message::Header(header) => tell_body(&header.body.try_clone()?, number, answer),
+        Message::Header(header) => report_body(&header.body.try_clone()?, number, answer),
         Message::Vote(vote) => {
             let (round, author, voter) = (vote.round.number(), vote.author.0, vote.voter.0);
             list("vote", &[round, author as u64, voter as u64], answer)
         }
-        Message::Certificate(certificate) => tell_certificate(certificate, number, answer),
+        Message::Certificate(certificate) => report_certificate(certificate, number, answer),
         Message::Coin(coin) => list("coin", &[coin.wave.number(), coin.value], answer),
     }
 }
 
-fn tell_batch(batch: &Batch, answer: &mut String) -> Told {
+fn report_batch(batch: &Batch, answer: &mut String) -> Reported {
     let (author, worker, len) = (batch.author().0, batch.worker(), batch.len());
     list("batch", &[author as u64, worker as u64, len as u64], answer)?;
     show(&batch_digest(batch).0, answer)
 }
 
 /// Shows a header's fields, its digest and its certificate's.
-pub fn tell_body(body: &HeaderBody, number: u8, answer: &mut String) -> Told {
+pub fn report_body(body: &HeaderBody, number: u8, answer: &mut String) -> Reported {
     let (author, round) = (body.author.0, body.round.number());
     list("header", &[author as u64, round], answer)?;
-    tell_lists(body, number, answer)?;
+    report_lists(body, number, answer)?;
     let header = header_digest(body);
     show(&header.0, answer)?;
     let certificate = certificate_digest(&header, body.round, body.author);
     show(&certificate.0, answer)
 }
 
-fn tell_lists(body: &HeaderBody, number: u8, answer: &mut String) -> Told {
+fn report_lists(body: &HeaderBody, number: u8, answer: &mut String) -> Reported {
     let batches = &body.batches;
     let follows = batches.may_follow(&Digest([number; 32]));
     entries(
@@ -131,14 +131,14 @@ fn tell_lists(body: &HeaderBody, number: u8, answer: &mut String) -> Told {
     )
 }
 
-fn tell_certificate(certificate: &Certificate, number: u8, answer: &mut String) -> Told {
-    tell_body(&certificate.header, number, answer)?;
+fn report_certificate(certificate: &Certificate, number: u8, answer: &mut String) -> Reported {
+    report_body(&certificate.header, number, answer)?;
     let votes = &certificate.votes;
     let (is_empty, follows) = (votes.is_empty(), votes.may_follow(Author(number as u16)));
     entries("votes", votes.len(), is_empty, follows, answer)
 }
 
-fn entries(name: &str, len: usize, is_empty: bool, follows: bool, answer: &mut String) -> Told {
+fn entries(name: &str, len: usize, is_empty: bool, follows: bool, answer: &mut String) -> Reported {
     list(name, &[len as u64, is_empty as u64, follows as u64], answer)
 }
 
@@ -154,11 +154,11 @@ pub fn fill(
         push(&mut open, bytes.get(..*len as usize).unwrap_or(&[]), answer)?;
     }
     let batch = open.close()?;
-    tell_batch(&batch, answer)?;
+    report_batch(&batch, answer)?;
     Ok(Message::Batch(batch))
 }
 
-fn push(open: &mut OpenBatch, bytes: &[u8], answer: &mut String) -> Told {
+fn push(open: &mut OpenBatch, bytes: &[u8], answer: &mut String) -> Reported {
     let (is_empty, has_room) = (open.is_empty(), open.has_room(bytes.len()));
     list("room", &[is_empty as u64, has_room as u64], answer)?;
     if has_room && bytes.len() <= MAX_TRANSACTION_BYTES {
@@ -168,15 +168,15 @@ fn push(open: &mut OpenBatch, bytes: &[u8], answer: &mut String) -> Told {
 }
 
 /// Shows the piece of the order that these bytes are the digests of, as far as it has room.
-pub fn order(alloc: Global, start: u64, bytes: &[u8], answer: &mut String) -> Told {
+pub fn order(alloc: Global, start: u64, bytes: &[u8], answer: &mut String) -> Reported {
     let mut digests = OrderDigests::new(alloc);
     add_digests(&mut digests, bytes, answer)?;
     let (len, is_empty) = (digests.len(), digests.is_empty());
     list("order", &[len as u64, is_empty as u64], answer)?;
-    tell_output(alloc, &Output::Order { start, digests }, answer)
+    report_output(alloc, &Output::Order { start, digests }, answer)
 }
 
-fn add_digests(digests: &mut OrderDigests, bytes: &[u8], answer: &mut String) -> Told {
+fn add_digests(digests: &mut OrderDigests, bytes: &[u8], answer: &mut String) -> Reported {
     for digest in bytes.chunks_exact(32) {
         if !digests.has_room() {
             return answer.push_str("no room\n");

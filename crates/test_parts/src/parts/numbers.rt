@@ -1,7 +1,7 @@
 //! The genesis, the laws, and the vote book.
 
-use crate::parts::messages::{tell_body, written};
-use crate::parts::words::{Told, author_of, digest_of, round_of, show};
+use crate::parts::messages::{report_body, written};
+use crate::parts::words::{Reported, author_of, digest_of, round_of, show};
 use committee::{
     CommitteeError, equal_stakes, honest_are_quorum, quorum_meets_support, quorums_overlap,
     quorums_share_honest, some_if_weighs, support_has_honest, support_is_honest,
@@ -12,20 +12,20 @@ use std::alloc::Global;
 use votebook::VoteBook;
 use wire::{Certificate, Message, WireError, genesis_digest};
 use wire_read::{
-    beginnings_are_short, faults_stay, one_body, one_spelling, one_split, what_follows_is_trailing,
+    beginnings_are_short, faults_stay, one_body, one_encoding, one_split, what_follows_is_trailing,
 };
 
 /// Shows the digest of an author's genesis, and the fields and the bytes of its certificate.
-pub fn genesis(alloc: Global, author: u64, answer: &mut String) -> Told {
+pub fn genesis(alloc: Global, author: u64, answer: &mut String) -> Reported {
     show(&genesis_digest(author_of(author)).0, answer)?;
     let certificate = Certificate::genesis(alloc, author_of(author));
-    tell_body(&certificate.header, 0, answer)?;
+    report_body(&certificate.header, 0, answer)?;
     show(&written(alloc, &Message::Certificate(certificate))?, answer)
 }
 
 /// Calls each law, which does nothing, and shows the errors that no case brings about: those of a failed allocation.
-pub fn laws(answer: &mut String) -> Told {
-    one_spelling();
+pub fn laws(answer: &mut String) -> Reported {
+    one_encoding();
     one_body();
     beginnings_are_short();
     what_follows_is_trailing();
@@ -55,13 +55,13 @@ pub fn vote(
     round: u64,
     header: &[u8],
     answer: &mut String,
-) -> Told {
+) -> Reported {
     let voted = book.vote(author_of(author), round_of(round), digest_of(header))?;
     writeln!(answer, "{voted:?}")
 }
 
 /// Shows who has the vote.
-pub fn voted(book: &VoteBook, author: u64, round: u64, answer: &mut String) -> Told {
+pub fn voted(book: &VoteBook, author: u64, round: u64, answer: &mut String) -> Reported {
     match book.voted(author_of(author), round_of(round)) {
         Some(header) => show(&header.0, answer),
         None => answer.push_str("none\n"),

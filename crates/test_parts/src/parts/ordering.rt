@@ -5,7 +5,7 @@ use crate::parts::graphs::graph;
 use crate::parts::playing::play_words;
 use crate::parts::stores::store;
 use crate::parts::votes::assemble;
-use crate::parts::words::{Told, list, numbers_in, parted};
+use crate::parts::words::{Reported, list, numbers_in, parted};
 use committee::Committee;
 use std::alloc::Global;
 
@@ -25,7 +25,7 @@ impl Ordering {
         }
     }
 
-    fn read(&mut self, words: &str, answer: &mut String) -> Told {
+    fn read(&mut self, words: &str, answer: &mut String) -> Reported {
         let (words, line) = parted(words, '|');
         let stakes = numbers_in(self.alloc, words)?;
         match committee_of(self.alloc, &stakes, line)? {
@@ -43,7 +43,7 @@ impl Ordering {
     }
 
     /// `committee` gives its stakes and, after `|`, another line of its file; any other name is that of a table, or asks the committee.
-    pub fn obey(&mut self, name: &str, words: &str, answer: &mut String) -> Told {
+    pub fn obey(&mut self, name: &str, words: &str, answer: &mut String) -> Reported {
         if name == "committee" {
             return self.read(words, answer);
         }
@@ -62,7 +62,13 @@ pub fn is_ordering(name: &str) -> bool {
     }
 }
 
-fn ask(alloc: Global, committee: &Committee, name: &str, words: &str, answer: &mut String) -> Told {
+fn ask(
+    alloc: Global,
+    committee: &Committee,
+    name: &str,
+    words: &str,
+    answer: &mut String,
+) -> Reported {
     match name {
         "quorum" => list(name, &[committee.quorum()], answer),
         "assemble" => assemble(alloc, committee, words, answer),

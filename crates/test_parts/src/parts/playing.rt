@@ -4,7 +4,7 @@ ghost use Rattle.std.specs.Prelude.{◌≡◌, ◌<◌, length};
 ghost use Rattle.wire.specs.Digests.{header_digest_of, certificate_digest_of};
 
 use crate::parts::certificates::{certificate_of, digest_of};
-use crate::parts::words::{Told, list, numbers_in, parted, round_of, write_slot};
+use crate::parts::words::{Reported, list, numbers_in, parted, round_of, write_slot};
 use committee::Committee;
 use dag::{Added, Dag};
 use flatten::{Lengthening, mark, segment, segment_counted};
@@ -26,7 +26,12 @@ struct Playing<'a> {
 }
 
 /// Plays these words from the genesis on, and shows the answer to each.
-pub fn play_words(alloc: Global, committee: &Committee, words: &str, answer: &mut String) -> Told {
+pub fn play_words(
+    alloc: Global,
+    committee: &Committee,
+    words: &str,
+    answer: &mut String,
+) -> Reported {
     let mut playing = Playing {
         alloc,
         committee,
@@ -43,11 +48,11 @@ pub fn play_words(alloc: Global, committee: &Committee, words: &str, answer: &mu
 }
 
 impl<'a> Playing<'a> {
-    fn play(&mut self, word: &str, answer: &mut String) -> Told {
+    fn play(&mut self, word: &str, answer: &mut String) -> Reported {
         let (name, rest) = parted(word, '-');
         let numbers = numbers_in(self.alloc, rest)?;
         match name {
-            "leaders" => self.tell_leaders(answer),
+            "leaders" => self.report_leaders(answer),
             "counts" => {
                 self.counts = true;
                 Ok(())
@@ -56,7 +61,7 @@ impl<'a> Playing<'a> {
         }
     }
 
-    fn change(&mut self, name: &str, numbers: &[u64], answer: &mut String) -> Told {
+    fn change(&mut self, name: &str, numbers: &[u64], answer: &mut String) -> Reported {
         match numbers {
             [round, author, parents @ ..] if name == "add" => {
                 self.add(*round, *author, parents, answer)
@@ -66,7 +71,7 @@ impl<'a> Playing<'a> {
         }
     }
 
-    fn add(&mut self, round: u64, author: u64, parents: &[u64], answer: &mut String) -> Told {
+    fn add(&mut self, round: u64, author: u64, parents: &[u64], answer: &mut String) -> Reported {
         let certificate = certificate_of(self.alloc, &self.dag, round, author, parents)?;
         if certificate.header.author.0 >= self.dag.committee().size()
             || certificate.header.parents.as_slice().is_empty()
@@ -82,7 +87,7 @@ impl<'a> Playing<'a> {
     }
 
     // Adds a certificate that is new, and commits what it commits.
-    fn add_new(&mut self, certificate: Certificate, digest: Digest, answer: &mut String) -> Told
+    fn add_new(&mut self, certificate: Certificate, digest: Digest, answer: &mut String) -> Reported
         requires member { certificate.header.author.0 < length self.old.dag.charter.keys }
         requires named { 0 < length certificate.header.parents }
         requires digested { digest.0 ≡ certificate_digest_of (header_digest_of certificate.header) certificate.header.round certificate.header.author.0 }
@@ -96,7 +101,7 @@ impl<'a> Playing<'a> {
         self.commit(&chain, &made, answer)
     }
 
-    fn coin(&mut self, value: u64, answer: &mut String) -> Told {
+    fn coin(&mut self, value: u64, answer: &mut String) -> Reported {
         let chain = self
             .coins
             .committed_with(self.alloc, &self.dag, value, self.last)?;
@@ -121,23 +126,23 @@ impl<'a> Playing<'a> {
         chain: &[(Round, Author)],
         made: &[Lengthening],
         answer: &mut String,
-    ) -> Told {
+    ) -> Reported {
         if !self.is_found(chain)? || !self.is_alike(chain, made)? {
             answer.push_str("otherwise\n")?;
         }
         match chain.last() {
             None => Ok(()),
             Some(last) => {
-                tell_chain(chain, answer)?;
-                self.tell_orders(made, answer)?;
-                self.tell_reads(chain, made, answer)?;
+                report_chain(chain, answer)?;
+                self.report_orders(made, answer)?;
+                self.report_reads(chain, made, answer)?;
                 self.take(last.0, made.last());
-                self.tell_top(answer)
+                self.report_top(answer)
             }
         }
     }
 
-    fn tell_top(&self, answer: &mut String) -> Told {
+    fn report_top(&self, answer: &mut String) -> Reported {
         let (top, floor) = (self.last.unwrap_or(0), self.dag.floor().number());
         writeln!(answer, "top {top} floor {floor}")
     }
@@ -168,17 +173,17 @@ impl<'a> Playing<'a> {
     ) -> Result<bool, AllocError> {
         let mut previous = self.previous;
         let mut place: usize = 0;
-        let mut told = 0;
+        let mut reported = 0;
         for one in made {
             let Some(leader) = chain.get(place) else {
                 return Ok(false);
             };
-            if !self.orders(*leader, previous, one.digests().get(told..))? {
+            if !self.orders(*leader, previous, one.digests().get(reported..))? {
                 return Ok(false);
             }
             previous = Some(*leader);
             place = place.saturating_add(1);
-            told = one.digests().len();
+            reported = one.digests().len();
         }
         Ok(place == chain.len())
     }
@@ -195,45 +200,45 @@ impl<'a> Playing<'a> {
     }
 
     // Shows what each leader orders: what its prefix of the chain adds to the prefix before it.
-    fn tell_orders(&self, made: &[Lengthening], answer: &mut String) -> Told {
-        let mut told = 0;
+    fn report_orders(&self, made: &[Lengthening], answer: &mut String) -> Reported {
+        let mut reported = 0;
         for one in made {
             let digests = one.digests();
             answer.push_str("orders")?;
-            for digest in digests.get(told..).unwrap_or_default() {
-                self.tell_digest(digest, answer)?;
+            for digest in digests.get(reported..).unwrap_or_default() {
+                self.report_digest(digest, answer)?;
             }
             answer.push_str("\n")?;
-            told = digests.len();
+            reported = digests.len();
         }
         Ok(())
     }
 
     // Shows for each leader of a chain how many references to parents are read, counted in two ways: how many more a `Lengthening` of the
     // chain up to this leader reads than one of the chain before it, and how many `segment_counted` reads for this leader alone.
-    fn tell_reads(
+    fn report_reads(
         &self,
         chain: &[(Round, Author)],
         made: &[Lengthening],
         answer: &mut String,
-    ) -> Told {
+    ) -> Reported {
         if !self.counts {
             return Ok(());
         }
         answer.push_str("reads")?;
         let mut previous = self.previous;
-        let mut told = 0;
+        let mut reported = 0;
         for (leader, one) in chain.iter().zip(made) {
             let (_, alone) = segment_counted(self.alloc, &self.dag, *leader, previous)?;
-            write!(answer, " {}.{alone}", one.reads().saturating_sub(told))?;
+            write!(answer, " {}.{alone}", one.reads().saturating_sub(reported))?;
             previous = Some(*leader);
-            told = one.reads();
+            reported = one.reads();
         }
         answer.push_str("\n")
     }
 
     // Shows the slot of the certificate with this digest.
-    fn tell_digest(&self, digest: &Digest, answer: &mut String) -> Told {
+    fn report_digest(&self, digest: &Digest, answer: &mut String) -> Reported {
         for number in self.dag.floor().number()..self.dag.end() {
             for author in 0..self.dag.committee().size() {
                 let slot = (round_of(number), Author(author));
@@ -246,17 +251,17 @@ impl<'a> Playing<'a> {
     }
 
     // Shows the leaders of the waves from the floor on.
-    fn tell_leaders(&self, answer: &mut String) -> Told {
+    fn report_leaders(&self, answer: &mut String) -> Reported {
         answer.push_str("leaders")?;
         for wave in 1..self.coins.count() as u64 + 1 {
             if 2 * wave > self.dag.floor().number() {
-                self.tell_leader(wave, answer)?;
+                self.report_leader(wave, answer)?;
             }
         }
         answer.push_str("\n")
     }
 
-    fn tell_leader(&self, wave: u64, answer: &mut String) -> Told {
+    fn report_leader(&self, wave: u64, answer: &mut String) -> Reported {
         write!(answer, " {wave}:")?;
         match self.coins.leader(&self.dag, wave) {
             Some((round, author)) => write!(answer, "{}.{}", round.number(), author.0),
@@ -265,7 +270,7 @@ impl<'a> Playing<'a> {
     }
 }
 
-fn tell_chain(chain: &[(Round, Author)], answer: &mut String) -> Told {
+fn report_chain(chain: &[(Round, Author)], answer: &mut String) -> Reported {
     answer.push_str("chain")?;
     for leader in chain {
         write_slot(answer, leader)?;

@@ -1,10 +1,10 @@
 //! The stakes of the members, and of sets of them.
 
-use crate::parts::words::{Told, author_of, list};
+use crate::parts::words::{Reported, author_of, list};
 use committee::{Committee, MAX_MEMBERS, MemberSet};
 
 /// Shows the stake of all members together, and how much of it may be faulty.
-pub fn show_total(committee: &Option<Committee>, answer: &mut String) -> Told {
+pub fn show_total(committee: &Option<Committee>, answer: &mut String) -> Reported {
     match committee {
         Some(committee) => list("total", &[committee.total(), committee.tolerated()], answer),
         None => answer.push_str("no committee\n"),
@@ -12,7 +12,7 @@ pub fn show_total(committee: &Option<Committee>, answer: &mut String) -> Told {
 }
 
 /// Shows the stake of a member.
-pub fn show_stake(committee: &Option<Committee>, member: u64, answer: &mut String) -> Told {
+pub fn show_stake(committee: &Option<Committee>, member: u64, answer: &mut String) -> Reported {
     match committee {
         Some(committee) => match committee.stake(author_of(member)) {
             Some(stake) => list("stake", &[stake], answer),
@@ -23,7 +23,7 @@ pub fn show_stake(committee: &Option<Committee>, member: u64, answer: &mut Strin
 }
 
 /// Shows the stake of the members of these numbers together.
-pub fn weigh(committee: &Option<Committee>, members: &[u64], answer: &mut String) -> Told {
+pub fn weigh(committee: &Option<Committee>, members: &[u64], answer: &mut String) -> Reported {
     match committee {
         Some(committee) => list("weight", &[committee.weight(&set_of(members))], answer),
         None => answer.push_str("no committee\n"),
@@ -31,14 +31,14 @@ pub fn weigh(committee: &Option<Committee>, members: &[u64], answer: &mut String
 }
 
 /// Shows whether a number is in the set of the members of these numbers.
-pub fn is_among(number: u64, members: &[u64], answer: &mut String) -> Told {
+pub fn is_among(number: u64, members: &[u64], answer: &mut String) -> Reported {
     let is_among = set_of(members).contains(author_of(number));
     list("among", &[is_among as u64], answer)
 }
 
 /// Shows whether a number is in the union of two sets, in their intersection, and in the first one without the second. The first set has
 /// the first `count` of these members, the second one the others.
-pub fn is_in_both(number: u64, count: u64, members: &[u64], answer: &mut String) -> Told {
+pub fn is_in_both(number: u64, count: u64, members: &[u64], answer: &mut String) -> Reported {
     let (some, others) = members.split_at(members.len().min(count as usize));
     let others = set_of(others);
     let (mut united, mut common, mut rest) = (set_of(some), set_of(some), set_of(some));

@@ -1,6 +1,6 @@
 //! A store of batches that words change and ask, one after the other.
 
-use crate::parts::words::{Told, author_of, list, member_in, numbers_in, parted};
+use crate::parts::words::{Reported, author_of, list, member_in, numbers_in, parted};
 use batchstore::BatchStore;
 use committee::Committee;
 use sigface::{HashSign, TableSeed};
@@ -22,7 +22,7 @@ fn batch_of(
 }
 
 /// Carries out these words on a member's store, and shows its answers.
-pub fn store(alloc: Global, committee: &Committee, words: &str, answer: &mut String) -> Told {
+pub fn store(alloc: Global, committee: &Committee, words: &str, answer: &mut String) -> Reported {
     let (own, words) = parted(words, ':');
     let own = member_in(own);
     if own.0 >= committee.size() {
@@ -43,7 +43,7 @@ fn obey(
     digests: &mut Vec<Digest>,
     word: &str,
     answer: &mut String,
-) -> Told {
+) -> Reported {
     let (name, rest) = parted(word, '-');
     let numbers = numbers_in(alloc, rest)?;
     match name {
@@ -62,7 +62,7 @@ fn look(
     digests: &[Digest],
     numbers: &[u64],
     answer: &mut String,
-) -> Told {
+) -> Reported {
     match numbers {
         [place, member] if name == "ack" => {
             let digest = digest_at(digests, *place);
@@ -79,7 +79,7 @@ fn put_of(
     digests: &mut Vec<Digest>,
     numbers: &[u64],
     answer: &mut String,
-) -> Told {
+) -> Reported {
     let [author, worker, byte] = numbers else {
         return answer.push_str("bad word\n");
     };
@@ -95,7 +95,7 @@ fn many(
     digests: &mut Vec<Digest>,
     numbers: &[u64],
     answer: &mut String,
-) -> Told {
+) -> Reported {
     let [author, count] = numbers else {
         return answer.push_str("bad word\n");
     };
@@ -109,7 +109,7 @@ fn many(
 }
 
 // Shows how many of the batches are held at the place in which they were put.
-fn all(store: &BatchStore, digests: &[Digest], answer: &mut String) -> Told {
+fn all(store: &BatchStore, digests: &[Digest], answer: &mut String) -> Reported {
     let mut there: u64 = 0;
     for (place, digest) in digests.iter().enumerate() {
         let held = store.batch_at(place);
@@ -131,7 +131,7 @@ fn put(
     digests: &mut Vec<Digest>,
     batch: Option<Batch>,
     answer: &mut String,
-) -> Told {
+) -> Reported {
     let Some(batch) = batch else {
         return Err(AllocError);
     };
@@ -143,7 +143,7 @@ fn put(
     list(" of", &[store.len() as u64], answer)
 }
 
-fn ack(store: &mut BatchStore, digest: Digest, member: Author, answer: &mut String) -> Told {
+fn ack(store: &mut BatchStore, digest: Digest, member: Author, answer: &mut String) -> Reported {
     match store.ack(member, &digest) {
         Ok(acked) => writeln!(answer, "{acked:?}"),
         Err(refusal) => writeln!(answer, "{refusal}"),
@@ -152,7 +152,7 @@ fn ack(store: &mut BatchStore, digest: Digest, member: Author, answer: &mut Stri
 
 // Shows of the batch with a digest whether it is held with a worker and who made it, whether it is available, or whether it was named; or
 // marks it as named.
-fn ask(store: &mut BatchStore, name: &str, digest: Digest, answer: &mut String) -> Told {
+fn ask(store: &mut BatchStore, name: &str, digest: Digest, answer: &mut String) -> Reported {
     match name {
         "get" => get(store, &digest, answer),
         "available" => writeln!(answer, "{}", store.available(&digest)),
@@ -165,7 +165,7 @@ fn ask(store: &mut BatchStore, name: &str, digest: Digest, answer: &mut String) 
     }
 }
 
-fn get(store: &BatchStore, digest: &Digest, answer: &mut String) -> Told {
+fn get(store: &BatchStore, digest: &Digest, answer: &mut String) -> Reported {
     match store.get(digest) {
         Some(batch) => {
             let (author, worker) = (batch.author().0, batch.worker());
@@ -177,7 +177,7 @@ fn get(store: &BatchStore, digest: &Digest, answer: &mut String) -> Told {
 }
 
 // Shows the batches that may be named: the number of the word that put each first, and its worker.
-fn least(alloc: Global, store: &BatchStore, digests: &[Digest], answer: &mut String) -> Told {
+fn least(alloc: Global, store: &BatchStore, digests: &[Digest], answer: &mut String) -> Reported {
     answer.push_str("least")?;
     for reference in store.least_nameable(alloc)? {
         let place = digests

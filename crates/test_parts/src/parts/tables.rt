@@ -3,12 +3,12 @@
 use crate::parts::frames::{count_ways, feed};
 use crate::parts::makers::{make, push, seal};
 use crate::parts::members::{add_members, check_both, read_committee, show_key, sign, verify};
-use crate::parts::messages::{beginnings, fill, message, order, spelled_again, written};
+use crate::parts::messages::{beginnings, encoded_again, fill, message, order, written};
 use crate::parts::numbers::{genesis, laws, vote, voted};
 use crate::parts::stakes::{is_among, is_in_both, show_stake, show_total, weigh};
 use crate::parts::waiters::{Waiting, next, offer, offer_header, offer_rounds, open, pass};
 use crate::parts::words::{
-    Names, Told, author_of, bad, joined, numbers_of, parted, round_of, show, tell,
+    Names, Reported, author_of, bad, joined, numbers_of, parted, report, round_of, show,
 };
 use batchmaker::BatchMaker;
 use committee::Committee;
@@ -55,7 +55,7 @@ impl Tables {
     }
 
     /// A command is a name, numbers and, after a colon, words that stand for bytes; ` = ` gives bytes a name.
-    pub fn obey(&mut self, command: &str, answer: &mut String) -> Told {
+    pub fn obey(&mut self, command: &str, answer: &mut String) -> Reported {
         if let Some(text) = command.strip_prefix("line ") {
             return self.add_line(text);
         }
@@ -66,19 +66,19 @@ impl Tables {
     }
 
     // Adds a line to the committee's file; `\0` stands for the byte of this number.
-    fn add_line(&mut self, line: &str) -> Told {
+    fn add_line(&mut self, line: &str) -> Reported {
         self.text.push_str(if line == "\\0" { "\0" } else { line })?;
         self.text.push_str("\n")
     }
 
-    fn read(&mut self, answer: &mut String) -> Told {
+    fn read(&mut self, answer: &mut String) -> Reported {
         self.committee = read_committee(self.alloc, &self.text, answer)?;
         self.text.clear();
         Ok(())
     }
 
     // Some commands have a list of numbers. The others are distinguished by how many they have, and then by their names.
-    fn put(&mut self, name: &str, numbers: &[u64], bytes: &[u8], answer: &mut String) -> Told {
+    fn put(&mut self, name: &str, numbers: &[u64], bytes: &[u8], answer: &mut String) -> Reported {
         match name {
             "weigh" => weigh(&self.committee, numbers, answer),
             "batch" => batch(self.alloc, numbers, bytes, answer),
@@ -88,7 +88,13 @@ impl Tables {
         }
     }
 
-    fn put_few(&mut self, name: &str, numbers: &[u64], bytes: &[u8], answer: &mut String) -> Told {
+    fn put_few(
+        &mut self,
+        name: &str,
+        numbers: &[u64],
+        bytes: &[u8],
+        answer: &mut String,
+    ) -> Reported {
         match numbers {
             [] => self.put_none(name, bytes, answer),
             [number] => self.put_one(name, *number, bytes, answer),
@@ -98,7 +104,7 @@ impl Tables {
         }
     }
 
-    fn put_none(&mut self, name: &str, bytes: &[u8], answer: &mut String) -> Told {
+    fn put_none(&mut self, name: &str, bytes: &[u8], answer: &mut String) -> Reported {
         match name {
             "read" => self.read(answer),
             "total" => show_total(&self.committee, answer),
@@ -111,7 +117,7 @@ impl Tables {
         }
     }
 
-    fn put_one(&mut self, name: &str, number: u64, bytes: &[u8], answer: &mut String) -> Told {
+    fn put_one(&mut self, name: &str, number: u64, bytes: &[u8], answer: &mut String) -> Reported {
         match name {
             "members" => add_members(&mut self.text, number),
             "key" => show_key(&self.committee, number, answer),
@@ -139,7 +145,7 @@ impl Tables {
         second: u64,
         bytes: &[u8],
         answer: &mut String,
-    ) -> Told {
+    ) -> Reported {
         match name {
             "vote" => vote(&mut self.book, first, second, bytes, answer),
             "voted" => voted(&self.book, first, second, answer),
@@ -156,7 +162,7 @@ impl Tables {
         author: u64,
         voter: u64,
         answer: &mut String,
-    ) -> Told {
+    ) -> Reported {
         match name {
             "offer" => offer(
                 self.alloc,
@@ -169,7 +175,7 @@ impl Tables {
         }
     }
 
-    fn run(&mut self, command: &str, answer: &mut String) -> Told {
+    fn run(&mut self, command: &str, answer: &mut String) -> Reported {
         let (front, words) = parted(command, ':');
         let (name, numbers) = parted(front, ' ');
         let numbers = numbers_of(self.alloc, numbers)?;
@@ -180,7 +186,7 @@ impl Tables {
         }
     }
 
-    fn name(&mut self, name: &str, words: &str, answer: &mut String) -> Told {
+    fn name(&mut self, name: &str, words: &str, answer: &mut String) -> Reported {
         let Some(bytes) = joined(self.alloc, &self.names, words)? else {
             return answer.push_str("bad word\n");
         };
@@ -191,9 +197,9 @@ impl Tables {
 }
 
 // Carries out a command with bytes and no number.
-fn spell(alloc: Global, name: &str, bytes: &[u8], answer: &mut String) -> Told {
+fn spell(alloc: Global, name: &str, bytes: &[u8], answer: &mut String) -> Reported {
     match name {
-        "decode" => tell(spelled_again(alloc, bytes), answer),
+        "decode" => report(encoded_again(alloc, bytes), answer),
         "beginnings" => beginnings(alloc, bytes, answer),
         "hash" => show(&Sha256::digest(bytes), answer),
         "laws" => laws(answer),
@@ -202,14 +208,14 @@ fn spell(alloc: Global, name: &str, bytes: &[u8], answer: &mut String) -> Told {
 }
 
 // Carries out a command with a number and bytes.
-fn reckon(alloc: Global, name: &str, number: u64, bytes: &[u8], answer: &mut String) -> Told {
+fn reckon(alloc: Global, name: &str, number: u64, bytes: &[u8], answer: &mut String) -> Reported {
     match name {
         "message" => message(alloc, number, bytes, answer),
         "order" => order(alloc, number, bytes, answer),
         "genesis" => genesis(alloc, number, answer),
         "ways" => count_ways(alloc, number, bytes, answer),
-        "round" => tell(Round::new(number).map(|round| round.number()), answer),
-        "wave" => tell(Wave::new(number).map(|wave| wave.number()), answer),
+        "round" => report(Round::new(number).map(|round| round.number()), answer),
+        "wave" => report(Wave::new(number).map(|wave| wave.number()), answer),
         "sign" => sign(number, bytes, answer),
         "verify" => verify(number, bytes, answer),
         _ => bad(answer),
@@ -217,7 +223,7 @@ fn reckon(alloc: Global, name: &str, number: u64, bytes: &[u8], answer: &mut Str
 }
 
 // Shows the batch of an author and a worker, of transactions with these lengths.
-fn batch(alloc: Global, numbers: &[u64], bytes: &[u8], answer: &mut String) -> Told {
+fn batch(alloc: Global, numbers: &[u64], bytes: &[u8], answer: &mut String) -> Reported {
     let [author, worker, lens @ ..] = numbers else {
         return bad(answer);
     };
@@ -226,14 +232,14 @@ fn batch(alloc: Global, numbers: &[u64], bytes: &[u8], answer: &mut String) -> T
     show(&written(alloc, &batch)?, answer)
 }
 
-fn among(numbers: &[u64], answer: &mut String) -> Told {
+fn among(numbers: &[u64], answer: &mut String) -> Reported {
     match numbers {
         [number, members @ ..] => is_among(*number, members, answer),
         [] => bad(answer),
     }
 }
 
-fn sets(numbers: &[u64], answer: &mut String) -> Told {
+fn sets(numbers: &[u64], answer: &mut String) -> Reported {
     match numbers {
         [number, count, members @ ..] => is_in_both(*number, *count, members, answer),
         _ => bad(answer),

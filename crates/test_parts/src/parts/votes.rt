@@ -3,7 +3,7 @@
 ghost use Rattle.std.specs.Prelude.{◌≡◌};
 ghost use Rattle.wire.specs.Digests.{header_digest_of};
 
-use crate::parts::words::{Told, member_in, parted};
+use crate::parts::words::{Reported, member_in, parted};
 use certify::{Added, Assembly};
 use committee::Committee;
 use std::alloc::{AllocError, Global};
@@ -68,7 +68,12 @@ fn vote_of(body: &HeaderBody, word: &str, byte: u8) -> Vote {
 }
 
 /// Shows what an assembly of a member's header answers to each vote, and its state then.
-pub fn assemble(alloc: Global, committee: &Committee, words: &str, answer: &mut String) -> Told {
+pub fn assemble(
+    alloc: Global,
+    committee: &Committee,
+    words: &str,
+    answer: &mut String,
+) -> Reported {
     let (own, votes) = parted(words, ':');
     let own = member_in(own);
     if own.0 >= committee.size() {
@@ -78,12 +83,12 @@ pub fn assemble(alloc: Global, committee: &Committee, words: &str, answer: &mut 
     let vote = vote_on(&header.body, own, 0);
     let mut assembly = Assembly::start(alloc, committee, header, vote)?;
     give_each(&mut assembly, votes, answer)?;
-    tell_assembly(&assembly, committee.size(), answer)
+    report_assembly(&assembly, committee.size(), answer)
 }
 
 // Gives the votes of these words to an assembly. The loop owns nothing, since everything that a loop owns makes the proof more expensive at
 // each exit.
-fn give_each(assembly: &mut Assembly, votes: &str, answer: &mut String) -> Told {
+fn give_each(assembly: &mut Assembly, votes: &str, answer: &mut String) -> Reported {
     let mut byte: u8 = 0;
     for word in votes.split_whitespace() {
         byte = byte.saturating_add(1);
@@ -94,7 +99,7 @@ fn give_each(assembly: &mut Assembly, votes: &str, answer: &mut String) -> Told 
 }
 
 // Gives a vote to an assembly, in one call or in two.
-fn give(assembly: &mut Assembly, vote: Vote, at_once: bool, answer: &mut String) -> Told {
+fn give(assembly: &mut Assembly, vote: Vote, at_once: bool, answer: &mut String) -> Reported {
     let added = match at_once {
         true => assembly.add(vote)?,
         false => {
@@ -105,20 +110,20 @@ fn give(assembly: &mut Assembly, vote: Vote, at_once: bool, answer: &mut String)
             added
         }
     };
-    tell_added(&added, answer)
+    report_added(&added, answer)
 }
 
-fn tell_added(added: &Added, answer: &mut String) -> Told {
+fn report_added(added: &Added, answer: &mut String) -> Reported {
     match added {
         Added::Counted => answer.push_str("counted\n"),
         Added::Again => answer.push_str("again\n"),
         Added::NotOurs => answer.push_str("not ours\n"),
-        Added::Complete(certificate) => tell_certificate(certificate, answer),
+        Added::Complete(certificate) => report_certificate(certificate, answer),
     }
 }
 
 // Shows the header's author, and of each vote the voter and the first byte of its signature.
-fn tell_certificate(certificate: &Certificate, answer: &mut String) -> Told {
+fn report_certificate(certificate: &Certificate, answer: &mut String) -> Reported {
     write!(answer, "complete {} :", certificate.header.author.0)?;
     for vote in certificate.votes.as_slice() {
         let (voter, byte) = (vote.voter.0, vote.signature.0[0]);
@@ -127,7 +132,7 @@ fn tell_certificate(certificate: &Certificate, answer: &mut String) -> Told {
     answer.push_str("\n")
 }
 
-fn tell_assembly(assembly: &Assembly, members: u16, answer: &mut String) -> Told {
+fn report_assembly(assembly: &Assembly, members: u16, answer: &mut String) -> Reported {
     let (author, complete) = (assembly.header().body.author.0, assembly.is_complete());
     write!(answer, "of {author} complete {complete} voted")?;
     for member in 0..members {

@@ -1,7 +1,7 @@
 //! The waiter, over certificates of a committee of four.
 
 use crate::parts::members::add_members;
-use crate::parts::words::{Told, author_of, bad, list};
+use crate::parts::words::{Reported, author_of, bad, list};
 use committee::Committee;
 use header::{Checked, passes, recheck};
 use sigface::{HashSign, TableSeed};
@@ -18,7 +18,7 @@ pub struct Waiting {
 }
 
 /// An empty waiter, for a committee of four.
-pub fn open(alloc: Global, waiting: &mut Option<Waiting>, answer: &mut String) -> Told {
+pub fn open(alloc: Global, waiting: &mut Option<Waiting>, answer: &mut String) -> Reported {
     let mut text = String::new(alloc);
     add_members(&mut text, 4)?;
     text.push_str("]\n")?;
@@ -39,7 +39,7 @@ pub fn offer(
     slot: (u64, u64),
     voter: u64,
     answer: &mut String,
-) -> Told {
+) -> Reported {
     let bytes = certificate(alloc, slot, voter)?;
     put(alloc, waiting, &bytes, answer)
 }
@@ -50,7 +50,7 @@ pub fn offer_header(
     waiting: &mut Option<Waiting>,
     round: u64,
     answer: &mut String,
-) -> Told {
+) -> Reported {
     let mut bytes = Vec::new(alloc);
     bytes.push(HEADER_TAG)?;
     add_body(&mut bytes, (round, 0))?;
@@ -65,7 +65,7 @@ pub fn offer_rounds(
     first: u64,
     end: u64,
     answer: &mut String,
-) -> Told {
+) -> Reported {
     let Some(waiting) = waiting else {
         return bad(answer);
     };
@@ -80,7 +80,7 @@ pub fn offer_rounds(
 }
 
 /// Takes the next ready certificate of this author, or of any; shows how many the waiter asked about, and its round and author.
-pub fn next(waiting: &mut Option<Waiting>, author: Option<u64>, answer: &mut String) -> Told {
+pub fn next(waiting: &mut Option<Waiting>, author: Option<u64>, answer: &mut String) -> Reported {
     let Some(waiting) = waiting else {
         return bad(answer);
     };
@@ -91,7 +91,7 @@ pub fn next(waiting: &mut Option<Waiting>, author: Option<u64>, answer: &mut Str
     });
     list("asked", &[asked], answer)?;
     match &ready {
-        Some(checked) => tell_slot(checked.message(), answer),
+        Some(checked) => report_slot(checked.message(), answer),
         None => answer.push_str("none\n"),
     }
 }
@@ -104,7 +104,7 @@ pub fn pass(
     sender: u64,
     bytes: &[u8],
     answer: &mut String,
-) -> Told {
+) -> Reported {
     let (Some(committee), Some(waiting), Ok(message)) = (committee, waiting, decode(alloc, bytes))
     else {
         return bad(answer);
@@ -118,7 +118,7 @@ pub fn pass(
     }
 }
 
-fn tell_slot(message: &Message, answer: &mut String) -> Told {
+fn report_slot(message: &Message, answer: &mut String) -> Reported {
     match message {
         Message::Certificate(certificate) => {
             let (round, author) = (certificate.header.round, certificate.header.author);
@@ -137,7 +137,12 @@ fn is_of(checked: &Checked, author: Option<u64>) -> bool {
     }
 }
 
-fn put(alloc: Global, waiting: &mut Option<Waiting>, bytes: &[u8], answer: &mut String) -> Told {
+fn put(
+    alloc: Global,
+    waiting: &mut Option<Waiting>,
+    bytes: &[u8],
+    answer: &mut String,
+) -> Reported {
     let Some(waiting) = waiting else {
         return bad(answer);
     };
@@ -156,7 +161,7 @@ fn checked(alloc: Global, committee: &Committee, bytes: &[u8]) -> Option<Checked
 }
 
 // Adds a header's body with no batches and with the parents 0, 1 and 2.
-fn add_body(bytes: &mut Vec<u8>, slot: (u64, u64)) -> Told {
+fn add_body(bytes: &mut Vec<u8>, slot: (u64, u64)) -> Reported {
     bytes.extend_from_slice(&(slot.1.min(3) as u16).to_be_bytes())?;
     bytes.extend_from_slice(&slot.0.to_be_bytes())?;
     bytes.extend_from_slice(&[0, 0, 0, 3])?;

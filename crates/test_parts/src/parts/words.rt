@@ -4,7 +4,7 @@ use committee::{MAX_MEMBERS, MemberSet};
 use std::alloc::{AllocError, Global};
 use std::collections::BTreeMap;
 use std::fmt::Display;
-pub use test_cases::Told;
+pub use test_cases::Reported;
 use test_cases::{bytes_of, write_hex};
 use wire::{Author, Digest, Round};
 
@@ -56,7 +56,7 @@ fn longer(number: u64, digit: u8) -> u64 {
     number.saturating_mul(10).saturating_add(digit)
 }
 
-fn put(numbers: &mut Vec<u64>, number: Option<u64>) -> Told {
+fn put(numbers: &mut Vec<u64>, number: Option<u64>) -> Reported {
     if let Some(number) = number {
         numbers.push(number)?;
     }
@@ -102,7 +102,7 @@ pub fn digest_of(bytes: &[u8]) -> Digest {
 }
 
 /// Adds a line: how many bytes these are, and the first of them.
-pub fn show(bytes: &[u8], answer: &mut String) -> Told {
+pub fn show(bytes: &[u8], answer: &mut String) -> Reported {
     let len = bytes.len();
     write!(answer, "{len} [")?;
     write_hex(answer, bytes.get(..SHOWN_BYTES).unwrap_or(bytes))?;
@@ -110,7 +110,7 @@ pub fn show(bytes: &[u8], answer: &mut String) -> Told {
 }
 
 /// Adds a line of a name and numbers; true is shown as 1 and false as 0.
-pub fn list(name: &str, numbers: &[u64], answer: &mut String) -> Told {
+pub fn list(name: &str, numbers: &[u64], answer: &mut String) -> Reported {
     answer.push_str(name)?;
     for number in numbers {
         write!(answer, " {number}")?;
@@ -119,12 +119,15 @@ pub fn list(name: &str, numbers: &[u64], answer: &mut String) -> Told {
 }
 
 /// Adds a line of a name, and `true` or `false`.
-pub fn whether(name: &str, is_so: bool, answer: &mut String) -> Told {
+pub fn whether(name: &str, is_so: bool, answer: &mut String) -> Reported {
     writeln!(answer, "{name} {is_so}")
 }
 
 /// Adds a line with the result or the refusal.
-pub fn tell<T: Display + Drop, E: Display + Drop>(out: Result<T, E>, answer: &mut String) -> Told {
+pub fn report<T: Display + Drop, E: Display + Drop>(
+    out: Result<T, E>,
+    answer: &mut String,
+) -> Reported {
     match out {
         Ok(value) => writeln!(answer, "{value}"),
         Err(error) => writeln!(answer, "{error}"),
@@ -144,7 +147,7 @@ pub fn set_of(authors: &[u64]) -> MemberSet {
 }
 
 /// Adds a name and the members of a set.
-pub fn write_set(answer: &mut String, name: &str, set: &MemberSet) -> Told {
+pub fn write_set(answer: &mut String, name: &str, set: &MemberSet) -> Reported {
     answer.push_str(name)?;
     for member in 0..MAX_MEMBERS {
         if set.contains(Author(member)) {
@@ -155,11 +158,11 @@ pub fn write_set(answer: &mut String, name: &str, set: &MemberSet) -> Told {
 }
 
 /// Adds a slot in the form `3.1`.
-pub fn write_slot(answer: &mut String, slot: &(Round, Author)) -> Told {
+pub fn write_slot(answer: &mut String, slot: &(Round, Author)) -> Reported {
     write!(answer, " {}.{}", slot.0.number(), slot.1.0)
 }
 
 /// Adds a line that says that the command is unknown.
-pub fn bad(answer: &mut String) -> Told {
+pub fn bad(answer: &mut String) -> Reported {
     answer.push_str("bad case\n")
 }

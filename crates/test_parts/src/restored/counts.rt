@@ -55,19 +55,19 @@ impl Counts {
 
     /// Shows for each kind whether there were enough states and, if there were too few, how many. Then shows how often an allocation
     /// failed, if one did.
-    pub fn tell(&self, text: &mut String) -> Result<(), AllocError> {
-        tell_one("restored states", self.states, LEAST, text)?;
-        tell_one("with a floor above 0", self.above, LEAST_ABOVE, text)?;
-        tell_one(
+    pub fn report(&self, text: &mut String) -> Result<(), AllocError> {
+        report_one("restored states", self.states, LEAST, text)?;
+        report_one("with a floor above 0", self.above, LEAST_ABOVE, text)?;
+        report_one(
             "without a leader",
             self.without_leader,
             LEAST_WITHOUT_LEADER,
             text,
         )?;
-        self.tell_refused(text)
+        self.report_refused(text)
     }
 
-    fn tell_refused(&self, text: &mut String) -> Result<(), AllocError> {
+    fn report_refused(&self, text: &mut String) -> Result<(), AllocError> {
         match self.refused {
             0 => Ok(()),
             refused => writeln!(text, "without memory first: {refused}"),
@@ -75,7 +75,7 @@ impl Counts {
     }
 }
 
-fn tell_one(what: &str, count: u64, least: u64, text: &mut String) -> Result<(), AllocError> {
+fn report_one(what: &str, count: u64, least: u64, text: &mut String) -> Result<(), AllocError> {
     if count >= least {
         writeln!(text, "{what}: {least} or more")
     } else {

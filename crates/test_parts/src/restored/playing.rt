@@ -120,14 +120,14 @@ fn play_case(
     match trial.play(case, counts)? {
         None => Ok(true),
         Some((line, differs)) => {
-            tell(case, line, differs, answer)?;
+            report(case, line, differs, answer)?;
             Ok(false)
         }
     }
 }
 
 /// Shows at which line of a case something differs.
-fn tell(case: &str, line: &str, differs: &str, answer: &mut String) -> Result<(), AllocError> {
+fn report(case: &str, line: &str, differs: &str, answer: &mut String) -> Result<(), AllocError> {
     let (title, _) = parted(case, '\n');
     writeln!(answer, "{title}: {line}: otherwise {differs}")
 }

@@ -2,7 +2,7 @@ use Rattle.std.proofs.Common.{◌≡◌, ◌∷◌, ◌++◌, [], List, ℕ, ap,
 use Rattle.std.specs.Int.{w16, w32, to_be_bytes}
 use Rattle.journal.specs.Format.{record_bytes}
 use Rattle.spec_records.specs.Records.{record_of}
-use Rattle.wire.specs.Spelling.{spelling}
+use Rattle.wire.specs.Encoding.{encoding}
 use Rattle.book.proofs.Recording.{after_three, whole_after, part_after}
 use Rattle.book.proofs.record.put_record.Goals as goal
 
@@ -18,10 +18,10 @@ returns-clause-ok c =
     c.in_ok-extend_from_slice.ensures.items c.in_ok-push.ensures.items c.in_ok-extend_from_slice-2.ensures.items in
     let event = c.args.event.now in
     let size : c.to_be_bytes.result ≡ to_be_bytes w32 c.args.len = c.to_be_bytes.ensures in
-    let whole : front ++ spelling c.message.result.now ≡ record_bytes (record_of event) =
+    let whole : front ++ encoding c.message.result.now ≡ record_bytes (record_of event) =
     λ i. ((size ∙ ap (to_be_bytes w32) c.requires.len) i ++ 1 ∷ [] ++ (c.two_bytes.ensures.bytes ∙ ap (λ a. to_be_bytes w16 a.0) c.sender.ensures)
-    i) ++ spelling (c.message.ensures i) in
-    whole_after c.encode_onto.result old front c.extend_from_slice-2.new.self.items (spelling c.message.result.now) (record_bytes (record_of event))
+    i) ++ encoding (c.message.ensures i) in
+    whole_after c.encode_onto.result old front c.extend_from_slice-2.new.self.items (encoding c.message.result.now) (record_bytes (record_of event))
     c.encode_onto.new.out.items middle whole c.encode_onto.ensures.bytes
 
 pub returns-clause-err : goal.returns-clause-err

@@ -12,7 +12,7 @@ use Rattle.spec_model.specs.Words.{Digest}
 use Rattle.wire.specs.Rising.{rises}
 use Rattle.admission.specs.Kept.{IsKeptOf}
 use Rattle.admission.specs.declared.kept.Kept.{Kept}
-use Rattle.checkpoint.specs.Judging.{NoneFails, TellsFirst, is_certificate_sound_at, is_header_sound_at, is_vote_sound_at, slots_at}
+use Rattle.checkpoint.specs.Judging.{NoneFails, ReportsFirst, is_certificate_sound_at, is_header_sound_at, is_vote_sound_at, slots_at}
 use Rattle.checkpoint.specs.Kept.{certificate_of, vote_of}
 use Rattle.checkpoint.specs.Reader.{fault_of}
 use Rattle.checkpoint.proofs.FromCertificates.{are_listed, certificate_before, same_floor}
@@ -149,7 +149,7 @@ returns-in_err-test_votes-clause-err g c =
     let error = c.in_err-test_votes.field-0.0 in
     let p = err_from_is_err_and c.from_residual-in_err-test_votes.result c.from_residual-in_err-test_votes.ensures.1 in
     rw (p.1, p.2) (λ apart. subst (λ r. unsound node r ≡ fault_of error) c.read.view_is (votes_fault node seen list
-    same floor floor_is of_batches of_votes of_headers of_certificates batches_at votes_at headers_at certificates_at error apart one (subst (λ t. TellsFirst of_votes t error) (same_votes node
+    same floor floor_is of_batches of_votes of_headers of_certificates batches_at votes_at headers_at certificates_at error apart one (subst (λ t. ReportsFirst of_votes t error) (same_votes node
     c.number.result floor c.deref-2.result.now inside.votes.items c.number.ensures.value c.deref-2.ensures.value) c.in_err-test_votes.ensures.err)))
 
 pub returns-in_err-headers-clause-err : goal.returns-in_err-headers-clause-err
@@ -189,7 +189,7 @@ returns-in_err-headers-clause-err g c =
     let error = c.in_err-headers.field-0.0 in
     let p = err_from_is_err_and c.from_residual-in_err-headers.result c.from_residual-in_err-headers.ensures.1 in
     rw (p.1, p.2) (λ apart. subst (λ r. unsound node r ≡ fault_of error) c.read.view_is (headers_fault node seen list
-    same floor floor_is of_batches of_votes of_headers of_certificates batches_at votes_at headers_at certificates_at error apart one two (subst (λ t. TellsFirst of_headers t error)
+    same floor floor_is of_batches of_votes of_headers of_certificates batches_at votes_at headers_at certificates_at error apart one two (subst (λ t. ReportsFirst of_headers t error)
     (same_headers node c.number-2.result floor c.deref-3.result.now list seen.headers c.number-2.ensures.value c.deref-3.ensures.value) c.in_err-headers.ensures.err)))
 
 pub returns-in_err-test_certificates-clause-err : goal.returns-in_err-test_certificates-clause-err
@@ -231,7 +231,7 @@ returns-in_err-test_certificates-clause-err g c =
     let error = c.in_err-test_certificates.field-0.0 in
     let p = err_from_is_err_and c.from_residual-in_err-test_certificates.result c.from_residual-in_err-test_certificates.ensures.1 in
     rw (p.1, p.2) (λ apart. subst (λ r. unsound node r ≡ fault_of error) c.read.view_is (certificates_fault node seen list
-    same floor floor_is of_batches of_votes of_headers of_certificates batches_at votes_at headers_at certificates_at error apart one two three (subst (λ t. TellsFirst of_certificates t error)
+    same floor floor_is of_batches of_votes of_headers of_certificates batches_at votes_at headers_at certificates_at error apart one two three (subst (λ t. ReportsFirst of_certificates t error)
     (same_certificates node c.number-3.result floor c.deref-4.result.now list seen.certificates c.number-3.ensures.value c.deref-4.ensures.value same) c.in_err-test_certificates.ensures.err)))
 
 pub returns-then-not-is_whole_sound-clause-err : goal.returns-then-not-is_whole_sound-clause-err

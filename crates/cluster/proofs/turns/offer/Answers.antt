@@ -1,7 +1,7 @@
 use Rattle.std.proofs.Common.{◌≡◌, None, subst}
 use Rattle.committee.specs.Charter.{Charter}
 use Rattle.header.specs.Checks.{fault_of}
-use Rattle.opening.proofs.Telling.{ok_weaker}
+use Rattle.opening.proofs.Reporting.{ok_weaker}
 use Rattle.spec_model.specs.Words.{Event}
 use Rattle.std.specs.Prelude.{IfOk}
 use Rattle.desk.specs.AtWorld.{IsAt}

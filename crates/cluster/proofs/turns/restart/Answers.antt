@@ -2,7 +2,7 @@ use Rattle.std.proofs.Common.{Err, ap, ◌∙◌, subst}
 use Rattle.std.proofs.lemmas.Result.{err_from_is_err_and}
 use Rattle.opening.proofs.Opened.{no_refusal}
 use Rattle.opening.specs.Decoded.{decoded}
-use Rattle.opening.proofs.Telling.{decoded_same}
+use Rattle.opening.proofs.Reporting.{decoded_same}
 use Rattle.validator.specs.Setting.{node_of}
 use Rattle.cluster.proofs.Members.{counts_as, err_of}
 use Rattle.cluster.proofs.Turning.{opened_same, left_decoded}
@@ -24,16 +24,16 @@ returns-in_err-events-clause-refused g c =
     let may = subst (λ (d : g.row.D.Denot). g.D.Disk.device.outcome d found) c.into_disk-disk.ensures c.stop.ensures.content in
     let p = err_from_is_err_and c.from_residual.result c.from_residual.ensures.1 in
     rw (p.1, p.2)
-    (λ world at. let told_as = left_decoded node g.D.Disk.device world c.args.desk at c.requires.alone found may in c.in_err-events.ensures.refused node told_as.0 told_as.1)
+    (λ world at. let decoded_as = left_decoded node g.D.Disk.device world c.args.desk at c.requires.alone found may in c.in_err-events.ensures.refused node decoded_as.0 decoded_as.1)
 
 pub returns-in-Err-clause-refused : goal.returns-in-Err-clause-refused
 returns-in-Err-clause-refused g c = λ world at.
     let node = node_of g.S.Sign.scheme c.args.config.now in
     let found = g.D.Disk.device.content c.stop.new.self in
     let may = subst (λ (d : g.row.D.Denot). g.D.Disk.device.outcome d found) c.into_disk-disk.ensures c.stop.ensures.content in
-    let told_as = left_decoded node g.D.Disk.device world c.args.desk at c.requires.alone found may in
+    let decoded_as = left_decoded node g.D.Disk.device world c.args.desk at c.requires.alone found may in
     let later = g.D.Disk.device.content c.in_ok-events.disk in
-    no_refusal c.in-Err.failed.error told_as.0 (decoded node later) (decoded_same node later found c.in_ok-events.ensures.same ∙ told_as.1) c.in-Err.ensures.err.tells
+    no_refusal c.in-Err.failed.error decoded_as.0 (decoded node later) (decoded_same node later found c.in_ok-events.ensures.same ∙ decoded_as.1) c.in-Err.ensures.err.reports
 
 pub returns-in_err-events-clause-device : goal.returns-in_err-events-clause-device
 returns-in_err-events-clause-device g c =

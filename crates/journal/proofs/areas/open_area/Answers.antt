@@ -18,7 +18,7 @@ returns-in_err-close_end-clause-any_moment g c =
     let scans = c.in_ok-gate.ensures.gate in
     let read = until_read device old mid old c.requires c.read_area.ensures.only_read.any_moment in
     until_closed device old mid c.close_end.new.disk scans.0 (scan_ok (device.content old) (scans.0, c.in_ok-gate.gate) scans.1)
-    c.read_area.ensures.only_read.content read c.close_end.ensures.any_moment c.close_end.ensures.telling
+    c.read_area.ensures.only_read.content read c.close_end.ensures.any_moment c.close_end.ensures.reporting
 
 pub returns-clause-any_moment : goal.returns-clause-any_moment
 returns-clause-any_moment g c =
@@ -28,7 +28,7 @@ returns-clause-any_moment g c =
     let scans = c.in_ok-gate.ensures.gate in
     let read = until_read device old mid old c.requires c.read_area.ensures.only_read.any_moment in
     until_closed device old mid c.close_end.new.disk scans.0 (scan_ok (device.content old) (scans.0, c.in_ok-gate.gate) scans.1)
-    c.read_area.ensures.only_read.content read c.close_end.ensures.any_moment c.close_end.ensures.telling
+    c.read_area.ensures.only_read.content read c.close_end.ensures.any_moment c.close_end.ensures.reporting
 
 pub returns-in_err-gate-clause-damaged : goal.returns-in_err-gate-clause-damaged
 returns-in_err-gate-clause-damaged g c place is =

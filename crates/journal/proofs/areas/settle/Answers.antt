@@ -12,7 +12,7 @@ returns-clause-opened g c =
     let one = c.in_ok-len.ensures in
     let two = c.in_ok-rest_area.ensures in
     are_opened device c.args.side c.args.generation c.args.live.now c.args.other.now c.open_area.new.disk c.rest_area.new.disk c.requires.chosen
-    one.ends_closed one.tells one.same one.content two.rested one.durable two.durable
+    one.ends_closed one.reports one.same one.content two.rested one.durable two.durable
 
 pub returns-clause-records : goal.returns-clause-records
 returns-clause-records g c =

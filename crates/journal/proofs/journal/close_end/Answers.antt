@@ -4,10 +4,10 @@ use Rattle.journal.specs.Format.{stands}
 use Rattle.diskmodel.proofs.Clock.{started, goes_on}
 use Rattle.journal.proofs.Moments.{from_only}
 use Rattle.journal.proofs.Stops.{torn_short, repaired_short, cut_keeps, repaired_cut, repaired_whole}
-use Rattle.journal.specs.Areas.{tells}
-use Rattle.journal.proofs.Closing.{changes, torn_tells, cut_tells, cut_whole}
+use Rattle.journal.specs.Areas.{reports}
+use Rattle.journal.proofs.Closing.{changes, torn_reports, cut_reports, cut_whole}
 use Rattle.journal.proofs.Rewritten.{then_same}
-use Rattle.journal.proofs.Telling.{tells_short}
+use Rattle.journal.proofs.Reporting.{reports_short}
 use Rattle.journal.proofs.journal.close_end.Goals as goal
 
 pub returns-in_err-write_at-clause-any_moment : goal.returns-in_err-write_at-clause-any_moment
@@ -156,79 +156,80 @@ returns-else-len-gate-clause-content g c =
     let long : 2 ≤ length file = omega (arith, c.requires.len, c.if-len-lt2.false) in
     (repaired_whole file c.args.gate c.requires.found long (omega (arith, c.requires.len))).content
 
-pub returns-in_err-write_at-clause-telling : goal.returns-in_err-write_at-clause-telling
-returns-in_err-write_at-clause-telling g c =
+pub returns-in_err-write_at-clause-reporting : goal.returns-in_err-write_at-clause-reporting
+returns-in_err-write_at-clause-reporting g c =
     let device = g.D.Disk.device in
     let old = c.args.disk.now in
     let file = device.content old in
     let short : length file < 2 = omega (arith, c.requires.len, c.if-len-lt2.true) in
-    (changes device (IsTorn 0 1) old c.write_at.new.self (λ left. tells left ≡ tells file) (g.met.D.Disk.only_now old) c.requires.durable refl c.write_at.ensures.time c.write_at.ensures.outcomes
-    (λ left torn. torn_tells file left short torn)).moments
+    (changes device (IsTorn 0 1) old c.write_at.new.self (λ left. reports left ≡ reports file) (g.met.D.Disk.only_now old) c.requires.durable refl c.write_at.ensures.time c.write_at.ensures.outcomes
+    (λ left torn. torn_reports file left short torn)).moments
 
-pub returns-in_err-sync-clause-telling : goal.returns-in_err-sync-clause-telling
-returns-in_err-sync-clause-telling g c =
+pub returns-in_err-sync-clause-reporting : goal.returns-in_err-sync-clause-reporting
+returns-in_err-sync-clause-reporting g c =
     let device = g.D.Disk.device in
     let old = c.args.disk.now in
     let file = device.content old in
-    let P : List ℕ → Type 0 = λ left. tells left ≡ tells file in
-    let short : length file < 2 = omega (arith, c.requires.len, c.if-len-lt2.true) in
-    let one = changes device (IsTorn 0 1) old c.write_at.new.self P (g.met.D.Disk.only_now old) c.requires.durable refl c.write_at.ensures.time c.write_at.ensures.outcomes
-    (λ left torn. torn_tells file left short torn) in
-    (then_same device old c.write_at.new.self c.sync.new.self P one c.sync.ensures.time c.sync.ensures.outcomes).moments
-
-pub returns-in_ok-sync-clause-telling : goal.returns-in_ok-sync-clause-telling
-returns-in_ok-sync-clause-telling g c =
-    let device = g.D.Disk.device in
-    let old = c.args.disk.now in
-    let file = device.content old in
-    let P : List ℕ → Type 0 = λ left. tells left ≡ tells file in
+    let P : List ℕ → Type 0 = λ left. reports left ≡ reports file in
     let short : length file < 2 = omega (arith, c.requires.len, c.if-len-lt2.true) in
     let one = changes device (IsTorn 0 1) old c.write_at.new.self P (g.met.D.Disk.only_now old) c.requires.durable refl c.write_at.ensures.time c.write_at.ensures.outcomes
-    (λ left torn. torn_tells file left short torn) in
+    (λ left torn. torn_reports file left short torn) in
     (then_same device old c.write_at.new.self c.sync.new.self P one c.sync.ensures.time c.sync.ensures.outcomes).moments
 
-pub returns-in_err-cut-clause-telling : goal.returns-in_err-cut-clause-telling
-returns-in_err-cut-clause-telling g c =
+pub returns-in_ok-sync-clause-reporting : goal.returns-in_ok-sync-clause-reporting
+returns-in_ok-sync-clause-reporting g c =
     let device = g.D.Disk.device in
     let old = c.args.disk.now in
     let file = device.content old in
-    let P : List ℕ → Type 0 = λ left. tells left ≡ tells file in
+    let P : List ℕ → Type 0 = λ left. reports left ≡ reports file in
+    let short : length file < 2 = omega (arith, c.requires.len, c.if-len-lt2.true) in
+    let one = changes device (IsTorn 0 1) old c.write_at.new.self P (g.met.D.Disk.only_now old) c.requires.durable refl c.write_at.ensures.time c.write_at.ensures.outcomes
+    (λ left torn. torn_reports file left short torn) in
+    (then_same device old c.write_at.new.self c.sync.new.self P one c.sync.ensures.time c.sync.ensures.outcomes).moments
+
+pub returns-in_err-cut-clause-reporting : goal.returns-in_err-cut-clause-reporting
+returns-in_err-cut-clause-reporting g c =
+    let device = g.D.Disk.device in
+    let old = c.args.disk.now in
+    let file = device.content old in
+    let P : List ℕ → Type 0 = λ left. reports left ≡ reports file in
     let long : 2 ≤ length file = omega (arith, c.requires.len, c.if-len-lt2.false) in
     (changes device (IsCut (c.args.gate + 1)) old c.cut.new.self P (g.met.D.Disk.only_now old) c.requires.durable refl c.cut.ensures.time c.cut.ensures.outcomes
-    (λ left cut. cut_tells file left c.args.gate c.requires.found long cut)).moments
+    (λ left cut. cut_reports file left c.args.gate c.requires.found long cut)).moments
 
-pub returns-in_err-sync-2-clause-telling : goal.returns-in_err-sync-2-clause-telling
-returns-in_err-sync-2-clause-telling g c =
+pub returns-in_err-sync-2-clause-reporting : goal.returns-in_err-sync-2-clause-reporting
+returns-in_err-sync-2-clause-reporting g c =
     let device = g.D.Disk.device in
     let old = c.args.disk.now in
     let file = device.content old in
-    let P : List ℕ → Type 0 = λ left. tells left ≡ tells file in
+    let P : List ℕ → Type 0 = λ left. reports left ≡ reports file in
     let long : 2 ≤ length file = omega (arith, c.requires.len, c.if-len-lt2.false) in
     let one = changes device (IsCut (c.args.gate + 1)) old c.cut.new.self P (g.met.D.Disk.only_now old) c.requires.durable refl c.cut.ensures.time c.cut.ensures.outcomes
-    (λ left cut. cut_tells file left c.args.gate c.requires.found long cut) in
+    (λ left cut. cut_reports file left c.args.gate c.requires.found long cut) in
     (then_same device old c.cut.new.self c.sync-then-len-gate.new.self P one c.sync-then-len-gate.ensures.time c.sync-then-len-gate.ensures.outcomes).moments
 
-pub returns-in_ok-sync-2-clause-telling : goal.returns-in_ok-sync-2-clause-telling
-returns-in_ok-sync-2-clause-telling g c =
+pub returns-in_ok-sync-2-clause-reporting : goal.returns-in_ok-sync-2-clause-reporting
+returns-in_ok-sync-2-clause-reporting g c =
     let device = g.D.Disk.device in
     let old = c.args.disk.now in
     let file = device.content old in
-    let P : List ℕ → Type 0 = λ left. tells left ≡ tells file in
+    let P : List ℕ → Type 0 = λ left. reports left ≡ reports file in
     let long : 2 ≤ length file = omega (arith, c.requires.len, c.if-len-lt2.false) in
     let one = changes device (IsCut (c.args.gate + 1)) old c.cut.new.self P (g.met.D.Disk.only_now old) c.requires.durable refl c.cut.ensures.time c.cut.ensures.outcomes
-    (λ left cut. cut_tells file left c.args.gate c.requires.found long cut) in
+    (λ left cut. cut_reports file left c.args.gate c.requires.found long cut) in
     (then_same device old c.cut.new.self c.sync-then-len-gate.new.self P one c.sync-then-len-gate.ensures.time c.sync-then-len-gate.ensures.outcomes).moments
 
-pub returns-in_ok-sync-clause-tells : goal.returns-in_ok-sync-clause-tells
-returns-in_ok-sync-clause-tells g c =
+pub returns-in_ok-sync-clause-reports : goal.returns-in_ok-sync-clause-reports
+returns-in_ok-sync-clause-reports g c =
     let file = g.D.Disk.device.content c.args.disk.now in
     let short : length file < 2 = omega (arith, c.requires.len, c.if-len-lt2.true) in
     let size = (repaired_short file c.args.gate c.requires.found short _ (c.sync.ensures.content ∙ c.in_ok-write_at.ensures.content)).content.short short in
-    ap tells size ∙ tells_short (0 ∷ []) (omega arith) ∙ sym (tells_short file short)
+    ap reports size ∙ reports_short (0 ∷ []) (omega arith) ∙ sym (reports_short file short)
 
-pub returns-in_ok-sync-2-clause-tells : goal.returns-in_ok-sync-2-clause-tells
-returns-in_ok-sync-2-clause-tells g c =
+pub returns-in_ok-sync-2-clause-reports : goal.returns-in_ok-sync-2-clause-reports
+returns-in_ok-sync-2-clause-reports g c =
     let device = g.D.Disk.device in
     let file = device.content c.args.disk.now in
     let long : 2 ≤ length file = omega (arith, c.requires.len, c.if-len-lt2.false) in
-    ap tells (c.sync-then-len-gate.ensures.content ∙ c.in_ok-cut.ensures.content) ∙ cut_tells file (take (c.args.gate + 1) file) c.args.gate c.requires.found long (cut_whole (c.args.gate + 1) file)
+    ap reports (c.sync-then-len-gate.ensures.content ∙ c.in_ok-cut.ensures.content) ∙ cut_reports file (take (c.args.gate + 1) file) c.args.gate c.requires.found long (cut_whole
+    (c.args.gate + 1) file)

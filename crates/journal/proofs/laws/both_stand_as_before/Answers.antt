@@ -1,4 +1,4 @@
-use Rattle.journal.proofs.Telling.{both_stand_as_before}
+use Rattle.journal.proofs.Reporting.{both_stand_as_before}
 use Rattle.journal.proofs.laws.both_stand_as_before.Goals as goal
 
 pub returns : goal.returns

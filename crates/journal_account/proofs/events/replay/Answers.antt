@@ -6,7 +6,7 @@ use Rattle.spec_model.specs.States.{State}
 use Rattle.validator.specs.Setting.{node_of}
 use Rattle.validator.specs.Standing.{AreAtSound}
 use Rattle.opening.specs.Decoded.{read_event, StandsAt}
-use Rattle.opening.proofs.Telling.{here}
+use Rattle.opening.proofs.Reporting.{here}
 use Rattle.journal_account.proofs.Reached.{reached_first, reached_next, reached_end, fails_there}
 use Rattle.journal_account.proofs.events.replay.Goals as goal
 

@@ -4,7 +4,7 @@ use Rattle.journal.specs.Format.{FailsAs}
 use Rattle.spec_machine.specs.Machine.{after, answered}
 use Rattle.validator.specs.Setting.{node_of}
 use Rattle.opening.specs.Decoded.{event_in, read_event}
-use Rattle.opening.proofs.Telling.{read_none, read_new, read_old, new_answer, old_answer, fails_by, err_weaker}
+use Rattle.opening.proofs.Reporting.{read_none, read_new, read_old, new_answer, old_answer, fails_by, err_weaker}
 use Rattle.journal_account.proofs.events.take_event.Goals as goal
 
 pub returns-in_default-clause-err : goal.returns-in_default-clause-err

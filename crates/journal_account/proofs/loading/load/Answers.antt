@@ -10,8 +10,8 @@ use Rattle.spec_checkpoint.specs.Reading.{checkpoint_read}
 use Rattle.spec_world.specs.World.{bytes_of}
 use Rattle.validator.specs.Setting.{node_of}
 use Rattle.opening.specs.Decoded.{read_state, StandsAt}
-use Rattle.opening.proofs.PairTelling.{state_read}
-use Rattle.opening.proofs.Telling.{here}
+use Rattle.opening.proofs.PairReporting.{state_read}
+use Rattle.opening.proofs.Reporting.{here}
 use Rattle.journal_account.proofs.States.{load_fails, rows_split}
 use Rattle.journal_account.proofs.loading.load.Goals as goal
 

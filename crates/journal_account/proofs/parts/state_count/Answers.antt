@@ -1,7 +1,7 @@
 use Rattle.std.proofs.Common.{drop, sym, subst, arith}
 use Rattle.std.proofs.lemmas.List.{drop_all}
 use Rattle.std.proofs.lemmas.List.Elements.{All-more}
-use Rattle.opening.proofs.Telling.{here}
+use Rattle.opening.proofs.Reporting.{here}
 use Rattle.journal_account.proofs.States.{Ends, IsState, events_left, state_taken}
 use Rattle.journal_account.proofs.parts.state_count.Goals as goal
 

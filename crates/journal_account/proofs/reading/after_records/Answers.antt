@@ -7,7 +7,7 @@ use Rattle.validator.specs.Setting.{node_of}
 use Rattle.validator.specs.Standing.{AreAtSound}
 use Rattle.opening.specs.Decoded.{read_events, StandsAt}
 use Rattle.journal_account.specs.Accounts.{events_in}
-use Rattle.journal_account.proofs.Accounting.{begin_tells, events_tell, found_as, found_at, read_on}
+use Rattle.journal_account.proofs.Accounting.{begin_reports, events_report, found_as, found_at, read_on}
 use Rattle.journal_account.proofs.reading.after_records.Given as given
 use Rattle.journal_account.proofs.reading.after_records.Goals as goal
 
@@ -15,7 +15,7 @@ pub returns-in_err-validator-clause-err : goal.returns-in_err-validator-clause-e
 returns-in_err-validator-clause-err g c =
     let node = node_of g.S.Sign.scheme c.args.config.now in
     let p = err_from_is_err_and c.from_residual.result c.from_residual.ensures.1 in
-    rw (p.1, p.2) (begin_tells node c.args.records.now c.in_err-validator.field-0.0.error c.in_err-validator.ensures.err)
+    rw (p.1, p.2) (begin_reports node c.args.records.now c.in_err-validator.field-0.0.error c.in_err-validator.ensures.err)
 
 pub returns-in_err-replay-clause-err : goal.returns-in_err-replay-clause-err
 returns-in_err-replay-clause-err g c =
@@ -28,7 +28,7 @@ returns-in_err-replay-clause-err g c =
     let fails = subst (λ s. (state : State) → AreAtSound (node_of scheme s) validator.tables state → FailsAs error (read_events (node_of scheme s) state c.events_of.result.now))
     c.in_ok-validator.ensures.setting c.in_err-replay.ensures.err in
     let p = err_from_is_err_and c.from_residual-in_err-replay.result c.from_residual-in_err-replay.ensures.1 in
-    rw (p.1, p.2) (events_tell node records begun.state error begun.is_read
+    rw (p.1, p.2) (events_report node records begun.state error begun.is_read
     (subst (λ (l : List Record). FailsAs error (read_events node begun.state l)) c.events_of.ensures (fails begun.state begun.at)))
 
 -- the tables stand where the events lead from the state with which the records begin

@@ -4,7 +4,7 @@ use Rattle.spec_machine.specs.Machine.{fresh}
 use Rattle.spec_model.specs.States.{State}
 use Rattle.validator.specs.Setting.{node_of}
 use Rattle.opening.specs.Decoded.{read_state, StandsAt}
-use Rattle.opening.proofs.Telling.{err_weaker, ok_weaker}
+use Rattle.opening.proofs.Reporting.{err_weaker, ok_weaker}
 use Rattle.journal_account.proofs.Accounting.{base_none, base_some}
 use Rattle.journal_account.proofs.reading.begun_by.Goals as goal
 

@@ -3,14 +3,14 @@ use Rattle.std.proofs.lemmas.Result.{err_from_is_err_and}
 use Rattle.validator.specs.Setting.{node_of}
 use Rattle.journal_account.specs.Accounts.{IsReadAt, Sums}
 use Rattle.journal_account.specs.declared.summary.Summary.{Summary}
-use Rattle.journal_account.proofs.Accounting.{summed, tells_areas}
+use Rattle.journal_account.proofs.Accounting.{summed, reports_areas}
 use Rattle.journal_account.proofs.summary.summary_of.Goals as goal
 
 pub returns-in_err-validator-clause-err : goal.returns-in_err-validator-clause-err
 returns-in_err-validator-clause-err g c = λ areas two is.
     let node = node_of g.S.Sign.scheme c.args.config.now in
     let p = err_from_is_err_and c.from_residual.result c.from_residual.ensures.1 in
-    rw (p.1, p.2) (tells_areas node areas c.args.records.now c.in_err-validator.field-0.0.error two is c.in_err-validator.ensures.err)
+    rw (p.1, p.2) (reports_areas node areas c.args.records.now c.in_err-validator.field-0.0.error two is c.in_err-validator.ensures.err)
 
 pub returns-clause-ok : goal.returns-clause-ok
 returns-clause-ok g c = λ areas two is.

@@ -1,7 +1,7 @@
 use Rattle.std.proofs.Common.{arith}
 use Rattle.std.proofs.lemmas.List.{drop_all}
 use Rattle.journal_account.specs.Accounts.{given_in}
-use Rattle.opening.proofs.Telling.{here}
+use Rattle.opening.proofs.Reporting.{here}
 use Rattle.journal_account.proofs.Accounting.{made_next, made_end}
 use Rattle.journal_account.proofs.votes.given_in_each.Goals as goal
 

@@ -9,15 +9,15 @@ use Rattle.validator.specs.Standing.{AreAtSound}
 use Rattle.opening.specs.Decoded.{read_events, StandsAt}
 use Rattle.journal_account.specs.Accounts.{AreKeptVotes, given_in}
 use Rattle.journal_account.specs.declared.votes.Given.{Given}
-use Rattle.journal_account.proofs.Accounting.{begin_tells, events_tell, found_as, tells_areas, voted}
+use Rattle.journal_account.proofs.Accounting.{begin_reports, events_report, found_as, reports_areas, voted}
 use Rattle.journal_account.proofs.votes.votes_of.Goals as goal
 
 pub returns-in_err-validator-clause-err : goal.returns-in_err-validator-clause-err
 returns-in_err-validator-clause-err g c = λ areas two is.
     let node = node_of g.S.Sign.scheme c.args.config.now in
     let p = err_from_is_err_and c.from_residual.result c.from_residual.ensures.1 in
-    rw (p.1, p.2) (tells_areas node areas c.args.records.now c.in_err-validator.field-0.0.error two is
-    (begin_tells node c.args.records.now c.in_err-validator.field-0.0.error c.in_err-validator.ensures.err))
+    rw (p.1, p.2) (reports_areas node areas c.args.records.now c.in_err-validator.field-0.0.error two is
+    (begin_reports node c.args.records.now c.in_err-validator.field-0.0.error c.in_err-validator.ensures.err))
 
 pub returns-in_err-replay-clause-err : goal.returns-in_err-replay-clause-err
 returns-in_err-replay-clause-err g c = λ areas two is.
@@ -30,7 +30,7 @@ returns-in_err-replay-clause-err g c = λ areas two is.
     let fails = subst (λ s. (state : State) → AreAtSound (node_of scheme s) validator.tables state → FailsAs error (read_events (node_of scheme s) state c.events_of-events.result.now))
     c.in_ok-validator.ensures.setting c.in_err-replay.ensures.err in
     let p = err_from_is_err_and c.from_residual-in_err-replay.result c.from_residual-in_err-replay.ensures.1 in
-    rw (p.1, p.2) (tells_areas node areas records error two is (events_tell node records begun.state error begun.is_read
+    rw (p.1, p.2) (reports_areas node areas records error two is (events_report node records begun.state error begun.is_read
     (subst (λ (l : List Record). FailsAs error (read_events node begun.state l)) c.events_of-events.ensures (fails begun.state begun.at))))
 
 pub returns-clause-ok : goal.returns-clause-ok

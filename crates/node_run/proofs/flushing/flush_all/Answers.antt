@@ -5,9 +5,9 @@ use Rattle.journal.specs.Stores.{faults_in}
 use Rattle.journal.specs.declared.error.JournalError.{JournalError}
 use Rattle.flusher.specs.Rounds.{journal_of, is_down, settled_in}
 use Rattle.flusher.specs.declared.flusher.Flusher.{Flusher}
-use Rattle.node_run.specs.Ends.{TellsJournal}
+use Rattle.node_run.specs.Ends.{ReportsJournal}
 use Rattle.node_run.specs.Rewriting.{ByTheRule, HasCheckpoint, HasNoPlace, point_of}
-use Rattle.node_run.proofs.Flushed.{told_on}
+use Rattle.node_run.proofs.Flushed.{reported_on}
 use Rattle.node_run.proofs.Moments.{all_on}
 use Rattle.node_run.proofs.Pending.{by_rule_on, by_rule_weaker}
 use Rattle.node_seats.proofs.Beginnings.{begins_trans}
@@ -23,8 +23,8 @@ loop-preserved g c =
     let lacks = λ (f : Flusher g.row.D.Denot). HasNoPlace g.S.Sign.scheme g.D.Disk.device c.args.rounds.now.node f in
     let faults = λ (f : Flusher g.row.D.Denot). faults_in g.D.Disk.device (store_of (journal_of f)) in
     let done = c.flush_pending.ensures in
-    let told = subst (λ (j : Option JournalError). TellsJournal (faults first) (faults now) (is_down first) (is_down now) j (lacks now)) (sym c.and-faults.ensures.journal)
-    (told_on (faults first) (faults mid) (faults now) (is_down first) (is_down mid) (is_down now) c.loop.faults.journal c.flush_pending.result.journal (lacks mid) (lacks now) c.loop.invariant.4
+    let reported = subst (λ (j : Option JournalError). ReportsJournal (faults first) (faults now) (is_down first) (is_down now) j (lacks now)) (sym c.and-faults.ensures.journal)
+    (reported_on (faults first) (faults mid) (faults now) (is_down first) (is_down mid) (is_down now) c.loop.faults.journal c.flush_pending.result.journal (lacks mid) (lacks now) c.loop.invariant.4
     done.rounds done.down
     (λ down. let it = done.stays down in (it.0, subst (λ (f : Flusher g.row.D.Denot). IsTrue (is_down f)) (sym it.1) down, subst lacks (sym it.1)))
     (λ up is. subst (λ (n : NodeView g.row.S.Denot). HasNoPlace g.S.Sign.scheme g.D.Disk.device n now) c.loop.invariant.5 (done.full up is))) in
@@ -34,13 +34,14 @@ loop-preserved g c =
     (λ down. (done.stays down).1) done.any_moment done.at_end done.earlier in
     let Made = HasCheckpoint g.S.Sign.scheme g.D.Disk.device c.args.rounds.now.node in
     let by_rule = λ (up : is_down mid ≡ false) (none : c.flush_pending.result.journal ≡ None).
-    subst (λ (n : NodeView g.row.S.Denot). ByTheRule g.D.Disk.device (HasCheckpoint g.S.Sign.scheme g.D.Disk.device n) c.loop.rule c.flush_pending.new.missed (point_of mid) c.flush_pending.new.rule (point_of now))
+    subst (λ (n : NodeView g.row.S.Denot). ByTheRule g.D.Disk.device (HasCheckpoint g.S.Sign.scheme g.D.Disk.device n) c.loop.rule c.flush_pending.new.missed
+    (point_of mid) c.flush_pending.new.rule (point_of now))
     c.loop.invariant.5 (done.by_rule up none) in (
       tt,
       tt,
       output,
       input,
-      told,
+      reported,
       done.node ∙ c.loop.invariant.5,
       begins_trans (settled_in first) (settled_in mid) (settled_in now) c.loop.invariant.6 done.more,
       inr leaves,
@@ -57,12 +58,12 @@ returns-then-not-may_go_on-clause-journal g c =
     let lacks = λ (f : Flusher g.row.D.Denot). HasNoPlace g.S.Sign.scheme g.D.Disk.device c.args.rounds.now.node f in
     let faults = λ (f : Flusher g.row.D.Denot). faults_in g.D.Disk.device (store_of (journal_of f)) in
     let done = c.flush_pending.ensures in
-    let told = subst (λ (j : Option JournalError). TellsJournal (faults first) (faults now) (is_down first) (is_down now) j (lacks now)) (sym c.and-faults.ensures.journal)
-    (told_on (faults first) (faults mid) (faults now) (is_down first) (is_down mid) (is_down now) c.loop.faults.journal c.flush_pending.result.journal (lacks mid) (lacks now) c.loop.invariant.4
+    let reported = subst (λ (j : Option JournalError). ReportsJournal (faults first) (faults now) (is_down first) (is_down now) j (lacks now)) (sym c.and-faults.ensures.journal)
+    (reported_on (faults first) (faults mid) (faults now) (is_down first) (is_down mid) (is_down now) c.loop.faults.journal c.flush_pending.result.journal (lacks mid) (lacks now) c.loop.invariant.4
     done.rounds done.down
     (λ down. let it = done.stays down in (it.0, subst (λ (f : Flusher g.row.D.Denot). IsTrue (is_down f)) (sym it.1) down, subst lacks (sym it.1)))
     (λ up is. subst (λ (n : NodeView g.row.S.Denot). HasNoPlace g.S.Sign.scheme g.D.Disk.device n now) c.loop.invariant.5 (done.full up is))) in
-    told
+    reported
 
 pub returns-then-not-may_go_on-clause-any_moment : goal.returns-then-not-may_go_on-clause-any_moment
 returns-then-not-may_go_on-clause-any_moment g c = λ up.
@@ -88,7 +89,8 @@ returns-then-not-may_go_on-clause-by_rule g c = λ up none.
     let faults = λ (f : Flusher g.row.D.Denot). faults_in g.D.Disk.device (store_of (journal_of f)) in
     let Made = HasCheckpoint g.S.Sign.scheme g.D.Disk.device c.args.rounds.now.node in
     let by_rule = λ (up : is_down mid ≡ false) (none : c.flush_pending.result.journal ≡ None).
-    subst (λ (n : NodeView g.row.S.Denot). ByTheRule g.D.Disk.device (HasCheckpoint g.S.Sign.scheme g.D.Disk.device n) c.loop.rule c.flush_pending.new.missed (point_of mid) c.flush_pending.new.rule (point_of now))
+    subst (λ (n : NodeView g.row.S.Denot). ByTheRule g.D.Disk.device (HasCheckpoint g.S.Sign.scheme g.D.Disk.device n) c.loop.rule c.flush_pending.new.missed
+    (point_of mid) c.flush_pending.new.rule (point_of now))
     c.loop.invariant.5 (c.flush_pending.ensures.by_rule up none) in (
       c.flush_pending.new.rule,
       by_rule_weaker g.D.Disk.device Made Made c.args.rule c.flush_pending.new.rule c.flush_pending.new.missed c.if-faults.result (point_of first) (point_of now) (λ point made. made) raised

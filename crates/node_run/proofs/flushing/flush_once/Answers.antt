@@ -16,7 +16,7 @@ returns-in-Ok-eq0 g c =
     record {
       once = subst (λ (r : Result ℕ FlushError). FlushesOnce g.S.Sign.scheme g.D.Disk.device c.args.rule.now c.args.rule.now c.args.missed.now c.args.rounds.now round.new.self r) ok
           (once_over g.S.Sign.scheme g.D.Disk.device g.met.D.Disk.counts_now c.args.rule.now c.args.missed.now c.args.rounds.now round.new.self round.result (subst IsOver (sym ok) refl)
-          round.ensures.node round.ensures.down round.ensures.told round.ensures.settles round.ensures.room round.ensures.flushes round.ensures.nothing round.ensures.alive);
+          round.ensures.node round.ensures.down round.ensures.reported round.ensures.settles round.ensures.room round.ensures.flushes round.ensures.nothing round.ensures.alive);
       missed = λ is. is;
     }
 
@@ -34,7 +34,7 @@ returns-in-Ok-rewrite_if_due g c =
           (with_count count r))
           c.in-Ok-rewrite_if_due.is
           (once_both g.S.Sign.scheme g.D.Disk.device g.met.D.Disk.counts_now c.args.rule.now c.args.missed.now c.args.rounds.now round.new.self rewritten.new.rounds rewritten.new.rule count
-          round.ensures.node (subst (λ (r : Result ℕ FlushError). GoesDown c.args.rounds.now.flusher round.new.self.flusher r) c.in-Ok.is round.ensures.down) round.ensures.told.more
+          round.ensures.node (subst (λ (r : Result ℕ FlushError). GoesDown c.args.rounds.now.flusher round.new.self.flusher r) c.in-Ok.is round.ensures.down) round.ensures.reported.more
           (subst (λ (r : Result ℕ FlushError). TakesAndSettles c.args.rounds.now.seat round.new.self.seat c.args.rounds.now.flusher round.new.self.flusher r) c.in-Ok.is round.ensures.settles)
           (subst (λ (r : Result ℕ FlushError). Flushes g.S.Sign.scheme g.D.Disk.device c.args.rounds.now.node c.args.rounds.now.flusher round.new.self.flusher r) c.in-Ok.is round.ensures.flushes)
           round.ensures.spare (subst (λ (r : Result ℕ FlushError). IfOk r (λ n. 0 < n → AddsSettled g.D.Disk.device c.args.rounds.now.flusher round.new.self.flusher)) c.in-Ok.is round.ensures.adds)
@@ -52,7 +52,7 @@ returns-in-Err-Memory g c =
     record {
       once =
           once_without g.S.Sign.scheme g.D.Disk.device g.met.D.Disk.counts_now c.args.rule.now true c.args.rounds.now round.new.self rewritten.new.rounds rewritten.new.rule count
-          round.ensures.node (subst (λ (r : Result ℕ FlushError). GoesDown c.args.rounds.now.flusher round.new.self.flusher r) c.in-Ok.is round.ensures.down) round.ensures.told.more
+          round.ensures.node (subst (λ (r : Result ℕ FlushError). GoesDown c.args.rounds.now.flusher round.new.self.flusher r) c.in-Ok.is round.ensures.down) round.ensures.reported.more
           (subst (λ (r : Result ℕ FlushError). TakesAndSettles c.args.rounds.now.seat round.new.self.seat c.args.rounds.now.flusher round.new.self.flusher r) c.in-Ok.is round.ensures.settles)
           (subst (λ (r : Result ℕ FlushError). Flushes g.S.Sign.scheme g.D.Disk.device c.args.rounds.now.node c.args.rounds.now.flusher round.new.self.flusher r) c.in-Ok.is round.ensures.flushes)
           round.ensures.spare (subst (λ (r : Result ℕ FlushError). IfOk r (λ n. 0 < n → AddsSettled g.D.Disk.device c.args.rounds.now.flusher round.new.self.flusher)) c.in-Ok.is round.ensures.adds)
@@ -74,7 +74,7 @@ returns-in-Err-rewrite_if_due g c =
           (with_count count r))
           c.in-Err-rewrite_if_due.is
           (once_both g.S.Sign.scheme g.D.Disk.device g.met.D.Disk.counts_now c.args.rule.now c.args.missed.now c.args.rounds.now round.new.self rewritten.new.rounds rewritten.new.rule count
-          round.ensures.node (subst (λ (r : Result ℕ FlushError). GoesDown c.args.rounds.now.flusher round.new.self.flusher r) c.in-Ok.is round.ensures.down) round.ensures.told.more
+          round.ensures.node (subst (λ (r : Result ℕ FlushError). GoesDown c.args.rounds.now.flusher round.new.self.flusher r) c.in-Ok.is round.ensures.down) round.ensures.reported.more
           (subst (λ (r : Result ℕ FlushError). TakesAndSettles c.args.rounds.now.seat round.new.self.seat c.args.rounds.now.flusher round.new.self.flusher r) c.in-Ok.is round.ensures.settles)
           (subst (λ (r : Result ℕ FlushError). Flushes g.S.Sign.scheme g.D.Disk.device c.args.rounds.now.node c.args.rounds.now.flusher round.new.self.flusher r) c.in-Ok.is round.ensures.flushes)
           round.ensures.spare (subst (λ (r : Result ℕ FlushError). IfOk r (λ n. 0 < n → AddsSettled g.D.Disk.device c.args.rounds.now.flusher round.new.self.flusher)) c.in-Ok.is round.ensures.adds)
@@ -89,6 +89,6 @@ returns-in-Err g c =
     record {
       once = subst (λ (r : Result ℕ FlushError). FlushesOnce g.S.Sign.scheme g.D.Disk.device c.args.rule.now c.args.rule.now c.args.missed.now c.args.rounds.now round.new.self r) c.in-Err.is
           (once_over g.S.Sign.scheme g.D.Disk.device g.met.D.Disk.counts_now c.args.rule.now c.args.missed.now c.args.rounds.now round.new.self round.result (subst IsOver (sym c.in-Err.is) tt)
-          round.ensures.node round.ensures.down round.ensures.told round.ensures.settles round.ensures.room round.ensures.flushes round.ensures.nothing round.ensures.alive);
+          round.ensures.node round.ensures.down round.ensures.reported round.ensures.settles round.ensures.room round.ensures.flushes round.ensures.nothing round.ensures.alive);
       missed = λ is. is;
     }

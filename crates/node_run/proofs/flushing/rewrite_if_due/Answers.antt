@@ -15,6 +15,6 @@ returns-in_err-rewritten g c =
     record {
       rewrites = was_due g.S.Sign.scheme g.D.Disk.device c.args.rule.now c.args.rule.now c.args.rounds.now checkpoint.new.self checkpoint.result c.from_residual.result pair due same
           checkpoint.ensures.node
-          checkpoint.ensures.down checkpoint.ensures.told checkpoint.ensures.flushes checkpoint.ensures.swapped checkpoint.ensures.writes (search rules) (search rules) checkpoint.ensures.room
+          checkpoint.ensures.down checkpoint.ensures.reported checkpoint.ensures.flushes checkpoint.ensures.swapped checkpoint.ensures.writes (search rules) (search rules) checkpoint.ensures.room
           (checkpoint.ensures.alive c.requires.up);
     }

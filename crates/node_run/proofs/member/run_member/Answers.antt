@@ -37,7 +37,7 @@ returns-in-Err-clause-runs g c =
     let opening = c.in-Err.ensures.opening in
     let failed = c.in-Err.field-0 in
     subst (λ (ending : Ending). RunsOver node g.D.Disk.device c.args.store c.args.every ending (Some failed.disk)) (sym c.from.ensures)
-    (not_opened g.S.Sign.scheme g.D.Disk.device node c.args.store failed.disk c.args.every failed.error opening.tells opening.cause.1 opening.any_moment opening.never_refused opening.full)
+    (not_opened g.S.Sign.scheme g.D.Disk.device node c.args.store failed.disk c.args.every failed.error opening.reports opening.cause.1 opening.any_moment opening.never_refused opening.full)
 
 pub returns-in-Ok-new-clause-runs : goal.returns-in-Ok-new-clause-runs
 returns-in-Ok-new-clause-runs g c =
@@ -68,11 +68,13 @@ returns-in-Ok-new-clause-runs g c =
     (ap (λ (s : NodeView g.row.S.Denot). nodes s.setting) shared ∙ ap nodes started.setting)
     (subst (λ (s : NodeView g.row.S.Denot). StandsAt node (decoded_in node (areas_in device c.args.store)) s.begun) (sym shared) started.begins)
     (ap (faults_in device) store ∙ started.opening.cause.0)
-    c.run_threads-store.ensures.told c.run_threads-store.ensures.lost opening leaves
+    c.run_threads-store.ensures.reported c.run_threads-store.ensures.lost opening leaves
     (subst (λ (f : Flusher g.row.D.Denot). KeepsStatesIn node (areas_in device c.args.store) (areas_of device (journal_of f))) (sym flusher) started.kept)
     (subst (λ (f : Flusher g.row.D.Denot). IsReadIn node device c.args.store (journal_of f)) (sym flusher) started.disks) alive
-    (λ none. subst (λ (p : Point g.row.D.Denot). IfSome left (ComesByRule device (HasCheckpoint g.S.Sign.scheme device rounds.node) (rule_on device c.args.store c.args.every (journal_of rounds.flusher)) c.run_threads-store.result.0.memory p)) point
-    (subst (λ (r : Rule). IfSome left (ComesByRule device (HasCheckpoint g.S.Sign.scheme device rounds.node) r c.run_threads-store.result.0.memory (point_of rounds.flusher))) rule (c.run_threads-store.ensures.by_rule up none)))
+    (λ none. subst (λ (p : Point g.row.D.Denot). IfSome left (ComesByRule device (HasCheckpoint g.S.Sign.scheme device rounds.node) (rule_on device c.args.store c.args.every
+    (journal_of rounds.flusher)) c.run_threads-store.result.0.memory p)) point
+    (subst (λ (r : Rule). IfSome left (ComesByRule device (HasCheckpoint g.S.Sign.scheme device rounds.node) r c.run_threads-store.result.0.memory (point_of rounds.flusher))) rule
+    (c.run_threads-store.ensures.by_rule up none)))
     c.run_threads-store.ensures.full)
 
 pub returns-clause-runs : goal.returns-clause-runs

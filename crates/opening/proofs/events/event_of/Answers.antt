@@ -1,7 +1,7 @@
 use Rattle.std.proofs.Common.{drop, ap, sym, subst, ◌∙◌}
 use Rattle.std.proofs.lemmas.List.{take_rest}
 use Rattle.opening.specs.Decoded.{checked_in, if_passed, sender_in}
-use Rattle.opening.proofs.Telling.{ok_weaker, event_short, event_other, event_is, unread_none}
+use Rattle.opening.proofs.Reporting.{ok_weaker, event_short, event_other, event_is, unread_none}
 use Rattle.opening.proofs.events.event_of.Goals as goal
 use Rattle.opening.proofs.events.event_of.Goals.{then-bytes-lt-FRONT_BYTES-via-then-bytes-lt-FRONT_BYTES, then-bytes-lt-FRONT_BYTES-via-else-bytes-lt-FRONT_BYTES+then-bytes-ne-EVENT}
 use Rattle.wire.specs.Reading.{Faults, message_of}

@@ -4,7 +4,7 @@ use Rattle.validator.specs.Setting.{ConfigView}
 use Rattle.opening.specs.PairReplayed.{IsStandingBefore, HasReached}
 use Rattle.opening.specs.declared.reached.Reached.{Reached}
 use Rattle.opening.proofs.PairReplays.{goes_on, stayed}
-use Rattle.opening.proofs.Telling.{ok_weaker}
+use Rattle.opening.proofs.Reporting.{ok_weaker}
 use Rattle.opening.proofs.pair_replay.next.Goals as goal
 
 pub returns-in-Standing : goal.returns-in-Standing

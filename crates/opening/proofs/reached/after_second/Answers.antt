@@ -6,7 +6,7 @@ use Rattle.validator.specs.Loading.{LoadingView}
 use Rattle.validator.specs.Setting.{ConfigView}
 use Rattle.opening.specs.PairReplayed.{IsStandingBefore, HasReached, IsPut}
 use Rattle.opening.proofs.PairReplays.{begins_state, begins_events}
-use Rattle.opening.proofs.Telling.{ok_weaker}
+use Rattle.opening.proofs.Reporting.{ok_weaker}
 use Rattle.opening.proofs.reached.after_second.Goals as goal
 
 pub returns-in_ok-own : goal.returns-in_ok-own

@@ -5,7 +5,7 @@ use Rattle.spec_checkpoint.proofs.Loadable.{read_as_written}
 use Rattle.validator.specs.Setting.{ConfigView}
 use Rattle.opening.specs.PairReplayed.{IsStandingBefore, HasReached, IsPut}
 use Rattle.opening.proofs.PairReplays.{put_more, ends_state, ends_fault}
-use Rattle.opening.proofs.Telling.{ok_weaker}
+use Rattle.opening.proofs.Reporting.{ok_weaker}
 use Rattle.opening.proofs.reached.after_state.Goals as goal
 
 pub returns-then-not-is_event : goal.returns-then-not-is_event

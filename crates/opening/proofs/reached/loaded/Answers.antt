@@ -8,7 +8,7 @@ use Rattle.validator.specs.Setting.{node_of}
 use Rattle.opening.specs.PairReplayed.{error_at}
 use Rattle.opening.specs.Decoded.{read_state}
 use Rattle.opening.proofs.PairReplays.{load_fails}
-use Rattle.opening.proofs.PairTelling.{state_read}
+use Rattle.opening.proofs.PairReporting.{state_read}
 use Rattle.opening.proofs.reached.loaded.Goals as goal
 
 pub returns-in-Ok-clause-stands : goal.returns-in-Ok-clause-stands

@@ -6,4 +6,4 @@ pub returns : goal.returns
 returns g c = λ bytes is.
     let node = node_of g.S.Sign.scheme c.args.config.now in
     let found = c.worlds_are_decoded.ensures node is.moves is.world bytes c.limits_hold.ensures c.keys_hold.ensures is.run is.may_stop in
-    (kept node found.history, found.is_told)
+    (kept node found.history, found.is_decoded)

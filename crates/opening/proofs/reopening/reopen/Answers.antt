@@ -6,8 +6,8 @@ use Rattle.journal.specs.declared.error.JournalError.TheVariants.{Device}
 use Rattle.journal.specs.declared.version.Version.TheVariants.{Second}
 use Rattle.validator.specs.Setting.{node_of}
 use Rattle.opening.specs.Decoded.{decoded}
-use Rattle.opening.proofs.Telling.{decoded_same, tells_same, stands_same, keeps_same, opening_fails}
-use Rattle.opening.proofs.Opened.{stands_for_at, holds_at, keeps_states, no_refusal, first_decoded, first_kept, told_on, kept_on}
+use Rattle.opening.proofs.Reporting.{decoded_same, reports_same, stands_same, keeps_same, opening_fails}
+use Rattle.opening.proofs.Opened.{stands_for_at, holds_at, keeps_states, no_refusal, first_decoded, first_kept, reported_on, kept_on}
 use Rattle.opening.proofs.reopening.reopen.Goals as goal
 
 pub returns-in-Ok-validator_on-clause-stands : goal.returns-in-Ok-validator_on-clause-stands
@@ -79,7 +79,7 @@ returns-in_err-journal-clause-opening g c =
     let p = err_from_is_err_and c.from_residual.result c.from_residual.ensures.1 in
     rw (p.1, p.2)
     (record {
-      tells = fails;
+      reports = fails;
       never_full = is.never_full;
       cause = is.cause;
       any_moment = first_decoded node device c.args.disk failed.disk is.any_moment;
@@ -96,10 +96,10 @@ returns-in-Ok-validator_on-clause-opening g c =
     let opened = c.in_ok-journal.ensures in
     let now = g.met.D.Disk.content_is_outcome c.args.disk in
     record {
-      tells = tt;
+      reports = tt;
       never_full = tt;
       cause = (c.in-Ok-validator_on.ensures.cause.0 ∙ opened.cause.0, tt);
-      any_moment = told_on node device c.args.disk middle opened.any_moment later opened.same now c.validator_on.ensures.any_moment;
+      any_moment = reported_on node device c.args.disk middle opened.any_moment later opened.same now c.validator_on.ensures.any_moment;
       keeps = kept_on node device c.args.disk middle opened.any_moment later opened.same now c.validator_on.ensures.keeps;
       never_refused = tt;
     }
@@ -115,13 +115,13 @@ returns-in-Err-clause-opening g c =
     let opened = c.in_ok-journal.ensures in
     let now = g.met.D.Disk.content_is_outcome c.args.disk in
     let error = c.in-Err.error in
-    let tells = λ (other : error ≢ Device). tells_same error (decoded node mid) (decoded node file) (decoded_same node mid file opened.same) (c.in-Err.ensures.err other) in
+    let reports = λ (other : error ≢ Device). reports_same error (decoded node mid) (decoded node file) (decoded_same node mid file opened.same) (c.in-Err.ensures.err other) in
     rw c.into_disk.ensures
     (record {
-      tells = tells;
+      reports = reports;
       never_full = c.in-Err.ensures.never_full;
       cause = (tt, (λ is. subst (λ (n : ℕ). n < device.faults later) opened.cause.0 (c.in-Err.ensures.cause.1.0 is), λ isnt. c.in-Err.ensures.cause.1.1 isnt ∙ opened.cause.0));
-      any_moment = told_on node device c.args.disk middle opened.any_moment later opened.same now c.validator_on.ensures.any_moment;
+      any_moment = reported_on node device c.args.disk middle opened.any_moment later opened.same now c.validator_on.ensures.any_moment;
       keeps = kept_on node device c.args.disk middle opened.any_moment later opened.same now c.validator_on.ensures.keeps;
-      never_refused = λ left. let found = c.outcomes_are_decoded.ensures file left in no_refusal error found.0 (decoded node file) found.1 tells;
+      never_refused = λ left. let found = c.outcomes_are_decoded.ensures file left in no_refusal error found.0 (decoded node file) found.1 reports;
     })

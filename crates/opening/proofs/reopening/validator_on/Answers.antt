@@ -9,7 +9,7 @@ use Rattle.validator.specs.Setting.{ConfigView}
 use Rattle.opening.specs.Decoded.{decoded, read_journal, StandsAt, KeepsOrBegins}
 use Rattle.opening.proofs.Opened.{same_texts}
 use Rattle.diskmodel.proofs.Clock.{started}
-use Rattle.opening.proofs.Telling.{decoded_same, decoded_records, tells_is, stands_same}
+use Rattle.opening.proofs.Reporting.{decoded_same, decoded_records, reports_is, stands_same}
 use Rattle.opening.proofs.Replays.{none_taken, some_taken, same_records}
 use Rattle.opening.proofs.reopening.validator_on.Goals as goal
 use Rattle.opening.proofs.reopening.validator_on.Goals.{then-is_empty+in_ok-write_configuration, else-is_empty}
@@ -23,7 +23,7 @@ returns-in_err-validator-clause-err g c =
     let p = err_from_is_err_and c.from_residual.result c.from_residual.ensures.1 in
     let read : read_journal node has.0 ≡ Err error =
     subst (λ (s : ConfigView g.row.S.Denot). read_journal (node_of g.S.Sign.scheme s) has.0 ≡ Err error) c.requires.config (c.in_err-validator.ensures.err has.0 has.2) in
-    rw (p.1, p.2) (λ other. tells_is error (decoded node file) (decoded_records node file has.0 has.1 ∙ read))
+    rw (p.1, p.2) (λ other. reports_is error (decoded node file) (decoded_records node file has.0 has.1 ∙ read))
 
 pub returns-clause-setting : goal.returns-clause-setting
 returns-clause-setting g c = let has = c.requires.records in c.in_ok-validator.ensures.setting has.0 has.2 ∙ c.requires.config

@@ -14,7 +14,7 @@ use Rattle.journal.specs.Configuration.{shaped_version}
 use Rattle.diskmodel.proofs.Clock.{started, weaker}
 use Rattle.opening.proofs.Empty.{never_full, begins_with}
 use Rattle.opening.proofs.Opened.{one_text}
-use Rattle.opening.proofs.Telling.{decoded_same, decoded_before_or_after}
+use Rattle.opening.proofs.Reporting.{decoded_same, decoded_before_or_after}
 use Rattle.opening.proofs.reopening.write_configuration.Goals as goal
 
 pub append-requires-clause-first : goal.append-requires-clause-first
@@ -55,7 +55,7 @@ returns-in_err-append-clause-any_moment g c =
     let old = disk_of c.args.journal.now in
     let file = g.D.Disk.device.content old in
     weaker g.D.Disk.device old (disk_of c.append.new.self) (λ left. decoded node left ≡ decoded node file) (IsBeforeOrAfter file c.in_ok-group.group) c.append.ensures.any_moment
-    (λ left is. decoded_before_or_after c.args.version node file left c.requires.can_tell
+    (λ left is. decoded_before_or_after c.args.version node file left c.requires.can_report
     ((λ i. shaped_version (configuration_of c.args.version (sym c.committee.ensures i) (sym c.own.ensures i))) ∙ c.in_ok-group.ensures.shape)
     c.requires.empty (subst (λ group. IsBeforeOrAfter file group left)
     (c.in_ok-group.ensures.group ∙ (λ i. configuration_of c.args.version (c.committee.ensures i) (c.own.ensures i) ∷ [])) is))
@@ -66,7 +66,7 @@ returns-clause-any_moment g c =
     let old = disk_of c.args.journal.now in
     let file = g.D.Disk.device.content old in
     weaker g.D.Disk.device old (disk_of c.append.new.self) (λ left. decoded node left ≡ decoded node file) (IsBeforeOrAfter file c.in_ok-group.group) c.append.ensures.any_moment
-    (λ left is. decoded_before_or_after c.args.version node file left c.requires.can_tell
+    (λ left is. decoded_before_or_after c.args.version node file left c.requires.can_report
     ((λ i. shaped_version (configuration_of c.args.version (sym c.committee.ensures i) (sym c.own.ensures i))) ∙ c.in_ok-group.ensures.shape)
     c.requires.empty (subst (λ group. IsBeforeOrAfter file group left)
     (c.in_ok-group.ensures.group ∙ (λ i. configuration_of c.args.version (c.committee.ensures i) (c.own.ensures i) ∷ [])) is))
@@ -76,7 +76,7 @@ returns-clause-same g c =
     let node = node_of g.S.Sign.scheme c.args.config.now in
     let file = g.D.Disk.device.content (disk_of c.args.journal.now) in
     let later = g.D.Disk.device.content (disk_of c.append.new.self) in
-    decoded_before_or_after c.args.version node file later c.requires.can_tell
+    decoded_before_or_after c.args.version node file later c.requires.can_report
     ((λ i. shaped_version (configuration_of c.args.version (sym c.committee.ensures i) (sym c.own.ensures i))) ∙ c.in_ok-group.ensures.shape)
     c.requires.empty
     (subst (λ group. IsBeforeOrAfter file group later)

@@ -2,8 +2,8 @@ use Rattle.std.proofs.Common.{◌∙◌, subst}
 use Rattle.journal.specs.Pairs.{spare_disk, areas_of}
 use Rattle.validator.specs.Setting.{ConfigView, node_of}
 use Rattle.opening.specs.Finished.{at_records}
-use Rattle.opening.specs.Decoded.{StandsAt, Tells, read_pair, decoded_in}
-use Rattle.opening.proofs.PairOpening.{decoded_at, tells_at}
+use Rattle.opening.specs.Decoded.{StandsAt, Reports, read_pair, decoded_in}
+use Rattle.opening.proofs.PairOpening.{decoded_at, reports_at}
 use Rattle.opening.proofs.Renewals.{areas_pair}
 use Rattle.opening.proofs.stores.finish_on.Goals as goal
 
@@ -32,6 +32,6 @@ returns-in-Err g c =
     let never = c.in-Err.ensures.never has.0 has.2 in
     let error = c.in-Err.error in
     at_records never.0 never.1
-    (tells_at node (areas_of device journal) has.0 error (areas_pair device journal (device.content (spare_disk journal)) c.requires.pair) has.1
-    (subst (λ (s : ConfigView g.row.S.Denot). Tells error (read_pair (node_of g.S.Sign.scheme s) has.0)) c.requires.config (c.in-Err.ensures.err has.0 has.2)))
+    (reports_at node (areas_of device journal) has.0 error (areas_pair device journal (device.content (spare_disk journal)) c.requires.pair) has.1
+    (subst (λ (s : ConfigView g.row.S.Denot). Reports error (read_pair (node_of g.S.Sign.scheme s) has.0)) c.requires.config (c.in-Err.ensures.err has.0 has.2)))
     c.into_store.ensures

@@ -9,7 +9,7 @@ use Rattle.validator.specs.Setting.{ConfigView, node_of}
 use Rattle.spec_world.specs.Text.{Desk, after, take_in, flush, checkpoint, Command as ScriptCommand}
 use Rattle.recovery.specs.Script.{said, is_two, Passes, CarriesOut, IsOf, Breaks}
 use Rattle.recovery.specs.declared.driving.Command.{Command}
-use Rattle.opening.proofs.Telling.{ok_weaker, err_weaker}
+use Rattle.opening.proofs.Reporting.{ok_weaker, err_weaker}
 use Rattle.recovery.proofs.commands.apply.Goals as goal
 
 pub with_event-requires-clause-stands : goal.with_event-requires-clause-stands

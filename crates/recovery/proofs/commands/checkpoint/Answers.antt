@@ -2,7 +2,7 @@ use Rattle.std.proofs.Common.{Err, ap, ◌∙◌}
 use Rattle.std.proofs.lemmas.Result.{on_ok_weaker}
 use Rattle.validator.specs.Setting.{node_of}
 use Rattle.recovery.proofs.Faults.{on_two, rewriting_cause, disks_kept}
-use Rattle.opening.proofs.Telling.{ok_weaker}
+use Rattle.opening.proofs.Reporting.{ok_weaker}
 use Rattle.recovery.proofs.Rounds.{err_with}
 use Rattle.recovery.proofs.Rewriting.{checkpoint_is, checkpoint_breaks}
 use Rattle.recovery.proofs.commands.checkpoint.Goals as goal

@@ -1,6 +1,6 @@
 use Rattle.std.proofs.Common.{◌≡◌, ◌++◌, take}
 use Rattle.std.specs.List.{flat_map}
-use Rattle.wire.specs.Spelling.{vote_entry_bytes}
+use Rattle.wire.specs.Encoding.{vote_entry_bytes}
 use Rattle.ref_checkpoint.proofs.writing.put_entries.Given as goal
 
 -- those so far have been put

@@ -17,5 +17,5 @@ begin-requires-clause-holds g c =
     let made = c.in_ok-validator in
     let is = c.in_ok-write_configuration.ensures in
     subst (λ (s : ConfigView g.row.S.Denot). HoldsIn (node_of g.S.Sign.scheme s) (areas_of g.D.Disk.device c.write_configuration.new.journal) made.validator.tables) (sym made.ensures.setting)
-    (begun_in g.D.Disk.device node c.args.journal c.limits_hold.ensures c.keys_hold.ensures c.requires.pair c.requires.alive c.requires.empty First c.requires.can_tell
+    (begun_in g.D.Disk.device node c.args.journal c.limits_hold.ensures c.keys_hold.ensures c.requires.pair c.requires.alive c.requires.empty First c.requires.can_report
     c.write_configuration.new.journal is.spare is.keeps g.met.D.Disk.counts_now g.met.D.Disk.content_is_outcome is.configured made.validator.tables made.ensures.at)

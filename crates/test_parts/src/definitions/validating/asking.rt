@@ -43,7 +43,7 @@ pub fn asked(words: &[&str]) -> Option<&'static str> {
 
 impl Last {
     /// Shows `answered`, `ready` or `out` of the last event.
-    pub fn tell(
+    pub fn report(
         &self,
         alloc: Global,
         labels: &Labels,
@@ -51,13 +51,13 @@ impl Last {
         text: &mut String,
     ) -> Result<(), AllocError> {
         match name {
-            "answered" => self.tell_answer(text),
+            "answered" => self.report_answer(text),
             "ready" => whether(name, self.is_ready, text),
-            _ => self.tell_outputs(alloc, labels, text),
+            _ => self.report_outputs(alloc, labels, text),
         }
     }
 
-    fn tell_answer(&self, text: &mut String) -> Result<(), AllocError> {
+    fn report_answer(&self, text: &mut String) -> Result<(), AllocError> {
         match &self.step {
             Ok(Step::New(_)) => line("answered new", text),
             Ok(Step::Known(_)) => line("answered known", text),
@@ -65,21 +65,21 @@ impl Last {
         }
     }
 
-    fn tell_outputs(
+    fn report_outputs(
         &self,
         alloc: Global,
         labels: &Labels,
         text: &mut String,
     ) -> Result<(), AllocError> {
         match &self.step {
-            Ok(Step::New(list)) | Ok(Step::Known(list)) => tell_each(alloc, labels, list, text),
+            Ok(Step::New(list)) | Ok(Step::Known(list)) => report_each(alloc, labels, list, text),
             Err(_) => line("out none", text),
         }
     }
 }
 
 /// Outputs in one line, separated by semicolons.
-fn tell_each(
+fn report_each(
     alloc: Global,
     labels: &Labels,
     list: &[Output],
@@ -88,9 +88,9 @@ fn tell_each(
     if list.is_empty() {
         return line("out none", text);
     }
-    let mut told = String::new(alloc);
-    outputs(labels, list, &mut told)?;
-    in_one_line(told.as_str(), text)
+    let mut reported = String::new(alloc);
+    outputs(labels, list, &mut reported)?;
+    in_one_line(reported.as_str(), text)
 }
 
 /// Adds these lines as one, separated by semicolons.
@@ -104,7 +104,7 @@ fn in_one_line(lines: &str, text: &mut String) -> Result<(), AllocError> {
 }
 
 /// Shows the `floor`, the `round` or the `order` of a validator.
-pub fn tell_seen(
+pub fn report_seen(
     labels: &Labels,
     validator: &Validator<'_, HashSign>,
     name: &str,
@@ -122,7 +122,7 @@ pub fn tell_seen(
 }
 
 /// Shows the vote of a validator for an author in a round.
-pub fn tell_vote(
+pub fn report_vote(
     labels: &Labels,
     validator: &Validator<'_, HashSign>,
     round: &str,

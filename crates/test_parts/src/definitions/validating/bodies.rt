@@ -39,7 +39,7 @@ fn memory(rt: &HostRuntime) -> u64 {
 
 /// Makes this many own batches, each of this many transactions of the greatest length. Shows whether memory grows by half of the size of
 /// their bodies or more, first where each body is copied, then where a validator takes the batches and all of its outputs are kept.
-pub fn tell_bodies(
+pub fn report_bodies(
     rt: &HostRuntime,
     committee: Committee,
     count: u64,
@@ -52,12 +52,12 @@ pub fn tell_bodies(
     let grown = grows_by_copies(rt, &batches, &mut copies)?;
     writeln!(answer, "copied: grown {grown}")?;
     match Config::new(committee, OWN, signer(OWN)) {
-        Some(config) => tell_steps(rt, &config, &batches, answer),
+        Some(config) => report_steps(rt, &config, &batches, answer),
         None => Err(FormError::BadCommand),
     }
 }
 
-fn tell_steps(
+fn report_steps(
     rt: &HostRuntime,
     config: &Config<HashSign>,
     batches: &[Batch],

@@ -64,7 +64,7 @@ impl Loads {
     }
 
     /// Shows how many they were.
-    pub fn tell(&self, answer: &mut String) -> Result<(), AllocError> {
+    pub fn report(&self, answer: &mut String) -> Result<(), AllocError> {
         let found = [
             ("loaded", self.states),
             ("above a floor", self.above_floors),

@@ -5,7 +5,7 @@ ghost use Rattle.header.specs.Checks.{fault_of, accepts_all};
 
 use crate::definitions::looking::{number, proposal_line, words_of};
 use crate::definitions::played::coin;
-use crate::definitions::validating::asking::{Last, asked, tell_seen, tell_vote};
+use crate::definitions::validating::asking::{Last, asked, report_seen, report_vote};
 use crate::definitions::validating::beside::Beside;
 use crate::definitions::validating::loading::{Expected, Loads, has_records, loaded_again};
 use crate::definitions::validating::seen::seen_of;
@@ -118,7 +118,7 @@ impl<'c> Playing<'c> {
                 return Ok(());
             }
         }
-        Ok(self.tell(answer)?)
+        Ok(self.report(answer)?)
     }
 
     /// Runs a line, and gives what differs from what it should be, if anything does.
@@ -191,7 +191,7 @@ impl<'c> Playing<'c> {
         loads.count(&self.validator);
         self.loads = Some(loads);
         let is_same = has_records(&self.validator, expected)?;
-        Ok(as_told(is_same, "the records of the loaded validator"))
+        Ok(as_reported(is_same, "the records of the loaded validator"))
     }
 
     /// `unchecked`, an error's number and name, and an event: the event fails the checks with this error.
@@ -223,27 +223,27 @@ impl<'c> Playing<'c> {
         what: &'static str,
     ) -> Result<Option<&'static str>, FormError> {
         let mut text = String::new(self.alloc);
-        self.tell_asked(words, &mut text)?;
-        Ok(as_told(text.as_str().trim_end() == line, what))
+        self.report_asked(words, &mut text)?;
+        Ok(as_reported(text.as_str().trim_end() == line, what))
     }
 
-    fn tell_asked(&self, words: &[&str], text: &mut String) -> Result<(), AllocError> {
+    fn report_asked(&self, words: &[&str], text: &mut String) -> Result<(), AllocError> {
         match words {
             ["voted", round, author, _] => {
-                tell_vote(&self.labels, &self.validator, round, author, text)
+                report_vote(&self.labels, &self.validator, round, author, text)
             }
             ["proposes", ..] => proposal_line(&self.labels, self.proposal()?, text),
-            [name, ..] => self.tell_named(name, text),
+            [name, ..] => self.report_named(name, text),
             [] => Ok(()),
         }
     }
 
-    fn tell_named(&self, name: &str, text: &mut String) -> Result<(), AllocError> {
+    fn report_named(&self, name: &str, text: &mut String) -> Result<(), AllocError> {
         match (name, &self.last) {
             ("floor" | "round" | "order", _) => {
-                tell_seen(&self.labels, &self.validator, name, text)
+                report_seen(&self.labels, &self.validator, name, text)
             }
-            (_, Some(last)) => last.tell(self.alloc, &self.labels, name, text),
+            (_, Some(last)) => last.report(self.alloc, &self.labels, name, text),
             (_, None) => Ok(()),
         }
     }
@@ -323,8 +323,8 @@ impl<'c> Playing<'c> {
 
     /// Shows how often each answer came, what there is at the end, and either how often the validator was loaded or how many events were
     /// compared with the reference implementation.
-    fn tell(&self, answer: &mut String) -> Result<(), AllocError> {
-        self.tally.tell(answer)?;
+    fn report(&self, answer: &mut String) -> Result<(), AllocError> {
+        self.tally.report(answer)?;
         let seen = seen_of(&self.validator);
         let found = [
             ("round", seen.round),
@@ -333,7 +333,7 @@ impl<'c> Playing<'c> {
         ];
         counts(&found, answer)?;
         match self.loads {
-            Some(loads) => loads.tell(answer),
+            Some(loads) => loads.report(answer),
             None => list(
                 "beside the plain program",
                 &[self.beside.compared()],
@@ -350,11 +350,11 @@ fn same_error(
     error: CheckError,
 ) -> Result<Option<&'static str>, AllocError> {
     let begin = format!(in alloc; "unchecked {error} ")?;
-    Ok(as_told(line.strip_prefix(begin.as_str()).is_some(), "the error"))
+    Ok(as_reported(line.strip_prefix(begin.as_str()).is_some(), "the error"))
 }
 
 /// Nothing if this is as expected, and the name of what differs otherwise.
-fn as_told(is_so: bool, what: &'static str) -> Option<&'static str> {
+fn as_reported(is_so: bool, what: &'static str) -> Option<&'static str> {
     match is_so {
         true => None,
         false => Some(what),

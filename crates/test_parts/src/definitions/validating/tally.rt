@@ -65,15 +65,15 @@ impl Tally {
     }
 
     /// Shows how often each answer came, without the refusals that never did.
-    pub fn tell(&self, answer: &mut String) -> Result<(), AllocError> {
+    pub fn report(&self, answer: &mut String) -> Result<(), AllocError> {
         counts(&[("new", self.new), ("known", self.known)], answer)?;
-        self.tell_refused(answer)?;
+        self.report_refused(answer)?;
         let (pieces, proposals) = (self.pieces, self.proposals);
         let made = [("pieces of the order", pieces), ("proposals", proposals)];
         counts(&made, answer)
     }
 
-    fn tell_refused(&self, answer: &mut String) -> Result<(), AllocError> {
+    fn report_refused(&self, answer: &mut String) -> Result<(), AllocError> {
         for number in 1..REFUSALS {
             let count = self.refused.get(number).copied().unwrap_or(0);
             if count > 0 {

@@ -10,7 +10,7 @@ use Rattle.std.proofs.lemmas.Map.Views.{All-values-insert_entry, All-values-set_
 use Rattle.wire.specs.Events.{Event}
 use Rattle.waiter.specs.Rounds.{NoneIsEmpty, held_in, waiting_in}
 use Rattle.waiter.specs.Waiting.{Waits}
-use Rattle.waiter.proofs.ByRound.{told, held_updated, none_wait, on_err, on_ok, pushed_some}
+use Rattle.waiter.proofs.ByRound.{reported, held_updated, none_wait, on_err, on_ok, pushed_some}
 use Rattle.waiter.proofs.waiters.add.Goals as goal
 
 pub returns-in-Some-clause-held : goal.returns-in-Some-clause-held
@@ -19,7 +19,7 @@ returns-in-Some-clause-held c =
     let later = c.offer.new.self in
     let there = c.in-Some.ensures.value in
     let writes = c.get_mut.follows.holds later in
-    let held_is : held_in old.entries c.args.round ≡ c.in-Some.waiter.now = ap told (sym there) in
+    let held_is : held_in old.entries c.args.round ≡ c.in-Some.waiter.now = ap reported (sym there) in
     on_ok c.offer.result c.offer.ensures.added (λ grown.
     held_updated old.entries (c.get_mut.follows.lender later).entries c.args.round (Some later) (held_in old.entries c.args.round ++ c.args.checked ∷ [])
     (writes.3 (subst IsSome there refl)).0
@@ -32,7 +32,7 @@ returns-in-Some-clause-count c =
     let there = c.in-Some.ensures.value in
     let events = c.in-Some.waiter.now in
     let writes = c.get_mut.follows.holds later in
-    let held_is : held_in old.entries c.args.round ≡ events = ap told (sym there) in
+    let held_is : held_in old.entries c.args.round ≡ events = ap reported (sym there) in
     on_ok c.offer.result c.offer.ensures.added (λ grown.
     let is = grown (λ waits. c.requires.new (subst (λ (l : List Event). Waits l c.args.checked) (sym held_is) waits)) in
     let long : length later ≡ length events + 1 = ap (λ (l : List Event). length l) is ∙ length-append events (c.args.checked ∷ []) in
@@ -45,7 +45,7 @@ returns-in-Some-clause-kept c =
     let later = c.offer.new.self in
     let there = c.in-Some.ensures.value in
     let writes = c.get_mut.follows.holds later in
-    let held_is : held_in old.entries c.args.round ≡ c.in-Some.waiter.now = ap told (sym there) in
+    let held_is : held_in old.entries c.args.round ≡ c.in-Some.waiter.now = ap reported (sym there) in
     on_ok c.offer.result c.offer.ensures.added (λ grown.
     let is = grown (λ waits. c.requires.new (subst (λ (l : List Event). Waits l c.args.checked) (sym held_is) waits)) in
     subst NoneIsEmpty (sym writes.0)

@@ -8,13 +8,13 @@ use Rattle.std.proofs.lemmas.Map.Steps.{set_value_same}
 use Rattle.std.proofs.lemmas.Map.Views.{All-map-remove_entry, All-values-set_value}
 use Rattle.wire.specs.Events.{Event}
 use Rattle.waiter.specs.Rounds.{NoneIsEmpty, held_in, waiting_in}
-use Rattle.waiter.proofs.ByRound.{told, if_none, removed_same}
+use Rattle.waiter.proofs.ByRound.{reported, if_none, removed_same}
 use Rattle.waiter.proofs.waiters.take_at.Goals as goal
 use Rattle.waiter.proofs.waiters.take_at.Goals.{then-is_empty+in-Some-1, then-is_empty+in-None-1, else-is_empty}
 
 pub returns-in_err-waiter-clause-beyond : goal.returns-in_err-waiter-clause-beyond
 returns-in_err-waiter-clause-beyond c =
-    let none : held_in c.args.rounds.now.entries c.args.round ≡ [] = ap told (sym c.in_err-waiter.ensures.value) in
+    let none : held_in c.args.rounds.now.entries c.args.round ≡ [] = ap reported (sym c.in_err-waiter.ensures.value) in
     let few = ap (λ (l : List Event). length l) none in
     if_none c.from_residual.result (omega (arith, few))
 
@@ -42,7 +42,7 @@ returns-in_err-found-clause-none c =
 
 pub returns-in_err-found-clause-beyond : goal.returns-in_err-found-clause-beyond
 returns-in_err-found-clause-beyond c =
-    let here : held_in c.args.rounds.now.entries c.args.round ≡ c.in_ok-waiter.waiter.now = sym (ap told c.in_ok-waiter.ensures.value) in
+    let here : held_in c.args.rounds.now.entries c.args.round ≡ c.in_ok-waiter.waiter.now = sym (ap reported c.in_ok-waiter.ensures.value) in
     let many = ap (λ (l : List Event). length l) here in
     let few = c.in_err-found.ensures.beyond in
     if_none c.from_residual-in_err-found.result (omega (arith, many, few))

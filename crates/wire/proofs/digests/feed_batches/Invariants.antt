@@ -1,7 +1,7 @@
 use Rattle.std.proofs.Common.{List, ℕ, ◌++◌, take}
 use Rattle.std.specs.List.{flat_map}
 use Rattle.sha2.specs.Hashers.{Holds256}
-use Rattle.wire.specs.Spelling.{batch_reference_bytes}
+use Rattle.wire.specs.Encoding.{batch_reference_bytes}
 use Rattle.wire.proofs.digests.feed_batches.Given as goal
 
 -- the batches so far were fed

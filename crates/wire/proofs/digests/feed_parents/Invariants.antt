@@ -2,7 +2,7 @@ use Rattle.std.proofs.Common.{List, ℕ, ◌++◌, length, take}
 use Rattle.std.specs.Int.{w16, to_be_bytes}
 use Rattle.std.specs.List.{flat_map}
 use Rattle.sha2.specs.Hashers.{Holds256}
-use Rattle.wire.specs.Spelling.{parent_reference_bytes}
+use Rattle.wire.specs.Encoding.{parent_reference_bytes}
 use Rattle.wire.proofs.digests.feed_parents.Given as goal
 
 -- the count and the parents so far were fed

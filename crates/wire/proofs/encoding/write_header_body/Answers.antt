@@ -1,6 +1,6 @@
 use Rattle.std.proofs.Common.{take}
 use Rattle.std.specs.Int.{w16, w64, to_be_bytes}
-use Rattle.wire.specs.Spelling.{batches_bytes, parents_bytes}
+use Rattle.wire.specs.Encoding.{batches_bytes, parents_bytes}
 use Rattle.wire.proofs.Joining.{five_pieces}
 use Rattle.wire.proofs.encoding.write_header_body.Goals as goal
 

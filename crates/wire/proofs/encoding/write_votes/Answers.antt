@@ -1,7 +1,7 @@
 use Rattle.std.proofs.Common.{arith, length, take, ◌++◌, ap, ◌∙◌}
 use Rattle.std.specs.Int.{w16, to_be_bytes}
 use Rattle.std.specs.List.{flat_map}
-use Rattle.wire.specs.Spelling.{vote_entry_bytes}
+use Rattle.wire.specs.Encoding.{vote_entry_bytes}
 use Rattle.wire.proofs.Pieces.{one_more, all_put}
 use Rattle.wire.proofs.encoding.write_votes.Goals as goal
 

@@ -6,8 +6,8 @@ front-body-requires c = rw (← c.rest.ensures) c.in_ok-found.ensures.within
 pub from_body-requires-clause-fits : goal.from_body-requires-clause-fits
 from_body-requires-clause-fits c = rw (c.front-body.ensures.front, ← c.rest.ensures) c.in_ok-found.ensures.fits
 
-pub from_body-requires-clause-spelled : goal.from_body-requires-clause-spelled
-from_body-requires-clause-spelled c = rw (c.front-body.ensures.front, ← c.rest.ensures) c.in_ok-found.ensures.spelled
+pub from_body-requires-clause-encoded : goal.from_body-requires-clause-encoded
+from_body-requires-clause-encoded c = rw (c.front-body.ensures.front, ← c.rest.ensures) c.in_ok-found.ensures.encoded
 
 pub returns : goal.returns
 returns c =

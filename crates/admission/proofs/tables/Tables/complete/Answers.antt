@@ -12,7 +12,7 @@ use Rattle.admission.specs.Batches.{changes_batches}
 use Rattle.admission.specs.Votes.{is_peers_header}
 use Rattle.admission.specs.Decisions.{vote_decision, known_outputs}
 use Rattle.admission.proofs.Answered.{vote_answered}
-use Rattle.admission.proofs.Closing.{comes_of, new_is_told}
+use Rattle.admission.proofs.Closing.{comes_of, new_is_reported}
 use Rattle.admission.proofs.Committing.{comes_to, after_commit, with_high}
 use Rattle.admission.proofs.VoteCounting.{vote_high, completed_digest, outputs_with}
 use Rattle.admission.proofs.tables.Tables.complete.Goals as goal
@@ -45,7 +45,7 @@ returns-clause-outputs c = λ node state event meets new.
     let is = c.vote_comes.ensures node state event vote tables.headers comes c.limits_hold.ensures meets.at.headers meets.message in
     let completes = is.complete certificate (sym c.requires.added) in
     let puts = c.in_ok-hold_certificate.ensures.outputs node state event (comes_to node state event tables comes meets.at) completes in
-    new_is_told _ (vote_outputs node state (grown node state (message.Vote vote)) vote.round) (known_outputs (slots_in tables.sequencer.graph vote.round tables.own.0)) (vote_decision tables vote)
+    new_is_reported _ (vote_outputs node state (grown node state (message.Vote vote)) vote.round) (known_outputs (slots_in tables.sequencer.graph vote.round tables.own.0)) (vote_decision tables vote)
     (vote_answered c.votes_agree.ensures node state event tables vote c.limits_hold.ensures meets) new
     ∙ ap admission.New (outputs_with node state event vote tables.headers certificate meets.message is completes
     ∙ sym (c.into_vec.ensures ∙ puts

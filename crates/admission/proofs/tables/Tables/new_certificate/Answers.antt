@@ -9,7 +9,7 @@ use Rattle.admission.specs.Votes.{is_peers_header}
 use Rattle.admission.specs.HeaderLaws.{is_other}
 use Rattle.admission.specs.Decisions.{certificate_decision}
 use Rattle.admission.proofs.Answered.{certificate_answered}
-use Rattle.admission.proofs.Closing.{comes_of, new_is_told}
+use Rattle.admission.proofs.Closing.{comes_of, new_is_reported}
 use Rattle.admission.proofs.Committing.{comes_to, after_commit, headers_after}
 use Rattle.admission.proofs.tables.Tables.new_certificate.Goals as goal
 
@@ -30,7 +30,7 @@ returns-clause-outputs c = λ node state event meets new.
     let certificate = c.args.certificate in
     let comes = comes_of node state event tables (message.Certificate certificate) meets new in
     let puts = c.in_ok-hold_certificate.ensures.outputs node state event (comes_to node state event tables comes meets.at) (ap (certificate_of node state) meets.message) in
-    new_is_told _ (order_outputs state (grown node state (message.Certificate certificate))) [] (certificate_decision tables certificate)
+    new_is_reported _ (order_outputs state (grown node state (message.Certificate certificate))) [] (certificate_decision tables certificate)
     (certificate_answered node state event tables certificate meets) new
     ∙ ap admission.New (ap (λ (m : Message). order_outputs state (grown node state m)) (sym meets.message)
     ∙ sym (c.into_vec.ensures ∙ puts ∙ ap (λ (l : List Output). l ++ order_outputs state (grown node state event.message)) c.new-outputs.ensures))

@@ -10,7 +10,7 @@ use Rattle.admission.specs.Votes.{is_peers_header}
 use Rattle.admission.specs.HeaderLaws.{is_other}
 use Rattle.admission.specs.Decisions.{coin_decision}
 use Rattle.admission.proofs.Answered.{coin_answered}
-use Rattle.admission.proofs.Closing.{comes_of, new_is_told}
+use Rattle.admission.proofs.Closing.{comes_of, new_is_reported}
 use Rattle.admission.proofs.Committing.{comes_to, after_commit, headers_after}
 use Rattle.admission.proofs.tables.Tables.new_coin.Goals as goal
 
@@ -20,7 +20,7 @@ returns-clause-outputs c = λ node state event meets new.
     let coin = c.args.coin.now in
     let comes = comes_of node state event tables (message.Coin coin) meets new in
     let puts = c.in_ok-push_coin.ensures.outputs node state event (comes_to node state event tables comes meets.at) (ap as_coin meets.message) in
-    new_is_told _ (order_outputs state (grown node state (message.Coin coin))) [] (coin_decision tables event.sender coin) (coin_answered node state event tables coin meets) new
+    new_is_reported _ (order_outputs state (grown node state (message.Coin coin))) [] (coin_decision tables event.sender coin) (coin_answered node state event tables coin meets) new
     ∙ ap admission.New (ap (λ (m : Message). order_outputs state (grown node state m)) (sym meets.message)
     ∙ sym (c.into_vec.ensures ∙ puts ∙ ap (λ (l : List Output). l ++ order_outputs state (grown node state event.message)) c.new-outputs.ensures))
 

@@ -1,7 +1,7 @@
 use Rattle.std.proofs.Common.{ap, sym, ◌∙◌}
 use Rattle.std.specs.Prelude.{Ok}
 use Rattle.spec_model.specs.Words.{Digest, Signature}
-use Rattle.admission.specs.Decisions.{told, header_decision, new_header_outputs, known_header_outputs}
+use Rattle.admission.specs.Decisions.{reported, header_decision, new_header_outputs, known_header_outputs}
 use Rattle.admission.proofs.Answered.{header_answered}
 use Rattle.admission.proofs.Closing.{refused_answer, refused_refuses, known_answer, known_not_new, known_refuses, new_answer, new_refuses, went}
 use Rattle.admission.proofs.Heading.{is_free}
@@ -32,7 +32,7 @@ returns-in-Ok-Known-clause-answer g c = λ node state event meets signs.
     let header = c.args.header in
     let sign : Digest → Signature = g.S.Sign.scheme.signature_of c.args.signer.now in
     known_answer _ (known_header_outputs tables sign header) c.known_header.result c.known_step.result (header_answered node state event tables sign header meets signs
-    ∙ ap (told (new_header_outputs tables sign header) (known_header_outputs tables sign header)) (sym c.in-Ok-Known.ensures ∙ ap (λ a. Ok a) c.in-Ok-Known.field-0-is))
+    ∙ ap (reported (new_header_outputs tables sign header) (known_header_outputs tables sign header)) (sym c.in-Ok-Known.ensures ∙ ap (λ a. Ok a) c.in-Ok-Known.field-0-is))
     c.known_step.ensures.ok c.known_step.ensures.err c.known_header.ensures
 
 pub returns-in-Ok-Known-clause-refused : goal.returns-in-Ok-Known-clause-refused
@@ -41,7 +41,7 @@ returns-in-Ok-Known-clause-refused g c = λ node state event meets signs.
     let header = c.args.header in
     let sign : Digest → Signature = g.S.Sign.scheme.signature_of c.args.signer.now in
     known_refuses _ (known_header_outputs tables sign header) _ (header_answered node state event tables sign header meets signs
-    ∙ ap (told (new_header_outputs tables sign header) (known_header_outputs tables sign header)) (sym c.in-Ok-Known.ensures ∙ ap (λ a. Ok a) c.in-Ok-Known.field-0-is))
+    ∙ ap (reported (new_header_outputs tables sign header) (known_header_outputs tables sign header)) (sym c.in-Ok-Known.ensures ∙ ap (λ a. Ok a) c.in-Ok-Known.field-0-is))
 
 pub returns-in-Ok-New-clause-answer : goal.returns-in-Ok-New-clause-answer
 returns-in-Ok-New-clause-answer g c = λ node state event meets signs.
@@ -49,7 +49,7 @@ returns-in-Ok-New-clause-answer g c = λ node state event meets signs.
     let header = c.args.header in
     let sign : Digest → Signature = g.S.Sign.scheme.signature_of c.args.signer.now in
     let is = header_answered node state event tables sign header meets signs
-    ∙ ap (told (new_header_outputs tables sign header) (known_header_outputs tables sign header))
+    ∙ ap (reported (new_header_outputs tables sign header) (known_header_outputs tables sign header))
     (sym c.in-Ok-New.ensures ∙ ap (λ a. Ok a) c.in-Ok-New.field-0-is) in
     new_answer _ (new_header_outputs tables sign header) c.new_header.result c.new_step.result is c.new_step.ensures.ok c.new_step.ensures.err c.new_header.ensures.outputs
 
@@ -59,7 +59,7 @@ returns-in-Ok-New-clause-refused g c = λ node state event meets signs.
     let header = c.args.header in
     let sign : Digest → Signature = g.S.Sign.scheme.signature_of c.args.signer.now in
     new_refuses _ (new_header_outputs tables sign header) c.new_step.result (header_answered node state event tables sign header meets signs
-    ∙ ap (told (new_header_outputs tables sign header) (known_header_outputs tables sign header)) (sym c.in-Ok-New.ensures ∙ ap (λ a. Ok a) c.in-Ok-New.field-0-is))
+    ∙ ap (reported (new_header_outputs tables sign header) (known_header_outputs tables sign header)) (sym c.in-Ok-New.ensures ∙ ap (λ a. Ok a) c.in-Ok-New.field-0-is))
 
 pub returns-in-Ok-New-clause-at : goal.returns-in-Ok-New-clause-at
 returns-in-Ok-New-clause-at g c = λ new. went c.new_header.result c.new_step.result c.new_step.ensures.ok c.new_step.ensures.err new c.new_header.ensures.at

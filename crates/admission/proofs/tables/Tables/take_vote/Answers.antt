@@ -7,7 +7,7 @@ use Rattle.spec_model.specs.States.{State}
 use Rattle.spec_model.specs.Words.{Output, Vote}
 use Rattle.spec_machine.specs.Machine.{grown}
 use Rattle.dag.specs.Graph.{slots_in}
-use Rattle.admission.specs.Decisions.{told, vote_decision, known_outputs}
+use Rattle.admission.specs.Decisions.{reported, vote_decision, known_outputs}
 use Rattle.admission.specs.declared.tables.Tables.{Tables}
 use Rattle.admission.proofs.Answered.{vote_answered}
 use Rattle.admission.proofs.Closing.{refused_answer, refused_refuses, known_answer, known_refuses, new_refuses, went}
@@ -40,7 +40,7 @@ returns-in-Ok-Known-clause-answer c = λ node state event meets.
     let tables = c.args.self.now in
     let vote = c.args.vote in
     known_answer _ (known_by tables vote) c.known_vote.result c.known_step.result (vote_answered c.votes_agree.ensures node state event tables vote c.limits_hold.ensures meets
-    ∙ ap (told (new_by node state vote) (known_by tables vote)) (sym c.in-Ok-Known.ensures ∙ ap (λ a. Ok a) c.in-Ok-Known.field-0-is))
+    ∙ ap (reported (new_by node state vote) (known_by tables vote)) (sym c.in-Ok-Known.ensures ∙ ap (λ a. Ok a) c.in-Ok-Known.field-0-is))
     c.known_step.ensures.ok c.known_step.ensures.err c.known_vote.ensures
 
 pub returns-in-Ok-Known-clause-refused : goal.returns-in-Ok-Known-clause-refused
@@ -48,7 +48,7 @@ returns-in-Ok-Known-clause-refused c = λ node state event meets.
     let tables = c.args.self.now in
     let vote = c.args.vote in
     known_refuses _ (known_by tables vote) _ (vote_answered c.votes_agree.ensures node state event tables vote c.limits_hold.ensures meets
-    ∙ ap (told (new_by node state vote) (known_by tables vote)) (sym c.in-Ok-Known.ensures ∙ ap (λ a. Ok a) c.in-Ok-Known.field-0-is))
+    ∙ ap (reported (new_by node state vote) (known_by tables vote)) (sym c.in-Ok-Known.ensures ∙ ap (λ a. Ok a) c.in-Ok-Known.field-0-is))
 
 pub new_vote-requires : goal.new_vote-requires
 new_vote-requires c =
@@ -59,7 +59,7 @@ new_vote-requires c =
     let event = c.requires.meets.2 in
     let meets = c.requires.meets.3 in
     let is = vote_answered c.votes_agree.ensures node state event tables vote c.limits_hold.ensures meets
-    ∙ ap (told (new_by node state vote) (known_by tables vote)) (sym c.in-Ok-New.ensures ∙ ap (λ a. Ok a) c.in-Ok-New.field-0-is) in
+    ∙ ap (reported (new_by node state vote) (known_by tables vote)) (sym c.in-Ok-New.ensures ∙ ap (λ a. Ok a) c.in-Ok-New.field-0-is) in
     record { meets = (node, state, event, meets, ap is_new is) }
 
 pub returns-in-Ok-New-clause-answer : goal.returns-in-Ok-New-clause-answer
@@ -67,7 +67,7 @@ returns-in-Ok-New-clause-answer c = λ node state event meets.
     let tables = c.args.self.now in
     let vote = c.args.vote in
     let is = vote_answered c.votes_agree.ensures node state event tables vote c.limits_hold.ensures meets
-    ∙ ap (told (new_by node state vote) (known_by tables vote)) (sym c.in-Ok-New.ensures ∙ ap (λ a. Ok a) c.in-Ok-New.field-0-is) in
+    ∙ ap (reported (new_by node state vote) (known_by tables vote)) (sym c.in-Ok-New.ensures ∙ ap (λ a. Ok a) c.in-Ok-New.field-0-is) in
     put_out tables (message.Vote vote) c.new_vote.result c.new_step.result node state event c.new_step.ensures.ok c.new_step.ensures.err c.new_vote.ensures.outputs meets (ap is_new is)
 
 pub returns-in-Ok-New-clause-refused : goal.returns-in-Ok-New-clause-refused
@@ -75,7 +75,7 @@ returns-in-Ok-New-clause-refused c = λ node state event meets.
     let tables = c.args.self.now in
     let vote = c.args.vote in
     new_refuses _ (new_by node state vote) c.new_step.result (vote_answered c.votes_agree.ensures node state event tables vote c.limits_hold.ensures meets
-    ∙ ap (told (new_by node state vote) (known_by tables vote)) (sym c.in-Ok-New.ensures ∙ ap (λ a. Ok a) c.in-Ok-New.field-0-is))
+    ∙ ap (reported (new_by node state vote) (known_by tables vote)) (sym c.in-Ok-New.ensures ∙ ap (λ a. Ok a) c.in-Ok-New.field-0-is))
 
 pub returns-in-Ok-New-clause-at : goal.returns-in-Ok-New-clause-at
 returns-in-Ok-New-clause-at c = λ new. went c.new_vote.result c.new_step.result c.new_step.ensures.ok c.new_step.ensures.err new c.new_vote.ensures.at

@@ -18,11 +18,11 @@ returns-in_err-node-clause-applied g c =
     let members = c.args.self.now.members in
     let error : ClusterError = c.in_err-node.field-0.0 in
     let answer = err_from_is_err_and c.from_residual.result c.from_residual.ensures.1 in
-    let told = c.in_err-node.ensures in
+    let reported = c.in_err-node.ensures in
     subst (λ (r : Result Applied ClusterError). IsApplied g.S.Sign.scheme g.D.Disk.device accepts members c.args.step members r)
     (sym (answer.1 ∙ ap (λ (e : ClusterError). Err e) answer.2))
-    (not_applied g.S.Sign.scheme g.D.Disk.device accepts members c.args.step error (err_as error NoSuchNode _ told.no_node) (err_as error NoSuchOutput _ told.no_output)
-    (λ is. told.memory (ap (λ e. Err e) is)) told.never)
+    (not_applied g.S.Sign.scheme g.D.Disk.device accepts members c.args.step error (err_as error NoSuchNode _ reported.no_node) (err_as error NoSuchOutput _ reported.no_output)
+    (λ is. reported.memory (ap (λ e. Err e) is)) reported.never)
 
 pub returns-clause-applied : goal.returns-clause-applied
 returns-clause-applied g c =

@@ -1,5 +1,5 @@
 use Rattle.std.proofs.Common.{sym}
-use Rattle.opening.proofs.Telling.{ok_weaker}
+use Rattle.opening.proofs.Reporting.{ok_weaker}
 use Rattle.cluster.proofs.cluster.Cluster.propose.Goals as goal
 
 pub returns-in-Some-clause-ok : goal.returns-in-Some-clause-ok

@@ -8,7 +8,7 @@ use Rattle.spec_world.proofs.Beginning.{runs_begin}
 use Rattle.validator.specs.Setting.{node_of}
 use Rattle.cluster.specs.Member.{MemberView}
 use Rattle.spec_machine.specs.Machine.{fresh}
-use Rattle.cluster.proofs.Counting.{told_nothing}
+use Rattle.cluster.proofs.Counting.{reported_nothing}
 use Rattle.cluster.proofs.Members.{begins_at, journal_err}
 use Rattle.journal.specs.declared.error.JournalError.TheVariants.{Device}
 use Rattle.cluster.proofs.member.Member.open.Goals as goal
@@ -25,7 +25,7 @@ returns-in-Ok-clause-begins g c = λ empty.
 pub returns-in-Err-clause-errors : goal.returns-in-Err-clause-errors
 returns-in-Err-clause-errors g c = λ empty.
     let node = node_of g.S.Sign.scheme c.args.config.now in
-    no_refusal c.in-Err.failed.error (fresh node) (decoded node (g.D.Disk.device.content c.args.disk)) (ap (decoded node) empty ∙ told_nothing node) c.in-Err.ensures.err.tells
+    no_refusal c.in-Err.failed.error (fresh node) (decoded node (g.D.Disk.device.content c.args.disk)) (ap (decoded node) empty ∙ reported_nothing node) c.in-Err.ensures.err.reports
 
 pub returns-in-Ok-clause-runs : goal.returns-in-Ok-clause-runs
 returns-in-Ok-clause-runs g c =

@@ -7,7 +7,7 @@ use Rattle.book.specs.Book.{Stands, run_on}
 use Rattle.journal.specs.Journal.{disk_of}
 use Rattle.desk.proofs.Reading.{alone_configured}
 use Rattle.desk.proofs.Worlds.{not_two, opened_at_begun}
-use Rattle.desk.proofs.Openings.{set_at, opened_of, opened_desk, opening_desk, decoded_as_one, same_told, not_opened_of}
+use Rattle.desk.proofs.Openings.{set_at, opened_of, opened_desk, opening_desk, decoded_as_one, same_reported, not_opened_of}
 use Rattle.desk.proofs.desk.Desk.open.Goals as goal
 
 pub over-requires : goal.over-requires
@@ -29,7 +29,7 @@ returns-in-Ok-clause-ok g c =
     opened_desk node device c.over.result journal c.over.ensures.journal (alone (device.content c.args.disk))
     (opened_of node device (alone (device.content c.args.disk)) tables c.over.result.book journal c.in-Ok.ensures.stands stands
     c.over.ensures.waits c.over.ensures.up c.over.ensures.free c.over.ensures.small c.in-Ok.ensures.alive (λ some. absurd (not_two journal one some)) one
-    (alone_configured device journal one c.in-Ok.ensures.configured) (same_told node device journal one c.in-Ok.ensures.same) (decoded_as_one node device journal one))
+    (alone_configured device journal one c.in-Ok.ensures.configured) (same_reported node device journal one c.in-Ok.ensures.same) (decoded_as_one node device journal one))
 
 pub returns-in-Ok-clause-world : goal.returns-in-Ok-clause-world
 returns-in-Ok-clause-world g c = λ world history begun is.
@@ -52,7 +52,7 @@ pub returns-in-Err-clause-opening : goal.returns-in-Err-clause-opening
 returns-in-Err-clause-opening g c =
     let opened = c.in-Err.ensures.opening in
     record {
-      tells = opened.tells;
+      reports = opened.reports;
       never_full = opened.never_full;
       cause = (tt, opened.cause.1);
       any_moment = opened.any_moment;

@@ -1,6 +1,6 @@
 use Rattle.std.proofs.Common.{◌≡◌, subst}
 use Rattle.std.specs.Prelude.{IfOk}
-use Rattle.opening.proofs.Telling.{ok_weaker}
+use Rattle.opening.proofs.Reporting.{ok_weaker}
 use Rattle.book.specs.Book.{Run, Stands, state_in}
 use Rattle.spec_machine.specs.Machine.{proposed}
 use Rattle.spec_model.specs.States.{State}

@@ -1,6 +1,6 @@
 use Rattle.std.proofs.Common.{subst}
 use Rattle.journal.specs.Journal.{disk_of}
-use Rattle.opening.proofs.Telling.{ok_weaker, err_weaker}
+use Rattle.opening.proofs.Reporting.{ok_weaker, err_weaker}
 use Rattle.validator.specs.Setting.{node_of}
 use Rattle.desk.proofs.Openings.{stopped_of}
 use Rattle.desk.proofs.Worlds.{stops_alone}

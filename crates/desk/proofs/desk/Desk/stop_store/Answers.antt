@@ -3,7 +3,7 @@ use Rattle.journal.specs.Pairs.{areas_in, store_of}
 use Rattle.journal.specs.Stores.{faults_in}
 use Rattle.journal.specs.declared.error.JournalError.TheVariants.{Device}
 use Rattle.validator.specs.Setting.{node_of}
-use Rattle.opening.proofs.Telling.{ok_weaker}
+use Rattle.opening.proofs.Reporting.{ok_weaker}
 use Rattle.desk.specs.Disks.{HaveStopped}
 use Rattle.desk.proofs.Worlds.{stops}
 use Rattle.desk.proofs.Openings.{never_refused}
@@ -30,10 +30,10 @@ returns-clause-never_refused g c =
     let may = may_leave device c.args.self.journal c.into_store.result c.into_store.ensures found c.stopped.ensures.content in
     let opening = c.open_store.ensures.opening in
     err_both c.open_store.result _ _ _
-    (λ failed tells full run is. elim (is.left found may) [
-      | inl so ↦ never_refused node device c.stopped.result _ failed.error is.stands_at.legal.node_is c.keys_hold.ensures so tells full
-      | inr so ↦ never_refused node device c.stopped.result _ failed.error is.stands_at.legal.node_is c.keys_hold.ensures so tells full
-    ]) opening.tells opening.full
+    (λ failed reports full run is. elim (is.left found may) [
+      | inl so ↦ never_refused node device c.stopped.result _ failed.error is.stands_at.legal.node_is c.keys_hold.ensures so reports full
+      | inr so ↦ never_refused node device c.stopped.result _ failed.error is.stands_at.legal.node_is c.keys_hold.ensures so reports full
+    ]) opening.reports opening.full
 
 pub returns-clause-steps : goal.returns-clause-steps
 returns-clause-steps g c =

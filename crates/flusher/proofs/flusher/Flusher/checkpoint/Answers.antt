@@ -8,7 +8,7 @@ use Rattle.diskmodel.specs.Disk.{AtEachMoment}
 use Rattle.journal.specs.Journal.{disk_of}
 use Rattle.journal.specs.Pairs.{areas_of, areas_with, spare_disk, rewritten_disk}
 use Rattle.node_seats.proofs.Beginnings.{begins_same, begins_trans}
-use Rattle.node_seats.proofs.Same.{same_then, same_told, or_second}
+use Rattle.node_seats.proofs.Same.{same_then, same_reported, or_second}
 use Rattle.node_seats.specs.Sights.{SeatView}
 use Rattle.node_seats.specs.Views.{IsSame}
 use Rattle.node_seats.specs.declared.view.Marked.{Marked}
@@ -19,7 +19,7 @@ use Rattle.flusher.specs.Rounds.{HoldsEither, IsFlusherOf, KeepsEarlier}
 use Rattle.flusher.specs.declared.flusher.Flusher.{Flusher}
 use Rattle.flusher.proofs.Reading.{spare_durable}
 use Rattle.flusher.proofs.Adding.{still_holds}
-use Rattle.flusher.proofs.Taking.{takes_all, takes_all_as, goes_down, stays_up, tells_room}
+use Rattle.flusher.proofs.Taking.{takes_all, takes_all_as, goes_down, stays_up, reports_room}
 use Rattle.flusher.proofs.flusher.Flusher.checkpoint.Goals as goal
 
 pub returns-in_err-generation-clause-settles : goal.returns-in_err-generation-clause-settles
@@ -30,35 +30,35 @@ returns-in_err-generation-clause-settles g c =
           (takes_all c.args.node.now flush c.in-Ok.ensures.flush c.args.seat.now.view.seen (begins_trans _ _ _ c.in-Ok.ensures.looked.more c.in-Ok.ensures.seen) c.in-Ok.ensures.takes.all.0)));
       memory = search rules;
       settled = search rules;
-      told = search rules;
+      reported = search rules;
       not_settled = search rules;
     }
 
 pub returns-clause-settles : goal.returns-clause-settles
 returns-clause-settles g c =
     let flush = c.take_all.new.flush in
-    let told = c.tell_settled.ensures in
+    let reported = c.report_settled.ensures in
     let wrote = c.in_ok-generation.ensures in
-    let taken = ap taken_by told.flush ∙ wrote.taken in
+    let taken = ap taken_by reported.flush ∙ wrote.taken in
     record {
       takes = inr (inr (takes_all_as _ _ _ _ _ c.in-Ok.ensures.flush_durable (sym taken)
           (takes_all c.args.node.now flush c.in-Ok.ensures.flush c.args.seat.now.view.seen (begins_trans _ _ _ c.in-Ok.ensures.looked.more c.in-Ok.ensures.seen) c.in-Ok.ensures.takes.all.0)));
       memory = search rules;
-      settled = ap (λ (f : FlushSeat). f.seat.view.durable) told.flush ∙ wrote.ok.1 ∙ sym taken;
-      told = told.durable ∙ wrote.ok.1 ∙ sym taken;
+      settled = ap (λ (f : FlushSeat). f.seat.view.durable) reported.flush ∙ wrote.ok.1 ∙ sym taken;
+      reported = reported.durable ∙ wrote.ok.1 ∙ sym taken;
       not_settled = search rules;
     }
 
 pub returns-clause-flusher : goal.returns-clause-flusher
 returns-clause-flusher g c =
     subst (λ f. IsFlusherOf g.S.Sign.scheme g.D.Disk.device c.args.node.now
-    (record { journal = c.rewrite.new.self.journal; seat = f; down = c.rewrite.new.self.down })) (sym c.tell_settled.ensures.flush) c.in_ok-generation.ensures.flusher
+    (record { journal = c.rewrite.new.self.journal; seat = f; down = c.rewrite.new.self.down })) (sym c.report_settled.ensures.flush) c.in_ok-generation.ensures.flusher
 
-pub returns-clause-told : goal.returns-clause-told
-returns-clause-told g c =
+pub returns-clause-reported : goal.returns-clause-reported
+returns-clause-reported g c =
     let looked = c.in-Ok.ensures.looked in
-    let learned = c.tell_settled.ensures.learned in
-    let later = c.tell_settled.new.seat in
+    let learned = c.report_settled.ensures.learned in
+    let later = c.report_settled.new.seat in
     let mid = c.in_ok-generation.ensures.seat in
     record {
       same = same_then c.args.seat.now c.take_all.new.seat later looked.same (subst (λ s. IsSame s later) mid learned.same);
@@ -69,15 +69,15 @@ returns-clause-told g c =
       full = search rules;
     }
 
-pub returns-in_err-generation-clause-told : goal.returns-in_err-generation-clause-told
-returns-in_err-generation-clause-told g c =
+pub returns-in_err-generation-clause-reported : goal.returns-in_err-generation-clause-reported
+returns-in_err-generation-clause-reported g c =
     let before = c.args.seat.now in
     let mid = c.take_all.new.seat in
     let looked = c.in-Ok.ensures.looked in
     let is = c.in_err-generation.ensures.seat_err in
-    let knows = ap (λ (s : SeatView). s.view.down) is ∙ or_second mid.view.down c.rewrite.new.self.seat.seat.view.down c.in_err-generation.ensures.told_err in
+    let knows = ap (λ (s : SeatView). s.view.down) is ∙ or_second mid.view.down c.rewrite.new.self.seat.seat.view.down c.in_err-generation.ensures.reported_err in
     record {
-      same = same_then before mid c.rewrite.new.seat looked.same (same_told mid c.rewrite.new.seat c.rewrite.new.self.seat.seat.view is);
+      same = same_then before mid c.rewrite.new.seat looked.same (same_reported mid c.rewrite.new.seat c.rewrite.new.self.seat.seat.view is);
       more = subst (λ s. Begins before.view.seen s.view.seen) (sym is) looked.more;
       more_durable = subst (λ s. Begins before.view.durable s.view.durable) (sym is) (subst (λ l. Begins before.view.durable l) (sym looked.durable) (begins_same before.view.durable));
       no_change = search rules;
@@ -106,33 +106,33 @@ returns-clause-down g c = stays_up c.args.self.now _ c.in_ok-generation.generati
 pub returns-in_err-generation-clause-room : goal.returns-in_err-generation-clause-room
 returns-in_err-generation-clause-room g c =
     let same : c.from_residual.result ≡ c.rewrite.result = search rules in
-    inr (inr (tells_room g.S.Sign.scheme c.args.node.now c.args.self.now c.rewrite.new.self c.from_residual.result c.in-Ok.snapshot (taken_by c.take_all.new.flush)
+    inr (inr (reports_room g.S.Sign.scheme c.args.node.now c.args.self.now c.rewrite.new.self c.from_residual.result c.in-Ok.snapshot (taken_by c.take_all.new.flush)
     c.in_err-generation.ensures.taken c.in-Ok.ensures.takes.checkpoint
     (subst (λ (r : Result ℕ FlushError). IsErrOf r Full ↔ HasNoRoomFor c.args.self.now.journal c.in-Ok.snapshot) (sym same) c.rewrite.ensures.full)
     (subst (λ (r : Result ℕ FlushError). IsErrOf r Full → c.rewrite.new.self.journal ≡ c.args.self.now.journal) (sym same) c.rewrite.ensures.full_same)))
 
 pub returns-clause-room : goal.returns-clause-room
 returns-clause-room g c =
-    inr (inr (tells_room g.S.Sign.scheme c.args.node.now c.args.self.now _ (Ok c.in_ok-generation.generation) c.in-Ok.snapshot (taken_by c.take_all.new.flush)
-    (ap taken_by c.tell_settled.ensures.flush ∙ c.in_ok-generation.ensures.taken) c.in-Ok.ensures.takes.checkpoint c.in_ok-generation.ensures.full c.in_ok-generation.ensures.full_same))
+    inr (inr (reports_room g.S.Sign.scheme c.args.node.now c.args.self.now _ (Ok c.in_ok-generation.generation) c.in-Ok.snapshot (taken_by c.take_all.new.flush)
+    (ap taken_by c.report_settled.ensures.flush ∙ c.in_ok-generation.ensures.taken) c.in-Ok.ensures.takes.checkpoint c.in_ok-generation.ensures.full c.in_ok-generation.ensures.full_same))
 
 pub returns-clause-any_moment : goal.returns-clause-any_moment
 returns-clause-any_moment g c =
     let device = g.D.Disk.device in
     let journal = c.args.self.now.journal in
-    let taken = ap taken_by c.tell_settled.ensures.flush ∙ c.in_ok-generation.ensures.taken in
+    let taken = ap taken_by c.report_settled.ensures.flush ∙ c.in_ok-generation.ensures.taken in
     let leaves = λ (s t : List Marked).
     AtEachMoment device (spare_disk journal) (disk_of c.rewrite.new.self.journal)
     (λ left. HoldsEither g.S.Sign.scheme c.args.node.now s t (areas_of device journal) (areas_with device journal left)) in
-    inr (subst (λ s. leaves s (taken_by c.tell_settled.new.flush)) c.in-Ok.ensures.flush_durable
+    inr (subst (λ s. leaves s (taken_by c.report_settled.new.flush)) c.in-Ok.ensures.flush_durable
     (subst (leaves c.take_all.new.flush.seat.view.durable) (sym taken) c.in_ok-generation.ensures.any_moment))
 
 pub returns-clause-earlier : goal.returns-clause-earlier
 returns-clause-earlier g c =
     let device = g.D.Disk.device in
-    let settled = ap (λ (f : FlushSeat). f.seat.view.durable) c.tell_settled.ensures.flush ∙ c.in_ok-generation.ensures.ok.1 in
+    let settled = ap (λ (f : FlushSeat). f.seat.view.durable) c.report_settled.ensures.flush ∙ c.in_ok-generation.ensures.ok.1 in
     let keeps = λ (s t : List Marked). KeepsEarlier g.S.Sign.scheme c.args.node.now s t (areas_of device c.args.self.now.journal) (areas_of device c.rewrite.new.self.journal) in
-    subst (λ s. keeps s c.tell_settled.new.flush.seat.view.durable) c.in-Ok.ensures.flush_durable
+    subst (λ s. keeps s c.report_settled.new.flush.seat.view.durable) c.in-Ok.ensures.flush_durable
     (subst (keeps c.take_all.new.flush.seat.view.durable) (sym settled) c.in_ok-generation.ensures.earlier)
 
 pub returns-in_err-generation-clause-any_moment : goal.returns-in_err-generation-clause-any_moment
@@ -149,7 +149,7 @@ returns-in_err-generation-clause-any_moment g c =
 
 pub returns-clause-writes : goal.returns-clause-writes
 returns-clause-writes g c =
-    let settled = ap (λ (f : FlushSeat). f.seat.view.durable) c.tell_settled.ensures.flush ∙ c.in_ok-generation.ensures.ok.1 in
+    let settled = ap (λ (f : FlushSeat). f.seat.view.durable) c.report_settled.ensures.flush ∙ c.in_ok-generation.ensures.ok.1 in
     record {
       records = c.in-Ok.snapshot;
       checkpoint = subst (λ (l : List Marked). IsCheckpointAfter g.S.Sign.scheme c.args.node.now l c.in-Ok.snapshot) (sym settled) c.in-Ok.ensures.takes.checkpoint;

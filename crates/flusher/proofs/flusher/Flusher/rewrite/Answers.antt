@@ -12,13 +12,13 @@ use Rattle.node_shared.specs.Home.{IsCheckpointAfter, taken_by}
 use Rattle.validator.specs.Setting.{node_of}
 use Rattle.flusher.specs.Rounds.{HoldsAfter}
 use Rattle.flusher.proofs.Flushing.{either_rewritten, keeps_rewritten, taken_there}
-use Rattle.flusher.proofs.Reading.{tells_generation}
+use Rattle.flusher.proofs.Reading.{reports_generation}
 use Rattle.flusher.proofs.flusher.Flusher.rewrite.Goals as goal
 
 -- a journal at a state has its first group
 pub rewrite-requires-clause-begun : goal.rewrite-requires-clause-begun
 rewrite-requires-clause-begun g c =
-    tells_generation g.D.Disk.device (node_of g.S.Sign.scheme c.args.node.now.setting) _ c.args.self.now.journal c.requires.pair c.requires.alive c.requires.holds.holds
+    reports_generation g.D.Disk.device (node_of g.S.Sign.scheme c.args.node.now.setting) _ c.args.self.now.journal c.requires.pair c.requires.alive c.requires.holds.holds
 
 pub settle-requires-clause-group : goal.settle-requires-clause-group
 settle-requires-clause-group g c = λ idle. absurd (let bad : true ≡ false = sym c.requires.rewriting ∙ idle in cc)

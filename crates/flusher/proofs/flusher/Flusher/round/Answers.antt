@@ -3,7 +3,7 @@ use Rattle.wire.specs.Lists.{Begins}
 use Rattle.node_seats.specs.Views.{IsSame}
 use Rattle.node_seats.specs.Sights.{SeatView}
 use Rattle.node_seats.proofs.Beginnings.{begins_same, begins_trans}
-use Rattle.node_seats.proofs.Same.{same_then, same_told, or_second}
+use Rattle.node_seats.proofs.Same.{same_then, same_reported, or_second}
 use Rattle.node_shared.specs.Home.{IsFlushOf, taken_by}
 use Rattle.flusher.specs.Rounds.{areas_at, IsFlusherOf, HoldsAfter, HoldsEither, KeepsEarlier, records_after}
 use Rattle.flusher.specs.declared.flusher.Flusher.{Flusher}
@@ -31,7 +31,7 @@ returns-in_err-count-in-Some-clause-settles g c =
       memory = search rules;
       size = search rules;
       settled = search rules;
-      told = search rules;
+      reported = search rules;
       not_settled = search rules;
     }
 
@@ -39,12 +39,12 @@ pub returns-clause-settles : goal.returns-clause-settles
 returns-clause-settles g c =
     let flush = c.take.new.flush in
     let of = c.in-Ok.ensures.flush in
-    let told = c.tell_settled.ensures in
+    let reported = c.report_settled.ensures in
     let had = begins_trans _ _ _ c.in-Ok.ensures.looked.more c.in-Ok.ensures.seen in
     elim c.match-found.branch [
       | in-Some+in_ok-count-in-Some w ↦
           let self_is = ap (λ f. f.seat) w.self-is in
-          let taken = ap taken_by told.flush ∙ ap taken_by self_is ∙ w.in_ok-count-in-Some.ensures.taken in
+          let taken = ap taken_by reported.flush ∙ ap taken_by self_is ∙ w.in_ok-count-in-Some.ensures.taken in
           let durable = ap (λ (f : _). f.seat.view.durable) self_is ∙ w.in_ok-count-in-Some.ensures.ok.1 in
           record {
             takes = inr (inr (takes_as _ _ _ _ _ c.in-Ok.ensures.flush_durable (sym taken)
@@ -52,29 +52,29 @@ returns-clause-settles g c =
             memory = search rules;
             size = ap length taken ∙ size_some c.args.node.now flush of w.in-Some.group (of_some _ _ _ w.in-Some.is c.in-Ok.ensures.takes.group)
                 ∙ (λ i. length (c.in-Ok.ensures.flush_durable i) + (sym w.in_ok-count-in-Some.ensures.ok.0 ∙ sym w.count-is) i);
-            settled = ap (λ (f : _). f.seat.view.durable) told.flush ∙ durable ∙ sym taken;
-            told = told.durable ∙ durable ∙ sym taken;
+            settled = ap (λ (f : _). f.seat.view.durable) reported.flush ∙ durable ∙ sym taken;
+            reported = reported.durable ∙ durable ∙ sym taken;
             not_settled = search rules;
           }
       | in-None w ↦
           let self_is = ap (λ f. f.seat) w.self-is in
           let none = c.in-Ok.ensures.takes.none (is_none _ w.in-None.is) in
           let rests = none.0 ∙ c.requires.flusher.rests (search rules) ∙ sym c.in-Ok.ensures.flush_settled in
-          let taken = ap taken_by told.flush ∙ ap taken_by self_is ∙ rests_at c.args.node.now flush of rests in
+          let taken = ap taken_by reported.flush ∙ ap taken_by self_is ∙ rests_at c.args.node.now flush of rests in
           let durable = ap (λ (f : _). f.seat.view.durable) self_is in
           record {
-            takes = inr (inr (takes_as _ _ _ _ _ c.in-Ok.ensures.flush_durable (sym (ap taken_by told.flush ∙ ap taken_by self_is))
+            takes = inr (inr (takes_as _ _ _ _ _ c.in-Ok.ensures.flush_durable (sym (ap taken_by reported.flush ∙ ap taken_by self_is))
                 (takes_none c.args.node.now flush of c.args.seat.now.view.seen had rests none.1)));
             memory = search rules;
             size = ap length (taken ∙ c.in-Ok.ensures.flush_durable) ∙ (search rules) ∙ ap (λ n. length c.args.self.now.seat.seat.view.durable + n) (sym w.count-is);
-            settled = ap (λ (f : _). f.seat.view.durable) told.flush ∙ durable ∙ sym taken;
-            told = told.durable ∙ durable ∙ sym taken;
+            settled = ap (λ (f : _). f.seat.view.durable) reported.flush ∙ durable ∙ sym taken;
+            reported = reported.durable ∙ durable ∙ sym taken;
             not_settled = search rules;
           }
     ]
 
-pub tell_settled-requires-clause-flush : goal.tell_settled-requires-clause-flush
-tell_settled-requires-clause-flush g c = elim c.match-found.branch [
+pub report_settled-requires-clause-flush : goal.report_settled-requires-clause-flush
+report_settled-requires-clause-flush g c = elim c.match-found.branch [
   | in-Some+in_ok-count-in-Some w ↦ subst (λ f. IsFlushOf c.args.node.now f.seat) (sym w.self-is) w.in_ok-count-in-Some.ensures.flusher.seat
   | in-None w ↦ subst (λ f. IsFlushOf c.args.node.now f.seat) (sym w.self-is) c.in-Ok.ensures.flush
 ]
@@ -96,13 +96,13 @@ returns-clause-flusher g c =
           })
     ] in
     subst (λ f. IsFlusherOf g.S.Sign.scheme g.D.Disk.device c.args.node.now
-    (record { journal = c.match-found.self.journal; seat = f; down = c.match-found.self.down })) (sym c.tell_settled.ensures.flush) is
+    (record { journal = c.match-found.self.journal; seat = f; down = c.match-found.self.down })) (sym c.report_settled.ensures.flush) is
 
-pub returns-clause-told : goal.returns-clause-told
-returns-clause-told g c =
+pub returns-clause-reported : goal.returns-clause-reported
+returns-clause-reported g c =
     let looked = c.in-Ok.ensures.looked in
-    let learned = c.tell_settled.ensures.learned in
-    let later = c.tell_settled.new.seat in
+    let learned = c.report_settled.ensures.learned in
+    let later = c.report_settled.new.seat in
     let mid : c.match-found.seat ≡ c.take.new.seat = elim c.match-found.branch [
       | in-Some+in_ok-count-in-Some w ↦ w.seat-is ∙ w.in_ok-count-in-Some.ensures.seat
       | in-None w ↦ w.seat-is
@@ -116,15 +116,15 @@ returns-clause-told g c =
       full = search rules;
     }
 
-pub returns-in_err-count-in-Some-clause-told : goal.returns-in_err-count-in-Some-clause-told
-returns-in_err-count-in-Some-clause-told g c =
+pub returns-in_err-count-in-Some-clause-reported : goal.returns-in_err-count-in-Some-clause-reported
+returns-in_err-count-in-Some-clause-reported g c =
     let before = c.args.seat.now in
     let mid = c.take.new.seat in
     let looked = c.in-Ok.ensures.looked in
     let is = c.in_err-count-in-Some.ensures.seat_err in
-    let knows = ap (λ (s : SeatView). s.view.down) is ∙ or_second mid.view.down c.add.new.self.seat.seat.view.down c.in_err-count-in-Some.ensures.told_err in
+    let knows = ap (λ (s : SeatView). s.view.down) is ∙ or_second mid.view.down c.add.new.self.seat.seat.view.down c.in_err-count-in-Some.ensures.reported_err in
     record {
-      same = same_then before mid c.add.new.seat looked.same (same_told mid c.add.new.seat c.add.new.self.seat.seat.view is);
+      same = same_then before mid c.add.new.seat looked.same (same_reported mid c.add.new.seat c.add.new.self.seat.seat.view is);
       more = subst (λ s. Begins before.view.seen s.view.seen) (sym is) looked.more;
       more_durable = subst (λ s. Begins before.view.durable s.view.durable) (sym is) (subst (λ l. Begins before.view.durable l) (sym looked.durable) (begins_same before.view.durable));
       no_change = search rules;
@@ -149,13 +149,13 @@ returns-clause-any_moment g c =
     let journal = c.args.self.now.journal in
     let disk = disk_of journal in
     let settled = c.args.self.now.seat.seat.view.durable in
-    let taken = taken_by c.tell_settled.new.flush in
+    let taken = taken_by c.report_settled.new.flush in
     let leaves = λ (f : Flusher g.row.D.Denot) (s t : List Marked).
     AtEachMoment device disk (disk_of f.journal) (λ left. HoldsEither scheme node s t (areas_of device journal) (areas_at device journal left)) in
     elim c.match-found.branch [
       | in-Some+in_ok-count-in-Some w ↦
           let is : taken ≡ taken_by c.take.new.flush =
-          ap taken_by c.tell_settled.ensures.flush ∙ ap (λ (f : Flusher g.row.D.Denot). taken_by f.seat) w.self-is ∙ w.in_ok-count-in-Some.ensures.taken in
+          ap taken_by c.report_settled.ensures.flush ∙ ap (λ (f : Flusher g.row.D.Denot). taken_by f.seat) w.self-is ∙ w.in_ok-count-in-Some.ensures.taken in
           inr (subst (λ (f : Flusher g.row.D.Denot). leaves f settled taken) (sym w.self-is)
           (subst (λ s. leaves w.add.new.self s taken) c.in-Ok.ensures.flush_durable
           (subst (λ t. leaves w.add.new.self c.take.new.flush.seat.view.durable t) (sym is) w.in_ok-count-in-Some.ensures.any_moment)))
@@ -171,16 +171,16 @@ returns-clause-earlier g c =
     let node = c.args.node.now in
     let settled = c.args.self.now.seat.seat.view.durable in
     let keeps = λ (f : Flusher g.row.D.Denot) (s t : List Marked). KeepsEarlier g.S.Sign.scheme node s t (areas_of device c.args.self.now.journal) (areas_of device f.journal) in
-    let told = ap (λ (f : FlushSeat). f.seat.view.durable) c.tell_settled.ensures.flush in
+    let reported = ap (λ (f : FlushSeat). f.seat.view.durable) c.report_settled.ensures.flush in
     elim c.match-found.branch [
       | in-Some+in_ok-count-in-Some w ↦
-          let is = told ∙ ap (λ (f : Flusher g.row.D.Denot). f.seat.seat.view.durable) w.self-is ∙ w.in_ok-count-in-Some.ensures.ok.1 in
-          subst (λ (f : Flusher g.row.D.Denot). keeps f settled c.tell_settled.new.flush.seat.view.durable) (sym w.self-is)
-          (subst (λ s. keeps w.add.new.self s c.tell_settled.new.flush.seat.view.durable) c.in-Ok.ensures.flush_durable
+          let is = reported ∙ ap (λ (f : Flusher g.row.D.Denot). f.seat.seat.view.durable) w.self-is ∙ w.in_ok-count-in-Some.ensures.ok.1 in
+          subst (λ (f : Flusher g.row.D.Denot). keeps f settled c.report_settled.new.flush.seat.view.durable) (sym w.self-is)
+          (subst (λ s. keeps w.add.new.self s c.report_settled.new.flush.seat.view.durable) c.in-Ok.ensures.flush_durable
           (subst (λ t. keeps w.add.new.self c.take.new.flush.seat.view.durable t) (sym is) w.in_ok-count-in-Some.ensures.earlier))
       | in-None w ↦
-          let is = told ∙ ap (λ (f : Flusher g.row.D.Denot). f.seat.seat.view.durable) w.self-is ∙ c.in-Ok.ensures.flush_durable in
-          subst (λ (f : Flusher g.row.D.Denot). keeps f settled c.tell_settled.new.flush.seat.view.durable) (sym w.self-is)
+          let is = reported ∙ ap (λ (f : Flusher g.row.D.Denot). f.seat.seat.view.durable) w.self-is ∙ c.in-Ok.ensures.flush_durable in
+          subst (λ (f : Flusher g.row.D.Denot). keeps f settled c.report_settled.new.flush.seat.view.durable) (sym w.self-is)
           (subst (λ t. keeps c.args.self.now settled t) (sym is) (λ base there. there))
     ]
 
@@ -204,12 +204,12 @@ pub returns-clause-adds : goal.returns-clause-adds
 returns-clause-adds g c =
     let flush = c.take.new.flush in
     let device = g.D.Disk.device in
-    let told = c.tell_settled.ensures in
+    let reported = c.report_settled.ensures in
     elim c.match-found.branch [
       | in-Some+in_ok-count-in-Some w ↦ λ some.
           let added = w.in_ok-count-in-Some.ensures in
           let group = (of_some _ _ _ w.in-Some.is c.in-Ok.ensures.takes.group).is ∙ group_after c.args.node.now flush c.in-Ok.ensures.flush in
-          let settled = ap (λ (f : FlushSeat). f.seat.view.durable) told.flush ∙ ap (λ (f : Flusher g.row.D.Denot). f.seat.seat.view.durable) w.self-is ∙ added.ok.1 in
+          let settled = ap (λ (f : FlushSeat). f.seat.view.durable) reported.flush ∙ ap (λ (f : Flusher g.row.D.Denot). f.seat.seat.view.durable) w.self-is ∙ added.ok.1 in
           ap (λ (f : Flusher g.row.D.Denot). device.content (disk_of f.journal)) w.self-is ∙ added.content
           ∙ ap (file_with (device.content (disk_of c.args.self.now.journal))) (group ∙ (λ i. records_after (c.in-Ok.ensures.flush_durable i) (sym settled i)))
       | in-None w ↦ λ some. absurd (omega (arith, some, w.count-is))

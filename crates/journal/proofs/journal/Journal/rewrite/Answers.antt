@@ -3,7 +3,7 @@ use Rattle.std.specs.Prelude.{IfSome}
 use Rattle.std.specs.Option.{option_map_or}
 use Rattle.diskmodel.specs.Disk.{AtEachMoment}
 use Rattle.diskmodel.proofs.Clock.{weaker}
-use Rattle.journal.specs.Areas.{tells, other_side, IsOlderOrNew, rewrite_calls}
+use Rattle.journal.specs.Areas.{reports, other_side, IsOlderOrNew, rewrite_calls}
 use Rattle.journal.specs.Journal.{EndsClosed, IsAlivePair}
 use Rattle.journal.specs.Pairs.{StandsAsOrAfter, stands_as, spare_disk, side_in, generation_in}
 use Rattle.journal.specs.Snapshot.{bytes_for}
@@ -31,12 +31,12 @@ returns-in-Err-clause-any_moment g c =
     let is : old.spare ≡ Some spare = c.in-Some.is in
     let found = c.written_len-len.ensures in
     let pair : IsAlivePair device old.disk spare = subst (λ o. IfSome o (IsAlivePair device old.disk)) is c.requires.alive.pair in
-    let told : tells (device.content old.disk) ≡ Some (Some spare.generation) =
+    let reported : reports (device.content old.disk) ≡ Some (Some spare.generation) =
     c.requires.begun ∙ ap (λ o. Some (Some (option_map_or (λ s. s.generation) o 0))) is in
     let P : List ℕ → Type 0 = IsOlderOrNew spare.generation (bytes_for (spare.generation + 1) c.args.snapshot) in
     subst (λ o. AtEachMoment device (spare_disk (record old { spare = o })) c.rewrite.new.self.disk (StandsAsOrAfter device (record old { spare = o }) c.args.snapshot)) (sym is)
     (weaker device spare.disk c.rewrite.new.self.disk (StandsAsOrAfter device (record old { spare = Some spare }) c.args.snapshot) P (c.in-Err.ensures.any_moment pair.at_rest)
-    (λ left at. as_or_after c.args.snapshot found.packs found.shaped spare.generation (omega arith) spare.side (device.content old.disk) (device.content spare.disk) left told pair.at_rest at))
+    (λ left at. as_or_after c.args.snapshot found.packs found.shaped spare.generation (omega arith) spare.side (device.content old.disk) (device.content spare.disk) left reported pair.at_rest at))
 
 pub returns-clause-any_moment : goal.returns-clause-any_moment
 returns-clause-any_moment g c =
@@ -46,12 +46,12 @@ returns-clause-any_moment g c =
     let is : old.spare ≡ Some spare = c.in-Some.is in
     let found = c.written_len-len.ensures in
     let pair : IsAlivePair device old.disk spare = subst (λ o. IfSome o (IsAlivePair device old.disk)) is c.requires.alive.pair in
-    let told : tells (device.content old.disk) ≡ Some (Some spare.generation) =
+    let reported : reports (device.content old.disk) ≡ Some (Some spare.generation) =
     c.requires.begun ∙ ap (λ o. Some (Some (option_map_or (λ s. s.generation) o 0))) is in
     let P : List ℕ → Type 0 = IsOlderOrNew spare.generation (bytes_for (spare.generation + 1) c.args.snapshot) in
     subst (λ o. AtEachMoment device (spare_disk (record old { spare = o })) c.rewrite.new.live (StandsAsOrAfter device (record old { spare = o }) c.args.snapshot)) (sym is)
     (weaker device spare.disk c.rewrite.new.live (StandsAsOrAfter device (record old { spare = Some spare }) c.args.snapshot) P (c.in_default-rewrite.ensures.any_moment pair.at_rest)
-    (λ left at. as_or_after c.args.snapshot found.packs found.shaped spare.generation (omega arith) spare.side (device.content old.disk) (device.content spare.disk) left told pair.at_rest at))
+    (λ left at. as_or_after c.args.snapshot found.packs found.shaped spare.generation (omega arith) spare.side (device.content old.disk) (device.content spare.disk) left reported pair.at_rest at))
 
 pub returns-clause-alive : goal.returns-clause-alive
 returns-clause-alive g c =
@@ -61,13 +61,13 @@ returns-clause-alive g c =
     let is : old.spare ≡ Some spare = c.in-Some.is in
     let found = c.written_len-len.ensures in
     let done = c.in_default-rewrite.ensures in
-    let told : tells (device.content old.disk) ≡ Some (Some spare.generation) =
+    let reported : reports (device.content old.disk) ≡ Some (Some spare.generation) =
     c.requires.begun ∙ ap (λ o. Some (Some (option_map_or (λ s. s.generation) o 0))) is in
     record {
       ends_closed = subst EndsClosed (sym done.content) (checkpoint_ends (spare.generation + 1) c.args.snapshot found.packs);
       len = omega (arith, ap length done.content, found.value (spare.generation + 1));
       durable = done.durable;
-      pair = new_pair device c.args.snapshot found.packs found.shaped spare c.rewrite.new.self old.disk c.rewrite.new.live (omega arith) told done.swapped done.content c.requires.alive.durable;
+      pair = new_pair device c.args.snapshot found.packs found.shaped spare c.rewrite.new.self old.disk c.rewrite.new.live (omega arith) reported done.swapped done.content c.requires.alive.durable;
     }
 
 pub returns-clause-records : goal.returns-clause-records
@@ -78,7 +78,7 @@ returns-clause-records g c =
     let is : old.spare ≡ Some spare = c.in-Some.is in
     let found = c.written_len-len.ensures in
     let done = c.in_default-rewrite.ensures in
-    let told : tells (device.content old.disk) ≡ Some (Some spare.generation) =
+    let reported : reports (device.content old.disk) ≡ Some (Some spare.generation) =
     c.requires.begun ∙ ap (λ o. Some (Some (option_map_or (λ s. s.generation) o 0))) is in
-    new_stands device c.args.snapshot found.packs found.shaped spare c.rewrite.new.self old.disk c.rewrite.new.live (omega arith) told done.swapped done.content
+    new_stands device c.args.snapshot found.packs found.shaped spare c.rewrite.new.self old.disk c.rewrite.new.live (omega arith) reported done.swapped done.content
     ∙ ap (λ o. stands_as (other_side (side_in (record old { spare = o }))) (generation_in (record old { spare = o }) + 1) c.args.snapshot) (sym is)

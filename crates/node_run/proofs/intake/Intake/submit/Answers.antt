@@ -19,7 +19,7 @@ returns-in-Ok-Waits-clause-brings g c =
 
 pub returns-in-Err-clause-brings : goal.returns-in-Err-clause-brings
 returns-in-Err-clause-brings g c =
-    brings_refusal _ _ _ _ _ c.take.new.self _ _ c.take.result c.take.ensures.handles c.in-Err.told c.in-Err.is refl
+    brings_refusal _ _ _ _ _ c.take.new.self _ _ c.take.result c.take.ensures.handles c.in-Err.reported c.in-Err.is refl
 
 pub offer-requires : goal.offer-requires
 offer-requires g c = waits_certificate _ _ _ _ _ c.take.new.self none_waits none_waits c.take.result c.take.ensures.handles c.in-Ok-Waits.event (c.in-Ok-Waits.is ∙ ap Ok c.in-Ok-Waits.field-0-is)

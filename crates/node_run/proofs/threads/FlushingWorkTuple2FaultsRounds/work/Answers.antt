@@ -7,9 +7,9 @@ returns g c =
     let all = c.flush_all-faults in
     subst (λ work. HasFlushed g.S.Sign.scheme g.D.Disk.device work.rule work.rounds all.new.rounds all.result) c.self.view_is (record {
       node = all.ensures.node;
-      told = all.ensures.journal.rounds;
+      reported = all.ensures.journal.rounds;
       fell = all.ensures.journal.fell;
-      reported = all.ensures.journal.told;
+      is_reported = all.ensures.journal.reported;
       full = all.ensures.journal.full;
       others = all.ensures.others;
       any_moment = all.ensures.any_moment;

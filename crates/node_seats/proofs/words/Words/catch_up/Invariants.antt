@@ -1,7 +1,7 @@
 use Rattle.std.proofs.Common.{◌≡◌}
 use Rattle.wire.specs.Lists.{Begins}
 use Rattle.node_seats.specs.Views.{IsSame}
-use Rattle.node_seats.proofs.Same.{IsToldDown}
+use Rattle.node_seats.proofs.Same.{IsInformedDown}
 use Rattle.node_seats.proofs.words.Words.catch_up.Given as goal
 
 abbrev pub invariant-loop : goal.invariant-loop
@@ -11,4 +11,4 @@ invariant-loop g l =
     × IsSame l.initial.seat l.seat
     × (l.seat.view.durable ≡ l.initial.seat.view.durable)
     × Begins l.initial.seat.view.seen l.seat.view.seen
-    × IsToldDown l.initial.seat.view.down l.initial.other.view.down l.seat.view.down
+    × IsInformedDown l.initial.seat.view.down l.initial.other.view.down l.seat.view.down

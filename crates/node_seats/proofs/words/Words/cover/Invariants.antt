@@ -1,7 +1,7 @@
 use Rattle.std.proofs.Common.{◌≡◌, ◌≤◌, length}
 use Rattle.wire.specs.Lists.{Begins}
 use Rattle.node_seats.specs.Views.{IsSame}
-use Rattle.node_seats.proofs.Same.{IsToldDown}
+use Rattle.node_seats.proofs.Same.{IsInformedDown}
 use Rattle.node_seats.proofs.words.Words.cover.Given as goal
 
 abbrev pub invariant-loop : goal.invariant-loop
@@ -12,4 +12,4 @@ invariant-loop g l =
     × Begins l.initial.seat.view.durable l.seat.view.durable
     × Begins l.initial.seat.view.seen l.seat.view.seen
     × (length l.seat.view.durable ≤ length l.initial.seat.view.seen → l.seat.view.seen ≡ l.initial.seat.view.seen)
-    × IsToldDown l.initial.seat.view.down l.initial.other.view.down l.seat.view.down
+    × IsInformedDown l.initial.seat.view.down l.initial.other.view.down l.seat.view.down

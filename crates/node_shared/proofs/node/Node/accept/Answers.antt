@@ -15,12 +15,12 @@ use Rattle.node_shared.proofs.node.Node.accept.Goals as goal
 pub returns-in-Err-clause-submits : goal.returns-in-Err-clause-submits
 returns-in-Err-clause-submits g c =
     let first = c.see_all.ensures in
-    let told = c.know_down.ensures in
+    let reported = c.know_down.ensures in
     let afterwards = c.know_down.new.locked.seat in
-    let seen = told.stays.seen ∙ first.seen ∙ ap (λ l. l.seat.view.seen) (sym first.locked) ∙ sym told.stays_locked.seen in
-    submits_refused c.args.self.now g.S.Sign.scheme afterwards c.know_down.new.locked.book c.know_down.new.locked.book c.args.event told.home
+    let seen = reported.stays.seen ∙ first.seen ∙ ap (λ l. l.seat.view.seen) (sym first.locked) ∙ sym reported.stays_locked.seen in
+    submits_refused c.args.self.now g.S.Sign.scheme afterwards c.know_down.new.locked.book c.know_down.new.locked.book c.args.event reported.home
     c.args.seat.now.view c.know_down.new.seat.view _ (search rules)
-    (subst (λ l. Begins c.args.seat.now.view.seen l) (sym told.stays.seen ∙ seen) first.looked.more) seen (told.stays.same.mine ∙ first.looked.same.mine)
+    (subst (λ l. Begins c.args.seat.now.view.seen l) (sym reported.stays.seen ∙ seen) first.looked.more) seen (reported.stays.same.mine ∙ first.looked.same.mine)
 
 pub returns-in-Err-clause-brought : goal.returns-in-Err-clause-brought
 returns-in-Err-clause-brought g c =
@@ -30,10 +30,10 @@ returns-in-Err-clause-brought g c =
 pub raise-requires-clause-legal : goal.raise-requires-clause-legal
 raise-requires-clause-legal g c =
     let first = c.see_all.ensures in
-    let told = c.know_down.ensures in
+    let reported = c.know_down.ensures in
     let mid = c.know_down.new.seat in
-    let seen = told.stays.seen ∙ first.seen ∙ ap (λ l. l.seat.view.seen) (sym first.locked) ∙ sym told.stays_locked.seen in
-    let legal = legal_with c.args.self.now g.S.Sign.scheme c.know_down.new.locked.seat c.know_down.new.locked.book c.accept.new.self c.args.event told.home (c.in-Ok.ensures.new c.if-receipt.true)
+    let seen = reported.stays.seen ∙ first.seen ∙ ap (λ l. l.seat.view.seen) (sym first.locked) ∙ sym reported.stays_locked.seen in
+    let legal = legal_with c.args.self.now g.S.Sign.scheme c.know_down.new.locked.seat c.know_down.new.locked.book c.accept.new.self c.args.event reported.home (c.in-Ok.ensures.new c.if-receipt.true)
     mid.view.seen seen in
     subst (λ (n : NodeView g.row.S.Denot). (base : State) → IsBase g.S.Sign.scheme n base
     → IsLegalAfter (node_of g.S.Sign.scheme n.setting) base (events mid.view.seen ++ g.C.Call.event ∷ [])) (sym c.self.view_is)
@@ -42,11 +42,11 @@ raise-requires-clause-legal g c =
 pub returns-then-receipt-clause-home : goal.returns-then-receipt-clause-home
 returns-then-receipt-clause-home g c =
     let first = c.see_all.ensures in
-    let told = c.know_down.ensures in
+    let reported = c.know_down.ensures in
     let raised = c.raise.ensures in
     let last = c.catch_up.ensures in
-    let seen = told.stays.seen ∙ first.seen ∙ ap (λ l. l.seat.view.seen) (sym first.locked) ∙ sym told.stays_locked.seen in
-    home_with c.args.self.now g.S.Sign.scheme c.know_down.new.locked.seat c.know_down.new.locked.book c.accept.new.self c.args.event told.home (c.in-Ok.ensures.new c.if-receipt.true)
+    let seen = reported.stays.seen ∙ first.seen ∙ ap (λ l. l.seat.view.seen) (sym first.locked) ∙ sym reported.stays_locked.seen in
+    home_with c.args.self.now g.S.Sign.scheme c.know_down.new.locked.seat c.know_down.new.locked.book c.accept.new.self c.args.event reported.home (c.in-Ok.ensures.new c.if-receipt.true)
     c.catch_up.new.seat c.know_down.new.seat.view.number c.in-Ok.ensures.setting (search rules)
     (last.seen ∙ raised.seen ∙ ap (λ l. l ++ mark c.know_down.new.seat.view.number g.C.Call.event ∷ []) seen
     ∙ ap (λ e. c.know_down.new.locked.seat.view.seen ++ mark c.know_down.new.seat.view.number e ∷ []) c.requires.call)
@@ -56,30 +56,30 @@ returns-then-receipt-clause-home g c =
 pub returns-then-receipt-clause-submits : goal.returns-then-receipt-clause-submits
 returns-then-receipt-clause-submits g c =
     let first = c.see_all.ensures in
-    let told = c.know_down.ensures in
+    let reported = c.know_down.ensures in
     let raised = c.raise.ensures in
     let last = c.catch_up.ensures in
     let mid = c.know_down.new.seat in
     let afterwards = c.know_down.new.locked.seat in
-    let seen = told.stays.seen ∙ first.seen ∙ ap (λ l. l.seat.view.seen) (sym first.locked) ∙ sym told.stays_locked.seen in
-    submits_new c.args.self.now g.S.Sign.scheme afterwards c.know_down.new.locked.book c.accept.new.self c.args.event told.home (c.in-Ok.ensures.new c.if-receipt.true)
+    let seen = reported.stays.seen ∙ first.seen ∙ ap (λ l. l.seat.view.seen) (sym first.locked) ∙ sym reported.stays_locked.seen in
+    submits_new c.args.self.now g.S.Sign.scheme afterwards c.know_down.new.locked.book c.accept.new.self c.args.event reported.home (c.in-Ok.ensures.new c.if-receipt.true)
     c.args.seat.now.view c.catch_up.new.other.view c.in-Ok.receipt
-    (subst (λ l. Begins c.args.seat.now.view.seen l) (sym told.stays.seen ∙ seen) first.looked.more) c.if-receipt.true c.in-Ok.ensures.ticket c.in-Ok.ensures.limit
+    (subst (λ l. Begins c.args.seat.now.view.seen l) (sym reported.stays.seen ∙ seen) first.looked.more) c.if-receipt.true c.in-Ok.ensures.ticket c.in-Ok.ensures.limit
     (ap (λ s. s.view.seen) last.other ∙ raised.seen ∙ ap (λ l. l ++ mark mid.view.number g.C.Call.event ∷ []) seen ∙ ap (λ e. afterwards.view.seen ++ mark mid.view.number e ∷ []) c.requires.call
-    ∙ ap (λ n. afterwards.view.seen ++ mark n c.args.event ∷ []) (told.stays.same.number ∙ first.looked.same.number))
-    (ap (λ s. s.view.mine) last.other ∙ raised.mine ∙ ap (λ l. l ++ g.C.Call.event ∷ []) (told.stays.same.mine ∙ first.looked.same.mine)
+    ∙ ap (λ n. afterwards.view.seen ++ mark n c.args.event ∷ []) (reported.stays.same.number ∙ first.looked.same.number))
+    (ap (λ s. s.view.mine) last.other ∙ raised.mine ∙ ap (λ l. l ++ g.C.Call.event ∷ []) (reported.stays.same.mine ∙ first.looked.same.mine)
     ∙ ap (λ e. c.args.seat.now.view.mine ++ e ∷ []) c.requires.call)
 
 pub returns-then-receipt-clause-brought : goal.returns-then-receipt-clause-brought
 returns-then-receipt-clause-brought g c =
     let first = c.see_all.ensures in
-    let told = c.know_down.ensures in
+    let reported = c.know_down.ensures in
     let raised = c.raise.ensures in
     let mid = c.know_down.new.seat in
-    let seen = told.stays.seen ∙ first.seen ∙ ap (λ l. l.seat.view.seen) (sym first.locked) ∙ sym told.stays_locked.seen in
-    let legal = legal_with c.args.self.now g.S.Sign.scheme c.know_down.new.locked.seat c.know_down.new.locked.book c.accept.new.self c.args.event told.home (c.in-Ok.ensures.new c.if-receipt.true)
+    let seen = reported.stays.seen ∙ first.seen ∙ ap (λ l. l.seat.view.seen) (sym first.locked) ∙ sym reported.stays_locked.seen in
+    let legal = legal_with c.args.self.now g.S.Sign.scheme c.know_down.new.locked.seat c.know_down.new.locked.book c.accept.new.self c.args.event reported.home (c.in-Ok.ensures.new c.if-receipt.true)
     mid.view.seen seen in
-    let looked = looked_stays g.S.Sign.scheme c.args.self.now c.args.seat.now c.see_all.new.seat mid first.looked told.stays in
+    let looked = looked_stays g.S.Sign.scheme c.args.self.now c.args.seat.now c.see_all.new.seat mid first.looked reported.stays in
     subst (λ s. Brought g.S.Sign.scheme c.args.self.now c.args.seat.now s) (sym c.catch_up.ensures.other)
     (brought_new g.S.Sign.scheme c.args.self.now c.args.seat.now mid c.raise.new.seat g.C.Call.event looked raised.same raised.down raised.durable raised.seen raised.mine
     (λ base at. subst (λ (e : Event). IsLegalAfter (node_of g.S.Sign.scheme c.args.self.now.setting) base (events mid.view.seen ++ e ∷ [])) (sym c.requires.call) (legal base at)))
@@ -92,11 +92,12 @@ returns-else-receipt-clause-home g c =
 pub returns-else-receipt-clause-submits : goal.returns-else-receipt-clause-submits
 returns-else-receipt-clause-submits g c =
     let first = c.see_all.ensures in
-    let told = c.know_down.ensures in
-    let seen = told.stays.seen ∙ first.seen ∙ ap (λ l. l.seat.view.seen) (sym first.locked) ∙ sym told.stays_locked.seen in
-    submits_known c.args.self.now g.S.Sign.scheme c.know_down.new.locked.seat c.know_down.new.locked.book c.accept.new.self c.args.event told.home (c.in-Ok.ensures.known c.if-receipt.false)
+    let reported = c.know_down.ensures in
+    let seen = reported.stays.seen ∙ first.seen ∙ ap (λ l. l.seat.view.seen) (sym first.locked) ∙ sym reported.stays_locked.seen in
+    submits_known c.args.self.now g.S.Sign.scheme c.know_down.new.locked.seat c.know_down.new.locked.book c.accept.new.self c.args.event reported.home (c.in-Ok.ensures.known c.if-receipt.false)
     c.args.seat.now.view c.know_down.new.seat.view c.in-Ok.receipt
-    (subst (λ l. Begins c.args.seat.now.view.seen l) (sym told.stays.seen ∙ seen) first.looked.more) c.if-receipt.false c.in-Ok.ensures.ticket seen (told.stays.same.mine ∙ first.looked.same.mine)
+    (subst (λ l. Begins c.args.seat.now.view.seen l) (sym reported.stays.seen ∙ seen) first.looked.more) c.if-receipt.false c.in-Ok.ensures.ticket seen
+    (reported.stays.same.mine ∙ first.looked.same.mine)
 
 pub returns-else-receipt-clause-brought : goal.returns-else-receipt-clause-brought
 returns-else-receipt-clause-brought g c =
@@ -106,7 +107,7 @@ returns-else-receipt-clause-brought g c =
 pub raise-requires-clause-seen : goal.raise-requires-clause-seen
 raise-requires-clause-seen g c =
     let first = c.see_all.ensures in
-    let told = c.know_down.ensures in
-    let seen = told.stays.seen ∙ first.seen ∙ ap (λ l. l.seat.view.seen) (sym first.locked) ∙ sym told.stays_locked.seen in
+    let reported = c.know_down.ensures in
+    let seen = reported.stays.seen ∙ first.seen ∙ ap (λ l. l.seat.view.seen) (sym first.locked) ∙ sym reported.stays_locked.seen in
     ap length seen ∙ sym (length-map c.know_down.new.locked.seat.view.seen (λ one. one.event))
-    ∙ sym (told.home.stands told.home.somewhere.0 told.home.somewhere.1).accepted ∙ sym c.accepted-count.ensures.value
+    ∙ sym (reported.home.stands reported.home.somewhere.0 reported.home.somewhere.1).accepted ∙ sym c.accepted-count.ensures.value

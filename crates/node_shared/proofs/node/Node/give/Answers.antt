@@ -21,11 +21,11 @@ returns-clause-learned g c =
 
 pub returns-clause-gives : goal.returns-clause-gives
 returns-clause-gives g c =
-    let told = c.know_down.ensures in
-    let durable = told.stays.durable ∙ c.know_all.ensures.durable ∙ ap (λ l. l.seat.view.durable) (sym c.know_all.ensures.locked) ∙ sym told.stays_locked.durable in
+    let reported = c.know_down.ensures in
+    let durable = reported.stays.durable ∙ c.know_all.ensures.durable ∙ ap (λ l. l.seat.view.durable) (sym c.know_all.ensures.locked) ∙ sym reported.stays_locked.durable in
     gives_both g.S.Sign.scheme c.args.self.now _ c.release.result
-    (given c.args.self.now g.S.Sign.scheme c.know_down.new.locked.seat c.know_down.new.seat c.know_down.new.locked.book told.home durable c.release.result c.release.ensures.goes_out)
-    (put_out_by c.args.self.now g.S.Sign.scheme c.know_down.new.locked.seat c.know_down.new.seat c.know_down.new.locked.book told.home durable c.release.result c.release.ensures.goes_out)
+    (given c.args.self.now g.S.Sign.scheme c.know_down.new.locked.seat c.know_down.new.seat c.know_down.new.locked.book reported.home durable c.release.result c.release.ensures.goes_out)
+    (put_out_by c.args.self.now g.S.Sign.scheme c.know_down.new.locked.seat c.know_down.new.seat c.know_down.new.locked.book reported.home durable c.release.result c.release.ensures.goes_out)
 
 pub returns-clause-next : goal.returns-clause-next
 returns-clause-next g c = gives_next c.args.locked.now.book c.know_all.new.locked.book c.know_down.new.locked.book _ c.release.result

@@ -10,9 +10,9 @@ returns-clause-learned g c =
 
 pub returns-clause-order : goal.returns-clause-order
 returns-clause-order g c =
-    let told = c.know_down.ensures in
-    ordered c.args.self.now g.S.Sign.scheme c.know_down.new.locked.seat c.know_down.new.seat c.know_down.new.locked.book told.home
-    (told.stays.durable ∙ c.know_all.ensures.durable ∙ ap (λ l. l.seat.view.durable) (sym c.know_all.ensures.locked) ∙ sym told.stays_locked.durable) _ c.args.from
+    let reported = c.know_down.ensures in
+    ordered c.args.self.now g.S.Sign.scheme c.know_down.new.locked.seat c.know_down.new.seat c.know_down.new.locked.book reported.home
+    (reported.stays.durable ∙ c.know_all.ensures.durable ∙ ap (λ l. l.seat.view.durable) (sym c.know_all.ensures.locked) ∙ sym reported.stays_locked.durable) _ c.args.from
     c.order-order.result c.order-order.ensures.order
 
 pub release-requires-clause-fits : goal.release-requires-clause-fits

@@ -14,11 +14,11 @@ returns-clause-ready g c =
     let home : IsAtHome g.S.Sign.scheme c.args.self.now c.acquire-turn.result.1.value.seat c.acquire-turn.result.1.value.book = search rules in
     let now : IsAtHome g.S.Sign.scheme c.args.self.now c.see_all.new.locked.seat c.see_all.new.locked.book = search rules in
     let seen : c.see_all.new.seat.view.seen ≡ c.see_all.new.locked.seat.view.seen = search rules in
-    let told = subst (λ (v : ValidatorView g.row.S.Denot). (state : State) → AreAtSound (node_of g.S.Sign.scheme v.setting) v.tables state
+    let reported = subst (λ (v : ValidatorView g.row.S.Denot). (state : State) → AreAtSound (node_of g.S.Sign.scheme v.setting) v.tables state
     → c.ready-ready.result ≡ is_ready (node_of g.S.Sign.scheme v.setting) state c.args.event.now) c.validator.ensures c.ready-ready.ensures.at in
     seen_of c.args.self.now g.S.Sign.scheme c.see_all.new.locked.seat c.see_all.new.seat c.see_all.new.locked.book now
     (λ node state. c.ready-ready.result ≡ is_ready node state c.args.event.now) seen
-    (λ run stands. told (state_in (node_of g.S.Sign.scheme c.see_all.new.locked.book.validator.setting) run) stands.at)
+    (λ run stands. reported (state_in (node_of g.S.Sign.scheme c.see_all.new.locked.book.validator.setting) run) stands.at)
 
 pub acquire-turn-requires : goal.acquire-turn-requires
 acquire-turn-requires g c κs = λ h. simp (in_lives, h.0, h.1.0, h.1.1.0, h.1.1.1) (search rules)

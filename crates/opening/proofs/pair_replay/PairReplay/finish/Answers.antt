@@ -4,8 +4,8 @@ use Rattle.journal.specs.Format.{FailsAs}
 use Rattle.opening.specs.PairReplayed.{HasReached}
 use Rattle.opening.specs.Decoded.{StandsAt, read_state}
 use Rattle.opening.specs.declared.reached.Reached.{Reached}
-use Rattle.opening.proofs.PairReplays.{fresh_stands, whole_stands, whole_fails, standing_stands, failed_tells}
-use Rattle.opening.proofs.Telling.{ok_weaker, err_weaker}
+use Rattle.opening.proofs.PairReplays.{fresh_stands, whole_stands, whole_fails, standing_stands, failed_reports}
+use Rattle.opening.proofs.Reporting.{ok_weaker, err_weaker}
 use Rattle.opening.proofs.pair_replay.PairReplay.finish.Goals as goal
 
 pub returns-in_ok-new-in-Empty-clause-stands : goal.returns-in_ok-new-in-Empty-clause-stands
@@ -57,5 +57,5 @@ returns-in-Standing-clause-stands g c records has =
 pub returns-in-Failed-clause-err : goal.returns-in-Failed-clause-err
 returns-in-Failed-clause-err g c records has =
     let setting = c.args.self.config.now in
-    (failed_tells g.S.Sign.scheme setting records c.in-Failed.fault
+    (failed_reports g.S.Sign.scheme setting records c.in-Failed.fault
     (subst (λ (r : Reached g.row.S.Denot). HasReached g.S.Sign.scheme setting records r) c.in-Failed.is has.reached)).0

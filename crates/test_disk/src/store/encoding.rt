@@ -18,9 +18,9 @@ pub fn group_in(alloc: Global, bytes: &[u8], count: u64) -> Result<Option<Group>
     let Ok(records) = stands(alloc, &file) else {
         return Ok(None);
     };
-    match spelled(alloc, &records)? {
-        Some(spelled) if spelled.as_slice() == bytes && records.len() as u64 == count => {
-            Ok(Some(Group::of_bytes(spelled, count)))
+    match encoded(alloc, &records)? {
+        Some(encoded) if encoded.as_slice() == bytes && records.len() as u64 == count => {
+            Ok(Some(Group::of_bytes(encoded, count)))
         }
         _ => Ok(None),
     }
@@ -28,7 +28,7 @@ pub fn group_in(alloc: Global, bytes: &[u8], count: u64) -> Result<Option<Group>
 
 /// The bytes of a group of these records after its gate: the length of the body, the records, each after its length, and the closed gate
 /// for the next group. None outside a group's limits.
-fn spelled(alloc: Global, records: &[Record]) -> Result<Option<Vec<u8>>, AllocError>
+fn encoded(alloc: Global, records: &[Record]) -> Result<Option<Vec<u8>>, AllocError>
     ensures { IfOk result (λ found. IfSome found (λ bytes. IsGroup bytes.items (length records.now))) }
 {
     if records.is_empty() || records.len() > MAX_GROUP_RECORDS {

@@ -1,6 +1,6 @@
 use Rattle.std.proofs.Common.{◌≡◌, ◌++◌, take, map}
 use Rattle.journal.specs.Format.{body_bytes}
-use Rattle.test_disk.proofs.store.spelling.put_body.Given as goal
+use Rattle.test_disk.proofs.store.encoding.put_body.Given as goal
 
 -- the records so far stand after the bytes
 abbrev pub invariant-loop-record : goal.invariant-loop-record

@@ -7,14 +7,14 @@ use test_cases::put;
 use wire::{Digest, Header, ParentReference, genesis_digest};
 
 /// Adds the answer to a move.
-pub fn tell_move(answer: &mut String, outcome: Result<Applied, ClusterError>) {
+pub fn report_move(answer: &mut String, outcome: Result<Applied, ClusterError>) {
     match outcome {
-        Ok(applied) => tell_applied(answer, applied),
-        Err(error) => tell_error(answer, error),
+        Ok(applied) => report_applied(answer, applied),
+        Err(error) => report_error(answer, error),
     }
 }
 
-fn tell_applied(answer: &mut String, applied: Applied) {
+fn report_applied(answer: &mut String, applied: Applied) {
     match applied {
         Applied::Took { ticket, new } => {
             put_shown(answer, "took ", &ticket, "");
@@ -29,7 +29,7 @@ fn tell_applied(answer: &mut String, applied: Applied) {
 }
 
 /// Adds an error, and why a journal couldn't be opened.
-pub fn tell_error(answer: &mut String, error: ClusterError) {
+pub fn report_error(answer: &mut String, error: ClusterError) {
     put_shown(answer, "error ", &error, "");
     if let ClusterError::Journal(cause) = error {
         put_shown(answer, " ", &cause, "");
@@ -38,61 +38,61 @@ pub fn tell_error(answer: &mut String, error: ClusterError) {
 }
 
 /// Adds the round, the parents and the batches of a proposal.
-pub fn tell_proposal(
+pub fn report_proposal(
     answer: &mut String,
     labels: &Labels,
     proposal: Result<Option<Header>, ClusterError>,
 ) {
     match proposal {
-        Ok(Some(header)) => tell_header(answer, labels, &header),
+        Ok(Some(header)) => report_header(answer, labels, &header),
         Ok(None) => put(answer, "no header\n"),
-        Err(error) => tell_error(answer, error),
+        Err(error) => report_error(answer, error),
     }
 }
 
-fn tell_header(answer: &mut String, labels: &Labels, header: &Header) {
+fn report_header(answer: &mut String, labels: &Labels, header: &Header) {
     put_shown(answer, "header ", &header.body.round.number(), "");
     for parent in header.body.parents.as_slice() {
-        tell_parent(answer, labels, parent);
+        report_parent(answer, labels, parent);
     }
     for batch in header.body.batches.as_slice() {
-        tell_label(answer, labels.batch_name(&batch.digest));
+        report_label(answer, labels.batch_name(&batch.digest));
     }
     put(answer, "\n");
 }
 
-fn tell_parent(answer: &mut String, labels: &Labels, parent: &ParentReference) {
+fn report_parent(answer: &mut String, labels: &Labels, parent: &ParentReference) {
     if parent.certificate == genesis_digest(parent.author) {
         put_shown(answer, " g", &parent.author.0, "");
     } else {
-        tell_label(answer, labels.certificate_name(&parent.certificate));
+        report_label(answer, labels.certificate_name(&parent.certificate));
     }
 }
 
-fn tell_label(answer: &mut String, label: Option<&str>) {
+fn report_label(answer: &mut String, label: Option<&str>) {
     put(answer, " ");
     put(answer, label.unwrap_or("unlabelled"));
 }
 
 /// Adds the order that a node gave out.
-pub fn tell_order(answer: &mut String, labels: &Labels, order: Option<&[Digest]>) {
+pub fn report_order(answer: &mut String, labels: &Labels, order: Option<&[Digest]>) {
     put(answer, "order");
     match order {
         Some([]) => put(answer, " none"),
-        Some(digests) => tell_certificates(answer, labels, digests),
+        Some(digests) => report_certificates(answer, labels, digests),
         None => put(answer, " of no member"),
     }
     put(answer, "\n");
 }
 
-fn tell_certificates(answer: &mut String, labels: &Labels, digests: &[Digest]) {
+fn report_certificates(answer: &mut String, labels: &Labels, digests: &[Digest]) {
     for digest in digests {
-        tell_label(answer, labels.certificate_name(digest));
+        report_label(answer, labels.certificate_name(digest));
     }
 }
 
 /// Adds how many outputs a node put out.
-pub fn tell_outputs(answer: &mut String, outputs: Option<u64>) {
+pub fn report_outputs(answer: &mut String, outputs: Option<u64>) {
     match outputs {
         Some(count) => put_shown(answer, "outputs ", &count, "\n"),
         None => put(answer, "outputs of no member\n"),

@@ -78,16 +78,16 @@ mapped_in f (y ∷ xs) x inside =
     ]
 
 -- a history tells of each header that it has, and of that of each certificate that came in
-pub header_told : (history : History) (header : Header) → Contains (headers history) header
+pub header_reported : (history : History) (header : Header) → Contains (headers history) header
     → Contains (bodies_in history) header.body
-header_told history header inside =
+header_reported history header inside =
     Contains-append_left (map (λ (h : Header). h.body) (headers history))
     (map (λ (c : Certificate). c.header) (received history)) header.body
     (mapped_in (λ (h : Header). h.body) (headers history) header inside)
 
-pub certificate_told : (history : History) (certificate : Certificate) → Contains (received history) certificate
+pub certificate_reported : (history : History) (certificate : Certificate) → Contains (received history) certificate
     → Contains (bodies_in history) certificate.header
-certificate_told history certificate inside =
+certificate_reported history certificate inside =
     Contains-append_right (map (λ (h : Header). h.body) (headers history))
     (map (λ (c : Certificate). c.header) (received history)) certificate.header
     (mapped_in (λ (c : Certificate). c.header) (received history) certificate inside)
@@ -95,20 +95,20 @@ certificate_told history certificate inside =
 -- a history whose events another list has tells of no other headers than that
 pub bodies_within : (history events : History) → ((event : Event) → Contains history event → Contains events event)
     → (body : HeaderBody) → Contains (bodies_in history) body → Contains (bodies_in events) body
-bodies_within history events within body told =
+bodies_within history events within body reported =
     let of_header : Header → HeaderBody = λ h. h.body in
     let of_certificate : Certificate → HeaderBody = λ c. c.header in
-    elim (Contains-append_cases (map of_header (headers history)) (map of_certificate (received history)) body told) [
+    elim (Contains-append_cases (map of_header (headers history)) (map of_certificate (received history)) body reported) [
       | inl one ↦
           let from = mapped_from of_header (headers history) body one in
           let found = Contains-made (λ (e : Event). as_header e.message) history from.0 from.1 in
           let there = Contains-makes (λ (e : Event). as_header e.message) events found.0 from.0 (within found.0 found.1) found.2 in
-          subst (λ (b : HeaderBody). Contains (bodies_in events) b) from.2 (header_told events from.0 there)
+          subst (λ (b : HeaderBody). Contains (bodies_in events) b) from.2 (header_reported events from.0 there)
       | inr one ↦
           let from = mapped_from of_certificate (received history) body one in
           let found = Contains-made (λ (e : Event). as_certificate e.message) history from.0 from.1 in
           let there = Contains-makes (λ (e : Event). as_certificate e.message) events found.0 from.0 (within found.0 found.1) found.2 in
-          subst (λ (b : HeaderBody). Contains (bodies_in events) b) from.2 (certificate_told events from.0 there)
+          subst (λ (b : HeaderBody). Contains (bodies_in events) b) from.2 (certificate_reported events from.0 there)
     ]
 
 -- these are within their limits, where the history is legal
@@ -127,12 +127,12 @@ certificate_within node history legal certificate inside =
     let taken = All-contains (IsTaken node) history brought.event legal.taken brought.inside in
     (subst IsMessage brought.is taken.message).header
 
-pub told_within : (node : Node) (history : History) → IsLegal node history → (body : HeaderBody)
+pub reported_within : (node : Node) (history : History) → IsLegal node history → (body : HeaderBody)
     → Contains (bodies_in history) body → IsHeaderBody body
-told_within node history legal body told =
+reported_within node history legal body reported =
     let of_header : Header → HeaderBody = λ h. h.body in
     let of_certificate : Certificate → HeaderBody = λ c. c.header in
-    elim (Contains-append_cases (map of_header (headers history)) (map of_certificate (received history)) body told) [
+    elim (Contains-append_cases (map of_header (headers history)) (map of_certificate (received history)) body reported) [
       | inl one ↦
           let from = mapped_from of_header (headers history) body one in
           subst IsHeaderBody from.2 (header_within node history legal from.0 from.1)

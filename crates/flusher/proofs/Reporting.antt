@@ -4,10 +4,10 @@ use Rattle.std.specs.Prelude.{All, if◌then◌else◌, ◌==◌}
 use Rattle.std.specs.Option.{option_and_then}
 use Rattle.std.proofs.lemmas.Bool.{cases_lt, cases_eq, cond-false, le-ltb, ne_eqb}
 use Rattle.std.proofs.lemmas.List.Elements.{All-nil, All-cons, All-append, All-head, All-tail, All-weaker}
-use Rattle.journal.specs.Areas.{generation_of, tells}
+use Rattle.journal.specs.Areas.{generation_of, reports}
 use Rattle.journal.specs.Format.{group_of, kept_at, kept, walk, scan, stands, only_records}
 use Rattle.journal.specs.declared.record.Record.{Record}
-use Rattle.journal.proofs.Telling.{tells_first}
+use Rattle.journal.proofs.Reporting.{reports_first}
 use Rattle.journal.proofs.Walks.{Found, goes, closed_is, body_stands, stands_short}
 use Rattle.spec_world.proofs.Recovering.{ok_is}
 
@@ -63,12 +63,12 @@ more_at_zero (one ∷ rest) more all =
     ap (λ (l : List (List ℕ)). cond (eqb one.gate 0) (one.bytes ∷ l) []) (more_at_zero rest more all)
 
 -- what a walk finds first
-told_by_walk : (file : List ℕ) (found : Found) → walk 0 0 file ≡ Ok found → 1 ≤ length found.0 → tells file ≡ Some (generation_of (at_zero found.0))
+reported_by_walk : (file : List ℕ) (found : Found) → walk 0 0 file ≡ Ok found → 1 ≤ length found.0 → reports file ≡ Some (generation_of (at_zero found.0))
 unfolding walk
-told_by_walk [] found walked some =
+reported_by_walk [] found walked some =
     let is : found ≡ ([], 0) = cc in
     absurd (omega (arith, some, ap (λ (f : Found). length f.0) is))
-told_by_walk (gate ∷ rest) found walked some = elim (cases_eq gate 0) [
+reported_by_walk (gate ∷ rest) found walked some = elim (cases_eq gate 0) [
   | inl shut ↦ absurd (omega (arith, some, ap (λ (f : Found). length f.0) (closed_is 0 gate rest found shut walked)))
   | inr is_open ↦
       let on = goes 0 gate rest found is_open walked in
@@ -77,7 +77,7 @@ told_by_walk (gate ∷ rest) found walked some = elim (cases_eq gate 0) [
       let first : at_zero found.0 ≡ on.records =
       ap (λ (f : Found). at_zero f.0) on.is
       ∙ kept_at_zero on.records on.more.0 (All-weaker (IsNotBefore (0 + 1)) IsAfterFirst (λ one less. omega (arith, less)) on.more.0 more) in
-      tells_first gate rest is_open (omega (arith, inside))
+      reports_first gate rest is_open (omega (arith, inside))
       ∙ ap (λ (o : Option (List ℕ)). Some (option_and_then (λ body. option_and_then generation_of (group_of body)) o)) on.at_body
       ∙ ap (λ (o : Option (List (List ℕ))). Some (option_and_then generation_of o)) on.is_group
       ∙ ap (λ (l : List (List ℕ)). Some (generation_of l)) (sym first)
@@ -99,18 +99,18 @@ walked_to file records is long =
     by_walk (Err place) walked same = absurd (cc)
 
 -- an area that stands for a record tells what the first of them say
-told_by : (file : List ℕ) (records : List Record) → stands file ≡ Ok records → 1 ≤ length records → tells file ≡ Some (generation_of (at_zero records))
-told_by file records is some = elim (cases_lt (length file) 2) [
+reported_by : (file : List ℕ) (records : List Record) → stands file ≡ Ok records → 1 ≤ length records → reports file ≡ Some (generation_of (at_zero records))
+reported_by file records is some = elim (cases_lt (length file) 2) [
   | inl short ↦ absurd (omega (arith, some, ap length (ok_is records [] (sym is ∙ stands_short file short))))
   | inr long ↦
       let it = walked_to file records is long in
-      told_by_walk file it.found it.walked (omega (arith, some, ap length it.is)) ∙ ap (λ (l : List Record). Some (generation_of (at_zero l))) it.is
+      reported_by_walk file it.found it.walked (omega (arith, some, ap length it.is)) ∙ ap (λ (l : List Record). Some (generation_of (at_zero l))) it.is
 ]
 
 -- so one that stands for these records and more in later groups tells the same
-pub tells_as : (file left : List ℕ) (records more : List Record) → stands file ≡ Ok records → stands left ≡ Ok (records ++ more) → 1 ≤ length records → All IsAfterFirst more
-    → tells left ≡ tells file
-tells_as file left records more is also some after =
-    told_by left (records ++ more) also (omega (arith, some, length-append records more))
+pub reports_as : (file left : List ℕ) (records more : List Record) → stands file ≡ Ok records → stands left ≡ Ok (records ++ more) → 1 ≤ length records → All IsAfterFirst more
+    → reports left ≡ reports file
+reports_as file left records more is also some after =
+    reported_by left (records ++ more) also (omega (arith, some, length-append records more))
     ∙ ap (λ (l : List (List ℕ)). Some (generation_of l)) (more_at_zero records more after)
-    ∙ sym (told_by file records is some)
+    ∙ sym (reported_by file records is some)

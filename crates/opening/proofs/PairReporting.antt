@@ -25,7 +25,7 @@ use Rattle.spec_world.specs.World.{bytes_of, IsPair}
 use Rattle.wire.specs.Fields.{AreBytes}
 use Rattle.opening.specs.Decoded.{IsText, own_fault, or_damaged, unless, go_on, read_events, is_event, state_part, events_part, gates_of, gate_of, loaded}
 use Rattle.opening.specs.Decoded.{read_state, read_checkpoint, read_after, read_pair, decoded_by_both, decoded_in}
-use Rattle.opening.proofs.Telling.{read_nil}
+use Rattle.opening.proofs.Reporting.{read_nil}
 
 -- ---- a state's records, and the events after them
 

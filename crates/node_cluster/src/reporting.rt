@@ -6,23 +6,23 @@ use sim_members::MEMBERS;
 use wire::{Author, Digest};
 
 /// Prints the certificates of a round, each after its author.
-pub fn tell_round(rt: &impl Print, play: &mut Play<'_>, round: u64) -> Result<(), Ending> {
+pub fn report_round(rt: &impl Print, play: &mut Play<'_>, round: u64) -> Result<(), Ending> {
     print!(rt; "round {round}, certified:")?;
     for named in play.certified(round)? {
-        tell_named(rt, named)?;
+        report_named(rt, named)?;
     }
     println!(rt; "")?;
     Ok(())
 }
 
-fn tell_named(rt: &impl Print, named: &Named) -> Result<(), Ending> {
+fn report_named(rt: &impl Print, named: &Named) -> Result<(), Ending> {
     let (author, short) = (named.author.0, short(&named.digest));
     print!(rt; " {author}:{short:08x}")?;
     Ok(())
 }
 
 /// Prints a line for a stop.
-pub fn tell_stop(rt: &impl Print, lost: u64, found: u64) -> Result<(), Ending> {
+pub fn report_stop(rt: &impl Print, lost: u64, found: u64) -> Result<(), Ending> {
     let last = LAST.0;
     println!(rt;
         "member {last} stops, and loses {lost} events that it hadn't written; it is opened again on {found}"
@@ -31,20 +31,20 @@ pub fn tell_stop(rt: &impl Print, lost: u64, found: u64) -> Result<(), Ending> {
 }
 
 /// Prints a coin, and how many members accepted it.
-pub fn tell_coin(rt: &impl Print, wave: u64, taken: u64) -> Result<(), Ending> {
+pub fn report_coin(rt: &impl Print, wave: u64, taken: u64) -> Result<(), Ending> {
     println!(rt; "the coin of wave {wave} is {wave}, and {taken} members take it")?;
     Ok(())
 }
 
 /// Prints what each member's order has grown by.
-pub fn tell_growth(rt: &impl Print, play: &mut Play<'_>) -> Result<(), Ending> {
+pub fn report_growth(rt: &impl Print, play: &mut Play<'_>) -> Result<(), Ending> {
     for node in 0..MEMBERS {
-        tell_grown(rt, node, play.growth(Author(node)))?;
+        report_grown(rt, node, play.growth(Author(node)))?;
     }
     Ok(())
 }
 
-fn tell_grown(rt: &impl Print, node: u16, grown: &[Digest]) -> Result<(), Ending> {
+fn report_grown(rt: &impl Print, node: u16, grown: &[Digest]) -> Result<(), Ending> {
     if grown.is_empty() {
         return Ok(());
     }
@@ -58,9 +58,9 @@ fn tell_grown(rt: &impl Print, node: u16, grown: &[Digest]) -> Result<(), Ending
 
 /// Prints each member's order, and whether they are equal. Gives whether the play succeeded: something was ordered, and of any two orders
 /// one is a prefix of the other.
-pub fn tell_end(rt: &impl Print, play: &Play<'_>) -> Result<bool, Ending> {
+pub fn report_end(rt: &impl Print, play: &Play<'_>) -> Result<bool, Ending> {
     for node in 0..MEMBERS {
-        tell_order(rt, play, Author(node))?;
+        report_order(rt, play, Author(node))?;
     }
     let (some, agree, equal) = (is_some(play), agree(play), are_equal(play));
     println!(rt;
@@ -76,17 +76,17 @@ pub fn tell_end(rt: &impl Print, play: &Play<'_>) -> Result<bool, Ending> {
     Ok(some && agree)
 }
 
-fn tell_order(rt: &impl Print, play: &Play<'_>, node: Author) -> Result<(), Ending> {
+fn report_order(rt: &impl Print, play: &Play<'_>, node: Author) -> Result<(), Ending> {
     let (own, order) = (node.0, play.order(node));
     let count = order.len();
     println!(rt; "the order of member {own}, of {count} certificates:")?;
     for digest in order {
-        tell_digest(rt, play, digest)?;
+        report_digest(rt, play, digest)?;
     }
     Ok(())
 }
 
-fn tell_digest(rt: &impl Print, play: &Play<'_>, digest: &Digest) -> Result<(), Ending> {
+fn report_digest(rt: &impl Print, play: &Play<'_>, digest: &Digest) -> Result<(), Ending> {
     let short = short(digest);
     match play.name(digest) {
         Some(named) => {

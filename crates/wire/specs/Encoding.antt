@@ -71,13 +71,13 @@ abbrev pub coin_bytes : Coin → List ℕ
 coin_bytes c = to_be_bytes w64 c.wave ++ to_be_bytes w64 c.value
 
 -- a message: its tag, and what it has
-abbrev pub spelling : Message → List ℕ
-spelling (message.Batch b) = 1 ∷ batch_body b
-spelling (message.BatchAck a) = 2 ∷ ack_bytes a
-spelling (message.Header h) = 3 ∷ header_bytes h
-spelling (message.Vote v) = 4 ∷ vote_bytes v
-spelling (message.Certificate c) = 5 ∷ certificate_bytes c
-spelling (message.Coin c) = 6 ∷ coin_bytes c
+abbrev pub encoding : Message → List ℕ
+encoding (message.Batch b) = 1 ∷ batch_body b
+encoding (message.BatchAck a) = 2 ∷ ack_bytes a
+encoding (message.Header h) = 3 ∷ header_bytes h
+encoding (message.Vote v) = 4 ∷ vote_bytes v
+encoding (message.Certificate c) = 5 ∷ certificate_bytes c
+encoding (message.Coin c) = 6 ∷ coin_bytes c
 
 -- how many bytes the body of a header has
 abbrev pub header_body_len : HeaderBody → ℕ

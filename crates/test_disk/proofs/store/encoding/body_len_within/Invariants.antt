@@ -1,6 +1,6 @@
 use Rattle.std.proofs.Common.{◌≡◌, ◌≤◌, take, map}
 use Rattle.journal.specs.Format.{body_len}
-use Rattle.test_disk.proofs.store.spelling.body_len_within.Given as goal
+use Rattle.test_disk.proofs.store.encoding.body_len_within.Given as goal
 
 -- the length of the records so far
 abbrev pub invariant-loop-record : goal.invariant-loop-record

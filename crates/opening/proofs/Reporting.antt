@@ -22,18 +22,18 @@ use Rattle.admission.specs.Answers.{IsAnswer, is_new_step}
 use Rattle.admission.specs.declared.step.Step.{Step}
 use Rattle.admission.specs.declared.step.Step.TheVariants.{New, Known}
 use Rattle.spec_machine.specs.Machine.{after, answered, fresh}
-use Rattle.spec_records.specs.Records.{configuration_of, CanTell}
+use Rattle.spec_records.specs.Records.{configuration_of, CanReport}
 use Rattle.journal.specs.declared.version.Version.{Version}
 use Rattle.admission.specs.declared.tables.Tables.{Tables}
 use Rattle.validator.specs.Standing.{AreAtSound}
 use Rattle.wire.specs.Reading.{Faults, message_of}
 use Rattle.wire.specs.declared.error.WireError.{WireError}
 use Rattle.wire.specs.declared.error.WireError.TheVariants as wire
-use Rattle.opening.specs.Decoded.{checked_in, sender_in, event_in, with_new, read_event, go_on, read_events, or_damaged, unless, can_tell}
+use Rattle.opening.specs.Decoded.{checked_in, sender_in, event_in, with_new, read_event, go_on, read_events, or_damaged, unless, can_report}
 use Rattle.journal.specs.Configuration.{shaped_version}
-use Rattle.opening.specs.Decoded.{first_version, is_own, mismatch, first_fault, read_journal, decoded_by, decoded, Tells, StandsAt, IsOld}
+use Rattle.opening.specs.Decoded.{first_version, is_own, mismatch, first_fault, read_journal, decoded_by, decoded, Reports, StandsAt, IsOld}
 use Rattle.opening.specs.Decoded.{IsDecodedAsOneOf, KeepsOrBegins, KeepsRecords}
-use Rattle.opening.proofs.Configured.{told_of}
+use Rattle.opening.proofs.Configured.{decoded_of}
 
 -- an error of which more is known
 pub err_weaker : {A E : Type 0} (r : Result A E) (P Q : E → Type 0) → ((e : E) → P e → Q e) → IfErr r P → IfErr r Q
@@ -203,14 +203,14 @@ pub fault_none : (node : Node) (first : Record) (events : List Record) (version 
 fault_none node first events version own is own_is so = fault_own node first events version is ∙ ap mismatch (sym own_is ∙ so)
 
 -- an error of a reading of records is that of the journal after a first record without a fault
-pub fails_decoded : (fault : Option JournalError) (read : Result State ℕ) (error : JournalError) → fault ≡ None → FailsAs error read → Tells error (unless fault read)
+pub fails_decoded : (fault : Option JournalError) (read : Result State ℕ) (error : JournalError) → fault ≡ None → FailsAs error read → Reports error (unless fault read)
 fails_decoded fault read Memory none fails = tt
 fails_decoded fault read (Damaged gate) none fails = ap (λ (f : Option JournalError). unless f read) none ∙ ap or_damaged fails
 fails_decoded fault read Device none fails = absurd fails
 fails_decoded fault read ConfigMismatch none fails = absurd fails
 fails_decoded fault read Full none fails = absurd fails
 
-pub fault_decoded : (fault : Option JournalError) (read : Result State ℕ) (error : JournalError) → (error ≢ Memory → fault ≡ Some error) → Tells error (unless fault read)
+pub fault_decoded : (fault : Option JournalError) (read : Result State ℕ) (error : JournalError) → (error ≢ Memory → fault ≡ Some error) → Reports error (unless fault read)
 fault_decoded fault read Memory is = tt
 fault_decoded fault read (Damaged gate) is = ap (λ (f : Option JournalError). unless f read) (is (λ same. cc))
 fault_decoded fault read Device is = ap (λ (f : Option JournalError). unless f read) (is (λ same. cc))
@@ -241,16 +241,16 @@ unfolding decoded
 decoded_damaged node bytes place is = ap (decoded_by node) is
 
 -- a reading that gave this error
-pub tells_is : (error : JournalError) (read : Result State JournalError) → read ≡ Err error → Tells error read
-tells_is Memory read is = tt
-tells_is (Damaged place) read is = is
-tells_is Device read is = is
-tells_is ConfigMismatch read is = is
-tells_is Full read is = is
+pub reports_is : (error : JournalError) (read : Result State JournalError) → read ≡ Err error → Reports error read
+reports_is Memory read is = tt
+reports_is (Damaged place) read is = is
+reports_is Device read is = is
+reports_is ConfigMismatch read is = is
+reports_is Full read is = is
 
 -- a reading that is another one
-pub tells_same : (error : JournalError) (one other : Result State JournalError) → one ≡ other → Tells error one → Tells error other
-tells_same error one other same tells = subst (Tells error) same tells
+pub reports_same : (error : JournalError) (one other : Result State JournalError) → one ≡ other → Reports error one → Reports error other
+reports_same error one other same reports = subst (Reports error) same reports
 
 -- where the first record has no fault tables stand at what the others have
 stands_unless : (node : Node) (fault : Option JournalError) (read : Result State ℕ) (decoded_is : Result State JournalError) (tables : Tables)
@@ -275,12 +275,12 @@ stands_fresh node tables stands = stands_unless node None (read_events node (fre
 
 -- an error of the others
 pub fails_after : (node : Node) (first : Record) (events : List Record) (error : JournalError) → first_fault node first events ≡ None → FailsAs error (read_events node (fresh node) events)
-    → Tells error (read_journal node (first ∷ events))
+    → Reports error (read_journal node (first ∷ events))
 fails_after node first events error none fails =
-    tells_same error _ _ (sym (journal_cons node first events)) (fails_decoded (first_fault node first events) (read_events node (fresh node) events) error none fails)
+    reports_same error _ _ (sym (journal_cons node first events)) (fails_decoded (first_fault node first events) (read_events node (fresh node) events) error none fails)
 
-pub fails_fresh : (node : Node) (error : JournalError) → FailsAs error (read_events node (fresh node) []) → Tells error (read_journal node [])
-fails_fresh node error fails = tells_same error _ _ (sym (fresh_is node)) (fails_decoded None (read_events node (fresh node) []) error refl fails)
+pub fails_fresh : (node : Node) (error : JournalError) → FailsAs error (read_events node (fresh node) []) → Reports error (read_journal node [])
+fails_fresh node error fails = reports_same error _ _ (sym (fresh_is node)) (fails_decoded None (read_events node (fresh node) []) error refl fails)
 
 pub fails_not : (error : JournalError) (read : Result State ℕ) → FailsAs error read → (error ≢ Device) × (error ≢ Full)
 fails_not Memory read fails = ((λ same. cc), (λ same. cc))
@@ -298,31 +298,31 @@ bytes_same bytes = elim (cases_Bool (bytes_eq bytes bytes)) [ inl so ↦ so | in
 -- ---- the configuration written
 
 -- a journal told as without records stays so with the configuration alone
-decoded_written : (version : Version) (node : Node) (before following : List ℕ) (place : ℕ) → can_tell version node.charter ≡ true
+decoded_written : (version : Version) (node : Node) (before following : List ℕ) (place : ℕ) → can_report version node.charter ≡ true
     → shaped_version (configuration_of version node.charter node.own) ≡ Some version → stands before ≡ Ok []
     → stands following ≡ Ok (kept_at place (configuration_of version node.charter node.own) ∷ []) → decoded node following ≡ decoded node before
-decoded_written version node before following place tells shape none written =
+decoded_written version node before following place reports shape none written =
     let one = kept_at place (configuration_of version node.charter node.own) in
-    let own : is_own node one.bytes version ≡ true = and_from (can_tell version node.charter) (bytes_eq one.bytes one.bytes) tells (bytes_same one.bytes) in
+    let own : is_own node one.bytes version ≡ true = and_from (can_report version node.charter) (bytes_eq one.bytes one.bytes) reports (bytes_same one.bytes) in
     let free : first_fault node one [] ≡ None = fault_none node one [] version (is_own node one.bytes version) shape refl own in
     decoded_records node following (one ∷ []) written ∙ journal_cons node one [] ∙ ap (λ (f : Option JournalError). unless f (read_events node (fresh node) [])) free
     ∙ ap or_damaged (read_nil node (fresh node))
     ∙ sym (decoded_records node before [] none ∙ journal_nil node)
 
 -- so does whatever a stop leaves while it is written
-pub decoded_before_or_after : (version : Version) (node : Node) (before left : List ℕ) → CanTell version node.charter
+pub decoded_before_or_after : (version : Version) (node : Node) (before left : List ℕ) → CanReport version node.charter
     → shaped_version (configuration_of version node.charter node.own) ≡ Some version → stands before ≡ Ok []
     → IsBeforeOrAfter before (configuration_of version node.charter node.own ∷ []) left → decoded node left ≡ decoded node before
 decoded_before_or_after version node before left can shape none (inl same) = decoded_same node left before same
 decoded_before_or_after version node before left can shape none (inr with_it) =
-    decoded_written version node before left (length before - 1) (told_of version node.charter can) shape none
+    decoded_written version node before left (length before - 1) (decoded_of version node.charter can) shape none
     (with_it ∙ ap (with_group (length before - 1) (configuration_of version node.charter node.own ∷ [])) none)
 
 -- ---- openings
 
 -- an opening of the journal fails by what is told, or by memory or the disk
 pub opening_fails : (node : Node) (bytes : List ℕ) (error : JournalError) → ((gate : ℕ) → error ≡ Damaged gate → stands bytes ≡ Err gate) → error ≢ Full → error ≢ ConfigMismatch → error ≢ Device
-    → Tells error (decoded node bytes)
+    → Reports error (decoded node bytes)
 opening_fails node bytes Memory damaged full config device = tt
 opening_fails node bytes (Damaged gate) damaged full config device = decoded_damaged node bytes gate (damaged gate refl)
 opening_fails node bytes Device damaged full config device = absurd (device refl)
