@@ -1,4 +1,4 @@
--- What a move makes of a member, and what it is answered.
+-- What a move does to a member of the cluster, and what the move is answered.
 use Rattle.std.specs.Prelude.{◌≡◌, ◌≢◌, ◌⊎◌, ◌↔◌, ◌<◌, ⊤, ℕ, ◌+◌, ◌-◌, Bool, true, false, List, [], ◌∷◌, length, Some, None, Result, Ok, Err, IfOk, IfErr, IsErrOf}
 use Rattle.book.specs.Book.{Run, Stands, TakesNew, TakesKnown, MayRefuse}
 use Rattle.book.specs.InFlight.{Flushes, GoesDown, HasRoomFor}
@@ -29,7 +29,7 @@ use Rattle.cluster.specs.declared.moves.Request.{Request}
 use Rattle.cluster.specs.declared.moves.Request.TheVariants.{Take, Round, Stop}
 use Rattle.diskmodel.specs.Disk.{Device}
 
--- what a desk did: the world at which it was, that world's moves, and the desk before and after
+-- one thing that a desk (a node of one owner) did: its world before, the moves that the world made, and the desk before and after
 pub record Deed (S D : Type 0) : Type 0 where
   pub world : World
   pub moves : List Move
@@ -38,7 +38,7 @@ pub record Deed (S D : Type 0) : Type 0 where
 
 -- ---- an event comes in
 
--- a desk that is up accepted the event, as new or as known
+-- a desk that is up accepted the event: as new, or as one that it knows and that changes nothing
 pub record IsTaken {S D : Type 0} (node : Node) (accepts : Accepts) (event : Event) (ticket : ℕ) (new : Bool) (deed : Deed S D) : Type 0 where
   pub passed : fault_of node.charter accepts event ≡ None
   pub up : deed.before.book.down ≡ false
@@ -47,7 +47,7 @@ pub record IsTaken {S D : Type 0} (node : Node) (accepts : Accepts) (event : Eve
   pub counted : ticket ≡ deed.later.book.accepted
   pub by : deed.moves ≡ accept event ∷ []
 
--- the desk refused the event, as admission does or because it is down, and didn't change
+-- the desk refused an event that passed the checks: admission refuses it, or the desk is down. The desk didn't change
 pub record IsRefused {S D : Type 0} (node : Node) (accepts : Accepts) (event : Event) (why : Refusal) (deed : Deed S D) : Type 0 where
   pub passed : fault_of node.charter accepts event ≡ None
   pub not_memory : why ≢ refusal.Memory
@@ -56,7 +56,7 @@ pub record IsRefused {S D : Type 0} (node : Node) (accepts : Accepts) (event : E
   pub same : deed.later ≡ deed.before
   pub by : deed.moves ≡ []
 
--- the event failed a check; this is the first one that it fails
+-- the event failed a check before it reached the desk; `error` is the first check that it fails
 pub record IsUnchecked {S D : Type 0} (node : Node) (accepts : Accepts) (event : Event) (error : CheckError) (deed : Deed S D) : Type 0 where
   pub fault : fault_of node.charter accepts event ≡ Some error
   pub same : deed.later ≡ deed.before
@@ -68,9 +68,10 @@ TakesIn node accepts event (Refused why) deed = IsRefused node accepts event why
 TakesIn node accepts event (Unchecked error) deed = IsUnchecked node accepts event error deed
 TakesIn node accepts event other deed = ⊥
 
--- ---- a round
+-- ---- a round of take, append and settle
 
--- a desk that is up wrote and settled this many records, the longest prefix of the pending ones that fits a group; none if none was pending
+-- a desk that is up wrote and settled `count` records: the longest prefix of its pending records that fits a group, or none if none was
+-- pending
 pub record IsSettled {S D : Type 0} (node : Node) (device : Device D) (count : ℕ) (deed : Deed S D) : Type 0 where
   pub up : deed.before.book.down ≡ false
   pub idle : deed.before.book.pending ≡ [] → (count ≡ 0) × (deed.later ≡ deed.before) × (deed.moves ≡ [])
@@ -79,7 +80,7 @@ pub record IsSettled {S D : Type 0} (node : Node) (device : Device D) (count : �
   pub by : deed.before.book.pending ≢ []
       → deed.moves ≡ take_to (length deed.world.settled + count) ∷ device_call ∷ device_call ∷ device_call ∷ device_call ∷ settle ∷ []
 
--- a round took the desk down: a group was taken, and is in flight
+-- a round took the desk down: it took a group, whose append failed; the group counts as in flight from then on
 pub record IsTakenDown {S D : Type 0} (node : Node) (device : Device D) (error : FlushError) (deed : Deed S D) : Type 0 where
   pub down : GoesDown node deed.before.book deed.later.book
   pub full : error ≡ flush.Full → HasRoomFor down.group (device.content (disk_of deed.before.journal)) → ⊥
@@ -87,8 +88,8 @@ pub record IsTakenDown {S D : Type 0} (node : Node) (device : Device D) (error :
   pub count : ℕ
   pub by : deed.moves ≡ take_to count ∷ []
 
--- the round failed. Down is reported exactly where the desk was down already; then, and where an allocation failed, the desk didn't change.
--- After any other error it is down
+-- a round failed. The answer is Down if and only if the desk was down already. After Down, and after a failed allocation, the desk is as
+-- before; after any other error it is down
 pub record IsFault {S D : Type 0} (node : Node) (device : Device D) (error : FlushError) (deed : Deed S D) : Type 0 where
   pub was_down : (error ≡ flush.Down) ↔ (deed.before.book.down ≡ true)
   pub unchanged : (error ≡ flush.Down) ⊎ (error ≡ flush.Memory) → (deed.later ≡ deed.before) × (deed.moves ≡ [])
@@ -99,12 +100,12 @@ MakesRound node device (Settled count) deed = IsSettled node device count deed
 MakesRound node device (Fault error) deed = IsFault node device error deed
 MakesRound node device other deed = ⊥
 
--- a round was answered that the disk failed
+-- the answer of a round is that a call on the disk failed
 abbrev pub IsDeviceFault : Applied → Type 0
 IsDeviceFault (Fault flush.Device) = ⊤
 IsDeviceFault other = ⊥
 
--- the disk of a member counted a failure
+-- a member's disk has counted more failed calls after than before
 pub record HasFailed {S D : Type 0} (device : Device D) (before later : MemberView S D) : Type 0 where
   pub desk : DeskView S D
   pub next : DeskView S D
@@ -114,7 +115,7 @@ pub record HasFailed {S D : Type 0} (device : Device D) (before later : MemberVi
 
 -- ---- a stop
 
--- how many events a journal with these bytes has: its records without the configuration's
+-- how many events a journal has whose bytes are read as these records: all records but the first, which is the configuration
 abbrev pub events_among : Result (List Record) ℕ → ℕ
 events_among (Ok records) = length records - 1
 events_among (Err place) = 0
@@ -122,7 +123,7 @@ events_among (Err place) = 0
 abbrev pub events_in : List ℕ → ℕ
 events_in bytes = events_among (stands bytes)
 
--- the machine stopped and left one of its disk's outcomes, on which the node was opened again; its journal has this many events
+-- the machine stopped and left one of its disk's possible outcomes; the node was opened again on that, with a journal of `count` events
 pub record IsReopened {S D : Type 0} (node : Node) (device : Device D) (count : ℕ) (deed : Deed S D) : Type 0 where
   pub found : List ℕ
   pub left : device.outcome (disk_of deed.before.journal) found
@@ -136,17 +137,17 @@ Stops node device other deed = ⊥
 
 -- ---- all requests, and what goes out after them
 
--- what a desk did at a request with this answer
+-- what a desk did when this request got this answer
 abbrev pub Does : {S D : Type 0} → Node → Device D → Accepts → Request → Applied → Deed S D → Type 0
 Does node device accepts (Take sender given) applied deed = TakesIn node accepts (record { sender = sender; message = given }) applied deed
 Does node device accepts Round applied deed = MakesRound node device applied deed
 Does node device accepts Stop applied deed = Stops node device applied deed
 
--- the desk did nothing, or did this
+-- the desk did nothing at all, or did what `Done` says
 abbrev pub OrNothing : {S D : Type 0} → (Deed S D → Type 0) → Deed S D → Type 0
 OrNothing Done deed = ((deed.moves ≡ []) × (deed.later ≡ deed.before)) ⊎ Done deed
 
--- a desk did this, by moves of its world by which nothing goes out
+-- a desk did what `Done` says, by moves of its world at which nothing goes out
 pub record HasMoved {S D : Type 0} (node : Node) (device : Device D) (Done : Deed S D → Type 0) (world : World) (before later : DeskView S D) : Type 0 where
   pub moves : List Move
   pub does : Done (record { world = world; moves = moves; before = before; later = later })
@@ -155,7 +156,7 @@ pub record HasMoved {S D : Type 0} (node : Node) (device : Device D) (Done : Dee
   pub at : IsAt node device to later
   pub quiet : to.given ≡ world.given
 
--- A member's desk did this, and then all that may go out went out. The member is now at the world to which this led.
+-- A member's desk did what `Done` says, and then all outputs that may go out went out. The member stands at the world that this led to.
 pub record Makes {S D : Type 0} (node : Node) (device : Device D) (Done : Deed S D → Type 0) (world : World) (before later : MemberView S D) : Type 0 where
   pub desk : DeskView S D
   pub middle : DeskView S D
@@ -167,7 +168,7 @@ pub record Makes {S D : Type 0} (node : Node) (device : Device D) (Done : Deed S
   pub collected : HasCollected node device moved.to middle next before.out later.out
   pub stands : StandsAt node device collected.to later
 
--- An allocation failed: the desk did nothing, or did this, and some of the outputs that may then go out still wait at the desk.
+-- An allocation failed: the desk did what `Done` says or nothing, and some of the outputs that may then go out still wait at the desk.
 pub record MakesSome {S D : Type 0} (node : Node) (device : Device D) (Done : Deed S D → Type 0) (world : World) (before later : MemberView S D) : Type 0 where
   pub desk : DeskView S D
   pub middle : DeskView S D
@@ -179,7 +180,7 @@ pub record MakesSome {S D : Type 0} (node : Node) (device : Device D) (Done : De
   pub collected : HasCollectedSome node device moved.to middle next before.out later.out
   pub stands : StandsAt node device collected.to later
 
--- a node could not be opened
+-- the error is that a node could not be opened
 abbrev pub IsJournal : ClusterError → Type 0
 IsJournal (errors.Journal cause) = ⊤
 IsJournal other = ⊥
@@ -189,18 +190,18 @@ abbrev pub IsJournalFault : ClusterError → Type 0
 IsJournalFault (errors.Journal cause) = IsNoRefusal cause
 IsJournalFault other = ⊥
 
--- at some later moment this disk has counted more failures
+-- this disk, in some later state, has counted more failed calls
 abbrev pub CountsMore : {D : Type 0} → Device D → D → Type 0
 CountsMore {D} device disk = (later : D) × (device.faults disk < device.faults later)
 
--- a node is gone; what it gave out stays on record
+-- a node is gone, since it could not be opened after a stop; what it gave out before is still recorded
 pub record IsGone {S D : Type 0} (before later : MemberView S D) : Type 0 where
   pub gone : later.desk ≡ None
   pub setting : later.setting ≡ before.setting
   pub out : later.out ≡ before.out
 
--- After a stop the node could not be opened, and is gone. If it was at a world before, an allocation or the disk failed, and the disk only
--- where it counted a failure.
+-- After a stop the node could not be opened, and is gone. If it stood at a world before, the reason was a failed allocation or a failed
+-- disk; the error names the disk only if that counted a failed call.
 pub record IsLost {S D : Type 0} (node : Node) (disks : Device D) (error : ClusterError) (before later : MemberView S D) : Type 0 where
   pub gone : IsGone before later
   pub desk : DeskView S D
@@ -210,18 +211,18 @@ pub record IsLost {S D : Type 0} (node : Node) (disks : Device D) (error : Clust
 
 -- ---- what becomes of a request
 
--- What became of a member after a request, by the answer.
+-- What became of a member at a request, for each answer that the request can get.
 pub record Became {S D : Type 0} (node : Node) (device : Device D) (accepts : Accepts) (request : Request) (before later : MemberView S D) (answer : Result Applied ClusterError) : Type 0 where
-  -- the member's desk did what was asked, and then all that may go out went out
+  -- Ok: the member's desk did what was asked, and then all outputs that may go out went out
   pub ok : IfOk answer (λ applied. (world : World) → StandsAt node device world before → Makes node device (Does node device accepts request applied) world before later)
-  -- an allocation failed, before or after the desk did what was asked
+  -- Memory: an allocation failed, before or after the desk did what was asked
   pub memory : IsErrOf answer errors.Memory → (world : World) → StandsAt node device world before
       → (applied : Applied) × MakesSome node device (Does node device accepts request applied) world before later
-  -- a round reports Device only where the disk counted a failure
+  -- a round is answered Device only if the disk counted a failed call
   pub fault : request ≡ Round → IfOk answer (λ applied. IsDeviceFault applied → HasFailed device before later)
-  -- a node that could not be opened after a stop is gone
+  -- Journal: only a stop gets this error; the node could not be opened afterwards, and is gone
   pub lost : IfErr answer (λ error. IsJournal error → (request ≡ Stop) × IsLost node device error before later)
-  -- a request to a node that is gone changes nothing
+  -- NoSuchNode: the node is gone already, and nothing changes
   pub gone : IsErrOf answer errors.NoSuchNode ↔ (before.desk ≡ None)
   pub same : IsErrOf answer errors.NoSuchNode → later ≡ before
   pub never : IsErrOf answer errors.NoSuchOutput → ⊥

@@ -1,4 +1,4 @@
--- How outputs go out, step by step.
+-- How outputs go out of a member, step by step: the settled order is read, and then one output after the other is released.
 use Rattle.std.specs.Prelude.{◌≡◌, ℕ, List, [], ◌∷◌, ◌++◌, map}
 use Rattle.desk.specs.AtWorld.{IsAt, LeadsTo}
 use Rattle.desk.specs.Desk as desk
@@ -10,19 +10,19 @@ use Rattle.spec_world.specs.World.{World, Waiting}
 use Rattle.cluster.specs.Member.{GivenOutView, HasPutOut, HasKept}
 use Rattle.diskmodel.specs.Disk.{Device}
 
--- this is what went out in a world, and the whole settled order is part of it
+-- `given` is all that went out in this world, and the order in it is the whole settled order
 pub record IsWhole (node : Node) (world : World) (given : GivenOutView) : Type 0 where
   pub out : HasPutOut node world given
   pub whole : given.order ≡ order node (settled_in world)
 
--- the settled order was read
+-- the desk's settled order was read, which is a move of its world
 pub record HasRead {S D : Type 0} (node : Node) (device : Device D) (world : World) (desk : desk.DeskView S D) (later : GivenOutView) : Type 0 where
   pub to : World
   pub leads : Leads node world (read_order ∷ []) to
   pub at : IsAt node device to desk
   pub whole : IsWhole node to later
 
--- the first output of a desk's queue went out
+-- the first output that waited in the desk's queue went out
 pub record IsReleasedNext {S D : Type 0} (node : Node) (device : Device D) (desk next : desk.DeskView S D) (before later : GivenOutView) : Type 0 where
   pub waiting : Waiting
   pub queue : desk.book.queue ≡ waiting ∷ next.book.queue
@@ -31,7 +31,7 @@ pub record IsReleasedNext {S D : Type 0} (node : Node) (device : Device D) (desk
   pub step : (world : World) → IsAt node device world desk
       → (ticket : ℕ) × LeadsTo node device world (release (record { ticket = ticket; output = waiting.output }) ∷ []) next
 
--- some outputs went out, one after the other
+-- some outputs of the desk's queue went out, one after the other
 pub record HasReleased {S D : Type 0} (node : Node) (device : Device D) (world : World) (desk next : desk.DeskView S D) (before later : GivenOutView) : Type 0 where
   pub went : List Waiting
   pub kept : HasKept desk next before later went

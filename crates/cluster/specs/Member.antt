@@ -21,28 +21,29 @@ pub record GivenOutView : Type 0 where
   pub outputs : List Output
   pub order : List Digest
 
--- what contracts see of a member: its setting, its desk, which is gone once it could not be opened again, and what it gave out
+-- what contracts see of a member: its setting, its desk (None after a stop from which it could not be opened), and what it gave out
 pub record MemberView (S D : Type 0) : Type 0 where
   pub setting : ConfigView S
   pub desk : Option (desk.DeskView S D)
   pub out : GivenOutView
 
--- a desk belongs to a member: it has the member's setting, and is on one disk
+-- this desk is a member's: it has the member's setting, and its journal is on one disk
 pub record IsOwn {S D : Type 0} (setting : ConfigView S) (one : desk.DeskView S D) : Type 0 where
   pub set : one.book.validator.setting ≡ setting
   pub alone : spare_of one.journal ≡ None
 
--- an order is the longest that was given out in a world: it was given out, if any was, and every other one is a prefix of it
+-- `digests` is the longest order that was given out in a world: it was given out, unless it is empty, and every other one is a prefix of it
 pub record IsLongest (node : Node) (world : World) (digests : List Digest) : Type 0 where
   pub given : (digests ≡ []) ⊎ ((one : Given) × Contains world.given one × (order_given (order node one.history) one.outgoing ≡ Some digests))
   pub begins : (one : Given) (other : List Digest) → Contains world.given one → order_given (order node one.history) one.outgoing ≡ Some other → Begins other digests
 
--- this is what went out in a world
+-- `out` is all that went out in this world
 pub record HasPutOut (node : Node) (world : World) (out : GivenOutView) : Type 0 where
   pub outputs : outputs_in world.given ≡ out.outputs
   pub order : IsLongest node world out.order
 
--- A member is at a world of its node's runs: its desk is, unless it is gone, and what it gave out is what went out in that world.
+-- A member stands at a world of its node's runs: unless the desk is gone it stands there, and what the member gave out is what went out
+-- there.
 pub record StandsAt {S D : Type 0} (node : Node) (device : Device D) (world : World) (member : MemberView S D) : Type 0 where
   pub sound : IsNode node
   pub moves : List Move
@@ -50,11 +51,11 @@ pub record StandsAt {S D : Type 0} (node : Node) (device : Device D) (world : Wo
   pub at : (one : desk.DeskView S D) → member.desk ≡ Some one → IsAt node device world one
   pub out : HasPutOut node world member.out
 
--- A member may have been opened on this disk: its desk's disk has counted as many failures.
+-- The member may have been opened on this disk: the disk in its desk has counted as many failed calls.
 abbrev pub IsOn : {S D : Type 0} → Device D → D → MemberView S D → Type 0
 IsOn {S} {D} device disk member = (one : desk.DeskView S D) → member.desk ≡ Some one → device.faults (disk_of one.journal) ≡ device.faults disk
 
--- a member proposes what its node proposes after all accepted events: a header, or none
+-- a member proposes what its node proposes after all events that it accepted: this header, or none
 pub record Proposes {S D : Type 0} (node : Node) (member : MemberView S D) (found : Option Header) : Type 0 where
   pub desk : desk.DeskView S D
   pub has : member.desk ≡ Some desk
@@ -62,19 +63,19 @@ pub record Proposes {S D : Type 0} (node : Node) (member : MemberView S D) (foun
 
 -- ---- what goes out after a move
 
--- the moves by which these outputs go out: first the settled order is read. A desk that is down gives out nothing
+-- the moves of a world by which these outputs go out: the settled order is read first. Of a desk that is down nothing goes out
 abbrev pub going_out : Bool → List Waiting → List Move
 going_out true went = []
 going_out false went = read_order ∷ map release went
 
--- the first outputs of a desk's queue left it and were recorded after the earlier ones; these are the ones that went out
+-- outputs left the front of a desk's queue and were recorded after the earlier ones; `went` are those outputs, as the world saw them
 pub record HasKept {S D : Type 0} (desk next : desk.DeskView S D) (before later : GivenOutView) (went : List Waiting) : Type 0 where
   pub took : List Waiting
   pub queue : desk.book.queue ≡ took ++ next.book.queue
   pub outputs : later.outputs ≡ before.outputs ++ map (λ waiting. waiting.output) took
   pub same : map (λ waiting. waiting.output) went ≡ map (λ waiting. waiting.output) took
 
--- all outputs that may go out went out
+-- all outputs that may go out after a move went out, and the world made the moves for that
 pub record HasCollected {S D : Type 0} (node : Node) (device : Device D) (world : World) (desk next : desk.DeskView S D) (before later : GivenOutView) : Type 0 where
   pub went : List Waiting
   pub kept : HasKept desk next before later went
@@ -84,7 +85,7 @@ pub record HasCollected {S D : Type 0} (node : Node) (device : Device D) (world 
   pub at : IsAt node device to next
   pub out : HasPutOut node to later
 
--- an allocation failed before the order was read, or after some of the outputs went out
+-- an allocation failed after a move, so that only some of the outputs went out, or none because the order could not be read
 pub record HasCollectedSome {S D : Type 0} (node : Node) (device : Device D) (world : World) (desk next : desk.DeskView S D) (before later : GivenOutView) : Type 0 where
   pub went : List Waiting
   pub kept : HasKept desk next before later went

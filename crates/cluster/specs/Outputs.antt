@@ -1,4 +1,4 @@
--- What leaves a node as a message.
+-- Which outputs leave a node as messages to other members.
 use Rattle.std.specs.Prelude.{◌≡◌, ◌⊎◌, List, [], ◌∷◌, flat_map, Option, Some, None}
 use Rattle.spec_model.specs.Words.{Author, Message, Output}
 use Rattle.spec_world.specs.World.{Outgoing, put_out, read, Given}
@@ -7,7 +7,7 @@ use Rattle.wire.specs.declared.output_bytes.TheConstants.{TO_ALL}
 use Rattle.wire.specs.declared.message.Message.TheVariants as message
 use Rattle.wire.specs.declared.output.Output.TheVariants as output
 
--- the output as a message, if it is one; a piece of the order is none
+-- the message that an output is; None for a piece of the order, which only the host gets
 abbrev pub message_of : Output → Option Message
 message_of (output.Batch batch) = Some (message.Batch batch)
 message_of (output.Ack to ack) = Some (message.BatchAck ack)
@@ -16,11 +16,11 @@ message_of (output.Vote vote) = Some (message.Vote vote)
 message_of (output.Certificate certificate) = Some (message.Certificate certificate)
 message_of (output.Order start digests) = None
 
--- an output is for a member: it names the member as receiver, or is for all
+-- an output is for this member: it names the member as its receiver, or it is for all
 abbrev pub IsFor : Output → Author → Type 0
 IsFor output member = (receiver_of output ≡ member.0) ⊎ (receiver_of output ≡ TO_ALL)
 
--- the outputs among what was given out, in order
+-- the output in something that was given out; none in a piece of the order that was read
 abbrev pub output_in : Outgoing → List Output
 output_in (put_out out) = out ∷ []
 output_in (read digests) = []

@@ -1,4 +1,4 @@
--- What a node does in a thread of its own.
+-- What a member does while it runs in a thread of its own.
 use Rattle.std.specs.Prelude.{◌≡◌, ◌≢◌, ⊤, ℕ, ◌+◌, List, [], ◌∷◌, All, Option, Some, None, is_some, if◌then◌else◌}
 use Rattle.header.specs.Checks.{Accepts}
 use Rattle.spec_model.specs.Nodes.{Node}
@@ -14,16 +14,16 @@ use Rattle.cluster.specs.declared.moves.Applied.{Applied}
 use Rattle.diskmodel.specs.Disk.{Device}
 use Rattle.sigface.specs.Scheme.{Scheme}
 
--- ---- what a member hears
+-- ---- the messages that reach a member
 
--- a message in flight is that of an output, with the output's receiver; None where the output is for all
+-- this event, in flight to this receiver, is the message of an output with that receiver. None stands for an output that is for all
 pub record IsSent (receiver : Option Author) (event : Event) : Type 0 where
   pub output : Output
   pub message : message_of output ≡ Some event.message
   pub named : (to : Author) → receiver ≡ Some to → receiver_of output ≡ to.0
   pub unnamed : receiver ≡ None → receiver_of output ≡ TO_ALL
 
--- what reaches a member comes from another one, and is the message of an output that is for this member
+-- an event that reaches a member comes from another one, and is the message of an output that is for this member
 pub record IsHeard (own : Author) (event : Event) : Type 0 where
   pub output : Output
   pub message : message_of output ≡ Some event.message
@@ -32,39 +32,39 @@ pub record IsHeard (own : Author) (event : Event) : Type 0 where
 
 -- ---- what a member does
 
--- one act of a thread, and its answer: the node gets a message from its sender, or makes a round
+-- one act of a member in its thread, with its answer: it gets a message from a sender, or makes a round of take, append and settle
 pub data Act : Type 0 where
   take : Event → Applied → Act
   round : Applied → Act
 
--- what this act does to the desk
+-- what this act does to the member's desk
 abbrev pub DoesAct : {S D : Type 0} → Node → Device D → Accepts → Act → Deed S D → Type 0
 DoesAct node device accepts (take event applied) deed = TakesIn node accepts event applied deed
 DoesAct node device accepts (round applied) deed = MakesRound node device applied deed
 
--- a member does this act, in each world at which it is, and then all that may go out goes out
+-- A member did this act, and then all outputs that may go out went out; so it was in every world at which the member may have stood.
 abbrev pub HasActed : {S D : Type 0} → Scheme S → Device D → Accepts → Act → MemberView S D → MemberView S D → Type 0
 HasActed scheme device accepts act before later = (world : World) → StandsAt (node_of scheme before.setting) device world before
     → Makes (node_of scheme before.setting) device (DoesAct (node_of scheme before.setting) device accepts act) world before later
 
--- a member does all of these acts, the newest of which comes first in the list
+-- a member did all of these acts; the newest comes first in the list
 abbrev pub HaveActed : {S D : Type 0} → Scheme S → Device D → Accepts → List Act → MemberView S D → MemberView S D → Type 0
 HaveActed scheme device accepts [] before later = later ≡ before
 HaveActed {S} {D} scheme device accepts (act ∷ acts) before later = (middle : MemberView S D) × HaveActed scheme device accepts acts before middle × HasActed scheme device accepts act middle later
 
--- what a member accepts has reached it
+-- if the act gives the member a message, that message has reached it
 abbrev pub Hears : Author → Act → Type 0
 Hears own (take event applied) = IsHeard own event
 Hears own (round applied) = ⊤
 
--- how many of these are rounds
+-- how many of these acts are rounds
 abbrev pub rounds_in : List Act → ℕ
 rounds_in [] = 0
 rounds_in (take event applied ∷ acts) = rounds_in acts
 rounds_in (round applied ∷ acts) = rounds_in acts + 1
 
--- A member ran in a thread for this many turns: it made one round in each, unless it is gone, and accepted messages that had reached it.
--- Nothing else happened to it, and it did not stop.
+-- A member ran in a thread for `turns` turns. Unless it is gone it made one round in each, and it got only messages that had reached it.
+-- Nothing else happened to it; it did not stop.
 pub record HasRun {S D : Type 0} (scheme : Scheme S) (device : Device D) (accepts : Accepts) (turns : ℕ) (before later : MemberView S D) : Type 0 where
   pub setting : later.setting ≡ before.setting
   pub there : is_some later.desk ≡ is_some before.desk

@@ -1,4 +1,4 @@
-//! A cluster.
+//! A cluster: several nodes of one committee in one process.
 
 use crate::delivering::message_in;
 use crate::error::ClusterError;
@@ -61,7 +61,7 @@ impl<'a, S: Sign, D: StopDisk + Drop, V: Verify + Drop> Cluster<'a, S, D, V> {
     /// Opens a node for each of these settings, each on the disk at its place.
     ///
     /// # Errors
-    /// `Journal` where an opening fails, `Memory` where an allocation failed.
+    /// `Journal` if a node could not be opened, `Memory` if an allocation failed.
     pub fn new(
         alloc: Global,
         configs: &'a [Config<S>],
@@ -74,13 +74,13 @@ impl<'a, S: Sign, D: StopDisk + Drop, V: Verify + Drop> Cluster<'a, S, D, V> {
         requires distinct { AreDistinct configs.now }
         ensures settings { IfOk result (λ cluster. map (λ member. member.setting) cluster.members ≡ configs.now) }
         ensures verifier { IfOk result (λ cluster. cluster.verifier ≡ verifier) }
-        // Each member is where its runs begin, before any move.
+        // Each member stands at the world where the runs of its node begin.
         ensures runs { IfOk result (λ cluster. All (λ member. IsRun (node_of S.scheme member.setting) [] (first_world (node_of S.scheme member.setting))) cluster.members) }
         ensures begins { IfOk result (λ cluster. All (λ member. StandsAt (node_of S.scheme member.setting) D.device (first_world (node_of S.scheme member.setting)) member) cluster.members) }
         ensures up { IfOk result (λ cluster. All (λ member. member.desk ≢ None) cluster.members) }
-        // The disk of each member has counted as many failures as the disk at its place in the list.
+        // A member's disk has counted as many failed calls as the disk at the same place of the given list.
         ensures disks { IfOk result (λ cluster. AllZip (IsOn D.device) disks.items cluster.members) }
-        // On empty disks the only errors are a failed allocation and a failed disk, and the second only where a disk counted a failure.
+        // On empty disks an opening fails only if an allocation or a disk fails. It reports the disk only if a disk counted a failed call.
         ensures errors { IfErr result (λ error. (error ≡ ClusterError.Memory) ⊎ IsJournalFault error) }
         ensures device { IsErrOf result (ClusterError.Journal JournalError.Device) → (disk : D) × Contains disks.items disk × CountsMore D.device disk }
     {
@@ -97,17 +97,17 @@ impl<'a, S: Sign, D: StopDisk + Drop, V: Verify + Drop> Cluster<'a, S, D, V> {
         })
     }
 
-    /// Makes a move. What the moved node may then put out is put out and numbered, from 0 over all its runs.
+    /// Makes a move. Then the moved node puts out all that it may; its outputs are numbered from 0 on, over all its runs.
     ///
     /// # Errors
-    /// `NoSuchNode` and `NoSuchOutput` change nothing. `Journal` where a stopped node could not be opened: it is gone from then on, and
-    /// what it put out can still be delivered. `Memory` where an allocation failed, also after the move: what could not be put out then
-    /// waits in the node.
+    /// `NoSuchNode` and `NoSuchOutput`: nothing has changed. `Journal`: the node could not be opened after a stop and is gone; its outputs
+    /// can still be delivered. `Memory`: an allocation failed, perhaps after the move was made; outputs that could not go out wait in the
+    /// node.
     pub fn apply(&mut self, step: Move) -> Result<Applied, ClusterError>
-        // The moved node does just this in its world, and what may go out after it goes out. All other nodes are unchanged.
+        // The moved node does what the move asks, and then all that may go out goes out. All other nodes are unchanged.
         ensures applied { IsApplied S.scheme D.device (V.accepts self.old.verifier) self.old.members step self.new.members result }
         ensures verifier { self.new.verifier ≡ self.old.verifier }
-        // A node that doesn't exist or is gone, and an output that doesn't exist, are reported exactly where the move names one.
+        // The move gets these errors if and only if it names a node that doesn't exist or is gone, or an output that doesn't exist.
         ensures no_node { IsErrOf result ClusterError.NoSuchNode ↔ LacksNode self.old.members step }
         ensures no_output { IsErrOf result ClusterError.NoSuchOutput ↔ LacksOutput self.old.members step }
         ensures unchanged { IfErr result (λ error. (error ≡ ClusterError.NoSuchNode) ⊎ (error ≡ ClusterError.NoSuchOutput) → self.new ≡ self.old) }
@@ -116,10 +116,10 @@ impl<'a, S: Sign, D: StopDisk + Drop, V: Verify + Drop> Cluster<'a, S, D, V> {
         self.ask(node, request)
     }
 
-    /// The header that a node proposes after all accepted events. None where it proposes none.
+    /// The header that a node proposes after all events that it accepted; None if it proposes none.
     ///
     /// # Errors
-    /// `NoSuchNode` where there is no such node, or it is gone; `Memory` where an allocation failed.
+    /// `NoSuchNode` if there is no such node or it is gone; `Memory` if an allocation failed.
     pub fn propose(&self, node: Author) -> Result<Option<Header>, ClusterError>
         ensures ok { IfOk result (λ found. (member : MemberView S D) × (at self.now.members node ≡ Some member) × Proposes (node_of S.scheme member.setting) member found) }
         ensures no_node { IsErrOf result ClusterError.NoSuchNode ↔ (IsThere self.now.members node → ⊥) }
@@ -131,8 +131,8 @@ impl<'a, S: Sign, D: StopDisk + Drop, V: Verify + Drop> Cluster<'a, S, D, V> {
         }
     }
 
-    /// The longest order that a node gave out over all its runs, also if the node is gone by now. None where there is no such node. The
-    /// call allocates no memory.
+    /// The longest order that a node gave out over all its runs, even if the node is gone by now. None if there is no such node. The call
+    /// allocates no memory.
     pub fn given_order(&self, node: Author) -> Option<&[Digest]>
         ensures some { IfSome result (λ digests. (member : MemberView S D) × (at self.now.members node ≡ Some member) × (digests.now ≡ member.out.order)) }
         ensures none { IsNone result ↔ (at self.now.members node ≡ None) }
@@ -143,7 +143,7 @@ impl<'a, S: Sign, D: StopDisk + Drop, V: Verify + Drop> Cluster<'a, S, D, V> {
         }
     }
 
-    /// How many outputs a node put out over all its runs; None where there is no such node.
+    /// How many outputs a node has put out over all its runs; None if there is no such node.
     pub fn outputs(&self, node: Author) -> Option<u64>
         ensures { result ≡ option_map (λ member. length member.out.outputs) (at self.now.members node) }
     {
@@ -153,7 +153,7 @@ impl<'a, S: Sign, D: StopDisk + Drop, V: Verify + Drop> Cluster<'a, S, D, V> {
         }
     }
 
-    /// The output that a node put out under this number. None where there is none.
+    /// The output that a node put out under this number; None if there is no such node or output.
     pub fn output(&self, node: Author, number: u64) -> Option<&Output>
         ensures { option_copied result ≡ option_and_then (λ member. slice_get member.out.outputs number) (at self.now.members node) }
     {
@@ -163,14 +163,14 @@ impl<'a, S: Sign, D: StopDisk + Drop, V: Verify + Drop> Cluster<'a, S, D, V> {
         }
     }
 
-    /// Runs all nodes, each in a thread of its own, with the gate at its place. In each of `turns` turns a thread passes its gate, gives
-    /// its node the messages that came for it, lets the node make one round, and sends what the node then puts out to its receivers. What
-    /// was put out before the call is not sent. The call returns once all threads have ended.
+    /// Runs each node in a thread of its own for `turns` turns. In each turn the thread passes the gate at its place, gives its node the
+    /// messages that came for it, lets the node make one round, and sends what the node then puts out to its receivers. Outputs from before
+    /// the call are not sent. The call returns once all threads have ended.
     ///
     /// # Errors
-    /// `Memory` where a thread couldn't be made, or an allocation outside a round failed; the cluster is gone then. A round in which an
-    /// allocation fails settles nothing, and the next one tries again. The other threads still make all their turns, so no gate may wait
-    /// without limit for another thread.
+    /// `Memory` if a thread couldn't be made or an allocation outside a round failed; the cluster is gone then. A round in which an
+    /// allocation fails settles nothing, and the next round tries again. After an error in one thread the others still make all their
+    /// turns, so no gate may wait without limit for another thread.
     pub fn run_threads<R, G>(
         self,
         rt: &R,
@@ -184,9 +184,9 @@ impl<'a, S: Sign, D: StopDisk + Drop, V: Verify + Drop> Cluster<'a, S, D, V> {
         D: Send,
         V: Sync,
         requires gates { vec_len gates ≡ length self.members }
-        // Each node made a round in each turn, accepted messages of others' outputs that are for it, and did not stop. No clause says that
-        // any message reaches it, nor that the sender put that message out: `orders_agree` asks of what is heard here what it asks of
-        // messages from outside.
+        // Each node made a round in each turn, accepted only messages of other nodes' outputs that are for it, and did not stop. No clause
+        // says that a message reaches anybody, or that its sender put it out: `orders_agree` assumes of messages heard in threads what it
+        // assumes of messages from outside.
         ensures ran { IfOk result (λ later. AllZip (HasRun S.scheme D.device (V.accepts self.entry.verifier) turns) self.entry.members later.members) }
         ensures done { IfOk result (λ later. (acts : List (List Act)) × IsDone S.scheme D.device (V.accepts self.entry.verifier) self.entry.members (ran turns acts) later.members) }
         ensures verifier { IfOk result (λ later. later.verifier ≡ self.entry.verifier) }
@@ -219,7 +219,7 @@ impl<'a, S: Sign, D: StopDisk + Drop, V: Verify + Drop> Cluster<'a, S, D, V> {
         self.members.iter().position(|member| member.own() == node)
     }
 
-    // Whether there is a member with this number that isn't gone.
+    // Whether there is a member with this number whose node is not gone.
     fn is_there(&self, node: Author) -> bool
         ensures { result ≡ has_member self.now.members node }
     {
@@ -229,7 +229,7 @@ impl<'a, S: Sign, D: StopDisk + Drop, V: Verify + Drop> Cluster<'a, S, D, V> {
         }
     }
 
-    // The node that a move moves, and what the move asks of it.
+    // The node that a move changes, and the request that the move makes to it.
     fn asked(&self, step: Move) -> Result<(Author, Request), ClusterError>
         ensures ok { IfOk result (λ asked. (asked.0 ≡ actor step) × (asked_in self.now.members step ≡ Some asked.1)) }
         ensures no_node { IsErrOf result ClusterError.NoSuchNode ↔ (IsDelivery step × LacksNode self.now.members step) }
@@ -256,7 +256,7 @@ impl<'a, S: Sign, D: StopDisk + Drop, V: Verify + Drop> Cluster<'a, S, D, V> {
         }
     }
 
-    // What a delivery asks of the node to which it goes.
+    // The request that a delivery makes to the node that the output goes to.
     fn delivery(&self, node: Author, output: u64, to: Author) -> Result<Request, ClusterError>
         ensures ok { IfOk result (λ request. asked_in self.now.members (Deliver node output to) ≡ Some request) }
         ensures no_node { IsErrOf result ClusterError.NoSuchNode ↔ LacksNode self.now.members (Deliver node output to) }
@@ -274,7 +274,7 @@ impl<'a, S: Sign, D: StopDisk + Drop, V: Verify + Drop> Cluster<'a, S, D, V> {
         })
     }
 
-    // The message in an output of a member.
+    // A copy of the message that a member put out under this number.
     fn message_from(&self, node: Author, output: u64) -> Result<Message, ClusterError>
         ensures ok { IfOk result (λ message. message_at self.now.members node output ≡ Some message) }
         ensures no_node { IsErrOf result ClusterError.NoSuchNode ↔ (at self.now.members node ≡ None) }

@@ -1,4 +1,4 @@
-//! What a member gave out, and what goes out after a move.
+//! Takes what may go out of a member's desk after a move, and records it.
 
 ghost use Rattle.std.specs.Prelude.{◌≡◌, [], drop, false, true, OnOk, OnErr, IfOk};
 ghost use Rattle.book.specs.Book.{releasable};
@@ -41,7 +41,7 @@ impl Model for GivenOut {
 impl GivenOut {
     ghost use Rattle.std.specs.Prelude.{◌≡◌, length, slice_get, [], Some, None, IfSome, IsNone};
 
-    /// A member that has given nothing out.
+    /// The record of a member that has given out nothing yet.
     pub(crate) fn new(alloc: Global) -> GivenOut
         ensures outputs { result.outputs ≡ [] }
         ensures order { result.order ≡ [] }
@@ -60,14 +60,14 @@ impl GivenOut {
         self.outputs.get(number as usize)
     }
 
-    /// How many outputs were put out.
+    /// How many outputs the member has put out.
     pub(crate) fn outputs(&self) -> u64
         ensures { result ≡ length self.now.outputs }
     {
         self.outputs.len() as u64
     }
 
-    /// The longest order.
+    /// The longest order that the member has given out.
     pub(crate) fn order(&self) -> &[Digest]
         ensures { result.now ≡ self.now.order }
     {
@@ -75,8 +75,8 @@ impl GivenOut {
     }
 }
 
-/// Reads the settled order, and then takes all outputs that may go out. Nothing goes out where the desk is down. On `AllocError` an
-/// allocation failed, and what has not gone out waits in the desk.
+/// Reads the settled order, and then takes all outputs that may go out. Nothing goes out of a desk that is down. On `AllocError` an
+/// allocation failed, and what has not gone out still waits in the desk.
 pub(crate) fn collect<S: Sign, D: StopDisk>(
     desk: &mut Desk<'_, S, D>,
     given: &mut GivenOut,
@@ -97,7 +97,7 @@ pub(crate) fn collect<S: Sign, D: StopDisk>(
     release_all(desk, given)
 }
 
-// Reads the part of the settled order that was not given out yet.
+// Adds the part of the settled order that was not read before.
 fn read_order<S: Sign, D: StopDisk>(
     desk: &Desk<'_, S, D>,
     given: &mut GivenOut,
@@ -115,7 +115,7 @@ fn read_order<S: Sign, D: StopDisk>(
     }
 }
 
-// Takes all outputs that may go out, once the settled order was read.
+// Takes all outputs that may go out. The settled order was read before.
 fn release_all<S: Sign, D: StopDisk>(
     desk: &mut Desk<'_, S, D>,
     given: &mut GivenOut,
@@ -134,7 +134,7 @@ fn release_all<S: Sign, D: StopDisk>(
     Ok(())
 }
 
-// Takes the next output, if it may go out. Gives whether there was one.
+// Takes the next output if it may go out. Returns whether there was one.
 fn release_next<S: Sign, D: StopDisk>(
     desk: &mut Desk<'_, S, D>,
     given: &mut GivenOut,

@@ -1,4 +1,4 @@
-//! Why a move fails.
+//! Why a move of a cluster fails.
 
 ghost use Rattle.std.specs.Prelude.{◌≡◌};
 ghost use Rattle.cluster.specs.declared.error.ClusterError.TheVariants.{Memory};
@@ -10,7 +10,7 @@ use thiserror::Error;
 /// Why a move of a cluster failed. Printed as its number and its name.
 #[derive(Clone, Copy, Debug, PartialEq, Eq, Error)]
 pub enum ClusterError {
-    /// An allocation failed. No released output is lost.
+    /// An allocation failed. No output that went out is lost.
     #[error("1 Memory")]
     Memory,
     /// No node has this number, or the node could not be opened after a stop.

@@ -1,4 +1,4 @@
-//! A member of a cluster.
+//! A member of a cluster: a node, which stays in the list after it is gone.
 
 use crate::collecting::{GivenOut, collect};
 use crate::error::ClusterError;
@@ -13,7 +13,7 @@ use std::marker::Model;
 use validator::Config;
 use wire::{Author, Digest, Header, Message, Output};
 
-/// A node, its settings, and what it gave out. The desk is gone once it could not be opened again.
+/// A member: its setting, its node (a desk, which is gone once it could not be opened after a stop), and what it has given out.
 pub(crate) struct Member<'a, S: Sign, D: StopDisk> {
     config: &'a Config<S>,
     desk: Option<Desk<'a, S, D>>,
@@ -57,10 +57,10 @@ impl<'a, S: Sign, D: StopDisk> Member<'a, S, D> {
     ghost use Rattle.cluster.specs.Member.{StandsAt, IsOn, Proposes};
     ghost use Rattle.cluster.specs.declared.moves.Request.TheVariants.{Take, Round, Stop};
 
-    /// Opens a node on a disk. It has given nothing out yet.
+    /// Opens a member's node on a disk. It has given out nothing yet.
     ///
     /// # Errors
-    /// Those of the opening.
+    /// Those of opening a node.
     pub(crate) fn open(
         alloc: Global,
         config: &'a Config<S>,
@@ -69,7 +69,7 @@ impl<'a, S: Sign, D: StopDisk> Member<'a, S, D> {
     where
         D: Drop,
         ensures setting { IfOk result (λ member. member.setting ≡ config.now) }
-        // On an empty disk the member is where its runs begin.
+        // On an empty disk the member stands at the world where its runs begin.
         ensures begins { let node = node_of S.scheme config.now in IfOk result (λ member. D.device.content disk ≡ [] → StandsAt node D.device (first_world node) member) }
         ensures runs { IfOk result (λ member. IsRun (node_of S.scheme member.setting) [] (first_world (node_of S.scheme member.setting))) }
         ensures up { IfOk result (λ member. member.desk ≢ None) }
@@ -98,7 +98,7 @@ impl<'a, S: Sign, D: StopDisk> Member<'a, S, D> {
         self.config.own()
     }
 
-    /// The output that the member put out under this number; None where there is none.
+    /// The output that the member put out under this number; None if there is none.
     pub(crate) fn output(&self, number: u64) -> Option<&Output>
         ensures some { IfSome result (λ output. slice_get self.now.out.outputs number ≡ Some output.now) }
         ensures none { IsNone result → slice_get self.now.out.outputs number ≡ None }
@@ -106,31 +106,31 @@ impl<'a, S: Sign, D: StopDisk> Member<'a, S, D> {
         self.given.output(number)
     }
 
-    /// How many outputs the member put out.
+    /// How many outputs the member has put out.
     pub(crate) fn outputs(&self) -> u64
         ensures { result ≡ length self.now.out.outputs }
     {
         self.given.outputs()
     }
 
-    /// Whether the member still has a node: it is gone after a stop from which it couldn't be opened.
+    /// Whether the member still has a node. It has none after a stop from which the node couldn't be opened.
     pub(crate) fn is_there(&self) -> bool
         ensures { result ≡ is_some self.now.desk }
     {
         self.desk.is_some()
     }
 
-    /// The longest order that the member gave out.
+    /// The longest order that the member has given out.
     pub(crate) fn order(&self) -> &[Digest]
         ensures { result.now ≡ self.now.out.order }
     {
         self.given.order()
     }
 
-    /// The header that the member proposes after all accepted events; None where it proposes none.
+    /// The header that the member proposes after all events that it accepted; None if it proposes none.
     ///
     /// # Errors
-    /// `NoSuchNode` where it is gone; `Memory` where an allocation failed.
+    /// `NoSuchNode` if the member's node is gone; `Memory` if an allocation failed.
     pub(crate) fn propose(&self) -> Result<Option<Header>, ClusterError>
         ensures ok { IfOk result (λ found. Proposes (node_of S.scheme self.now.setting) self.now found) }
         ensures gone { IsErrOf result ClusterError.NoSuchNode ↔ (self.now.desk ≡ None) }
@@ -142,10 +142,10 @@ impl<'a, S: Sign, D: StopDisk> Member<'a, S, D> {
         }
     }
 
-    /// Answers a request, and then collects what may go out.
+    /// Carries out a request, and then collects what may go out.
     ///
     /// # Errors
-    /// `NoSuchNode` where it is gone; `Journal` where it can't be opened after a stop, and is gone from then on; `Memory` where an
+    /// `NoSuchNode` if the member's node is gone; `Journal` if it can't be opened after a stop, and is gone from then on; `Memory` if an
     /// allocation failed, possibly after the request was carried out.
     pub(crate) fn answer<V: Verify>(
         &mut self,
@@ -164,10 +164,10 @@ impl<'a, S: Sign, D: StopDisk> Member<'a, S, D> {
         }
     }
 
-    /// Gives the node a message, and then collects what may go out.
+    /// Checks a message, gives it to the node, and then collects what may go out.
     ///
     /// # Errors
-    /// `NoSuchNode` where it is gone; `Memory` where an allocation failed.
+    /// `NoSuchNode` if the member's node is gone; `Memory` if an allocation failed.
     pub(crate) fn take_in<V: Verify>(
         &mut self,
         verifier: &V,
@@ -185,10 +185,10 @@ impl<'a, S: Sign, D: StopDisk> Member<'a, S, D> {
         Ok(applied)
     }
 
-    /// Lets the node make one round, and then collects what may go out.
+    /// Lets the node make one round of take, append and settle, and then collects what may go out.
     ///
     /// # Errors
-    /// `NoSuchNode` where it is gone; `Memory` where an allocation failed after the round.
+    /// `NoSuchNode` if the member's node is gone; `Memory` if an allocation failed after the round.
     pub(crate) fn flush(&mut self) -> Result<Applied, ClusterError>
         ensures became { (accepts : Accepts) → Became (node_of S.scheme self.old.setting) D.device accepts Round self.old self.new result }
         ensures there { is_some self.new.desk ≡ is_some self.old.desk }

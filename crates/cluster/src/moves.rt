@@ -8,53 +8,53 @@ use wire::{Author, Coin, Message};
 /// A move of a cluster.
 #[derive(Debug, Drop)]
 pub enum Move {
-    /// The output that a node put out under this number is delivered to another node, with the first one as its sender.
+    /// A node's output, named by the number under which the node put it out, is given to another node as a message from the first one.
     Deliver {
         node: Author,
         output: u64,
         to: Author,
     },
-    /// A message comes to a node from this sender. A node's own events are given by its own host.
+    /// A node gets a message as if from this sender. A node's own host names the node itself as the sender.
     Give {
         to: Author,
         sender: Author,
         message: Message,
     },
-    /// A coin comes to a node from its host.
+    /// A node gets a coin from its host.
     Coin {
         node: Author,
         coin: Coin,
     },
-    /// The node makes one round: what is pending is written and settled.
+    /// A node makes one round: its pending records are written as a group, and settled.
     Flush(Author),
-    /// The node's machine stops, and the node is opened again.
+    /// A node's machine stops, and the node is opened again on what is left of its disk.
     Stop(Author),
 }
 
 /// What a move asks of its node.
 #[derive(Debug, Drop)]
 pub enum Request {
-    /// To accept a message from this sender.
+    /// The node is to check and accept a message from this sender.
     Take { sender: Author, message: Message },
-    /// To make one round.
+    /// The node is to make one round: to write its pending records and settle them.
     Round,
-    /// To stop its machine and be opened again.
+    /// The node's machine is to stop, and the node to be opened again.
     Stop,
 }
 
 /// The answer to a move.
 #[derive(Clone, Copy, Debug, PartialEq, Eq)]
 pub enum Applied {
-    /// The event was accepted, as new or as known. The ticket is how many records were accepted in this run by then.
+    /// The node accepted the event, as new or as known. The ticket is how many records it had accepted in this run by then.
     Took { ticket: u64, new: bool },
     /// The node refused the event, and nothing changed.
     Refused(Refusal),
-    /// The message fails a check; this is the first one that it fails.
+    /// The message failed a check; this is the first check that it fails.
     Unchecked(CheckError),
-    /// This many records were written and settled.
+    /// A round wrote and settled this many records.
     Settled(u64),
-    /// The round failed.
+    /// A round failed, for this reason.
     Fault(FlushError),
-    /// The node was opened again, on a journal with this many events.
+    /// The node was opened again after a stop, on a journal with this many events.
     Reopened(u64),
 }

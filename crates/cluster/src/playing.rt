@@ -1,4 +1,4 @@
-//! A cluster that is opened and then moved by a list of moves.
+//! Opens a cluster and applies a list of moves to it.
 
 use crate::cluster::Cluster;
 use crate::error::ClusterError;
@@ -16,13 +16,14 @@ impl<'a, S: Sign, D: StopDisk + Drop, V: Verify + Drop> Cluster<'a, S, D, V> {
     ghost use Rattle.cluster.specs.Applying.{Stage, StagesLead, AreAnswered, ArePlayed};
     ghost use Rattle.cluster.specs.Cluster.{AreOfOne, AreDistinct};
 
-    /// Opens a node for each of these settings, each on the empty disk at its place, and applies the moves in turn, whatever their answers.
-    /// Gives the answers beside the cluster. Then, whichever nodes are honest: if the others weigh no more than is tolerated, what honest nodes accepted from outside had no
-    /// forged vote of an honest node and no second value of a wave's coin, and no two different texts of headers and certificates that they
-    /// accepted share a digest, of the orders that any two honest nodes gave out one is a prefix of the other.
+    /// Opens a node for each of these settings, each on the empty disk at its place, and applies the moves in turn, whatever they are
+    /// answered. Returns the cluster and the answers. Of the orders that any two honest nodes gave out then, one is a prefix of the other.
+    /// This holds for any choice of honest nodes if the others weigh no more than is tolerated, if what honest nodes accepted from outside
+    /// had no forged vote of an honest node and no second value of a wave's coin, and if no two different texts of headers and certificates
+    /// that they accepted share a digest.
     ///
     /// # Errors
-    /// Those of `new`, and `Memory` where an allocation for the answers failed. The error of a move ends nothing.
+    /// Those of `new`, and `Memory` if an allocation for the answers failed. The error of a move is an answer, and ends nothing.
     pub fn play(
         alloc: Global,
         configs: &'a [Config<S>],
@@ -45,7 +46,7 @@ impl<'a, S: Sign, D: StopDisk + Drop, V: Verify + Drop> Cluster<'a, S, D, V> {
         Ok((cluster, answers))
     }
 
-    // Applies these moves in turn, whatever their answers, which it gives. On `AllocError` an allocation for these failed.
+    // Applies these moves in turn, whatever they are answered, and returns the answers. On `AllocError` an allocation for these failed.
     fn apply_all(
         &mut self,
         alloc: Global,

@@ -12,7 +12,7 @@ use std::mem;
 use std::sync::{Mutex, Wait};
 use wire::{Author, Message, Output};
 
-/// The message of an output, in flight to its receivers. Contracts see it with its sender.
+/// A message in flight: that of an output, with its sender and its receiver. Contracts see the message and its sender.
 #[derive(Drop)]
 pub(crate) struct Envelope {
     sender: Author,
@@ -33,7 +33,7 @@ impl Model for Envelope {
 }
 
 impl Envelope {
-    /// The envelope for an output of this sender.
+    /// The envelope for the message of this sender's output.
     pub(crate) fn new(sender: Author, output: &Output, message: Message) -> Envelope
         requires { message_of output.now ≡ Some message }
         ensures { result ≡ record { sender = sender; message = message } }
@@ -45,7 +45,7 @@ impl Envelope {
         }
     }
 
-    /// Whether the envelope is for this node: another node sent it, to this one or to all.
+    /// Whether the message in the envelope is for this node: another node sent it, to this one or to all.
     pub(crate) fn is_for(&self, node: Author) -> bool
         ensures { result ≡ true → IsHeard node self.now }
     {
@@ -63,7 +63,7 @@ impl Envelope {
         self.sender
     }
 
-    /// The message.
+    /// Takes the message out of the envelope.
     pub(crate) fn into_message(self) -> Message
         ensures { result ≡ self.message }
     {
@@ -87,7 +87,7 @@ impl Envelope {
     }
 }
 
-/// The messages that came for a node and weren't taken yet.
+/// The messages that came for a node and that the node hasn't taken yet.
 pub(crate) struct Inbox {
     alloc: Global,
     owner: Author,
@@ -114,7 +114,7 @@ impl Inbox {
         }
     }
 
-    /// All messages that came, in their order. The inbox is empty after that.
+    /// Takes all messages that came, oldest first, and leaves the inbox empty.
     pub(crate) fn take<R: Wait>(&self, rt: &R) -> Vec<Envelope> {
         let mut envelopes = self.envelopes.lock(rt);
         mem::replace(&mut *envelopes, Vec::new(self.alloc))
@@ -126,7 +126,8 @@ impl Inbox {
     }
 }
 
-/// Puts each envelope into the inboxes that it is for, until all senders are gone. On `AllocError` an allocation failed.
+/// Puts each message that is sent into the inbox of each node that it is for, until all senders are gone. On `AllocError` an allocation
+/// failed.
 pub(crate) fn route<R: Wait>(
     rt: &R,
     envelopes: Receiver<Envelope>,

@@ -49,8 +49,8 @@ where
     }
 }
 
-/// Runs each member in a thread of its own for this many turns, and routes their messages in this thread. On `AllocError` an allocation
-/// failed, or a thread couldn't be made.
+/// Runs each member in a thread of its own for this many turns, while the calling thread routes their messages. On `AllocError` an
+/// allocation failed, or a thread couldn't be made.
 pub(crate) fn run_members<'a, R, S, D, V, G>(
     rt: &R,
     alloc: Global,
@@ -87,7 +87,7 @@ where
     all_members(alloc, ended)
 }
 
-// An inbox for each member.
+// One empty inbox for each member.
 fn inboxes_of<S: Sign, D: StopDisk>(
     alloc: Global,
     members: &[Member<'_, S, D>],
@@ -99,7 +99,7 @@ fn inboxes_of<S: Sign, D: StopDisk>(
     Ok(inboxes)
 }
 
-// The members, each with its place, its gate and its channel to the router.
+// The members as their threads get them: each with its place in the list, its gate, and its channel to the router.
 fn workers_of<'a, S: Sign, D: StopDisk + Drop, G: Gate + Drop>(
     alloc: Global,
     members: Vec<Member<'a, S, D>>,
@@ -120,7 +120,7 @@ fn workers_of<'a, S: Sign, D: StopDisk + Drop, G: Gate + Drop>(
     Ok(workers)
 }
 
-// The members that the threads gave back.
+// The members as their threads gave them back, in the same order.
 fn all_members<'a, S: Sign, D: StopDisk + Drop>(
     alloc: Global,
     ended: Vec<Result<Member<'a, S, D>, AllocError>>,

@@ -10,17 +10,17 @@ use std::snapshot::Snapshot;
 use std::sync::Wait;
 use std::thread::{self, Promise, Scope, Threads};
 
-/// What does a job.
+/// What does the jobs, one in each thread.
 pub(crate) trait Runner<R: Wait, J, X> {
-    /// How a job's result is related to the job.
+    /// How the result of a job is related to the job: the contract of `run`.
     ghost ran: { Self → J → X → Type 0 };
 
-    /// Does the job.
+    /// Does a job, and returns its result.
     fn run(&self, job: J) -> X
         ensures { ran self.now job result };
 }
 
-// The promise of a thread that did a job.
+// What the end of a thread promises: it did its job, so its result is related to the job by `ran`.
 struct Ran<R, O, J> {
     runtime: PhantomData<R>,
     runner: Snapshot<O>,
@@ -41,8 +41,8 @@ impl<R: Wait, O: Runner<R, J, X>, J, X> Promise<X> for Ran<R, O, J> {
     ghost kept_by = { λ ran result. O.ran ran.runner.value ran.job.value result };
 }
 
-/// Does each job in a thread of its own, and something else in this one. Gives the results in the order of the jobs, once all threads have
-/// ended. On `AllocError` an allocation failed, a thread couldn't be made, or the work in this thread reported it.
+/// Does each job in a thread of its own, while this thread does something else. Returns the results in the order of the jobs once all
+/// threads have ended. On `AllocError` an allocation failed, a thread couldn't be made, or the work of this thread failed so.
 pub(crate) fn run_in_threads<R, O, J, X, B>(
     rt: &R,
     alloc: Global,
@@ -69,8 +69,8 @@ where
     )
 }
 
-// Starts a thread for the last job, and then in the same way threads for the jobs before it. Once all are started, this thread calls
-// `beside`, and then it waits for the results of the others.
+// Starts a thread for the last job, and then, by recursion, threads for the jobs before it. Once all are started, this thread calls
+// `beside`, and then it waits for the results of the other threads.
 fn run_each<'s, E, R, O, J, X, B>(
     scope: &Scope<'s, E>,
     rt: &'s R,

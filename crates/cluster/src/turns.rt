@@ -1,4 +1,4 @@
-//! What a desk does at a move, before anything goes out.
+//! What a desk (a node of one owner) does at a move, before anything goes out.
 
 ghost use Rattle.std.specs.Prelude.{◌≡◌, ◌<◌, List, ℕ, None, Ok, IfOk, OnErr, IfErr, IsErrOf};
 ghost use Rattle.header.specs.Checks.{Accepts, fault_of, accepts_all};
@@ -26,7 +26,7 @@ use std::alloc::Global;
 use validator::{Config, Refusal};
 use wire::{Author, Message};
 
-/// Checks a message and gives it to a desk. Only a failed allocation is an error, and changes nothing.
+/// Checks a message, and gives it to a desk if it passes. The only error is a failed allocation; then nothing has changed.
 pub(crate) fn offer<S: Sign, D: StopDisk, V: Verify>(
     desk: &mut Desk<'_, S, D>,
     verifier: &V,
@@ -70,11 +70,11 @@ fn hand_in<S: Sign, D: StopDisk>(
     }
 }
 
-/// Lets a desk make one round.
+/// Lets a desk make one round: it writes its pending records and settles them.
 pub(crate) fn round<S: Sign, D: StopDisk>(desk: &mut Desk<'_, S, D>) -> Applied
     ensures moved { let node = node_of S.scheme desk.old.book.validator.setting in (world : World) → IsAt node D.device world desk.old
         → HasMoved node D.device (MakesRound node D.device result) world desk.old desk.new }
-    // The answer is that the disk failed only where the disk counted a failure.
+    // A round is answered Device only if the disk counted a failed call.
     ensures device { IsDeviceFault result → D.device.faults (disk_of desk.old.journal) < D.device.faults (disk_of desk.new.journal) }
     ensures setting { desk.new.book.validator.setting ≡ desk.old.book.validator.setting }
     ensures spare { spare_of desk.new.journal ≡ spare_of desk.old.journal }
@@ -85,10 +85,10 @@ pub(crate) fn round<S: Sign, D: StopDisk>(desk: &mut Desk<'_, S, D>) -> Applied
     }
 }
 
-/// Stops the machine, counts the events in the journal that is left, and opens the node on it.
+/// Stops the machine of a desk, counts the events in the journal that the stop left, and opens the node on it.
 ///
 /// # Errors
-/// Those of an opening.
+/// Those of opening a node.
 pub(crate) fn restart<'a, S: Sign, D: StopDisk + Drop>(
     alloc: Global,
     config: &'a Config<S>,
@@ -98,9 +98,9 @@ pub(crate) fn restart<'a, S: Sign, D: StopDisk + Drop>(
     ensures setting { IfOk result (λ opened. opened.0.book.validator.setting ≡ config.now) }
     ensures opened { IfOk result (λ opened. (found : List ℕ) × D.device.outcome (disk_of desk.entry.journal) found
         × IsOpened (node_of S.scheme config.now) D.device (alone found) opened.0 × (opened.1 ≡ events_in found)) }
-    // The error is Device only where the disk counted a failure.
+    // The error is Device only if the disk counted a failed call.
     ensures device { IsErrOf result JournalError.Device → CountsMore D.device (disk_of desk.entry.journal) }
-    // What a stop leaves of a node in its world can be opened, unless an allocation or the disk fails.
+    // What a stop leaves of a desk that stands at a world can be opened, unless an allocation or the disk fails.
     ensures refused { IfErr result (λ error. (world : World) → IsAt (node_of S.scheme config.now) D.device world desk.entry → IsNoRefusal error) }
 {
     let mut disk = desk.into_disk();
@@ -112,7 +112,7 @@ pub(crate) fn restart<'a, S: Sign, D: StopDisk + Drop>(
     }
 }
 
-// How many events a disk's journal has: its records without the configuration's.
+// How many events the journal on a disk has: its records except the first, which is the configuration. Hands the disk back.
 fn count_events<D: StopDisk + Drop>(alloc: Global, disk: D) -> Result<(u64, D), JournalError>
     ensures same { IfOk result (λ counted. stands (D.device.content counted.1) ≡ stands (D.device.content disk)) }
     ensures count { IfOk result (λ counted. counted.0 ≡ events_in (D.device.content disk)) }

@@ -1,4 +1,4 @@
-//! What a node's thread does.
+//! What the thread of a member does.
 
 ghost use Rattle.std.specs.Prelude.{◌≡◌, IfOk, OnOk};
 ghost use Rattle.header.specs.Checks.{Accepts};
@@ -13,8 +13,8 @@ use diskmodel::{Gate, StopDisk};
 use sigface::{Sign, Verify};
 use std::sync::Wait;
 
-/// A member with what its thread needs: its place among the members, its gate, its channel to the router, and how many of its outputs were
-/// sent or need not be.
+/// A member with what its thread needs: the member's place in the list, its gate, its channel to the router, and how many of its outputs
+/// were sent already (those from before the thread count as sent).
 pub(crate) struct Worker<'a, S: Sign, D: StopDisk, G> {
     place: usize,
     pub(crate) member: Member<'a, S, D>,
@@ -36,7 +36,7 @@ impl<'a, S: Sign, D: StopDisk + Drop, G: Drop> Drop for Worker<'a, S, D, G> {
 }
 
 impl<'a, S: Sign, D: StopDisk + Drop, G: Gate + Drop> Worker<'a, S, D, G> {
-    /// A worker that doesn't send what its member put out before.
+    /// The worker of a member. What the member put out before is not sent.
     pub(crate) fn new(
         place: usize,
         member: Member<'a, S, D>,
@@ -55,12 +55,12 @@ impl<'a, S: Sign, D: StopDisk + Drop, G: Gate + Drop> Worker<'a, S, D, G> {
         }
     }
 
-    /// The member's place.
+    /// The member's place in the list of members.
     pub(crate) fn place(&self) -> usize {
         self.place
     }
 
-    /// Makes this many turns.
+    /// Makes this many turns, and returns the member.
     ///
     /// # Errors
     /// `Memory` where an allocation failed, in this thread or in the router.
@@ -86,7 +86,7 @@ impl<'a, S: Sign, D: StopDisk + Drop, G: Gate + Drop> Worker<'a, S, D, G> {
         Ok(member)
     }
 
-    // Passes the gate, takes what is in the inbox, makes a round, and sends what went out.
+    // One turn: passes the gate, gives the member the messages in its inbox, lets it make a round, and sends what went out.
     fn turn<R: Wait, V: Verify>(
         &mut self,
         rt: &R,
@@ -101,7 +101,7 @@ impl<'a, S: Sign, D: StopDisk + Drop, G: Gate + Drop> Worker<'a, S, D, G> {
         self.send_new(rt)
     }
 
-    // Sends the outputs that weren't sent yet.
+    // Sends the outputs of the member that weren't sent yet.
     fn send_new<R: Wait>(&mut self, rt: &R) -> Result<(), ClusterError>
         ensures { self.new.member ≡ self.old.member }
     {
@@ -113,7 +113,7 @@ impl<'a, S: Sign, D: StopDisk + Drop, G: Gate + Drop> Worker<'a, S, D, G> {
         Ok(())
     }
 
-    // Sends the message in an output, if the output has one.
+    // Sends the message of the output with this number. A piece of the order is no message.
     fn send<R: Wait>(&self, rt: &R, number: u64) -> Result<(), ClusterError> {
         let Some(output) = self.member.output(number) else {
             return Ok(());

@@ -1,4 +1,4 @@
-//! Why a run ends early.
+//! Why a run of the benchmark ends early.
 
 use book::FlushError;
 use committee::CommitteeError;
@@ -9,16 +9,16 @@ use std::io;
 use validator::{LoadError, Refusal};
 use wire::WireError;
 
-/// Why a run ended before its work was done.
+/// Why a run of the benchmark ended before its work was done.
 #[derive(Clone, Copy)]
 pub enum Ending {
-    /// The words aren't those of a kind of work, or a number is out of its range.
+    /// The arguments name no kind of work, or a number in them is out of its range.
     Usage,
     /// An allocation failed.
     Memory,
-    /// A line couldn't be written.
+    /// A line couldn't be written to standard output.
     Output,
-    /// A piece of work was refused, which should not happen.
+    /// A library refused a piece of the work. The benchmark makes correct input, so this should not happen.
     Refused,
 }
 
@@ -50,7 +50,7 @@ impl From<io::Error> for Ending {
     fn from(error: io::Error) -> Ending {
         match error.kind() {
             io::ErrorKind::OutOfMemory => Ending::Memory,
-            // A word that isn't UTF-8.
+            // An argument isn't UTF-8.
             io::ErrorKind::InvalidData => Ending::Usage,
             _ => Ending::Output,
         }
@@ -61,7 +61,7 @@ impl From<CommitteeError> for Ending {
     fn from(error: CommitteeError) -> Ending {
         match error {
             CommitteeError::Memory => Ending::Memory,
-            // The number of members was given by the words.
+            // The number of members came from the arguments.
             CommitteeError::BadSize => Ending::Usage,
             _ => Ending::Refused,
         }

@@ -1,4 +1,4 @@
-//! The events of rounds, in their order.
+//! Makes the events of full rounds in their order, as input for the work that is measured.
 
 ghost use Rattle.std.specs.Prelude.{◌≡◌, None, IfOk};
 ghost use Rattle.header.specs.Checks.{fault_of, accepts_all};
@@ -12,43 +12,44 @@ use sim_script::OWN;
 use std::alloc::Global;
 use wire::{Author, Digest, Message, Vote, certificate_digest};
 
-/// The events of a round that precede its certificates.
+/// The events of a round that come before the round's certificates.
 #[derive(Clone, Copy)]
 pub enum Front {
     Nothing,
-    /// The headers of the others.
+    /// The headers of all other members.
     Headers,
-    /// The own header, and as many votes on it as make its certificate, which then doesn't come in itself.
+    /// The node's own header, and as many votes as complete its certificate. That certificate is not an event of the round then.
     Votes,
-    /// The own header, those of the others, and then votes as above. The next round is on top of the own certificate too.
+    /// The own header, the headers of the others, and the votes that complete the own certificate. Headers of the next round name that
+    /// certificate as a parent too.
     All,
-    /// Another member's batches, whose bodies have this many bytes. There is no end to them.
+    /// Only batches of another member, without end. Each batch's body has this many bytes.
     Batches(u64),
 }
 
-/// Stands for the digest of an event that has none.
+/// Takes the place of a digest for an event that has none, such as a coin.
 const STAND_IN: Digest = Digest([7; 32]);
 
-/// Rounds of events.
+/// The state from which the events of one round after the other are made.
 #[derive(Drop)]
 pub struct Events {
     rounds: Rounds,
     front: Front,
-    // Whether each wave has a coin.
+    // Whether a coin comes at the end of each wave.
     has_coins: bool,
-    /// How many events of a round precede the certificates.
+    /// How many events of a round come before its certificates.
     pub front_len: u16,
     // How many events a round has except the coin.
     len: u16,
-    // How many events of the round there were.
+    // How many events of the current round were already made.
     place: u16,
-    // How many batches there were.
+    // How many batches were already made.
     batches: u64,
-    // The digest of the last own header, which votes are for.
+    // The digest of the node's last own header, on which the others vote.
     header: Digest,
 }
 
-/// The digest that the tests computed last; a stand-in where there is none.
+/// The digest that the checks of an event computed last, or a fixed stand-in if they computed none.
 pub fn digest_in(event: &Checked) -> Digest {
     let digest = match event.message() {
         Message::Batch(_) => event.batch_digest(),
@@ -59,7 +60,7 @@ pub fn digest_in(event: &Checked) -> Digest {
 }
 
 impl Events {
-    /// The events from the first round on.
+    /// The events from round 1 on, none of them made yet.
     pub fn new(
         alloc: Global,
         committee: &Committee,
@@ -92,21 +93,21 @@ impl Events {
         })
     }
 
-    /// Whether the current round is at its end, and at least this many rounds are complete.
+    /// Whether all events of the current round were made, and it is the round with this number or a later one.
     pub fn are_over(&self, rounds: u64) -> bool {
         self.place >= self.len && self.rounds.number >= rounds
     }
 
-    /// How many events so many rounds have, with the coins of their waves.
+    /// How many events this many rounds have, with the coins of the waves that end in them.
     pub fn in_rounds(&self, rounds: u64) -> u64 {
-        // After each odd round except the first a wave ends, with its coin.
+        // A wave ends with each odd round except the first; then its coin comes.
         let coins = (rounds.saturating_add(1) / 2).saturating_sub(1);
         rounds
             .saturating_mul(u64::from(self.len))
             .saturating_add(coins)
     }
 
-    /// The next event, tested without signatures.
+    /// The next event, after it passed the checks without those of signatures.
     pub fn tested(&mut self, committee: &Committee) -> Result<Checked, Ending>
         ensures { IfOk result (λ event. fault_of committee.now accepts_all event ≡ None) }
     {
@@ -116,7 +117,8 @@ impl Events {
         Ok(event)
     }
 
-    /// The last member's vote on the own header, which comes after the votes that make its certificate, tested without signatures.
+    /// The last member's vote on the own header, after it passed the checks without those of signatures. It comes after the certificate of
+    /// that header is complete.
     pub fn late_vote(&self, committee: &Committee) -> Result<Checked, Ending>
         ensures { IfOk result (λ event. fault_of committee.now accepts_all event ≡ None) }
     {
@@ -125,7 +127,7 @@ impl Events {
         Ok(recheck(committee, sender, message)?)
     }
 
-    // The next message, with its sender.
+    // The next message and its sender.
     fn next(&mut self) -> Result<(Author, Message), Ending> {
         if let Front::Batches(size) = self.front {
             return self.batch(size);
@@ -153,7 +155,7 @@ impl Events {
         Ok((PEER, Message::Batch(batch)))
     }
 
-    // The certificate that this many others of the round precede.
+    // The certificate that comes after this many other certificates of the round.
     fn certificate(&self, before: u16) -> Result<(Author, Message), Ending> {
         let author = match self.front {
             Front::Votes | Front::All => Author(before.saturating_add(1)),
@@ -163,7 +165,7 @@ impl Events {
         Ok((author, Message::Certificate(certificate)))
     }
 
-    // The event at this place, which precedes the certificates.
+    // The event with this place among those that come before the round's certificates.
     fn front_event(&self, place: u16) -> Result<(Author, Message), Ending> {
         let sender = match (self.front, place) {
             (Front::Votes, 0) => OWN,
@@ -188,7 +190,7 @@ impl Events {
         Ok((voter, Message::Vote(vote)))
     }
 
-    // Keeps the digest of the last event, for events that refer to it.
+    // Keeps the digest of an event if later events refer to it: a certificate is a parent in the next round, a header gets votes.
     fn note(&mut self, message: &Message, digest: Digest) -> Result<(), Ending> {
         match message {
             Message::Certificate(certificate) => self
@@ -202,7 +204,7 @@ impl Events {
         }
     }
 
-    // Notes the own certificate, which the votes on this header make, where the next round is on top of it too.
+    // Makes the own certificate, which the votes on this header complete, a parent of the next round, if the events are of that kind.
     fn note_own(&mut self, header: Digest) -> Result<(), Ending> {
         match self.front {
             Front::All => {

@@ -1,28 +1,28 @@
-//! Summing up the results of a run.
+//! Checksums over the results of a run, so that two runs can be compared.
 
 use validator::Step;
 use wire::{HeaderBody, Message, Output};
 
-/// A cheap sum over results: FNV-1a over numbers of 64 bits.
+/// A cheap checksum over results: FNV-1a, fed with numbers of 64 bits.
 #[derive(Clone, Copy)]
 pub struct Fold {
     value: u64,
 }
 
 impl Fold {
-    /// The sum of nothing.
+    /// The checksum of no results.
     pub fn new() -> Fold {
         Fold {
             value: 14_695_981_039_346_656_037,
         }
     }
 
-    /// Adds a number.
+    /// Adds a number to the checksum.
     pub fn add(&mut self, number: u64) {
         self.value = (self.value ^ number).wrapping_mul(1_099_511_628_211);
     }
 
-    /// Adds the length of bytes, and the first eight bytes where there are that many.
+    /// Adds to the checksum how many bytes there are, and the first eight of them if there are so many.
     pub fn add_bytes(&mut self, bytes: &[u8]) {
         self.add(bytes.len() as u64);
         if let Some(front) = bytes.first_chunk::<8>() {
@@ -36,7 +36,7 @@ impl Fold {
         self.add(body.parents.len() as u64);
     }
 
-    /// Adds what distinguishes a message from others.
+    /// Adds what tells a message from others, such as its number or its round, to the checksum.
     pub fn add_message(&mut self, message: &Message) {
         match message {
             Message::Batch(batch) => self.add_bytes(batch.body()),
@@ -54,7 +54,7 @@ impl Fold {
         }
     }
 
-    /// Adds the outputs of a step.
+    /// Adds the outputs of a validator's step to the checksum.
     pub fn add_step(&mut self, step: &Step) {
         let (Step::New(outputs) | Step::Known(outputs)) = step;
         for output in outputs {
@@ -62,7 +62,7 @@ impl Fold {
         }
     }
 
-    /// Adds an output.
+    /// Adds an output to the checksum.
     pub fn add_output(&mut self, output: &Output) {
         match output {
             Output::Batch(batch) => self.add_bytes(batch.body()),
@@ -79,12 +79,12 @@ impl Fold {
         }
     }
 
-    /// Adds another sum.
+    /// Adds another checksum's value to this one.
     pub fn join(&mut self, other: Fold) {
         self.add(other.value);
     }
 
-    /// The sum.
+    /// The value of the checksum.
     pub fn value(self) -> u64 {
         self.value
     }
@@ -98,12 +98,12 @@ pub struct Sum {
 }
 
 impl Sum {
-    /// The sum of no outputs.
+    /// No outputs yet.
     pub fn new() -> Sum {
         Sum { count: 0, value: 0 }
     }
 
-    /// Adds an output.
+    /// Counts an output, and adds it to the sum.
     pub fn add(&mut self, output: &Output) {
         let mut fold = Fold::new();
         fold.add_output(output);
@@ -111,7 +111,7 @@ impl Sum {
         self.value = self.value.wrapping_add(fold.value);
     }
 
-    /// Adds both numbers.
+    /// Adds the number of outputs and the sum over them to a checksum.
     pub fn add_to(self, fold: &mut Fold) {
         fold.add(self.count);
         fold.add(self.value);

@@ -1,4 +1,4 @@
-//! Work of a validator whose coins commit nothing.
+//! Measured work of a validator for which many rounds pass without a commit.
 
 use crate::ending::Ending;
 use crate::events::{Events, Front, digest_in};
@@ -11,13 +11,13 @@ use sim_script::OWN;
 use validator::{Config, Validator};
 use wire::{Author, Coin, Digest, Message, Wave};
 
-/// The values of two coins in a committee of four: one that chooses the own member as leader, which has no certificate, and one that
-/// chooses another.
+/// Two coins in a committee of four. The first chooses the node's own member as leader, which has no certificate here, so it commits
+/// nothing. The second chooses another member.
 const ABSENT: u64 = 0;
 
 const PRESENT: u64 = 1;
 
-/// Steps certificates after as many rounds without a coin as the size says. Without the work they are only tested.
+/// Gives certificates to a validator after `size` rounds without a coin. The preparation alone only checks these certificates.
 pub fn take_after(task: Task, config: &Config<HashSign>, fold: &mut Fold) -> Result<(), Ending> {
     let mut validator = Validator::new(task.alloc, config)?;
     let mut events = Events::new(task.alloc, config.committee(), Front::Nothing, false)?;
@@ -43,8 +43,8 @@ fn take_some(
     Ok(())
 }
 
-/// Steps coins, each on a validator of its own and after as many rounds as the size says. The leader of each earlier wave was absent, so
-/// the coin is the first one that commits. Without the work the coins don't come in.
+/// Gives a coin to a validator after `size` rounds in which nothing was committed, since each wave's leader was absent. This coin commits.
+/// Each coin gets a new validator. The preparation alone leaves the coin out.
 pub fn commit_late(task: Task, config: &Config<HashSign>, fold: &mut Fold) -> Result<(), Ending> {
     for _ in 0..task.count {
         commit_once(task, config, fold)?;
@@ -71,7 +71,7 @@ fn commit_once(task: Task, config: &Config<HashSign>, fold: &mut Fold) -> Result
     }
 }
 
-// The certificates of a round without the own one.
+// Gives a validator the certificates of a round, except the one of its own member.
 fn take_round(
     validator: &mut Validator<'_, HashSign>,
     rounds: &mut Rounds,
@@ -97,7 +97,7 @@ fn take_coin(
     Ok(())
 }
 
-// Steps a message, and gives the digest of its event.
+// Gives a validator a message, and returns the event's digest.
 fn take(
     validator: &mut Validator<'_, HashSign>,
     sender: Author,

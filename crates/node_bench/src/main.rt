@@ -1,5 +1,4 @@
-//! `narwhal-bench`: does a known amount of one layer's work, to be timed from outside, and prints a digest over its
-//! results.
+//! `narwhal-bench` does a known amount of work of one layer, so that it can be timed from outside. It prints a checksum over the results.
 #![tactic(auto)]
 
 mod ending;
@@ -29,7 +28,7 @@ use std::sync::Wait;
 use std::thread::Threads;
 use task::{Kind, Step, Task, WORKS, sized, task_of};
 
-/// The error for arguments that ask for nothing.
+/// The error for arguments that name no work.
 const USAGE: &str =
     "usage: narwhal-bench [prepare-]WORK COUNT [SIZE], where WORK is hash, decode-FORM, encode-FORM, \
     check-FORM, recheck-FORM, frames, step-header, step-vote, step-certificate, step-batch, step-late-vote, order, append, book, reopen, \
@@ -56,7 +55,7 @@ fn run<R: Env + AllocGlobal + Print + Threads + Wait + Sync>(rt: &R) -> Result<(
     report(rt, word.as_str(), task_of(rt.alloc(), &words[1..]))
 }
 
-// A little of each kind of work.
+// Does a little of each kind of work, for a run without arguments.
 fn run_little<R: AllocGlobal + Print + Threads + Wait + Sync>(rt: &R) -> Result<(), Ending> {
     for (word, _, count, _) in &WORKS {
         report(rt, word, sized(rt.alloc(), word, *count, None))?;
@@ -64,7 +63,7 @@ fn run_little<R: AllocGlobal + Print + Threads + Wait + Sync>(rt: &R) -> Result<
     Ok(())
 }
 
-// Does a task, if the words ask for one, and prints its result.
+// Does the work that the arguments ask for, and prints its checksum. Arguments that ask for none are an error.
 fn report<R>(rt: &R, word: &str, task: Option<Task>) -> Result<(), Ending>
 where
     R: AllocGlobal + Print + Threads + Wait + Sync,
@@ -78,7 +77,7 @@ where
     Ok(())
 }
 
-// The digest over the results of a task.
+// Does the work of a task, and returns the checksum over its results.
 fn digest_of<R: Threads + Wait + Sync>(rt: &R, task: Task) -> Result<u64, Ending> {
     let config = config_of(task)?;
     let mut fold = Fold::new();

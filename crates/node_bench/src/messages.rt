@@ -1,4 +1,4 @@
-//! Messages that are made once, to be read and tested over and over.
+//! Messages that are made once, and then decoded, encoded or checked over and over.
 
 use crate::ending::Ending;
 use crate::rounds::Rounds;
@@ -8,28 +8,28 @@ use sim_script::OWN;
 use std::alloc::Global;
 use wire::{Author, Batch, BatchAck, MAX_TRANSACTION_BYTES, Message, OpenBatch, encode};
 
-/// How many are made.
+/// How many such messages are made.
 pub const RING: u64 = 16;
 
-/// The author of batches.
+/// The member whose batches are made.
 pub const PEER: Author = Author(1);
 
-/// Bytes of a transaction with its length.
+/// The bytes that a transaction takes in a batch, its length field included.
 const STRIDE: usize = 512;
 
-/// Bytes of a batch's body before its transactions.
+/// The bytes of a batch's body before its first transaction.
 const HEAD_BYTES: u64 = 8;
 
-/// Bytes of a transaction's length.
+/// The bytes of the length field before each transaction.
 const LENGTH_BYTES: usize = 4;
 
-/// Bytes of the body of a batch that has one number.
+/// The bytes of the body of a batch whose only transaction is a number of eight bytes.
 pub const SMALL_BYTES: u64 = 20;
 
-/// What stands in a transaction.
+/// The byte that fills a transaction.
 const FILLING: u8 = 0xab;
 
-/// A batch of one transaction, which is the number.
+/// A batch with one transaction, which holds the given number.
 pub fn small_batch(alloc: Global, author: Author, number: u64) -> Result<Batch, Ending> {
     batch(alloc, author, number, SMALL_BYTES)
 }
@@ -40,12 +40,12 @@ pub fn batch(alloc: Global, author: Author, number: u64, size: u64) -> Result<Ba
     let mut transaction = [FILLING; STRIDE - LENGTH_BYTES];
     transaction[..8].copy_from_slice(&number.to_be_bytes());
     let len = size.saturating_sub(HEAD_BYTES) as usize;
-    // With all of its room at first, since a body that grows costs more beside bodies that are kept.
+    // The body gets all of its memory at once: growing it would cost more, the more other bodies are kept.
     let mut open = OpenBatch::with_room(alloc, author, 0, len)?;
     for _ in 0..len / STRIDE {
         push(&mut open, &transaction)?;
     }
-    // The last transaction has what is left of the length, if that is enough for one.
+    // The last transaction fills the rest of the length, if that is long enough for a transaction.
     let rest = len % STRIDE;
     if rest > LENGTH_BYTES {
         push(&mut open, &transaction[..rest - LENGTH_BYTES])?;
@@ -73,7 +73,7 @@ pub struct Made {
     pub bytes: Vec<u8>,
 }
 
-/// Messages of one form, each another one, among the members of a committee.
+/// Messages of one form, no two alike, sent by members of this committee.
 pub fn ring_of(task: Task, form: Form, committee: &Committee) -> Result<Vec<Made>, Ending> {
     let mut rounds = Rounds::new(task.alloc, committee, true)?;
     let mut ring = Vec::new(task.alloc);

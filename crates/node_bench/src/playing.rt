@@ -1,4 +1,4 @@
-//! Work of a running node with a stream.
+//! Measured work of a running node that reads a stream of frames.
 
 use crate::ending::Ending;
 use crate::fold::Fold;
@@ -17,12 +17,12 @@ use std::thread::Threads;
 use validator::Config;
 use wire::{Author, Message, certificate_digest, encode};
 
-/// The number of the node's member.
+/// The number of the node's own member, as an argument of the program.
 const OWN_NUMBER: &str = "0";
 
-/// A running node reads certificates that wait, as many as the size says, and then `count` small batches of another member, or `count`
-/// certificates that don't wait. Without the work it reads those that wait only. Other kinds read `count` certificates in order, or in
-/// reversed order, and without the work nothing.
+/// Runs a node on a stream of frames. For two kinds of work, `size` certificates come first that wait for parents; then `count` small
+/// batches of another member, or `count` certificates that need not wait. The other two kinds read `count` certificates in order or in
+/// reversed order. The preparation alone reads the certificates that wait, or nothing.
 pub fn run_stream<R: Threads + Wait + Sync>(
     rt: &R,
     task: Task,
@@ -61,7 +61,7 @@ pub fn run_stream<R: Threads + Wait + Sync>(
     Ok(())
 }
 
-// The frames that the node reads.
+// The frames that the node reads, as one stream of bytes.
 fn stream_of(task: Task, config: &Config<HashSign>) -> Result<Vec<u8>, Ending> {
     let mut stream = Vec::new(task.alloc);
     let mut rounds = Rounds::new(task.alloc, config.committee(), true)?;
@@ -69,7 +69,7 @@ fn stream_of(task: Task, config: &Config<HashSign>) -> Result<Vec<u8>, Ending> {
         Kind::Waiting => {
             let frames = certificates_of(task, &mut rounds)?;
             let mut high = Rounds::new(task.alloc, config.committee(), true)?;
-            // Rounds above those of the others.
+            // The certificates that wait get rounds above those of the certificates that need not wait.
             for _ in 0..rounds.number {
                 high.raise();
             }
@@ -94,12 +94,12 @@ fn author_of(task: Task, number: u64) -> Author {
     Author((number % u64::from(task.members.max(1))) as u16)
 }
 
-// Puts the frames of certificates that wait for ever.
+// Adds the frames of certificates whose parents never come, so that they wait for ever.
 fn put_waiting(stream: &mut Vec<u8>, task: Task, rounds: &mut Rounds) -> Result<(), Ending> {
     for number in 0..task.size {
         let author = author_of(task, number);
         if author.0 == 0 {
-            // The parents stay the genesis certificates, which are parents in round 1 only, so in later rounds these certificates wait.
+            // These parents are those of round 1, the genesis certificates. In a later round no such certificate exists, so this one waits.
             rounds.raise();
         }
         let message = Message::Certificate(rounds.certificate(author)?);
@@ -108,7 +108,7 @@ fn put_waiting(stream: &mut Vec<u8>, task: Task, rounds: &mut Rounds) -> Result<
     Ok(())
 }
 
-// Puts the frames of small batches, where there is work.
+// Adds the frames of small batches, unless only the preparation is to be done.
 fn put_batches(stream: &mut Vec<u8>, task: Task) -> Result<(), Ending> {
     if task.is_work {
         for number in 0..task.count {
@@ -119,7 +119,7 @@ fn put_batches(stream: &mut Vec<u8>, task: Task) -> Result<(), Ending> {
     Ok(())
 }
 
-// Frames of the certificates of full rounds, in their order.
+// The frames of all certificates of full rounds, in the order of the rounds.
 fn certificates_of(task: Task, rounds: &mut Rounds) -> Result<Vec<Vec<u8>>, Ending> {
     let mut frames = Vec::new(task.alloc);
     for number in 0..task.count {
@@ -137,7 +137,7 @@ fn certificates_of(task: Task, rounds: &mut Rounds) -> Result<Vec<Vec<u8>>, Endi
     Ok(frames)
 }
 
-// Puts these frames, where there is work.
+// Adds these frames, unless only the preparation is to be done.
 fn put_frames(stream: &mut Vec<u8>, task: Task, frames: &[Vec<u8>]) -> Result<(), Ending> {
     if task.is_work {
         for frame in frames {
@@ -147,7 +147,7 @@ fn put_frames(stream: &mut Vec<u8>, task: Task, frames: &[Vec<u8>]) -> Result<()
     Ok(())
 }
 
-/// A writer that keeps only a sum over what the node writes.
+/// Takes the place of standard output: it keeps a checksum over what the node writes.
 #[derive(Drop)]
 struct Reported<'t, R: Wait> {
     rt: &'t R,

@@ -1,4 +1,4 @@
-//! Work on a store of batches.
+//! Measured work on a store of batches.
 
 use crate::ending::Ending;
 use crate::fold::Fold;
@@ -10,11 +10,11 @@ use std::alloc::Global;
 use validator::Config;
 use wire::Batch;
 
-/// The part of a store's size that is put into it before a new store takes its place, so that the size stays nearly the same.
+/// After a store has grown by a tenth of its size, a new one of that size takes its place, so that the size stays nearly the same.
 const PART: u64 = 10;
 
-/// Puts batches into a store that holds as many as the size says, or up to a tenth more. Without the work the stores are only filled to
-/// that size, and the batches made.
+/// Puts batches into a store that holds `size` batches, or up to a tenth more. The preparation alone fills stores to that size, and makes
+/// the batches that would be put.
 pub fn put_batches(task: Task, config: &Config<HashSign>, fold: &mut Fold) -> Result<(), Ending> {
     let mut left = task.count;
     let most = (task.size / PART).max(1);
@@ -29,7 +29,7 @@ pub fn put_batches(task: Task, config: &Config<HashSign>, fold: &mut Fold) -> Re
     Ok(())
 }
 
-// Puts this many batches into a new store that holds as many as the size says.
+// Makes a new store, fills it with as many batches as the size says, and then puts this many more, which is what is measured.
 fn put_some(
     task: Task,
     config: &Config<HashSign>,
@@ -50,7 +50,7 @@ fn put_some(
     Ok(())
 }
 
-// So many small batches, with numbers from this one on.
+// As many small batches as `count` says, numbered from `first` on.
 fn made(alloc: Global, first: u64, count: u64) -> Result<Vec<Batch>, Ending> {
     let mut batches = Vec::new(alloc);
     for number in 0..count {

@@ -1,4 +1,4 @@
-//! Rounds of a committee's headers and certificates, each on top of the one before.
+//! Makes the headers and certificates of one round after the other; each round names all of the round before as its parents.
 
 use crate::ending::Ending;
 use committee::Committee;
@@ -12,19 +12,19 @@ use wire::{
     WireError, certificate_digest, genesis_digest, header_digest,
 };
 
-/// A signature that isn't good, for messages that are tested without signatures.
+/// A signature that nobody made, for messages whose signatures are not checked.
 pub const UNSIGNED: Signature = Signature([0; 64]);
 
-/// The round that is being made, on top of all that was made of the round before.
+/// The round whose headers and certificates are being made. Their parents are all certificates that were made in the round before.
 #[derive(Drop)]
 pub struct Rounds {
-    /// What memory comes from.
+    /// The allocator.
     pub alloc: Global,
-    // Whether what is made is signed.
+    // Whether the messages get good signatures.
     is_signed: bool,
-    /// How many members there are.
+    /// How many members the committee has.
     pub members: u16,
-    /// How many members vote on each header: those with the lowest numbers.
+    /// How many members vote on each header; those with the lowest numbers do.
     pub voters: u16,
     /// The number of the round that is being made.
     pub number: u64,
@@ -33,7 +33,7 @@ pub struct Rounds {
 }
 
 impl Rounds {
-    /// The first round, on top of the genesis.
+    /// Round 1, whose parents are the genesis certificates.
     pub fn new(alloc: Global, committee: &Committee, is_signed: bool) -> Result<Rounds, Ending> {
         let members = committee.size();
         let mut rounds = Rounds {
@@ -52,7 +52,7 @@ impl Rounds {
         Ok(rounds)
     }
 
-    /// The coin of the wave that ended with the round before, if one did. Its value is its wave's number.
+    /// The coin of the wave that ended with the round before, if one ended there. The coin's value is the number of its wave.
     pub fn coin(&self) -> Result<Option<Coin>, WireError> {
         if self.number < 4 || self.number % 2 == 1 {
             return Ok(None);
@@ -67,7 +67,7 @@ impl Rounds {
         Round::new(self.number)
     }
 
-    // The header body of an author.
+    // The header body of this author in the current round.
     fn body(&self, author: Author) -> Result<HeaderBody, Ending> {
         Ok(HeaderBody {
             author,
@@ -77,7 +77,7 @@ impl Rounds {
         })
     }
 
-    /// The header of an author.
+    /// The header of this author in the current round.
     pub fn header(&self, author: Author) -> Result<Header, Ending> {
         let body = self.body(author)?;
         let signature = match self.is_signed {
@@ -87,12 +87,12 @@ impl Rounds {
         Ok(Header { body, signature })
     }
 
-    /// The digest of an author's header.
+    /// The digest of this author's header in the current round.
     pub fn digest(&self, author: Author) -> Result<Digest, Ending> {
         Ok(header_digest(&self.body(author)?))
     }
 
-    /// A member's vote on the own header.
+    /// A member's vote on the node's own header in the current round.
     pub fn vote(&self, voter: Author) -> Result<Vote, Ending> {
         let (header, round) = (self.digest(OWN)?, self.round()?);
         let signature = match self.is_signed {
@@ -108,14 +108,14 @@ impl Rounds {
         })
     }
 
-    /// The coin of the wave whose number is this round's. Its value is that number.
+    /// The coin of the wave with the same number as the current round. Its value is that number.
     pub fn coin_of_round(&self) -> Result<Coin, WireError> {
         let wave = Wave::new(self.number)?;
         let value = wave.number();
         Ok(Coin { wave, value })
     }
 
-    // The votes of a quorum: on the certificate with this digest, or unsigned.
+    // The votes of a quorum on the certificate with this digest. Without a digest their signatures are no good ones.
     fn votes(&self, certificate: Option<Digest>) -> Result<VoteEntries, Ending> {
         let mut votes = VoteEntries::new(self.alloc);
         for member in 0..self.voters {
@@ -132,7 +132,7 @@ impl Rounds {
         Ok(votes)
     }
 
-    /// The certificate of an author.
+    /// The certificate of this author in the current round.
     pub fn certificate(&self, author: Author) -> Result<Certificate, Ending> {
         let header = self.body(author)?;
         let digest = match self.is_signed {
@@ -143,7 +143,7 @@ impl Rounds {
         Ok(Certificate { header, votes })
     }
 
-    /// Notes that an author's certificate was made, so that the next round is on top of it. Authors are noted in ascending order.
+    /// Makes a certificate of this author a parent of the next round. Authors have to come in ascending order.
     pub fn note(&mut self, author: Author, certificate: Digest) -> Result<(), Ending> {
         if self.made.len() == MAX_PARENTS || !self.made.may_follow(author) {
             return Err(Ending::Refused);
@@ -155,13 +155,13 @@ impl Rounds {
         Ok(())
     }
 
-    /// Continues with the next round, on top of what was noted.
+    /// Goes on to the next round, whose parents are the certificates that were noted.
     pub fn end(&mut self) {
         self.parents = mem::replace(&mut self.made, ParentReferences::new(self.alloc));
         self.raise();
     }
 
-    /// Continues with the next round, on top of the same certificates as this one.
+    /// Goes on to the next round, whose parents are the same as those of the current round.
     pub fn raise(&mut self) {
         self.number = self.number.saturating_add(1);
     }

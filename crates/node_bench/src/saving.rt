@@ -1,4 +1,4 @@
-//! Work on checkpoints: writing one, and loading its records.
+//! Measured work on checkpoints: writing one, and loading its records.
 
 use crate::ending::Ending;
 use crate::fold::Fold;
@@ -9,8 +9,8 @@ use opening::reopen_pair;
 use sigface::HashSign;
 use validator::{Config, Validator};
 
-/// Writes a checkpoint of a validator that holds this many batches to a journal on two disks. Without the work only the validator and an
-/// empty journal are made.
+/// Writes a checkpoint of a validator that holds `size` batches to a journal on two disks. The preparation alone makes the validator and
+/// an empty journal.
 pub fn write_checkpoint(
     task: Task,
     config: &Config<HashSign>,
@@ -27,7 +27,7 @@ pub fn write_checkpoint(
     Ok(())
 }
 
-/// Loads a validator from the records of such a checkpoint. Without the work only the records are made.
+/// Loads a validator from the records of a checkpoint that has `size` batches. The preparation alone makes the records.
 pub fn load_checkpoint(
     task: Task,
     config: &Config<HashSign>,
@@ -39,7 +39,7 @@ pub fn load_checkpoint(
     }
     if task.is_work {
         let loaded = Validator::load(task.alloc, config, records)?;
-        // The first batch is known to the validator.
+        // The loaded validator has the first batch already.
         let event = events_of(task, config.committee(), Step::Batch)?.tested(config.committee())?;
         fold.add(u64::from(loaded.is_new(&event)));
     }

@@ -1,4 +1,4 @@
-//! What a thread submits to a node.
+//! A thread that submits batches to a node.
 
 use crate::ending::Ending;
 use crate::events::digest_in;
@@ -11,17 +11,17 @@ use std::alloc::Global;
 use std::sync::Wait;
 use wire::{Author, Message};
 
-/// A caller of a node, for the batches of a member.
+/// A thread's access to a shared node, and the member whose batches the thread submits.
 #[derive(Drop)]
 pub struct Sharer<'n, 'a, S: Sign> {
-    /// The caller.
+    /// The access to the shared node.
     pub node: Caller<'n, 'a, S>,
     /// The member whose batches are submitted.
     pub member: Author,
 }
 
 impl<'n, 'a, S: Sign> Sharer<'n, 'a, S> {
-    /// Submits the member's batch with this number, which is new, and adds the batch's digest to the sum. Gives the ticket.
+    /// Submits a new batch of the member, the one with this number, and adds its digest to the checksum. Returns the batch's ticket.
     pub fn submit<R: Wait>(
         &mut self,
         rt: &R,

@@ -1,4 +1,4 @@
-//! Work of threads that share a node.
+//! Measured work of threads that share a node.
 
 ghost use Rattle.std.specs.Prelude.{◌≡◌};
 ghost use Rattle.std.specs.Thread.{IsSend, IsSync};
@@ -24,8 +24,8 @@ use wire::Author;
 /// The members whose batches are submitted, each by a thread of its own.
 const MEMBERS: [Author; 3] = [Author(1), Author(2), Author(3)];
 
-/// Three threads each submit the task's number of batches to a node. A fourth thread flushes whenever as many more were accepted as the
-/// size says, and releases the outputs. Without the work as many events go through a validator alone.
+/// Three threads submit `count` batches each to one node. A fourth thread flushes each time that `size` more were accepted, and releases
+/// the outputs. The preparation alone gives as many batches to a validator.
 pub fn share_node<R: Threads + Wait + Sync>(
     rt: &R,
     task: Task,
@@ -43,7 +43,7 @@ pub fn share_node<R: Threads + Wait + Sync>(
     submit_all(rt, task, sharers, Flushing { rounds, released }, fold)
 }
 
-// The flusher of a node, and the caller that collects the outputs.
+// What the flushing thread has: the flusher of the node, and an access to the node by which it collects the outputs.
 #[derive(Drop)]
 struct Flushing<'n, 'a, S: Sign, D: Disk> {
     rounds: Rounds<'n, 'a, S, D>,
@@ -95,7 +95,7 @@ where
     Ok(())
 }
 
-// Adds the sums of the threads, in the order of the members.
+// Adds the checksums of the threads to one checksum, in the order of the members.
 fn join_all(folds: Vec<Result<Fold, Ending>>, all: &mut Fold) -> Result<(), Ending> {
     for fold in folds {
         all.join(fold?);
@@ -103,7 +103,7 @@ fn join_all(folds: Vec<Result<Fold, Ending>>, all: &mut Fold) -> Result<(), Endi
     Ok(())
 }
 
-// Submits this thread's batches. Rings the bell whenever as many more events were accepted, from all threads together, as the size says.
+// Submits this thread's batches. Rings the bell each time that all threads together have had `size` more batches accepted.
 fn submit_batches<S: Sign, R: Wait>(
     rt: &R,
     task: Task,
@@ -120,7 +120,7 @@ fn submit_batches<S: Sign, R: Wait>(
     Ok(fold)
 }
 
-// Flushes at each ring, and then what is left once no more events can come.
+// Flushes at each ring of the bell. After the last batch it flushes what is still pending.
 fn flush_all<S: Sign, D: Disk + Drop, R: Wait>(
     rt: &R,
     mut flushing: Flushing<'_, '_, S, D>,
@@ -138,7 +138,7 @@ fn flush_all<S: Sign, D: Disk + Drop, R: Wait>(
     Ok(released)
 }
 
-// Makes one round, and then releases all outputs that may leave. Gives how many events were settled.
+// Makes one round (take, append, settle), and then releases all outputs that may leave. Returns how many events were settled.
 fn flush<S: Sign, D: Disk, R: Wait>(
     rt: &R,
     flushing: &mut Flushing<'_, '_, S, D>,
@@ -154,8 +154,8 @@ fn flush<S: Sign, D: Disk, R: Wait>(
     Ok(count)
 }
 
-/// This thread submits the task's number of batches to a node, flushes whenever as many more were accepted as the size says, and releases
-/// the outputs. Without the work as many batches go through a validator alone.
+/// One thread submits `count` batches to a node, flushes each time that `size` more were accepted, and releases the outputs. The
+/// preparation alone gives as many batches to a validator.
 pub fn submit_alone<R: Wait>(
     rt: &R,
     task: Task,
@@ -197,7 +197,7 @@ fn submit_and_flush<S: Sign, D: Disk + Drop, R: Wait>(
     Ok(())
 }
 
-// Sends as many batches of one member as all threads would submit through a validator alone.
+// Gives a validator as many batches of one member as all threads together would submit to a node.
 fn step_as_many(
     task: Task,
     config: &Config<HashSign>,

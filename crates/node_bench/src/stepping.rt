@@ -1,4 +1,4 @@
-//! Work of a validator.
+//! Measured work of a validator that takes events.
 
 use crate::ending::Ending;
 use crate::events::{Events, Front, digest_in};
@@ -9,11 +9,11 @@ use sigface::HashSign;
 use validator::{Config, Validator};
 use wire::Message;
 
-/// After how many rounds without coins a validator is replaced by a new one: the cost of a certificate rises with the rounds since the last
-/// commit, of which a real node has few.
+/// After this many rounds without a coin a new validator takes the place of the old one. A certificate costs more the longer the last
+/// commit lies back, and a real node has few rounds since then.
 const FEW: u64 = 8;
 
-/// Steps the pieces of a kind, and the events between them. Without the work the pieces are only tested.
+/// Gives a validator the events that are measured, and those that come between them. The preparation alone checks the measured events.
 pub fn take_all(
     task: Task,
     config: &Config<HashSign>,
@@ -30,7 +30,8 @@ pub fn take_all(
     Ok(())
 }
 
-// Gives events to a new validator, until this many pieces are done or the validator has to be replaced. Gives how many pieces are left.
+// Gives events to a new validator until this many measured events are done, or a newer validator has to be made. Returns how many
+// measured events are left.
 fn take_some(
     task: Task,
     config: &Config<HashSign>,
@@ -51,7 +52,7 @@ fn take_some(
     Ok(left)
 }
 
-// Takes the next event, and gives whether it is a piece.
+// Gives the validator the next event. Returns whether it is one that is measured.
 fn take_next(
     task: Task,
     validator: &mut Validator<'_, HashSign>,
@@ -61,7 +62,7 @@ fn take_next(
 ) -> Result<bool, Ending> {
     let event = events.tested(validator.committee())?;
     let is_piece = step.counts(event.message());
-    // The sum of a book's work has no digests either, so that both can be compared.
+    // Work of a book adds no digests to its checksum, and this one has to be comparable with it.
     if !matches!(step, Step::Event) {
         fold.add_bytes(&digest_in(&event).0);
     }
@@ -71,7 +72,7 @@ fn take_next(
     Ok(is_piece)
 }
 
-/// Steps a vote on an own header that has its certificate, over and over. Without the work the vote is only tested.
+/// Gives a validator the same vote over and over, on an own header that has its certificate already. The preparation alone checks the vote.
 pub fn repeat_vote(task: Task, config: &Config<HashSign>, fold: &mut Fold) -> Result<(), Ending> {
     let mut validator = Validator::new(task.alloc, config)?;
     let mut events = events_of(task, config.committee(), Step::Vote)?;
@@ -85,7 +86,7 @@ pub fn repeat_vote(task: Task, config: &Config<HashSign>, fold: &mut Fold) -> Re
     vote_late(task, &mut validator, &events, fold)
 }
 
-// Steps the last member's vote on the own header, which has its certificate by then, as often as the task says.
+// Gives the validator the last member's vote on the own header, which has its certificate by then, `count` times.
 fn vote_late(
     task: Task,
     validator: &mut Validator<'_, HashSign>,
@@ -102,7 +103,7 @@ fn vote_late(
     Ok(())
 }
 
-/// The events for a kind of step.
+/// The source of events for a kind of work of a validator.
 pub fn events_of(task: Task, committee: &Committee, step: Step) -> Result<Events, Ending> {
     let (front, has_coins) = match step {
         Step::Header | Step::Event => (Front::Headers, true),
@@ -115,7 +116,7 @@ pub fn events_of(task: Task, committee: &Committee, step: Step) -> Result<Events
     Events::new(task.alloc, committee, front, has_coins)
 }
 
-// How many pieces a task has: events of its kind, or all events of so many rounds.
+// How many measured events a task has: those of its kind, or all events of `count` rounds.
 fn pieces_of(task: Task, committee: &Committee, step: Step) -> Result<u64, Ending> {
     match step {
         Step::Round | Step::All => Ok(events_of(task, committee, step)?.in_rounds(task.count)),
@@ -124,7 +125,7 @@ fn pieces_of(task: Task, committee: &Committee, step: Step) -> Result<u64, Endin
 }
 
 impl Step {
-    // Whether a message is a piece.
+    // Whether this kind of work measures this message.
     fn counts(self, message: &Message) -> bool {
         match (self, message) {
             (Step::Header, Message::Header(_)) => true,
@@ -135,7 +136,7 @@ impl Step {
         }
     }
 
-    // Whether a new validator has to take this one's place.
+    // Whether a new validator has to take the place of the current one.
     fn is_over(self, events: &Events) -> bool {
         matches!(self, Step::Vote | Step::Certificate) && events.are_over(FEW)
     }

@@ -1,4 +1,4 @@
-//! Work with journals, in a book and in an opening.
+//! Measured work with journals: appending groups, a book with a journal, and opening a journal.
 
 ghost use Rattle.std.specs.Prelude.{◌≡◌, None, IfOk, OnOk};
 ghost use Rattle.journal.specs.Journal.{spare_of, IsAlive};
@@ -16,7 +16,7 @@ use sigface::{HashSign, Sign};
 use std::alloc::{AllocError, Global};
 use validator::Config;
 
-/// The length of a record that is appended, which is that of a certificate's among four members.
+/// The length of each appended record, in bytes: that of a certificate's record in a committee of four.
 const RECORD_BYTES: usize = 354;
 
 /// An empty disk.
@@ -24,8 +24,8 @@ pub fn empty_disk(alloc: Global) -> Result<MemDisk, AllocError> {
     MemDisk::new(alloc, Vec::new(alloc))
 }
 
-/// Appends groups of records, each to a journal of its own: at each sync the disk in memory copies everything that it has, so with a long
-/// journal the work would consist of that.
+/// Appends `count` groups of records, each to a journal of its own. The disk in memory copies everything that it has at each sync, so on
+/// one long journal the copying would be most of the work.
 pub fn append_groups(task: Task, fold: &mut Fold) -> Result<(), Ending> {
     for _ in 0..task.count {
         append_group(task, fold)?;
@@ -43,7 +43,7 @@ fn append_group(task: Task, fold: &mut Fold) -> Result<(), Ending> {
     Ok(())
 }
 
-// Appends a group of these records, and gives how many it has.
+// Appends a group of these records to a new journal. Returns how many records it has.
 fn append(
     alloc: Global,
     journal: &mut Journal<MemDisk>,
@@ -60,7 +60,7 @@ fn append(
     }
 }
 
-// A journal on a disk of its own.
+// An empty journal on a new disk in memory.
 fn empty_journal(alloc: Global) -> Result<Journal<MemDisk>, Ending>
     ensures alive { IfOk result (λ journal. IsAlive ⟦<MemDisk as Disk>⟧.device journal) }
     ensures alone { IfOk result (λ journal. spare_of journal ≡ None) }
@@ -77,8 +77,8 @@ fn records_of(task: Task) -> Result<Vec<Vec<u8>>, AllocError> {
     Ok(records)
 }
 
-/// Sends events through a book, whose records are flushed whenever as many more were accepted as the size says. Without the work the same
-/// events go through a validator alone.
+/// Gives events to a book, and flushes its records each time that `size` more were accepted. The preparation alone gives the same events
+/// to a validator.
 pub fn keep_book(task: Task, config: &Config<HashSign>, fold: &mut Fold) -> Result<(), Ending> {
     if !task.is_work {
         let is_work = true;
@@ -87,8 +87,8 @@ pub fn keep_book(task: Task, config: &Config<HashSign>, fold: &mut Fold) -> Resu
     keep_all(task, config, Step::Event, &mut Vec::new(task.alloc), fold)
 }
 
-// Sends events through a new book, flushed whenever as many more were accepted as the size says. The groups of the journals are kept if
-// there is a closed gate to which the first of them can be appended.
+// Gives events to a new book, and flushes it each time that `size` more were accepted. The bytes of the groups are collected in `kept`, if
+// that has a closed gate at its end to which the first group can be appended.
 fn keep_all(
     task: Task,
     config: &Config<HashSign>,
@@ -101,7 +101,7 @@ fn keep_all(
     accept_all(task, step, &mut book, kept, fold)
 }
 
-// A book, and the journal of its configuration.
+// A new book, and a journal whose only record is the node's configuration.
 fn new_book<'a, S: Sign>(
     alloc: Global,
     config: &'a Config<S>,
@@ -131,7 +131,7 @@ fn accept_all(
     flush(task.alloc, book, kept, fold)
 }
 
-// Accepts the next event, and gives its ticket.
+// Gives the book the next event, and returns its ticket.
 fn accept_next(
     book: &mut OwnBook<'_, HashSign>,
     events: &mut Events,
@@ -143,7 +143,7 @@ fn accept_next(
     Ok(())
 }
 
-// Flushes all pending records, each group to a journal of its own, and releases the outputs that may leave.
+// Writes all pending records, each group to a journal of its own, settles them, and releases the outputs that may leave.
 fn flush(
     alloc: Global,
     book: &mut OwnBook<'_, HashSign>,
@@ -171,7 +171,7 @@ fn release_all(book: &mut OwnBook<'_, HashSign>, fold: &mut Fold) {
     }
 }
 
-// Replaces the closed gate at the end of these bytes by a journal's groups. If there are no bytes, nothing is kept.
+// Replaces the closed gate at the end of these bytes by the groups of a journal. Empty bytes stay empty.
 fn keep(kept: &mut Vec<u8>, journal: Journal<MemDisk>) -> Result<(), AllocError>
     requires { spare_of journal ≡ None }
 {
@@ -181,8 +181,8 @@ fn keep(kept: &mut Vec<u8>, journal: Journal<MemDisk>) -> Result<(), AllocError>
     Ok(())
 }
 
-/// Opens a journal of this many certificates and coins, in groups as long as they may be. Without the work only the journal and its disk
-/// are made.
+/// Opens a journal that holds `count` certificates and coins, in groups that are as long as possible. The preparation alone makes the
+/// journal and its disk.
 pub fn reopen_journal(
     task: Task,
     config: &Config<HashSign>,
@@ -196,7 +196,7 @@ pub fn reopen_journal(
     Ok(())
 }
 
-// Nothing is flushed before all events were accepted, so that each group has as many records as it may.
+// The bytes of that journal. It is flushed only after all events were accepted, so that each group has as many records as possible.
 fn journal_of(task: Task, config: &Config<HashSign>) -> Result<Vec<u8>, Ending> {
     let mut kept = Vec::new(task.alloc);
     kept.push(CLOSED)?;
@@ -206,7 +206,8 @@ fn journal_of(task: Task, config: &Config<HashSign>) -> Result<Vec<u8>, Ending> 
     Ok(kept)
 }
 
-// Adds the round of the node, and the length and the last digest of its order; the digest depends on all those before it.
+// Opens the journal. Adds the node's round, and the length and the last digest of its order, to the checksum. That digest depends on all
+// digests before it.
 fn open(
     alloc: Global,
     config: &Config<HashSign>,

@@ -1,4 +1,4 @@
-//! The tasks that the words of a command name.
+//! The tasks that the arguments of a command name.
 
 use std::alloc::Global;
 
@@ -13,106 +13,106 @@ pub enum Form {
     Coin,
 }
 
-/// What is done with a single message.
+/// What is done with single messages, over and over.
 #[derive(Clone, Copy)]
 pub enum Act {
     Decode,
     Encode,
     /// The checks of a message, including those of its signatures.
     Check,
-    /// The checks of a message without those of its signatures.
+    /// The checks of a message, without those of its signatures.
     Recheck,
 }
 
-/// What a validator steps.
+/// Which events a validator gets, and which of them are measured.
 #[derive(Clone, Copy)]
 pub enum Step {
-    /// Headers of others, each of which gets a vote.
+    /// Headers of other members; each gets the node's vote.
     Header,
-    /// Votes on own headers, for each header as many as complete its certificate.
+    /// Votes on the node's own headers, as many for each header as complete its certificate.
     Vote,
-    /// Certificates that commit nothing.
+    /// Certificates; nothing is committed, since no coin comes.
     Certificate,
-    /// Batches of others.
+    /// Batches of other members.
     Batch,
     /// Rounds of all members' certificates, with a coin for each wave.
     Round,
-    /// Events of such rounds, with the others' headers before the certificates.
+    /// The same rounds, with the other members' headers before the certificates.
     Event,
-    /// Such rounds with all that a node meets: its own header, those of the others, the votes that make its certificate, and then the
-    /// certificates of the others.
+    /// The same rounds with all that a node meets: its own header, the headers of the others, the votes that complete the own certificate,
+    /// and then the certificates of the others.
     All,
 }
 
 /// A kind of work.
 #[derive(Clone, Copy)]
 pub enum Kind {
-    /// Compressions of SHA-256: the yardstick.
+    /// Compressions of SHA-256, with whose cost all other work is compared.
     Hash,
-    /// Work on single messages.
+    /// Decoding, encoding or checking single messages.
     Message(Act, Form),
-    /// Cutting a stream into frames.
+    /// Cutting a stream of bytes into frames.
     Frames,
     /// Steps of a validator.
     Steps(Step),
-    /// Steps of a vote on an own header that has its certificate.
+    /// A validator that gets a vote on an own header whose certificate is complete already.
     LateVote,
-    /// Groups of records, made and appended to a journal.
+    /// Groups of records that are made and appended to a journal.
     Append,
-    /// Events through a book and a journal.
+    /// Events that go through a book, and whose records go to a journal.
     Book,
     /// Opening a journal of certificates.
     Reopen,
-    /// A checkpoint of a validator that holds batches, written to a journal.
+    /// Writing a checkpoint of a validator that holds batches to a journal.
     Checkpoint,
     /// Loading the records of such a checkpoint.
     Load,
-    /// Batches that threads submit to a node, next to a flusher.
+    /// Batches that three threads submit to a node, while a fourth one flushes.
     Node,
     /// Batches that one thread submits to a node and flushes.
     Submit,
-    /// Batches put into a store that holds some.
+    /// Batches that are put into a store which holds some already.
     Put,
-    /// Batches that a running node reads while certificates wait.
+    /// Batches that a running node reads while certificates wait for their parents.
     Run,
-    /// Certificates that a running node takes, beside certificates that wait.
+    /// Certificates that a running node takes while other certificates wait for their parents.
     Waiting,
     /// Certificates that a running node reads in their order.
     InOrder,
     /// Certificates that a running node reads in the reversed order, so that each waits for its parents.
     Reversed,
-    /// Rounds of all that a node meets, in a committee of a given depth.
+    /// Rounds with all that a node meets, in a committee of a given depth.
     Deep,
-    /// Certificates after rounds without a coin.
+    /// Certificates that a validator gets after rounds without a coin.
     Behind,
-    /// Coins that commit, each after rounds in which nothing was committed.
+    /// Coins that commit, each after many rounds in which nothing was committed.
     Late,
 }
 
-/// How much of a kind of work is to be done. Without the work only its preparation is done.
+/// A kind of work, and how much of it is to be done. A task may also ask for the preparation of the work alone.
 #[derive(Clone, Copy)]
 pub struct Task {
     /// The kind of work.
     pub kind: Kind,
     /// The allocator.
     pub alloc: Global,
-    /// Whether the work is done.
+    /// Whether the work itself is done, and not its preparation alone.
     pub is_work: bool,
-    /// How many pieces are to be done.
+    /// How many pieces of work are to be done.
     pub count: u64,
-    /// The size, whose meaning depends on the kind.
+    /// A further number, the size; what it means depends on the kind of work.
     pub size: u64,
-    /// How many members the committee has: the size, if the kind's size is that, and otherwise four.
+    /// How many members the committee has: four, unless the size is the number of members.
     pub members: u16,
 }
 
-/// The prefix of the word for a kind of work of which only the preparation is to be done.
+/// A word with this prefix asks for the preparation of a kind of work alone.
 const PREPARE: &str = "prepare-";
 
-/// The greatest number of pieces.
+/// The greatest number of pieces that a task may have.
 const MOST: u64 = 1_000_000_000;
 
-/// Which sizes a kind of work may have, its default size, and the number of members; None where that is the size.
+/// Which sizes a kind of work may have, its default size, and its number of members (None if that number is the size).
 #[derive(Clone, Copy)]
 pub struct Sizes {
     usual: u64,
@@ -121,7 +121,7 @@ pub struct Sizes {
     members: Option<u16>,
 }
 
-/// The kind has no size.
+/// For work that has no size.
 const NO_SIZE: Sizes = Sizes {
     usual: 0,
     least: 1,
@@ -129,7 +129,7 @@ const NO_SIZE: Sizes = Sizes {
     members: Some(4),
 };
 
-/// The size is the number of members: four, seven, and so on.
+/// For work whose size is the number of members: four, seven, and so on.
 const MEMBERS: Sizes = Sizes {
     usual: 4,
     least: 4,
@@ -137,7 +137,7 @@ const MEMBERS: Sizes = Sizes {
     members: None,
 };
 
-/// The size is the length of a batch's body, in bytes.
+/// For work whose size is the length of a batch's body, in bytes.
 const BODY: Sizes = Sizes {
     usual: 100_000,
     least: 20,
@@ -145,7 +145,7 @@ const BODY: Sizes = Sizes {
     members: Some(4),
 };
 
-/// The size is the length of a piece of the stream, in bytes.
+/// For work whose size is the length of the pieces in which a stream is read, in bytes.
 const STREAM: Sizes = Sizes {
     usual: 4_096,
     least: 1,
@@ -153,7 +153,7 @@ const STREAM: Sizes = Sizes {
     members: Some(4),
 };
 
-/// The size is the number of records in a group.
+/// For work whose size is the number of records in a group.
 const GROUP: Sizes = Sizes {
     usual: 1_024,
     least: 1,
@@ -161,7 +161,7 @@ const GROUP: Sizes = Sizes {
     members: Some(4),
 };
 
-/// The size is the number of events between two flushes.
+/// For work whose size is the number of events between two flushes.
 const FLUSH: Sizes = Sizes {
     usual: 1_024,
     least: 1,
@@ -169,7 +169,7 @@ const FLUSH: Sizes = Sizes {
     members: Some(4),
 };
 
-/// The size is the number of batches that a store holds at first.
+/// For work whose size is the number of batches that a store holds at first.
 const HELD: Sizes = Sizes {
     usual: 100,
     least: 1,
@@ -177,7 +177,7 @@ const HELD: Sizes = Sizes {
     members: Some(4),
 };
 
-/// The size is the number of certificates that wait.
+/// For work whose size is the number of certificates that wait for their parents.
 const WAITING: Sizes = Sizes {
     usual: 16,
     least: 0,
@@ -185,7 +185,7 @@ const WAITING: Sizes = Sizes {
     members: Some(4),
 };
 
-/// Certificates that wait, in the largest committee.
+/// For work whose size is the number of certificates that wait, in the largest committee.
 const MANY_WAITING: Sizes = Sizes {
     usual: 16,
     least: 0,
@@ -193,7 +193,7 @@ const MANY_WAITING: Sizes = Sizes {
     members: Some(31),
 };
 
-/// The size is the depth: how many rounds below a leader are ordered.
+/// For work whose size is the depth of the committee: how many rounds below itself a leader orders.
 const DEPTH: Sizes = Sizes {
     usual: 1_000,
     least: 50,
@@ -201,7 +201,7 @@ const DEPTH: Sizes = Sizes {
     members: Some(4),
 };
 
-/// The size is the number of rounds that come first.
+/// For work whose size is the number of rounds that come before it.
 const ROUNDS: Sizes = Sizes {
     usual: 70,
     least: 3,
@@ -209,7 +209,7 @@ const ROUNDS: Sizes = Sizes {
     members: Some(4),
 };
 
-/// The kinds of work: the word of each, the number of pieces for a run without arguments, and the sizes.
+/// The kinds of work. Each has its word, its number of pieces for a run without arguments, and the sizes that it may have.
 pub const WORKS: [(&str, Kind, u64, Sizes); 45] = [
     ("hash", Kind::Hash, 1_000, NO_SIZE),
     (
@@ -368,7 +368,7 @@ pub const WORKS: [(&str, Kind, u64, Sizes); 45] = [
     ("late", Kind::Late, 2, ROUNDS),
 ];
 
-/// The task of these words, if it is one.
+/// The task that these arguments ask for; None if they ask for none.
 pub fn task_of(alloc: Global, words: &[String]) -> Option<Task> {
     match words {
         [word, count] => sized(alloc, word.as_str(), number(count.as_str())?, None),
@@ -380,7 +380,7 @@ pub fn task_of(alloc: Global, words: &[String]) -> Option<Task> {
     }
 }
 
-/// The task of this many pieces of a kind, with this size or the kind's default.
+/// The task of the kind with this name, of this many pieces, and of this size or the kind's default size.
 pub fn sized(alloc: Global, word: &str, count: u64, size: Option<u64>) -> Option<Task> {
     let (is_work, name) = match word.strip_prefix(PREPARE) {
         Some(name) => (false, name),
@@ -416,7 +416,7 @@ fn work_of(word: &str) -> Option<(Kind, Sizes)> {
     None
 }
 
-// A number in decimal digits. Parsing alone would accept a plus sign too.
+// Reads a number in decimal digits. `parse` alone would accept a plus sign too.
 fn number(word: &str) -> Option<u64> {
     if word.starts_with('+') {
         return None;

@@ -1,4 +1,4 @@
-//! Work on single messages: hashing, reading, writing and testing.
+//! Measured work on single messages: hashing, decoding, encoding and checking.
 
 use crate::ending::Ending;
 use crate::events::digest_in;
@@ -15,10 +15,10 @@ use validator::Config;
 use wire::{Author, Message, encode};
 use wire_read::{FrameReader, decode};
 
-/// The bytes that one compression takes.
+/// The bytes that one compression of SHA-256 takes.
 const BLOCK: &[u8; 64] = b"0123456789abcdefghijklmnopqrstuvwxyzABCDEFGHIJKLMNOPQRSTUVWXYZ-_";
 
-/// Hashes this many blocks of 64 bytes: one compression for each, and one more at the end.
+/// Hashes `count` blocks of 64 bytes: one compression for each, and one more at the end.
 pub fn hash(task: Task, fold: &mut Fold) {
     let mut hasher = Sha256::new();
     if task.is_work {
@@ -29,7 +29,7 @@ pub fn hash(task: Task, fold: &mut Fold) {
     fold.add_bytes(&hasher.finalize());
 }
 
-/// Reads, writes or tests messages.
+/// Decodes, encodes or checks messages, as the task says, over and over.
 pub fn work_on(
     task: Task,
     config: &Config<HashSign>,
@@ -57,7 +57,7 @@ fn go_round(
     Ok(())
 }
 
-// The work on one of the messages.
+// Decodes, encodes or checks one of the messages.
 fn work_once(
     task: Task,
     act: Act,
@@ -108,7 +108,7 @@ fn test_once(
     Ok(())
 }
 
-/// Cuts a stream of frames, each with a sender and a header, into their bodies. The stream comes in pieces of the given size.
+/// Cuts a stream of frames, each with a sender and a header, into their bodies. The stream is read in pieces of `size` bytes.
 pub fn cut_frames(task: Task, config: &Config<HashSign>, fold: &mut Fold) -> Result<(), Ending> {
     let ring = ring_of(task, Form::Header, config.committee())?;
     let stream = stream_of(task, &ring)?;
@@ -145,7 +145,7 @@ fn stream_of(task: Task, ring: &[Made]) -> Result<Vec<u8>, Ending> {
     Ok(stream)
 }
 
-/// Adds a frame with a sender and these bytes.
+/// Adds a frame to the stream: its length, the sender, and these bytes.
 pub fn put_frame(stream: &mut Vec<u8>, sender: Author, bytes: &[u8]) -> Result<(), Ending> {
     let Ok(len) = u32::try_from(bytes.len().saturating_add(2)) else {
         return Err(Ending::Refused);

@@ -1,4 +1,4 @@
-//! The commands of a case on the journal on two areas.
+//! The commands of a test case on a journal that has two areas, which means two disks.
 
 use crate::disks::{Areas, Disks};
 use crate::failures::Opening;
@@ -12,24 +12,24 @@ use diskmodel::MemDisk;
 use journal::Store;
 use std::alloc::{AllocError, Global};
 
-/// The longest record that a case adds by its length, in bytes.
+/// The longest record of zeros that the command `add` makes, in bytes.
 const MOST_BYTES: u64 = 8_388_608;
 
-/// An area of more bytes is shown by its length alone.
+/// Answers show the bytes of an area up to this length, and of a longer area its length alone.
 const MANY_BYTES: usize = 2_000;
 
-/// The state that the commands of a case work on, new in each case.
+/// The state that the commands of a test case work on, new in each test case.
 #[derive(Drop)]
 pub struct Cases {
     alloc: Global,
-    /// Both areas.
+    /// The bytes of both areas of the journal.
     areas: Areas,
-    /// The records of a checkpoint.
+    /// The records that the next checkpoint will be made of.
     records: Vec<Vec<u8>>,
 }
 
 impl Cases {
-    /// The state before the first case.
+    /// The state before the first test case of a file.
     pub fn new(alloc: Global) -> Cases {
         Cases {
             alloc,
@@ -38,7 +38,7 @@ impl Cases {
         }
     }
 
-    /// Begins a case.
+    /// Begins a new test case: forgets what the last one made.
     pub fn begin(&mut self) {
         self.areas = Areas::none(self.alloc);
         self.records = Vec::new(self.alloc);
@@ -65,7 +65,7 @@ impl Cases {
         }
     }
 
-    /// Commands with no word.
+    /// Carries out a command that consists of its name alone.
     fn obey_alone(&mut self, name: &str, answer: &mut String) -> Reported {
         match name {
             "open" => self.open(answer),
@@ -92,7 +92,7 @@ impl Cases {
         Ok(())
     }
 
-    /// `records RECORD ..` sets the records of a checkpoint.
+    /// `records RECORD ..` sets the records that the next checkpoint will be made of.
     fn take_records(&mut self, words: &[Word], answer: &mut String) -> Reported {
         match listed(self.alloc, words)? {
             Some(records) => {
@@ -112,19 +112,19 @@ impl Cases {
         Ok(())
     }
 
-    /// `open` opens the journal on both areas, which keep what the opening leaves.
+    /// `open` opens the journal on both areas. Afterwards the areas have the bytes that the opening left.
     fn open(&mut self, answer: &mut String) -> Reported {
         let disks = reopened(self.alloc, Disks::of(self.alloc, &self.areas)?, answer);
         self.keep(&disks, answer)
     }
 
-    /// `loose` does the same where nothing on the disks was synced before.
+    /// `loose` does what `open` does, on disks of which nothing was synced before the opening.
     fn open_loose(&mut self, answer: &mut String) -> Reported {
         let disks = reopened(self.alloc, Disks::loose(self.alloc, &self.areas)?, answer);
         self.keep(&disks, answer)
     }
 
-    // Keeps the bytes of the disks, and reports where a stop might leave something else.
+    // Takes over the bytes of the disks, and reports if a crash might leave other bytes, because something isn't synced.
     fn keep(&mut self, disks: &Disks, answer: &mut String) -> Reported {
         self.areas = Areas::on(self.alloc, disks)?;
         put(
@@ -138,14 +138,14 @@ impl Cases {
         Ok(())
     }
 
-    /// `store` opens the journal on both areas by `open_store`.
+    /// `store` opens the journal on both areas by the function `open_store`, which also takes a journal on one disk.
     fn open_both(&mut self, answer: &mut String) -> Reported {
         let disks = Disks::of(self.alloc, &self.areas)?;
         let store = Store::Two(disks.first, disks.second);
         self.keep_store(reopened_store(self.alloc, store, answer), answer)
     }
 
-    /// `one` opens the journal on the first area alone.
+    /// `one` opens the journal on the first area alone, as a journal that has one disk.
     fn open_one(&mut self, answer: &mut String) -> Reported {
         let disks = Disks::of(self.alloc, &self.areas)?;
         let store = Store::One(disks.first);
@@ -161,7 +161,7 @@ impl Cases {
         Ok(())
     }
 
-    /// `gates` opens the journal, and shows how many records follow each gate.
+    /// `gates` opens the journal, and shows how many records follow each gate: the commit byte before a group of records.
     fn report_gates(&self, answer: &mut String) -> Reported {
         let _ = put_gates(self.alloc, Disks::of(self.alloc, &self.areas)?, answer);
         put(answer, "\n");
@@ -175,14 +175,14 @@ impl Cases {
         Ok(())
     }
 
-    /// `begin CONFIGURATION` appends the first group of all.
+    /// `begin CONFIGURATION` appends the first group of a new journal, which has the configuration as its only record.
     fn start(&mut self, configuration: &[u8], answer: &mut String) -> Reported {
         let disks = Disks::of(self.alloc, &self.areas)?;
         let disks = begun(self.alloc, disks, configuration.to_vec(self.alloc)?, answer)?;
         self.keep(&disks, answer)
     }
 
-    /// `append RECORD ..` appends a group.
+    /// `append RECORD ..` appends a group of these records to the journal.
     fn append(&mut self, words: &[Word], answer: &mut String) -> Reported {
         let Some(records) = listed(self.alloc, words)? else {
             return reported_bad(answer);
@@ -192,7 +192,7 @@ impl Cases {
         self.keep(&disks, answer)
     }
 
-    /// `rewrite` and `draft` rewrite the journal to a checkpoint. The calls of both disks are shown.
+    /// `rewrite` and `draft` write a checkpoint into the spare area, made at once or record by record. They show the calls of both disks.
     fn rewrite(&mut self, made: Made, answer: &mut String) -> Reported {
         let mut text = String::new(self.alloc);
         let opened = reopened(self.alloc, Disks::of(self.alloc, &self.areas)?, &mut text);
@@ -210,7 +210,7 @@ impl Cases {
         Ok(())
     }
 
-    /// `alike` shows whether a rewriting leaves the same bytes for both ways of making its checkpoint. The areas stay as they are.
+    /// `alike` shows whether `rewrite` and `draft` would leave the same bytes. It leaves both areas as they are.
     fn compare(&self, answer: &mut String) -> Reported {
         let whole = self.rewritten_by(Made::Whole)?;
         let draft = self.rewritten_by(Made::Draft)?;
@@ -240,26 +240,26 @@ impl Cases {
         }
     }
 
-    /// `stops AREA` stops a rewriting of this area at each moment.
+    /// `stops AREA` crashes the machine after each device call of a rewriting into this area, and shows what openings find.
     fn report_stops(&self, area: u64, answer: &mut String) -> Reported {
         let checkpoint = self.checkpoint(Made::Whole);
         Trial::new(self.alloc, &self.areas, checkpoint, area == 1)?.report_stops(answer)
     }
 
-    /// `seconds AREA` does the same, and then stops the opening after that, too.
+    /// `seconds AREA` does what `stops` does, and crashes the machine also during the opening that follows the first crash.
     fn report_seconds(&self, area: u64, answer: &mut String) -> Reported {
         let checkpoint = self.checkpoint(Made::Whole);
         Trial::new(self.alloc, &self.areas, checkpoint, area == 1)?.report_seconds(answer)
     }
 
-    /// `failures` lets each call of a rewriting fail in turn.
+    /// `failures` lets each device call of a rewriting fail in turn, and shows what an opening then finds.
     fn report_failures(&self, answer: &mut String) -> Reported {
         let checkpoint = self.checkpoint(Made::Draft);
         Trial::new(self.alloc, &self.areas, checkpoint, false)?.report_failures(answer)
     }
 }
 
-// Adds the length of an area, and its bytes unless they are too many for a file of cases.
+// Adds the length of an area, and its bytes if there are at most `MANY_BYTES`.
 fn put_area(answer: &mut String, bytes: &[u8]) {
     put_count(answer, "bytes ", bytes.len() as u64, "");
     if bytes.len() < MANY_BYTES {
@@ -268,7 +268,7 @@ fn put_area(answer: &mut String, bytes: &[u8]) {
     put(answer, "\n");
 }
 
-// Adds the calls of a disk that follow those of an opening.
+// Adds the calls that a disk has had since the opening of the journal.
 fn put_calls_after(answer: &mut String, opened: &Disks, disks: &Disks, is_second: bool) {
     put(answer, if is_second { "area 1:" } else { "area 0:" });
     let before = opened.of_area(is_second).calls().len();

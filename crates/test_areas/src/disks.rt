@@ -1,9 +1,9 @@
-//! Both disks of a journal in memory, and what a stop leaves of them.
+//! Both disks of a journal in memory, and what a crash of the machine leaves of them.
 
 use diskmodel::{CallKind, Disk, MemDisk, StopDisk, Switch};
 use std::alloc::{AllocError, Global};
 
-/// The bytes of both areas.
+/// The bytes of both areas of a journal.
 #[derive(Drop)]
 pub struct Areas {
     pub first: Vec<u8>,
@@ -11,7 +11,7 @@ pub struct Areas {
 }
 
 impl Areas {
-    /// Two areas without a byte.
+    /// Two empty areas.
     pub fn none(alloc: Global) -> Areas {
         Areas {
             first: Vec::new(alloc),
@@ -19,7 +19,7 @@ impl Areas {
         }
     }
 
-    /// The areas with the bytes of both disks.
+    /// The areas with the bytes that both disks have now.
     pub fn on(alloc: Global, disks: &Disks) -> Result<Areas, AllocError> {
         Ok(Areas {
             first: disks.first.bytes().to_vec(alloc)?,
@@ -34,7 +34,7 @@ impl Areas {
     }
 }
 
-/// Both disks, and a switch that counts their calls and sets them to fail.
+/// Both disks of a journal, and a switch that counts the calls of both and makes chosen ones fail.
 #[derive(Drop)]
 pub struct Disks {
     pub first: MemDisk,
@@ -63,22 +63,22 @@ impl Disks {
         Ok(disks)
     }
 
-    /// Sets the count-th next call of this kind to fail, counting both disks; 0 sets none.
+    /// Lets a call of this kind fail: the `count`-th one of its kind from now on, over both disks together. 0 lets none fail.
     pub fn fail(&self, kind: CallKind, count: u64) {
         let _ = self.switch.fail(kind, count);
     }
 
-    /// Whether a stop leaves exactly what both disks give.
+    /// Whether both disks are synced as a whole, so that a crash changes nothing.
     pub fn are_durable(&self) -> bool {
         is_durable(&self.first) && is_durable(&self.second)
     }
 
-    /// The disk of this area.
+    /// The disk of the first or of the second area.
     pub fn of_area(&self, is_second: bool) -> &MemDisk {
         if is_second { &self.second } else { &self.first }
     }
 
-    /// Stops the machine. It leaves these bytes of this area, and of the other area what a read gives. Gives whether that is possible.
+    /// Stops both disks as a crash does, leaving these bytes of one area and all of the other. Returns whether a crash can leave them.
     pub fn stop(&mut self, is_second: bool, bytes: Vec<u8>) -> bool {
         if is_second {
             self.first.stop();
@@ -90,7 +90,7 @@ impl Disks {
     }
 }
 
-// Whether no byte was written since the last sync, and the length hasn't changed since then.
+// Whether a disk is synced: no byte was written since the last sync, and the length is the same.
 fn is_durable(disk: &MemDisk) -> bool {
     let len = disk.bytes().len() as u64;
     disk.bytes() == disk.durable() && (0..len).all(|place| !disk.is_written(place))
@@ -103,18 +103,18 @@ fn stops_with(disk: &mut MemDisk, bytes: Vec<u8>) -> bool {
     can
 }
 
-/// What a stop leaves where bytes were written or cut since the last sync.
+/// What a crash leaves at places that were written or cut since the last sync.
 #[derive(Clone, Copy)]
 pub enum Fill {
-    /// What a read gives.
+    /// The bytes that a read would have given.
     Keep,
-    /// What the last sync left.
+    /// The bytes that were there at the last sync.
     Lose,
-    /// This byte.
+    /// This byte at each such place.
     Torn(u8),
 }
 
-/// All fills that are tried, with their names.
+/// Each way of filling such places that is tried, with the name that answers use for it.
 pub const FILLS: [(Fill, &str); 6] = [
     (Fill::Keep, "keep"),
     (Fill::Lose, "lose"),
@@ -124,7 +124,7 @@ pub const FILLS: [(Fill, &str); 6] = [
     (Fill::Torn(0xff), "ff"),
 ];
 
-/// The bytes of this length that a stop leaves of a disk with a fill, if that is possible.
+/// The bytes, as many as `length` says, that a crash leaves of a disk with lost places filled this way. None if it can't leave so many.
 pub fn outcome(
     alloc: Global,
     disk: &MemDisk,
@@ -140,7 +140,7 @@ pub fn outcome(
     Ok(disk.can_leave(&bytes).then_some(bytes))
 }
 
-// Bytes of this length, with this byte wherever the disk may have lost what was synced.
+// As many bytes as `length` says: those of the disk where they are durable, and this byte elsewhere.
 fn torn(alloc: Global, disk: &MemDisk, byte: u8, length: usize) -> Result<Vec<u8>, AllocError> {
     let mut bytes = Vec::new(alloc);
     for place in 0..length {
@@ -149,7 +149,7 @@ fn torn(alloc: Global, disk: &MemDisk, byte: u8, length: usize) -> Result<Vec<u8
     Ok(bytes)
 }
 
-// The byte at a place if a stop can't change it, and otherwise this byte.
+// The byte that a crash leaves at this place: the byte on the disk if it is durable, and otherwise the given byte.
 fn left_at(disk: &MemDisk, byte: u8, place: usize) -> u8 {
     if place >= disk.bytes().len() || disk.is_written(place as u64) {
         return byte;
@@ -157,12 +157,12 @@ fn left_at(disk: &MemDisk, byte: u8, place: usize) -> u8 {
     disk.durable().get(place).copied().unwrap_or(byte)
 }
 
-/// The greatest length that a stop may leave of a disk.
+/// The greatest length that a crash may leave of a disk: its length now, or that of the last sync if that was greater.
 pub fn longest(disk: &MemDisk) -> usize {
     disk.bytes().len().max(disk.durable().len())
 }
 
-/// The longest bytes that a stop leaves of a disk with this fill, if any are possible.
+/// The longest bytes that a crash may leave of a disk with lost places filled this way. None if it can leave nothing so.
 pub fn longest_outcome(
     alloc: Global,
     disk: &MemDisk,

@@ -1,4 +1,4 @@
-//! Openings of both areas in which a device call fails or the machine stops, and the openings after them.
+//! Openings of a journal on two areas during which a device call fails or the machine crashes, and what the next opening answers.
 
 use crate::disks::{Areas, Disks, FILLS, Fill, longest, outcome};
 use crate::openings::{reopened, reported};
@@ -6,7 +6,7 @@ use crate::words::{Reported, put, put_count};
 use diskmodel::CallKind;
 use std::alloc::{AllocError, Global};
 
-/// Each kind of call, with its name.
+/// Each kind of device call, with the name that answers use for it.
 const KINDS: [(CallKind, &str); 4] = [
     (CallKind::Read, "read"),
     (CallKind::Write, "write"),
@@ -14,10 +14,10 @@ const KINDS: [(CallKind, &str); 4] = [
     (CallKind::Sync, "sync"),
 ];
 
-/// A number of calls of one kind that no opening reaches.
+/// More calls of one kind than any opening makes: the loops over calls end here at the latest.
 const MOST_CALLS: u64 = 32;
 
-/// An opening of these areas, and its answer where no call fails.
+/// The areas on which a journal is opened, and the answer of an opening in which no call fails.
 #[derive(Drop)]
 pub struct Opening<'a> {
     alloc: Global,
@@ -25,7 +25,7 @@ pub struct Opening<'a> {
     answer: String,
 }
 
-/// How many calls failed, and how many of the openings after that had the same answer as without a failure, or another one.
+/// How many calls of one kind failed, and how often the next opening then answered as if none had failed, or answered something else.
 #[derive(Clone, Copy)]
 struct Count {
     calls: u64,
@@ -33,11 +33,11 @@ struct Count {
     other: u64,
 }
 
-/// A call, by its kind and its number among the calls of that kind.
+/// A device call of an opening: its kind, and its number among the calls of that kind, from 1.
 type Call = (CallKind, u64);
 
 impl<'a> Opening<'a> {
-    /// The opening of these areas.
+    /// Opens the journal on these areas once without a failure, to learn what later openings have to answer.
     pub fn new(alloc: Global, areas: &'a Areas) -> Result<Opening<'a>, AllocError> {
         let answer = reported(alloc, areas)?;
         Ok(Opening {
@@ -47,8 +47,8 @@ impl<'a> Opening<'a> {
         })
     }
 
-    /// Shows for each kind of call how many of them failed in turn, and what the openings after that answered. Reads aren't counted, since
-    /// how often the files are read is no part of the format.
+    /// Lets each device call of an opening fail in turn. Shows for each kind of call how many failed and what the next openings answered.
+    /// The number of reads isn't shown, since how often the files are read is no part of the format.
     pub fn report(&self, answer: &mut String) -> Reported {
         for (kind, name) in KINDS {
             let count = self.counted(kind)?;
@@ -76,7 +76,7 @@ impl<'a> Opening<'a> {
         Ok(count)
     }
 
-    // Opens the areas with this call failing. Gives whether the call was made.
+    // Opens the journal with this call failing, and counts what openings after that answer. Returns whether the opening made the call.
     fn fails(&self, call: Call, count: &mut Count) -> Result<bool, AllocError> {
         let mut text = String::new(self.alloc);
         let disks = self.played(call, &mut text)?;
@@ -92,14 +92,14 @@ impl<'a> Opening<'a> {
         Ok(true)
     }
 
-    // The disks after the opening with this call failing.
+    // The disks as an opening leaves them in which this call failed.
     fn played(&self, call: Call, text: &mut String) -> Result<Disks, AllocError> {
         let disks = Disks::of(self.alloc, self.areas)?;
         disks.fail(call.0, call.1);
         Ok(reopened(self.alloc, disks, text))
     }
 
-    // Whether an opening of these disks has the answer that it has where no call fails.
+    // Whether opening the journal on these disks gives the same answer as the opening in which no call fails.
     fn is_same(&self, disks: Disks) -> Result<bool, AllocError> {
         let mut text = String::new(self.alloc);
         let _ = reopened(self.alloc, disks, &mut text);
@@ -114,7 +114,7 @@ impl<'a> Opening<'a> {
         }
     }
 
-    // Stops the machine at this call, once for each outcome of this area.
+    // Crashes the machine at this call of an opening, once for each outcome that is tried of this area, and opens what is left.
     fn stop_each(&self, disks: &Disks, call: Call, is_second: bool, count: &mut Count) -> Reported {
         for (fill, _) in FILLS {
             self.stop_fill(disks, call, is_second, fill, count)?;

@@ -1,5 +1,5 @@
-//! The tests of the journal on two areas: its openings, its rewritings, and what a stop, a failing call and a failing allocation leave.
-//! They are files of cases, and use the public functions of the journal only.
+//! The tests of a journal on two areas: how it is opened and rewritten, and what a crash, a failed device call and a failed allocation
+//! leave of it. Test cases stand in files, and call public functions of the journal alone.
 #![tactic(auto)]
 
 mod cases;
@@ -18,7 +18,7 @@ use std::io::{self, BufRead, Write};
 use std::process::ExitCode;
 use test_cases::{Ending, Player, names_of};
 
-/// The argument that asks for the calls in which each allocation can be made to fail.
+/// The argument that tests each call that allocates, with each of its allocations failing in turn.
 const MEMORY: &str = "memory";
 
 fn main(rt: HostRuntime) -> ExitCode {
@@ -28,7 +28,7 @@ fn main(rt: HostRuntime) -> ExitCode {
     }
 }
 
-/// Plays the files that the arguments name. Gives whether at least one was named, and all commands were answered as expected.
+/// Plays the files that the arguments name. Returns whether at least one was named, and each command was answered as expected.
 fn tested(rt: &HostRuntime) -> Result<bool, Ending> {
     let names = names_of(rt, rt.alloc())?;
     let mut right = !names.is_empty();
@@ -38,7 +38,7 @@ fn tested(rt: &HostRuntime) -> Result<bool, Ending> {
     Ok(right)
 }
 
-/// Plays the file of this name, or what is asked for by it.
+/// Plays the file of test cases with this name. The name `memory` instead asks for the tests of failed allocations.
 fn is_right(rt: &HostRuntime, name: &str) -> Result<bool, Ending> {
     if name == MEMORY {
         return remembers(rt);
@@ -49,7 +49,7 @@ fn is_right(rt: &HostRuntime, name: &str) -> Result<bool, Ending> {
     player.end()
 }
 
-/// Makes each call that allocates, again where an allocation failed, and prints whether all of them gave the right result.
+/// Makes each call that allocates, and once more if an allocation failed. Prints whether each gave the right result.
 fn remembers(rt: &HostRuntime) -> Result<bool, Ending> {
     let is_right = is_steady(rt.alloc())?;
     let reported = if is_right {
@@ -70,7 +70,7 @@ where
     play_each(rt, player, &mut cases)
 }
 
-/// Plays each title and command. The loop owns nothing, since everything that a loop owns makes the proof more expensive at each exit.
+/// Plays each line of a file: the title of a test case, or a command. The loop owns nothing: what a loop owns makes its proof slower.
 fn play_each<I, W>(
     rt: &HostRuntime,
     player: &mut Player<I, W>,
@@ -89,7 +89,7 @@ where
     Ok(())
 }
 
-/// Plays a title or a command.
+/// Plays one line of a file: the title of a test case, or a command.
 fn play<I, W>(rt: &HostRuntime, player: &mut Player<I, W>, cases: &mut Cases) -> Result<(), Ending>
 where
     I: BufRead + Drop,

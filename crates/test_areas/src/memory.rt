@@ -1,5 +1,5 @@
-//! The calls that allocate, each made again where an allocation failed. After the failure nothing may have changed, and the second call has
-//! to give the result that the first would have given. A failed allocation of the test itself ends it and proves nothing.
+//! The tests of failed allocations. Each call that allocates is made again if an allocation failed. The failed call may have changed
+//! nothing, and the second one has to give the result that the first would have given. If the test itself can't allocate, it ends.
 
 use crate::disks::{Areas, Disks};
 use crate::openings::{reopened, reopened_store};
@@ -8,13 +8,13 @@ use diskmodel::MemDisk;
 use journal::Store;
 use std::alloc::{AllocError, Global};
 
-/// Room for the answer of an opening, so that writing it allocates nothing.
+/// The capacity of the text for the answer of an opening, in bytes: enough that writing the answer allocates nothing.
 const TOLD_BYTES: usize = 8_192;
 
-/// The front of a configuration of four members, before their keys.
+/// The first bytes of the record of a configuration of four members, up to the members' keys.
 const SETTINGS: [u8; 14] = [0, 2, 0, 0, 0, 50, 0, 1, 0, 16, 0, 0, 0, 4];
 
-/// Whether each call gives the right result, also where an allocation failed.
+/// Whether each call gives the right result, also if an allocation failed at its first try.
 pub fn is_steady(alloc: Global) -> Result<bool, AllocError> {
     let records = sample(alloc)?;
     let areas = begun_areas(alloc, &records)?;
@@ -24,7 +24,7 @@ pub fn is_steady(alloc: Global) -> Result<bool, AllocError> {
     Ok(is_opened && opens_one(alloc, &left)? && left.are(&right) && drafts_all(alloc, &areas)?)
 }
 
-/// A configuration of four members, and records of several lengths.
+/// The records that the tests write: a configuration of four members, and records of several lengths.
 fn sample(alloc: Global) -> Result<Vec<Vec<u8>>, AllocError> {
     let mut configuration = SETTINGS.to_vec(alloc)?;
     for member in 1..=4u8 {
@@ -40,7 +40,7 @@ fn sample(alloc: Global) -> Result<Vec<Vec<u8>>, AllocError> {
     Ok(records)
 }
 
-/// The areas of a new journal with its configuration.
+/// The areas of a new journal whose only record is its configuration.
 fn begun_areas(alloc: Global, records: &[Vec<u8>]) -> Result<Areas, AllocError> {
     let mut text = String::with_capacity(alloc, TOLD_BYTES)?;
     let configuration = match records.first() {
@@ -56,8 +56,8 @@ fn begun_areas(alloc: Global, records: &[Vec<u8>]) -> Result<Areas, AllocError> 
     }
 }
 
-/// Whether checkpoints of two records are the same in both ways of making them. The room of the draft ends within each part of the second
-/// record in turn, so that each growth of it fails once.
+/// Whether a checkpoint of two records has the same bytes, made at once or record by record. The buffer is made so small that it has to
+/// grow within each part of the second record in turn, so that each of these growths can fail.
 fn drafts_all(alloc: Global, areas: &Areas) -> Result<bool, AllocError> {
     let mut is_right = true;
     for length in 160..=190 {
@@ -75,7 +75,7 @@ fn drafts_well(alloc: Global, areas: &Areas, length: usize) -> Result<bool, Allo
     Ok(whole.are(&draft))
 }
 
-/// The areas after a rewriting. None where an allocation of a disk failed.
+/// The areas after the journal was rewritten to a checkpoint. None if an allocation of a disk failed.
 fn rewritten_areas(
     alloc: Global,
     areas: &Areas,
@@ -93,7 +93,7 @@ fn rewritten_areas(
     }
 }
 
-/// These areas with bytes after the closed gate of the first one, which an opening has to cut.
+/// These areas with further bytes after the closed gate of the first one, as a torn append leaves them: an opening has to cut them off.
 fn after_gate(alloc: Global, areas: &Areas) -> Result<Areas, AllocError> {
     Ok(Areas {
         first: vec![in alloc; 0, 9, 9]?,
@@ -101,7 +101,7 @@ fn after_gate(alloc: Global, areas: &Areas) -> Result<Areas, AllocError> {
     })
 }
 
-/// Whether the journal opens in both ways, also where an allocation failed.
+/// Whether the journal opens on both areas, by each of the two functions for that, also if an allocation failed at the first try.
 fn opens(alloc: Global, areas: &Areas) -> Result<bool, AllocError> {
     let mut by_pair = String::with_capacity(alloc, TOLD_BYTES)?;
     let mut by_store = String::with_capacity(alloc, TOLD_BYTES)?;
@@ -112,7 +112,7 @@ fn opens(alloc: Global, areas: &Areas) -> Result<bool, AllocError> {
     Ok(is_left && is_opened && is_same)
 }
 
-/// Opens the journal, and again if that fails. Gives whether a failed allocation left the disks as they were.
+/// Opens the journal on both areas, and again if that fails. Returns whether a failed allocation left the disks as they were.
 fn opens_pair(alloc: Global, areas: &Areas, text: &mut String) -> Result<bool, AllocError> {
     let disks = reopened(alloc, Disks::of(alloc, areas)?, text);
     if text.as_str().starts_with("opened") {
@@ -139,7 +139,7 @@ fn opens_store(alloc: Global, areas: &Areas, text: &mut String) -> Result<bool, 
     Ok(is_left)
 }
 
-/// Whether the journal opens on its second area alone, also where an allocation failed.
+/// Whether the journal opens on its second area alone, also if an allocation failed at the first try.
 fn opens_one(alloc: Global, areas: &Areas) -> Result<bool, AllocError> {
     let mut text = String::with_capacity(alloc, TOLD_BYTES)?;
     let disks = Disks::of(alloc, areas)?;
@@ -156,8 +156,8 @@ fn opens_one(alloc: Global, areas: &Areas) -> Result<bool, AllocError> {
     Ok(is_left && text.as_str().starts_with("opened 0, records 7, "))
 }
 
-/// Whether an allocation failed and the disks are as they were. If it was an allocation of a disk itself, that is a failure of the device,
-/// and the disks need not be as before.
+/// Whether an allocation failed and both disks have their former bytes. If the allocation was one of a disk itself, the call counts as a
+/// failed device call instead, and the disks may have changed.
 fn has_left(areas: &Areas, first: &MemDisk, second: &MemDisk, answer: &str) -> bool {
     let is_same = first.bytes() == areas.first.as_slice()
         && second.bytes() == areas.second.as_slice();

@@ -6,7 +6,7 @@ use diskmodel::MemDisk;
 use journal::{Journal, Record, Store};
 use std::alloc::{AllocError, Global};
 
-/// Opens the journal on both disks, and gives the disks back. Adds the answer of the opening.
+/// Opens the journal on both disks, adds the answer of the opening, and returns the disks as it left them.
 pub fn reopened(alloc: Global, disks: Disks, text: &mut String) -> Disks {
     let Disks {
         first,
@@ -41,7 +41,7 @@ pub fn reported(alloc: Global, areas: &Areas) -> Result<String, AllocError> {
     Ok(text)
 }
 
-/// Opens a journal on one disk or on two, and gives the disks back.
+/// Opens a journal on one disk or on two, adds the answer, and returns the disks as the opening left them.
 pub fn reopened_store(alloc: Global, store: Store<MemDisk>, text: &mut String) -> Store<MemDisk> {
     let mut records = Vec::new(alloc);
     match Journal::open_store(alloc, store, &mut records) {
@@ -57,7 +57,7 @@ pub fn reopened_store(alloc: Global, store: Store<MemDisk>, text: &mut String) -
     }
 }
 
-/// Opens the journal, and adds how many records follow each gate.
+/// Opens the journal, and adds how many records follow each gate: the commit byte before a group of records.
 pub fn put_gates(alloc: Global, disks: Disks, text: &mut String) -> Disks {
     let Disks {
         first,
@@ -82,7 +82,7 @@ pub fn put_gates(alloc: Global, disks: Disks, text: &mut String) -> Disks {
     }
 }
 
-// Adds how many records follow each gate. Those of one group stand next to each other.
+// Adds how many records follow each gate. The records of one group stand next to each other in the list.
 fn put_each_gate(text: &mut String, records: &[Record]) {
     let mut count = 0u64;
     for (place, record) in records.iter().enumerate() {

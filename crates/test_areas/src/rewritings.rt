@@ -1,4 +1,4 @@
-//! Writing to a journal on two disks: groups, and checkpoints.
+//! Writes groups of records and checkpoints to a journal on two disks.
 
 ghost use Rattle.std.specs.Prelude.{◌≡◌, ◌≤◌, length, IsSome, Some, IfOk, IfSome};
 ghost use Rattle.journal.specs.Areas.{generation_of};
@@ -13,7 +13,7 @@ use journal::{
 };
 use std::alloc::{AllocError, Global};
 
-/// A kind of call, and which of the next calls of this kind fails; 0 is none.
+/// A device call that is to fail: its kind, and which of the next calls of this kind it is. 0 lets none fail.
 #[derive(Clone, Copy)]
 pub struct Fault {
     pub kind: CallKind,
@@ -35,11 +35,11 @@ impl Fault {
 pub enum Made {
     /// All its records are given at once.
     Whole,
-    /// Its records are given one after the other, each in two parts.
+    /// Its records are given one after the other, and each in two parts.
     Draft,
 }
 
-/// Opens the journal, which has no group yet, and appends its configuration. Adds the answer.
+/// Opens a journal that has no group yet, appends the group with its configuration, and adds the answer.
 pub fn begun(
     alloc: Global,
     disks: Disks,
@@ -72,7 +72,7 @@ pub fn begun(
     }
 }
 
-// Appends a configuration alone.
+// Appends a group whose only record is the configuration.
 fn begin(
     alloc: Global,
     journal: &mut Journal<MemDisk>,
@@ -90,7 +90,7 @@ fn begin(
     Ok(())
 }
 
-// The group of a configuration alone, if these bytes are one.
+// The group whose only record is these bytes. None if they are not the bytes of a configuration.
 #[tactic(auto, using(crate::proofs::Begun::alone))]
 fn first_group(alloc: Global, configuration: Vec<u8>) -> Result<Option<Group>, AllocError>
     ensures { IfOk result (λ found. IfSome found (λ group. generation_of group ≡ Some 0)) }
@@ -105,7 +105,7 @@ fn first_group(alloc: Global, configuration: Vec<u8>) -> Result<Option<Group>, A
     Ok(Some(group))
 }
 
-/// Opens the journal, which has a group already, and appends these records. Adds the answer.
+/// Opens a journal that has a group already, appends a group of these records, and adds the answer.
 pub fn appended(
     alloc: Global,
     disks: Disks,
@@ -168,7 +168,7 @@ fn append_group(journal: &mut Journal<MemDisk>, group: Group, text: &mut String)
     put_answer(text, "a group of ", journal.append(group));
 }
 
-// Adds how many records were written, or why none was.
+// Adds how many records an append or a rewriting wrote, or the reason for which it wrote none.
 fn put_answer(text: &mut String, what: &str, answer: Result<Synced, JournalError>) {
     match answer {
         Ok(synced) => put_count(text, what, synced.records(), ""),
@@ -176,7 +176,7 @@ fn put_answer(text: &mut String, what: &str, answer: Result<Synced, JournalError
     }
 }
 
-/// Opens the journal, and rewrites it to a checkpoint, during which a call may fail. Adds the answer.
+/// Opens the journal, and rewrites it to a checkpoint while a device call may fail. Adds the answer.
 pub fn rewritten(
     alloc: Global,
     disks: Disks,
@@ -249,7 +249,7 @@ fn rewrite_to(journal: &mut Journal<MemDisk>, snapshot: Snapshot, text: &mut Str
     }
 }
 
-/// The records of a checkpoint, the first of which is a configuration, and how the checkpoint is made of them.
+/// The records that a checkpoint is made of, a configuration first, and whether they are given at once or one after the other.
 #[derive(Clone, Copy)]
 pub struct Checkpoint<'a> {
     pub records: &'a [Vec<u8>],
@@ -257,7 +257,7 @@ pub struct Checkpoint<'a> {
 }
 
 impl Checkpoint<'_> {
-    /// The checkpoint; None where these records have none.
+    /// Makes the checkpoint. None if these records can't be one.
     pub fn made(&self, alloc: Global) -> Result<Option<Snapshot>, AllocError> {
         match self.made {
             Made::Whole => whole(alloc, self.records),
@@ -277,7 +277,7 @@ fn whole(alloc: Global, records: &[Vec<u8>]) -> Result<Option<Snapshot>, AllocEr
     }
 }
 
-/// The longest configuration that is made into a draft, in bytes.
+/// The longest configuration for which a checkpoint is made record by record, in bytes.
 const MAX_CONFIGURATION_BYTES: usize = 65_536;
 
 fn drafted(alloc: Global, records: &[Vec<u8>]) -> Result<Option<Snapshot>, AllocError> {
@@ -297,7 +297,7 @@ fn drafted(alloc: Global, records: &[Vec<u8>]) -> Result<Option<Snapshot>, Alloc
     Ok(Some(draft.close()))
 }
 
-/// The draft of a checkpoint of a configuration alone, if these bytes are one.
+/// The draft of a checkpoint that holds a configuration so far. None if these bytes are no configuration.
 pub fn draft_of(alloc: Global, configuration: &[u8]) -> Result<Option<SnapshotDraft>, AllocError> {
     if configuration.len() > MAX_CONFIGURATION_BYTES || shaped_version(configuration).is_none() {
         return Ok(None);
@@ -316,7 +316,7 @@ fn push_all(draft: &mut SnapshotDraft, records: &[Vec<u8>]) -> Result<(), AllocE
     Ok(())
 }
 
-/// Adds a record in two parts. One that is too long for a group isn't added.
+/// Adds a record to a draft in two parts. A record that is too long for a group is left out.
 pub fn push(draft: &mut SnapshotDraft, record: &[u8]) -> Result<(), AllocError> {
     if record.len() > MAX_GROUP_BYTES - LENGTH_BYTES {
         return Ok(());
@@ -324,7 +324,7 @@ pub fn push(draft: &mut SnapshotDraft, record: &[u8]) -> Result<(), AllocError> 
     let (left, right) = record.split_at(record.len() / 2);
     match draft.push(&[left, right]) {
         Ok(()) => Ok(()),
-        // The failed call has left the draft as it was, so the record is added only once.
+        // The failed call has left the draft as it was, so that the record is added only once.
         Err(_) => draft.push(&[left, right]),
     }
 }

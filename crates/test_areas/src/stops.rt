@@ -1,4 +1,4 @@
-//! Rewritings that are stopped at each moment, or in which a call fails, and what the openings after them find.
+//! Rewritings of a journal that a crash of the machine or a failed device call ends, and what the next openings find.
 
 use crate::disks::{Areas, Disks, FILLS, Fill, longest, longest_outcome, outcome};
 use crate::openings::{reopened, reported};
@@ -7,7 +7,7 @@ use crate::words::{Reported, put, put_count};
 use diskmodel::CallKind;
 use std::alloc::{AllocError, Global};
 
-/// The calls of a rewriting in their order, each by its kind and its number among the calls of that kind.
+/// The eight device calls of a rewriting in their order. Each is named by its kind and its number among the calls of that kind.
 const CALLS: [(CallKind, u64); 8] = [
     (CallKind::Write, 1),
     (CallKind::Sync, 1),
@@ -19,10 +19,10 @@ const CALLS: [(CallKind, u64); 8] = [
     (CallKind::Sync, 4),
 ];
 
-/// A number of calls of one kind that no opening reaches.
+/// More calls of one kind than any opening makes: the loops over calls end here at the latest.
 const MOST_CALLS: u64 = 32;
 
-/// A rewriting of a journal, and the answers of openings before it and after it.
+/// A rewriting of a journal to a checkpoint, and what an opening answers before it and after it.
 #[derive(Drop)]
 pub struct Trial<'a> {
     alloc: Global,
@@ -34,7 +34,7 @@ pub struct Trial<'a> {
     after: String,
 }
 
-/// How many openings found the earlier records, those of the checkpoint, and others.
+/// How many openings found the records from before the rewriting, how many found those of the checkpoint, and how many something else.
 #[derive(Clone, Copy)]
 struct Found {
     old: u64,
@@ -53,7 +53,7 @@ impl Found {
 }
 
 impl<'a> Trial<'a> {
-    /// The rewriting of the journal on these areas.
+    /// Opens the journal on these areas before and after a rewriting without a failure, to learn what later openings may find.
     pub fn new(
         alloc: Global,
         areas: &'a Areas,
@@ -75,7 +75,7 @@ impl<'a> Trial<'a> {
         })
     }
 
-    /// Shows for each number of calls before a stop what openings find after the stop.
+    /// Crashes the machine after each number of device calls of the rewriting, and shows what openings of the journal then find.
     pub fn report_stops(&self, answer: &mut String) -> Reported {
         for done in 0..=CALLS.len() {
             self.report_moment(done, answer)?;
@@ -94,7 +94,7 @@ impl<'a> Trial<'a> {
         Ok(())
     }
 
-    // What openings find after stops with this fill that leave bytes of each length.
+    // What openings find after crashes that leave each possible length of the written area, with lost places filled this way.
     fn found(&self, done: usize, fill: Fill) -> Result<Found, AllocError> {
         let mut found = Found::none();
         let disks = self.stopped(done)?;
@@ -104,7 +104,7 @@ impl<'a> Trial<'a> {
         Ok(found)
     }
 
-    // The disks after this many calls of the rewriting, with the next one failing.
+    // The disks after this many device calls of the rewriting; the next call fails.
     fn stopped(&self, done: usize) -> Result<Disks, AllocError> {
         let mut text = String::new(self.alloc);
         self.played(done, &mut text)
@@ -122,7 +122,7 @@ impl<'a> Trial<'a> {
         rewritten(self.alloc, disks, self.checkpoint, fault, text)
     }
 
-    // Counts what an opening finds after a stop that leaves bytes of this length, if that is possible.
+    // Counts what an opening finds after a crash that leaves bytes of this length. Counts nothing if a crash can't leave so many bytes.
     fn count(
         &self,
         disks: &Disks,
@@ -153,7 +153,7 @@ impl<'a> Trial<'a> {
         }
     }
 
-    /// Shows the answer of each call of a rewriting that fails, and what an opening finds after that.
+    /// Lets each device call of the rewriting fail in turn, and shows the rewriting's answer and what the next opening finds.
     pub fn report_failures(&self, answer: &mut String) -> Reported {
         for done in 0..CALLS.len() {
             self.report_failure(done, answer)?;
@@ -174,8 +174,8 @@ impl<'a> Trial<'a> {
         Ok(())
     }
 
-    /// Shows for each number of calls before a stop what is found at last, where an opening after the stop is stopped too, at each of its
-    /// calls that change or sync a disk.
+    /// Crashes the machine twice: after each number of device calls of the rewriting, and then at each call by which the next opening
+    /// writes, cuts or syncs. Shows what the last opening finds.
     pub fn report_seconds(&self, answer: &mut String) -> Reported {
         for done in 0..=CALLS.len() {
             self.report_second(done, answer)?;
@@ -209,7 +209,7 @@ impl<'a> Trial<'a> {
         Ok(())
     }
 
-    // Stops the machine again, at this device call of the opening that follows a first stop. Gives whether that opening made the call.
+    // Crashes the machine a second time, at this call of the opening after the first crash. Returns whether that opening made the call.
     fn stop_opening(
         &self,
         done: usize,
@@ -249,7 +249,7 @@ impl<'a> Trial<'a> {
         Ok(())
     }
 
-    // The disks after a stop, and then an opening in which this call fails.
+    // The disks after a first crash, and then an opening in which this call fails.
     fn opened(
         &self,
         done: usize,

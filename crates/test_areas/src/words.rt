@@ -1,4 +1,4 @@
-//! The words of commands, and the parts of answers.
+//! Reads the words of commands, and writes the parts of answers.
 
 use diskmodel::{Call, MemDisk};
 use journal::{Journal, JournalError, Record};
@@ -10,12 +10,12 @@ use test_cases::{bytes_of, write_hex};
 #[derive(Drop)]
 pub enum Word {
     Number(u64),
-    /// Bytes: an `x`, and then digits.
+    /// A word of hex digits after an `x`, such as `x00ff`, as bytes.
     Bytes(Vec<u8>),
     Bad,
 }
 
-/// The texts before and after the first blank; the whole text and nothing where there is no blank.
+/// Splits a text at its first blank. Without a blank the first part is the whole text and the second one is empty.
 pub fn parted(text: &str) -> (&str, &str) {
     text.split_once(' ').unwrap_or((text, ""))
 }
@@ -42,7 +42,7 @@ fn word_of(alloc: Global, word: &str) -> Result<Word, AllocError> {
     }
 }
 
-/// The records in these words; None where there is no word, or one that isn't bytes.
+/// The records that these words give as bytes. None if there is no word, or a word isn't bytes.
 pub fn listed(alloc: Global, words: &[Word]) -> Result<Option<Vec<Vec<u8>>>, AllocError> {
     let mut records = Vec::new(alloc);
     for word in words {
@@ -54,13 +54,13 @@ pub fn listed(alloc: Global, words: &[Word]) -> Result<Option<Vec<Vec<u8>>>, All
     Ok(is_whole.then_some(records))
 }
 
-/// Adds the answer to a line that is no command.
+/// Adds the answer that a line gets which is no command.
 pub fn reported_bad(answer: &mut String) -> Reported {
     bad(answer);
     Ok(())
 }
 
-/// Adds a number between two parts.
+/// Adds a text, a number in decimal and another text to the answer.
 pub fn put_count(answer: &mut String, before: &str, count: u64, after: &str) {
     let _ = write!(answer, "{before}{count}{after}");
 }
@@ -71,7 +71,7 @@ pub fn put_bytes(text: &mut String, bytes: &[u8]) {
     let _ = write_hex(text, bytes);
 }
 
-/// Adds an error, and the place of damage.
+/// Adds the error of a call; if bytes of the journal are damaged, also their place.
 pub fn put_error(text: &mut String, error: JournalError) {
     let _ = write!(text, "{error}");
     if let JournalError::Damaged(place) = error {
@@ -79,7 +79,7 @@ pub fn put_error(text: &mut String, error: JournalError) {
     }
 }
 
-/// Adds that a journal was opened, its generation, the number of its records, and each record after the place of its gate.
+/// Adds what an opening found: the journal's generation, the number of its records, and each record with the place of its group's gate.
 pub fn put_opened(text: &mut String, journal: &Journal<MemDisk>, records: &[Record]) {
     put_count(text, "opened ", journal.generation(), "");
     put_count(text, ", records ", records.len() as u64, "");
@@ -89,7 +89,7 @@ pub fn put_opened(text: &mut String, journal: &Journal<MemDisk>, records: &[Reco
     }
 }
 
-/// Adds these calls of a disk, separated by commas: of a write its bytes, if it has only one, and otherwise how many it has.
+/// Adds these calls of a disk, separated by commas. A write shows its byte if it wrote one, and otherwise how many bytes it wrote.
 pub fn put_calls(text: &mut String, calls: &[Call]) {
     if calls.is_empty() {
         put(text, " none");

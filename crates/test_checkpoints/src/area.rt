@@ -1,4 +1,4 @@
-//! The area of a journal that is rewritten to a validator's checkpoint.
+//! Writes a validator's checkpoint into the second area of a journal in memory, and shows the bytes of that area.
 
 ghost use Rattle.std.specs.Prelude.{◌≡◌, ◌≤◌, true, length, IsSome, Some, IfOk, IfSome};
 ghost use Rattle.journal.specs.Areas.{generation_of};
@@ -12,8 +12,8 @@ use std::alloc::{AllocError, Global};
 use test_cases::{Reported, write_hex};
 use validator::Validator;
 
-/// Adds the bytes of an area that was rewritten to a validator's checkpoint: the second area of a journal in memory, whose first one has
-/// the record of its configuration alone.
+/// Adds the bytes of an area that holds a validator's checkpoint. It is the second area of a journal in memory; the first area has one
+/// record, the node's configuration.
 ///
 /// # Errors
 /// An allocation failed, or the journal couldn't be written.
@@ -53,7 +53,7 @@ fn write(
     }
 }
 
-/// Appends the group of a configuration alone. Gives whether no call failed.
+/// Appends a group that has a configuration as its only record. Returns whether no device call failed.
 fn add_first(
     alloc: Global,
     journal: &mut Journal<MemDisk>,
@@ -73,7 +73,7 @@ fn add_first(
     }
 }
 
-/// The group of a configuration alone, if these bytes are one.
+/// The group whose only record is these bytes. None if they are not the bytes of a configuration.
 #[tactic(auto, using(crate::proofs::Begun::alone))]
 fn first_group(alloc: Global, configuration: Vec<u8>) -> Result<Option<Group>, AllocError>
     ensures { IfOk result (λ found. IfSome found (λ group. generation_of group ≡ Some 0)) }
@@ -88,7 +88,7 @@ fn first_group(alloc: Global, configuration: Vec<u8>) -> Result<Option<Group>, A
     Ok(Some(group))
 }
 
-/// Rewrites the spare area to the validator's checkpoint.
+/// Rewrites the journal: writes the validator's checkpoint to the spare area, the one that is not read, with the next generation.
 fn rewrite(journal: &mut Journal<MemDisk>, validator: &Validator<'_, HashSign>) -> Reported
     requires alive { IsAlive ⟦<MemDisk as Disk>⟧.device journal.old }
     requires pair { IsSome (spare_of journal.old) }
@@ -100,7 +100,7 @@ fn rewrite(journal: &mut Journal<MemDisk>, validator: &Validator<'_, HashSign>) 
     rewrite_to(journal, snapshot(validator)?)
 }
 
-/// A validator's checkpoint, taken again where an allocation failed.
+/// A checkpoint of the validator's state. If an allocation fails it is made once more.
 fn snapshot(validator: &Validator<'_, HashSign>) -> Result<Snapshot, AllocError> {
     match validator.snapshot() {
         Ok(snapshot) => Ok(snapshot),

@@ -1,22 +1,22 @@
-//! The bytes of both areas of a journal.
+//! The bytes of both areas (disks) of a journal, as a test case sets and changes them.
 
 use diskmodel::MemDisk;
 use std::alloc::{AllocError, Global};
 use test_cases::Reported;
 
-/// The values of a gate that was opened, and of a closed one.
+/// A gate is the commit byte before a group of records: these are the values of an open gate and of a closed one.
 const OPEN: u8 = 1;
 
 const CLOSED: u8 = 0;
 
-/// The first bytes in a group of a batch of member 2 and worker 0 with one transaction of four bytes: the length of its record, the kind of
-/// an event, the sender, and the message without the transaction.
+/// A batch of member 2 and worker 0 with one transaction of four bytes, as it stands in a group of a journal: the length of its record, the
+/// kind (an event), the sender, and the message up to the transaction's bytes.
 const BATCH: [u8; 20] = [0, 0, 0, 20, 1, 0, 2, 1, 0, 2, 0, 0, 0, 0, 0, 1, 0, 0, 0, 4];
 
-/// How many bytes such a batch takes in a group.
+/// How many bytes this batch takes in a group, with the four bytes of its transaction.
 const BATCH_BYTES: u32 = 24;
 
-/// The bytes of both areas.
+/// The bytes of both areas of a journal.
 #[derive(Drop)]
 pub struct Areas {
     pub first: Vec<u8>,
@@ -24,7 +24,7 @@ pub struct Areas {
 }
 
 impl Areas {
-    /// Two areas without a byte.
+    /// Two empty areas.
     pub fn none(alloc: Global) -> Areas {
         Areas {
             first: Vec::new(alloc),
@@ -32,12 +32,12 @@ impl Areas {
         }
     }
 
-    /// The bytes of an area.
+    /// The bytes of the first or the second area.
     pub fn of_area(&self, is_second: bool) -> &[u8] {
         if is_second { &self.second } else { &self.first }
     }
 
-    /// These areas, with one of them cut to a length.
+    /// A copy of these areas in which one area is cut to this length.
     pub fn cut(&self, alloc: Global, is_second: bool, length: usize) -> Result<Areas, AllocError> {
         let mut areas = self.copied(alloc)?;
         if is_second {
@@ -48,7 +48,7 @@ impl Areas {
         Ok(areas)
     }
 
-    /// These areas, with this number added to one byte of one of them.
+    /// A copy of these areas in which this number is added to one byte of one area, modulo 256.
     pub fn changed(
         &self,
         alloc: Global,
@@ -79,7 +79,7 @@ fn change(bytes: &mut [u8], place: usize, more: u8) {
     }
 }
 
-/// Whether two disks have the same bytes, except for the value of a first gate that is open on both.
+/// Whether two disks have the same bytes. The first gate may differ in its value if it is open on both.
 pub fn are_alike(left: &MemDisk, right: &MemDisk) -> bool {
     match (left.bytes().split_first(), right.bytes().split_first()) {
         (Some((gate, rest)), Some((other, others))) => {
@@ -90,7 +90,7 @@ pub fn are_alike(left: &MemDisk, right: &MemDisk) -> bool {
     }
 }
 
-/// Appends a group of this many batches of member 2, numbered from this one on, and opens the gate before it.
+/// Appends a group of `count` batches of member 2, numbered from `from` on, to an area, and opens the gate before this group.
 pub fn add_batches(area: &mut Vec<u8>, from: u32, count: u32) -> Reported {
     if let Some(gate) = area.last_mut() {
         *gate = OPEN;

@@ -1,4 +1,4 @@
-//! The cases of a file: lists of records, and histories.
+//! The test cases of a file. They are of two kinds: lists of records that a validator is loaded from, and histories of events.
 
 use crate::histories::{Counts, History, Setup};
 use crate::list::reported;
@@ -7,7 +7,7 @@ use std::alloc::Global;
 use std::io::{BufRead, Write};
 use test_cases::{Ending, Player, Reported};
 
-/// The command that precedes the events of a history; these end at the next title.
+/// The command after which each line up to the next title is an event of a history.
 const EVENTS: &str = "tell outputs";
 
 /// The state that the commands of a case work on.
@@ -19,7 +19,7 @@ pub struct Cases {
 }
 
 impl Cases {
-    /// The state before the first case.
+    /// The state before the first test case of a file.
     pub fn new(alloc: Global) -> Cases {
         Cases {
             lists: Lists::new(alloc),
@@ -28,12 +28,12 @@ impl Cases {
         }
     }
 
-    /// How many lists with records of a state were read and then written again with the same bytes.
+    /// How many lists that hold a validator's state were loaded, and then written again with the same bytes.
     pub fn written_alike(&self) -> u64 {
         self.lists.written_alike()
     }
 
-    /// Begins a case.
+    /// Begins a new test case: forgets what the last one made.
     pub fn begin(&mut self) -> Reported {
         self.lists.begin();
         self.setup.begin()
@@ -49,12 +49,12 @@ impl Cases {
         }
     }
 
-    /// Whether the events of a history come after this command.
+    /// Whether the lines after this command are the events of a history.
     pub fn begins_events(&self, command: &str) -> bool {
         command == EVENTS
     }
 
-    /// Plays the events of a history, up to the title of the next case, and begins that.
+    /// Plays the events of a history up to the next title, and begins the test case of that title.
     pub fn play_events<I, W>(
         &mut self,
         rt: &HostRuntime,
@@ -80,7 +80,7 @@ impl Cases {
     }
 }
 
-/// Plays each command up to the next title. The loop owns nothing, for the reason given in `main.rt`.
+/// Plays each command up to the next title. The loop owns nothing: what a loop owns makes its proof slower.
 fn play_each<I, W>(
     rt: &HostRuntime,
     player: &mut Player<I, W>,
@@ -99,7 +99,7 @@ where
     Ok(())
 }
 
-/// Plays a command.
+/// Plays one command of a test case.
 fn play<I, W>(
     rt: &HostRuntime,
     player: &mut Player<I, W>,

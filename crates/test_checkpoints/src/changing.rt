@@ -1,4 +1,4 @@
-//! Lists in which one byte is changed, and the results of loading them.
+//! Changes a list of records in one byte at a time, loads a validator from each changed list, and counts the results.
 
 use crate::loading::{copied, load, reported_load};
 use crate::nodes::Member;
@@ -7,15 +7,15 @@ use std::alloc::Global;
 use test_cases::Reported;
 use validator::LoadError;
 
-/// For how many places of records faults are counted one by one.
+/// Faults of loading name the place of a record in the list. They are counted for each of the first 16 places.
 const PLACES: usize = 16;
 
-/// Which changes of a byte are tried.
+/// Which other values of a byte are tried, one after the other.
 #[derive(Clone, Copy)]
 pub enum Change {
-    /// Every other value.
+    /// All 255 other values of the byte.
     Values,
-    /// Every value that differs in one bit.
+    /// The eight values that differ from the byte in one bit.
     Bits,
 }
 
@@ -28,14 +28,14 @@ impl Change {
     }
 }
 
-/// How often loading had which result.
+/// How often each result of loading a changed list occurred.
 #[derive(Clone, Copy)]
 struct Counts {
     lists: u64,
     loaded: u64,
     unsound: [u64; PLACES],
     unsound_whole: u64,
-    /// How often the reference implementation had another result, or the place isn't among those that are counted.
+    /// How often the reference implementation's result differed from the validator's, or the fault was at a place that is not counted.
     others: u64,
 }
 
@@ -91,7 +91,7 @@ impl Counts {
     }
 }
 
-/// Adds how often a result occurred, if it did.
+/// Adds a result's name and how often it occurred; adds nothing if it never did.
 fn report_count(name: &str, count: u64, answer: &mut String) -> Reported {
     if count == 0 {
         return Ok(());
@@ -99,7 +99,7 @@ fn report_count(name: &str, count: u64, answer: &mut String) -> Reported {
     writeln!(answer, "{name}: {count}")
 }
 
-/// A list in which one byte after the other is changed, for a validator and the reference implementation.
+/// A list of records whose bytes are changed one at a time. Each changed list is loaded by a validator and by the reference implementation.
 #[derive(Drop)]
 struct Changing<'m> {
     alloc: Global,
@@ -109,7 +109,7 @@ struct Changing<'m> {
     counts: Counts,
 }
 
-/// Changes each byte of a list, and shows how often which result occurred.
+/// Changes each byte of a list of records in turn, loads each changed list, and shows how often each result occurred.
 pub fn change_bytes(
     alloc: Global,
     member: &Member,
@@ -167,7 +167,7 @@ impl Changing<'_> {
         }
     }
 
-    /// Loads the list with this byte in both ways, and counts the result.
+    /// Loads the list with this byte at this place, by a validator and by the reference implementation, and counts the result.
     fn try_value(&mut self, place: usize, at: usize, value: u8) -> Reported {
         self.set_byte(place, at, value);
         let plain = load_answer(self.alloc, &self.member.node, &self.records)?;

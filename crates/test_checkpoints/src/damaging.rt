@@ -1,4 +1,4 @@
-//! Openings of a node on two areas in which one byte is changed, and how often each result occurred.
+//! Opens a node on two areas in which one byte is changed, for each byte and each other value, and counts the results.
 
 use crate::areas::Areas;
 use crate::disks::Disks;
@@ -7,31 +7,31 @@ use crate::nodes::Member;
 use std::alloc::{AllocError, Global};
 use test_cases::Reported;
 
-/// A result without a node, and how often it occurred.
+/// A reason for which an opening found no node, and how often it was the result.
 #[derive(Drop)]
 struct Refused {
     text: String,
     times: u64,
 }
 
-/// Areas in which one byte after the other is changed, and how often their openings had which result.
+/// The areas of a journal whose bytes are changed one at a time, and how often opening a node on them had which result.
 #[derive(Drop)]
 pub struct Damages<'a> {
     alloc: Global,
     member: &'a Member,
     areas: &'a Areas,
     is_second: bool,
-    /// What is found without a change, and how often the same was found with one.
+    /// What the opening finds if no byte is changed, and how often it found the same with a byte changed.
     unchanged: String,
     same: u64,
-    /// How often another node was found, and a sum over what was shown of those nodes.
+    /// How often an opening with a changed byte found another node, and a checksum over what was shown of these nodes.
     other: u64,
     sum: u64,
     refused: Vec<Refused>,
 }
 
 impl<'a> Damages<'a> {
-    /// The changes of one of these areas.
+    /// The changes of the first or of the second of these areas, before any has been tried.
     pub fn new(
         alloc: Global,
         member: &'a Member,
@@ -52,7 +52,7 @@ impl<'a> Damages<'a> {
         })
     }
 
-    /// Changes each byte of the area to each other value, and shows how often each result occurred.
+    /// Changes each byte of the area to each other value, opens a node each time, and shows how often each result occurred.
     pub fn report_all(&mut self, answer: &mut String) -> Reported {
         for place in 0..self.areas.of_area(self.is_second).len() {
             self.change(place)?;
@@ -96,7 +96,7 @@ impl<'a> Damages<'a> {
     }
 }
 
-/// What an opening of these areas finds, or why it finds nothing.
+/// Opens a node on these areas: shows what was found, or the reason for which no node was.
 fn found(alloc: Global, member: &Member, areas: &Areas) -> Result<String, AllocError> {
     let Opened { text, disks: _ } = reopened(alloc, member, Disks::of(alloc, areas)?)?;
     Ok(text)

@@ -1,4 +1,4 @@
-//! Both disks of a journal in memory, and what a stop of the machine leaves of them.
+//! Both disks of a journal in memory, and what a crash of the machine leaves of them.
 
 use crate::areas::Areas;
 use diskmodel::{Call, CallKind, Disk, MemDisk, StopDisk, Switch};
@@ -21,7 +21,7 @@ impl Disks {
         })
     }
 
-    /// Disks that have these bytes, with the call of this number and kind set to fail, counting the calls of both.
+    /// Disks that have these bytes. The call of this kind and number fails; the calls of both disks are counted together, from 1.
     pub fn failing(
         alloc: Global,
         areas: &Areas,
@@ -35,7 +35,7 @@ impl Disks {
         Ok(Disks { first, second })
     }
 
-    /// A copy of the disks, which had these bytes at first.
+    /// A copy of these disks, made by repeating their calls on disks that hold the bytes that these disks began with.
     pub fn again(&self, alloc: Global, areas: &Areas) -> Result<Disks, AllocError> {
         let mut disks = Disks::of(alloc, areas)?;
         repeat(&mut disks.first, self.first.calls());
@@ -43,12 +43,12 @@ impl Disks {
         Ok(disks)
     }
 
-    /// The disk of an area.
+    /// The disk of the first or of the second area.
     pub fn of_area(&self, is_second: bool) -> &MemDisk {
         if is_second { &self.second } else { &self.first }
     }
 
-    /// Stops the machine. It leaves these bytes of one area, and of the other area what a read gives. Gives whether that is possible.
+    /// Stops both disks as a crash does, leaving these bytes of one area and all of the other. Returns whether a crash can leave them.
     pub fn stop(&mut self, is_second: bool, bytes: Vec<u8>) -> bool {
         if is_second {
             self.first.stop();
@@ -60,7 +60,7 @@ impl Disks {
     }
 }
 
-/// Repeats calls on a disk that had the same bytes at first.
+/// Repeats the calls of one disk on another disk that began with the same bytes.
 fn repeat(disk: &mut MemDisk, calls: &[Call]) {
     for call in calls {
         make(disk, call);
@@ -97,21 +97,21 @@ fn stops_with(disk: &mut MemDisk, bytes: Vec<u8>) -> bool {
     can
 }
 
-/// What a stop leaves where bytes were written or cut since the last sync.
+/// What a crash leaves at places that were written or cut since the last sync.
 #[derive(Clone, Copy)]
 pub enum Fill {
-    /// What a read gives.
+    /// The bytes that a read would have given.
     Keep,
-    /// What the last sync left.
+    /// The bytes that were there at the last sync.
     Lose,
-    /// This byte.
+    /// This byte at each such place.
     Torn(u8),
 }
 
-/// How many fills are tried.
+/// How many ways of filling such places are tried.
 pub const FILL_COUNT: usize = 6;
 
-/// Each fill that is tried, with its name.
+/// Each way of filling such places that is tried, with the name that answers use for it.
 pub const FILLS: [(Fill, &str); FILL_COUNT] = [
     (Fill::Keep, "keep"),
     (Fill::Lose, "lose"),
@@ -121,7 +121,7 @@ pub const FILLS: [(Fill, &str); FILL_COUNT] = [
     (Fill::Torn(0xff), "ff"),
 ];
 
-/// What a stop may leave of a disk with this fill. Where all is synced, nothing is lost or torn.
+/// What a crash may leave of a disk, for each length that is tried, with lost places filled this way. A synced disk loses nothing.
 pub fn outcomes(alloc: Global, disk: &MemDisk, fill: Fill) -> Result<Vec<Vec<u8>>, AllocError> {
     let mut outcomes = Vec::new(alloc);
     match fill {
@@ -133,13 +133,13 @@ pub fn outcomes(alloc: Global, disk: &MemDisk, fill: Fill) -> Result<Vec<Vec<u8>
     Ok(outcomes)
 }
 
-/// Whether all of a disk is synced.
+/// Whether every byte and the length of a disk are synced, so that a crash changes nothing.
 fn is_durable(disk: &MemDisk) -> bool {
     let length = disk.bytes().len() as u64;
     disk.bytes() == disk.durable() && (0..length).all(|place| !disk.is_written(place))
 }
 
-/// Adds what may be left for each length that is tried, with this byte wherever the disk may have lost what was synced.
+/// Adds what a crash may leave for each length that is tried, with this byte at each place that is not durable.
 fn add_torn(alloc: Global, disk: &MemDisk, byte: u8, outcomes: &mut Vec<Vec<u8>>) -> Reported {
     for length in lengths(alloc, disk)? {
         let left = torn(alloc, disk, byte, length)?;
@@ -150,7 +150,7 @@ fn add_torn(alloc: Global, disk: &MemDisk, byte: u8, outcomes: &mut Vec<Vec<u8>>
     Ok(())
 }
 
-/// The lengths of what is left of a disk that are tried: that of the last sync, the current one, and half of the greater one.
+/// The lengths that a crash may leave of a disk and that are tried: the length at the last sync, the current one, and half of the greater.
 fn lengths(alloc: Global, disk: &MemDisk) -> Result<Vec<usize>, AllocError> {
     let (synced, read) = (disk.durable().len(), disk.bytes().len());
     let mut lengths = Vec::new(alloc);
@@ -167,7 +167,7 @@ fn add_once(lengths: &mut Vec<usize>, length: usize) -> Reported {
     Ok(())
 }
 
-/// Bytes of this length, with this byte wherever the disk may have lost what was synced.
+/// What a crash may leave of a disk: as many bytes as `length` says, with this byte at each place that is not durable.
 fn torn(alloc: Global, disk: &MemDisk, byte: u8, length: usize) -> Result<Vec<u8>, AllocError> {
     let mut bytes = Vec::new(alloc);
     for place in 0..length {
@@ -176,7 +176,7 @@ fn torn(alloc: Global, disk: &MemDisk, byte: u8, length: usize) -> Result<Vec<u8
     Ok(bytes)
 }
 
-/// The byte at a place if a stop can't change it, and otherwise this byte.
+/// The byte that a crash leaves at this place: the byte on the disk if it is durable, and otherwise the given byte.
 fn left_at(disk: &MemDisk, byte: u8, place: usize) -> u8 {
     if place >= disk.bytes().len() || disk.is_written(place as u64) {
         return byte;

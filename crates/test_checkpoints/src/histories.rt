@@ -1,5 +1,5 @@
-//! Histories of events. A validator takes them; in between more validators are loaded from its records, and have to answer the next events
-//! as it does.
+//! Histories of events that a validator takes. After some of the events a further validator is loaded from the records of its checkpoint,
+//! and has to answer the next events as the first validator does.
 
 mod answers;
 mod counts;

@@ -1,5 +1,5 @@
-//! A list of records: the answers of the reference implementation and of a validator to it, and what a validator that is loaded from it
-//! then does.
+//! The commands that end a list of records: a validator and the reference implementation load the list, or events are given to a validator
+//! that was loaded from it.
 
 use crate::changing::{Change, change_bytes};
 use crate::loading::compare_loads;
@@ -12,7 +12,7 @@ use sim_script::FormError;
 use std::alloc::{AllocError, Global};
 use test_cases::{Reported, bad};
 
-/// A list of records, with the node of its case and the events that follow it.
+/// A list of records, the node that loads it, and the events that the node gets afterwards.
 #[derive(Clone, Copy)]
 pub struct List<'l> {
     pub alloc: Global,
@@ -22,7 +22,7 @@ pub struct List<'l> {
 }
 
 impl List<'_> {
-    /// Answers the command that ends the list. Gives whether records of a state were written again with the same bytes.
+    /// Answers the command that ends the list. Returns whether the list held a validator's state and was written again with the same bytes.
     pub fn obey(&self, name: &str, words: &str, answer: &mut String) -> Result<bool, AllocError> {
         match name {
             "load" | "load-all" | "load-none" => self.load(answer),
@@ -37,7 +37,7 @@ impl List<'_> {
         }
     }
 
-    /// Adds the result of loading the list, by the reference implementation and by validators.
+    /// Loads the list by the reference implementation and by validators, and adds the result.
     fn load(&self, answer: &mut String) -> Result<bool, AllocError> {
         let plain = load_answer(self.alloc, &self.member.node, self.records)?;
         writeln!(answer, "{plain}")?;
@@ -51,7 +51,7 @@ impl List<'_> {
         is_written_alike(self.alloc, &self.member.node, self.records, answer)
     }
 
-    /// Gives the events to a validator that is loaded from the list, or to a fresh one.
+    /// Gives events to a validator. The command's name says whether it was loaded from the list or is fresh.
     fn play(&self, name: &str, looks: &str, answer: &mut String) -> Result<(), FormError> {
         let play = Play {
             events: self.events,
@@ -63,7 +63,7 @@ impl List<'_> {
         }
     }
 
-    /// Adds how often which result occurs when one byte of the list is changed.
+    /// Changes one byte of the list at a time, and adds how often loading had which result.
     fn change(&self, name: &str, answer: &mut String) -> Reported {
         let change = match name {
             "change-values" => Change::Values,
@@ -74,8 +74,8 @@ impl List<'_> {
     }
 }
 
-/// Whether there are records after the configuration that can be read, and that are written again with the same bytes. Each state has only
-/// one encoding; if it is written otherwise, the answer gets an extra line, and then isn't as expected.
+/// Whether the list can be loaded, has records after the configuration, and is written again with the same bytes. A state has only one
+/// encoding: if the bytes differ, the answer gets an extra line, which the file of test cases does not expect.
 fn is_written_alike(
     alloc: Global,
     node: &Node<HashSign>,
@@ -97,7 +97,7 @@ fn is_written_alike(
     Ok(true)
 }
 
-/// The result of playing a case: an error if an allocation failed.
+/// Adds the line for a bad command if a line of the test case could not be read. A failed allocation is returned as an error.
 pub fn reported(played: Result<(), FormError>, answer: &mut String) -> Reported {
     match played {
         Ok(()) => Ok(()),

@@ -1,4 +1,4 @@
-//! The commands of a case, which write down lists of records.
+//! The commands of a test case that write down a list of records, one record each.
 
 use crate::list::List;
 use crate::nodes::{Member, member_of};
@@ -9,21 +9,21 @@ use sigface::HashSign;
 use std::alloc::Global;
 use test_cases::{Reported, bad, write_hex};
 
-/// The node of a case, the list that its commands are writing down, and the events that follow it.
+/// The node of a test case, the list of records that its commands write down, and the events that follow the list.
 #[derive(Drop)]
 pub struct Lists {
     alloc: Global,
     member: Option<Member>,
     records: Vec<Vec<u8>>,
     events: Vec<String>,
-    /// The areas of a journal on two disks.
+    /// The two areas of a journal that the commands of the test case set and open.
     pair: Pair,
-    /// How many lists with records of a state were read and then written again with the same bytes, over all cases.
+    /// How many lists that hold a validator's state were loaded, and then written again with the same bytes. Counted over all test cases.
     written_alike: u64,
 }
 
 impl Lists {
-    /// The state before the first case.
+    /// The state before the first test case of a file.
     pub fn new(alloc: Global) -> Lists {
         Lists {
             alloc,
@@ -35,12 +35,12 @@ impl Lists {
         }
     }
 
-    /// How many lists with records of a state were read and then written again with the same bytes, over all cases.
+    /// How many lists that hold a validator's state were loaded, and then written again with the same bytes. Counted over all test cases.
     pub fn written_alike(&self) -> u64 {
         self.written_alike
     }
 
-    /// Begins a case.
+    /// Begins a new test case: forgets the node, the list and the events.
     pub fn begin(&mut self) {
         self.member = None;
         self.pair.begin();
@@ -74,7 +74,7 @@ impl Lists {
         Ok(())
     }
 
-    /// Adds one more record to the list: the bytes after the colon.
+    /// Adds one record to the list; its bytes are the digits after the colon.
     fn add_record(&mut self, words: &str, answer: &mut String) -> Reported {
         let digits = words.strip_prefix(":").unwrap_or(words);
         match bytes_in(self.alloc, digits)? {
@@ -84,7 +84,7 @@ impl Lists {
         Ok(())
     }
 
-    /// Ends the list with this command, and begins the next one.
+    /// Answers the command that ends the list of records, and begins an empty list.
     fn end(&mut self, name: &str, words: &str, answer: &mut String) -> Reported {
         match &self.member {
             None => bad(answer),
@@ -104,7 +104,7 @@ impl Lists {
         Ok(())
     }
 
-    /// Adds the bytes of a record that no list writes down.
+    /// Shows the bytes of a record that test cases do not write down, such as a configuration.
     fn spell(&self, name: &str, words: &str, answer: &mut String) -> Reported {
         match (name, &self.member) {
             ("record-of-configuration", Some(member)) => {
@@ -116,7 +116,8 @@ impl Lists {
     }
 }
 
-/// Completes the list for the command that ends it. Only for `load-all` does the list have the configuration, its first record, itself.
+/// Completes a list for the command that loads it: puts the configuration's record before it. `load-all` takes the list as it stands, and
+/// `load-none` takes no record at all.
 fn complete(
     alloc: Global,
     node: &Node<HashSign>,

@@ -1,4 +1,4 @@
-//! Loading validators from lists of records, compared with the reference implementation.
+//! Loads validators from lists of records, and compares the results with those of the reference implementation.
 
 use crate::nodes::Member;
 use crate::records::configuration_record;
@@ -16,7 +16,7 @@ pub fn copied(alloc: Global, records: &[Vec<u8>]) -> Result<Vec<Vec<u8>>, AllocE
     Ok(again)
 }
 
-/// Adds why records can't be loaded, as files of cases have it.
+/// Adds the reason for which records could not be loaded, in the form that files of test cases expect.
 pub fn report_error(error: LoadError, text: &mut String) -> Reported {
     match error {
         LoadError::Unsound(place) => write!(text, "{error} {place}"),
@@ -24,7 +24,7 @@ pub fn report_error(error: LoadError, text: &mut String) -> Reported {
     }
 }
 
-/// The result of loading, as files of cases have it. A failed allocation is no result.
+/// The result of loading as text, in the form that files of test cases expect. A failed allocation is returned as an error.
 pub fn reported_load(alloc: Global, answer: Result<(), LoadError>) -> Result<String, AllocError> {
     let mut text = String::new(alloc);
     match answer {
@@ -35,7 +35,7 @@ pub fn reported_load(alloc: Global, answer: Result<(), LoadError>) -> Result<Str
     Ok(text)
 }
 
-/// The result of loading a validator from all records of a list.
+/// Loads a validator from all records of a list at once, and returns whether that succeeds.
 pub fn load(
     alloc: Global,
     config: &Config<HashSign>,
@@ -45,7 +45,7 @@ pub fn load(
     Ok(())
 }
 
-/// The validator that is loaded from a list; loading is tried again where an allocation failed.
+/// The validator that is loaded from a list of records. If an allocation fails, it is loaded once more.
 pub fn loaded<'c>(
     alloc: Global,
     config: &'c Config<HashSign>,
@@ -58,7 +58,7 @@ pub fn loaded<'c>(
     }
 }
 
-/// The records of a validator's checkpoint; this is tried again where an allocation failed.
+/// The records of a validator's checkpoint. If an allocation fails, they are made once more.
 pub fn kept_records(validator: &Validator<'_, HashSign>) -> Result<Vec<Vec<u8>>, AllocError> {
     match validator.kept_records() {
         Ok(records) => Ok(records),
@@ -66,8 +66,8 @@ pub fn kept_records(validator: &Validator<'_, HashSign>) -> Result<Vec<Vec<u8>>,
     }
 }
 
-/// Adds a line if loading a validator from a list, at once or record by record, has another result than this, or the loaded validator has
-/// other records.
+/// Adds a line for each difference: a validator is loaded from the list at once, and another one record by record; both have to give the
+/// expected result, and a loaded validator has to be written as the same records.
 pub fn compare_loads(
     alloc: Global,
     member: &Member,
@@ -92,7 +92,7 @@ fn compare(way: &str, found: &str, plain: &str, answer: &mut String) -> Reported
     writeln!(answer, "loaded {way}: {found}")
 }
 
-/// The result of loading record by record.
+/// Loads a validator from a list, one record after the other, and returns the result.
 fn load_one_by_one(
     alloc: Global,
     config: &Config<HashSign>,
@@ -106,7 +106,7 @@ fn load_one_by_one(
     Ok(())
 }
 
-/// Puts a record. If that fails it is put a second time, which has to fail in the same way.
+/// Gives a record to a validator that is being loaded. If that fails the record is given again, which has to fail in the same way.
 fn put_again(loading: &mut Loading<'_, HashSign>, record: &[u8]) -> Result<(), LoadError> {
     match loading.put(record) {
         Err(LoadError::Unsound(_)) => loading.put(record),
@@ -114,7 +114,7 @@ fn put_again(loading: &mut Loading<'_, HashSign>, record: &[u8]) -> Result<(), L
     }
 }
 
-/// Whether the validator that is loaded from a list has these records: the configuration in version 2, and the other ones of the list.
+/// Whether a validator loaded from a list is written as the same records: the configuration in format version 2, then the list's others.
 fn is_kept_alike(alloc: Global, member: &Member, records: &[Vec<u8>]) -> Result<bool, AllocError> {
     match loaded(alloc, &member.config, records) {
         Err(LoadError::Memory) => Err(AllocError),
@@ -127,7 +127,7 @@ fn is_kept_alike(alloc: Global, member: &Member, records: &[Vec<u8>]) -> Result<
     }
 }
 
-/// Whether records are a configuration and these others.
+/// Whether the first of these records is this configuration, and the rest are the other records.
 fn are_those(kept: &[Vec<u8>], configuration: &[u8], others: &[Vec<u8>]) -> bool {
     match kept.split_first() {
         None => false,

@@ -1,5 +1,4 @@
-//! The tests of loading the records of a checkpoint: files of cases for the reference implementation of these records, and for validators
-//! that are loaded from them.
+//! The tests of checkpoints: validators and the reference implementation are loaded from the records that files of test cases write down.
 #![tactic(auto)]
 
 mod area;
@@ -33,7 +32,7 @@ fn main(rt: HostRuntime) -> ExitCode {
     }
 }
 
-/// Plays the files that the arguments name. Gives whether at least one was named, and all commands were answered as expected.
+/// Plays the files that the arguments name. Returns whether at least one was named, and each command was answered as expected.
 fn tested(rt: &HostRuntime) -> Result<bool, Ending> {
     let names = names_of(rt, rt.alloc())?;
     let mut right = !names.is_empty();
@@ -43,7 +42,7 @@ fn tested(rt: &HostRuntime) -> Result<bool, Ending> {
     Ok(right)
 }
 
-/// Plays the file of this name.
+/// Plays the file of test cases with this name. Returns whether each command was answered as expected.
 fn is_right(rt: &HostRuntime, name: &str) -> Result<bool, Ending> {
     let text = fs::read(rt, name)?;
     let mut cases = Cases::new(rt.alloc());
@@ -54,7 +53,7 @@ fn is_right(rt: &HostRuntime, name: &str) -> Result<bool, Ending> {
     Ok(right)
 }
 
-/// Prints for how many lists the records were written again, if for any.
+/// Prints how many lists of records were loaded and then written again with the same bytes; prints nothing if none was.
 fn report_same(rt: &HostRuntime, name: &str, same: u64) -> Result<(), Ending> {
     if same > 0 {
         writeln!(
@@ -65,7 +64,7 @@ fn report_same(rt: &HostRuntime, name: &str, same: u64) -> Result<(), Ending> {
     Ok(())
 }
 
-/// Plays each title and command. The loop owns nothing, since everything that a loop owns makes the proof more expensive at each exit.
+/// Plays each line of a file: the title of a test case, or a command. The loop owns nothing: what a loop owns makes its proof slower.
 fn play_each<I, W>(
     rt: &HostRuntime,
     player: &mut Player<I, W>,
@@ -84,7 +83,7 @@ where
     Ok(())
 }
 
-/// Plays a title, a command, or all events of a history.
+/// Plays a title, a command, or all events of a history at once.
 fn play<I, W>(rt: &HostRuntime, player: &mut Player<I, W>, cases: &mut Cases) -> Result<(), Ending>
 where
     I: BufRead + Drop,

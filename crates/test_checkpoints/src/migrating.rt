@@ -1,4 +1,4 @@
-//! Openings of a node on two areas, by which a journal in the first version is rewritten as a checkpoint.
+//! Opens a node on two areas of which one holds a journal of format version 1. The opening rewrites that journal as a checkpoint.
 
 ghost use Rattle.std.specs.Prelude.{IsSome, IfOk};
 ghost use Rattle.journal.specs.Journal.{spare_of};
@@ -15,27 +15,27 @@ use test_cases::{Reported, write_hex};
 use validator::Validator;
 use wire::{Author, Round};
 
-/// The peer and the round whose vote is shown.
+/// Answers show the node's vote for the header of this member in this round.
 const PEER: u16 = 1;
 
 const ROUND: u64 = 1;
 
-/// Of an area with more bytes than this a sum is shown.
+/// Of an area with more bytes than this, answers show a checksum instead of the bytes.
 const MANY_BYTES: usize = 1_000;
 
-/// The answer of an opening where a disk or an allocation of a disk failed.
+/// The answer of an opening at which a device call (2) or an allocation (1) failed.
 pub const DEVICE: &str = "2 Device";
 
 const MEMORY: &str = "1 Memory";
 
-/// The answer of an opening, and both disks after it.
+/// The answer of an opening, and both disks as the opening left them.
 #[derive(Drop)]
 pub struct Opened {
     pub text: String,
     pub disks: Disks,
 }
 
-/// Opens both disks: the answer is what is found, or why nothing is.
+/// Opens a node on both disks. The answer shows the node that was found, or the reason for which none was.
 pub fn reopened(alloc: Global, member: &Member, disks: Disks) -> Result<Opened, AllocError> {
     let mut text = String::new(alloc);
     let Disks { first, second } = disks;
@@ -63,7 +63,7 @@ fn disks_of(journal: Journal<MemDisk>) -> Disks
     Disks { first, second }
 }
 
-/// Adds why an opening failed.
+/// Adds the reason for which an opening failed.
 fn report_error(error: JournalError, text: &mut String) -> Reported {
     match error {
         JournalError::Damaged(gate) => write!(text, "{error} {gate}"),
@@ -71,7 +71,7 @@ fn report_error(error: JournalError, text: &mut String) -> Reported {
     }
 }
 
-/// Adds the generation, the vote for the peer's header of the round, the round, and the length of the order.
+/// Adds what an opening found: the journal's generation, the vote for the peer's header, the node's round, and the length of its order.
 fn report_found(
     validator: &Validator<'_, HashSign>,
     generation: u64,
@@ -83,7 +83,7 @@ fn report_found(
     write!(text, ", round {round}, order {ordered}")
 }
 
-/// Whether the answer of an opening shows a node.
+/// Whether this answer of an opening shows a node, and not a failure.
 pub fn is_node(text: &str) -> bool {
     text.starts_with("generation ")
 }
@@ -98,7 +98,7 @@ fn report_vote(validator: &Validator<'_, HashSign>, text: &mut String) -> Report
     }
 }
 
-/// Opens both areas, and shows what is found and the bytes of both areas after that.
+/// Opens a node on both areas. Shows what it found, and the bytes of both areas afterwards.
 pub fn report_opened(
     alloc: Global,
     member: &Member,
@@ -111,8 +111,8 @@ pub fn report_opened(
     report_area("second", opened.disks.second.bytes(), answer)
 }
 
-/// Opens both disks, and once more if an allocation failed, of the opening or of a disk. The second opening has to give the result that the
-/// first one would have given.
+/// Opens a node on both disks, and a second time if an allocation of the opening or of a disk failed. The second opening has to give the
+/// result that the first would have given.
 fn opened_again(alloc: Global, member: &Member, disks: Disks) -> Result<Opened, AllocError> {
     let first = reopened(alloc, member, disks)?;
     if first.text.as_str() != MEMORY && first.text.as_str() != DEVICE {
@@ -121,7 +121,7 @@ fn opened_again(alloc: Global, member: &Member, disks: Disks) -> Result<Opened, 
     reopened(alloc, member, first.disks)
 }
 
-/// Opens one disk with these bytes, and shows what is found and its bytes after that.
+/// Opens a node on one disk that has these bytes. Shows what it found, and the bytes of the disk afterwards.
 pub fn report_opened_alone(
     alloc: Global,
     member: &Member,
@@ -133,7 +133,7 @@ pub fn report_opened_alone(
     report_area("alone", disk.bytes(), answer)
 }
 
-/// Opens one disk, and once more if an allocation or the disk failed.
+/// Opens a node on one disk, and a second time if an allocation or a device call failed.
 fn opened_alone_again(
     alloc: Global,
     member: &Member,
@@ -147,7 +147,7 @@ fn opened_alone_again(
     reopened_alone(alloc, member, disk)
 }
 
-/// Opens one disk: the answer, and the disk after it.
+/// Opens a node on one disk. Returns the answer, and the disk as the opening left it.
 fn reopened_alone(
     alloc: Global,
     member: &Member,
@@ -175,14 +175,14 @@ fn report_area(name: &str, bytes: &[u8], answer: &mut String) -> Reported {
     answer.push_str("\n")
 }
 
-/// FNV-1a of 64 bits over no bytes.
+/// The checksum of no bytes: the start value of the hash FNV-1a with 64 bits.
 pub const NO_SUM: u64 = 14_695_981_039_346_656_037;
 
 fn sum(bytes: &[u8]) -> u64 {
     sum_after(NO_SUM, bytes)
 }
 
-/// The sum with these bytes added.
+/// The checksum of some bytes with these further bytes added after them.
 pub fn sum_after(before: u64, bytes: &[u8]) -> u64 {
     let mut sum = before;
     for byte in bytes {
@@ -191,7 +191,7 @@ pub fn sum_after(before: u64, bytes: &[u8]) -> u64 {
     sum
 }
 
-/// Opens both areas with one of them cut to each length, and shows from which length on which answer is given.
+/// Cuts one area to each length in turn and opens a node on both. Shows each length from which on the answer is another one.
 pub fn report_lengths(
     alloc: Global,
     member: &Member,
@@ -208,7 +208,7 @@ pub fn report_lengths(
     Ok(())
 }
 
-/// Shows the answer of an opening, and how long both areas are then, if it differs from the last one.
+/// Shows the answer of an opening and the lengths that it left of both areas, if they differ from what was shown last.
 fn report_change(
     length: usize,
     opened: &Opened,

@@ -1,4 +1,4 @@
-//! The node of a case.
+//! The node that a test case is about: its committee and its configuration.
 
 use committee::{Committee, CommitteeError};
 use header::Node;
@@ -8,15 +8,15 @@ use std::alloc::{AllocError, Global};
 use validator::Config;
 use wire::Author;
 
-/// The node of a case, and the configuration of its validators.
+/// The node of a test case, for the reference implementation, and the configuration of its validators.
 #[derive(Drop)]
 pub struct Member {
     pub node: Node<HashSign>,
     pub config: Config<HashSign>,
 }
 
-/// The node in these words, if they are right: its own number, the depth, the greatest number of batches that it holds, and the stakes of
-/// all members, separated by commas.
+/// Reads a node from words such as `0 50 16 1,1,1,1`: its own number, the depth, the greatest number of batches that it holds of a member,
+/// and the stakes of all members.
 pub fn member_of(alloc: Global, words: &str) -> Result<Option<Member>, AllocError> {
     let words: Vec<&str> = words.split(' ').collect(alloc)?;
     let [own, depth, batches, stakes] = words.as_slice() else {
@@ -33,7 +33,7 @@ pub fn member_of(alloc: Global, words: &str) -> Result<Option<Member>, AllocErro
     }
 }
 
-/// The member with this number, if the committee has it. The committee is given twice, since it can't be copied.
+/// The member with this number. None if the committee has no such member. The committee is handed in twice, since it can't be copied.
 fn member_in(own: Author, committee: Committee, again: Committee) -> Option<Member> {
     let config = Config::new(again, own, signer(own))?;
     let signer = signer(own);
@@ -66,7 +66,7 @@ fn committee_of(
     }
 }
 
-/// How many words are separated by commas.
+/// How many parts separated by commas the text has.
 fn count_of(words: &str) -> u16 {
     let mut count = 1u16;
     for byte in words.as_bytes() {

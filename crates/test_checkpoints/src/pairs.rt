@@ -9,7 +9,7 @@ use crate::stopping::Trial;
 use std::alloc::Global;
 use test_cases::{Reported, bad};
 
-/// The areas that the commands so far have set.
+/// Both areas of a journal, as the commands of the test case so far have set them.
 #[derive(Drop)]
 pub struct Pair {
     alloc: Global,
@@ -17,7 +17,7 @@ pub struct Pair {
 }
 
 impl Pair {
-    /// The state before the first case.
+    /// The state before the first test case of a file.
     pub fn new(alloc: Global) -> Pair {
         Pair {
             alloc,
@@ -25,7 +25,7 @@ impl Pair {
         }
     }
 
-    /// Begins a case.
+    /// Begins a new test case: both areas are empty again.
     pub fn begin(&mut self) {
         self.areas = Areas::none(self.alloc);
     }
@@ -56,7 +56,7 @@ impl Pair {
         }
     }
 
-    /// Sets the bytes of an area: those after the colon.
+    /// Sets the bytes of an area to the digits after the colon.
     fn set(&mut self, name: &str, words: &str, answer: &mut String) -> Reported {
         let digits = words.strip_prefix(":").unwrap_or(words);
         match (name, bytes_in(self.alloc, digits)?) {
@@ -67,7 +67,7 @@ impl Pair {
         Ok(())
     }
 
-    /// Appends a group to an area, given the area's name, the number of the first batch, and how many batches there are.
+    /// Appends a group of batches to an area. The words are the area's name, the number of the first batch, and how many batches there are.
     fn add(&mut self, words: &str, answer: &mut String) -> Reported {
         let words: Vec<&str> = words.split(' ').collect(self.alloc)?;
         let [name, from, count] = words.as_slice() else {
@@ -80,8 +80,8 @@ impl Pair {
         }
     }
 
-    /// Opens both areas: with no call failing, with each call failing in turn, with stops, or with an area cut to each length or changed in
-    /// each byte.
+    /// Opens a node on both areas. The command's name chooses what is tried: no failure, each device call failing in turn, stops of the
+    /// machine, an area cut to each length, or an area changed in each byte.
     fn open(&self, member: &Member, name: &str, words: &str, answer: &mut String) -> Reported {
         let (alloc, areas) = (self.alloc, &self.areas);
         match (name, words) {

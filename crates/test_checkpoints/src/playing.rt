@@ -1,4 +1,4 @@
-//! Events for a validator that was loaded from a list, or is fresh.
+//! Gives events to a validator, which is fresh or was loaded from a list of records, and shows its answers.
 
 ghost use Rattle.std.specs.Prelude.{◌≡◌, None};
 ghost use Rattle.header.specs.Checks.{fault_of, accepts_all};
@@ -14,11 +14,11 @@ use std::alloc::Global;
 use validator::{LoadError, Refusal, Step, Validator};
 use wire::{Author, Message};
 
-/// What a case plays: the events, among which headers and batches may be formed, and what is shown after them.
+/// What a test case plays: lines that form a header or a batch or are an event, and what is to be shown after them.
 #[derive(Clone, Copy)]
 pub struct Play<'p> {
     pub events: &'p [String],
-    /// Words: `records` for the records of a checkpoint, `area` for an area that was rewritten to it.
+    /// What is to be shown: `records` asks for the records of a checkpoint, `area` for an area that holds the checkpoint.
     pub looks: &'p str,
 }
 
@@ -68,7 +68,7 @@ fn play_on(
     playing.look(play.looks, answer)
 }
 
-/// A validator, and the labels by which its events are written.
+/// A validator, and the labels that test cases give to headers and batches.
 #[derive(Drop)]
 struct Playing<'c> {
     alloc: Global,
@@ -77,7 +77,7 @@ struct Playing<'c> {
 }
 
 impl Playing<'_> {
-    /// Carries out a line, which forms something or is an event.
+    /// Carries out a line: it forms a header or a batch and gives it a label, or it is an event.
     fn run(&mut self, line: &str, answer: &mut String) -> Result<(), FormError> {
         match parse(line.as_bytes()) {
             Some(Command::Pack(pack)) => define_batch(self.alloc, &mut self.labels, &pack),
@@ -90,7 +90,7 @@ impl Playing<'_> {
         }
     }
 
-    /// Gives an event to the validator, if it passes the checks.
+    /// Gives an event to the validator if it passes the checks, and adds the answer.
     fn take(
         &mut self,
         sender: Author,
@@ -110,7 +110,7 @@ impl Playing<'_> {
         report_step(&step, answer)
     }
 
-    /// Shows the records of a checkpoint, and an area that was rewritten to it, if these are asked for.
+    /// Shows the records of a checkpoint, and an area that holds the checkpoint, if the test case asks for them.
     fn look(&self, looks: &str, answer: &mut String) -> Result<(), FormError> {
         if looks.contains("records") {
             report_records(&kept_records(&self.validator)?, answer)?;
@@ -122,7 +122,7 @@ impl Playing<'_> {
     }
 }
 
-/// Adds the answer to an event, and its outputs.
+/// Adds the answer of a validator to an event, and the outputs that it put out.
 fn report_step(step: &Result<Step, Refusal>, answer: &mut String) -> Result<(), FormError> {
     match step {
         Ok(Step::New(outputs)) => {

@@ -1,5 +1,5 @@
-//! Records as files of cases write them. A configuration and a head are made here, from the format alone, since the reference
-//! implementation gives neither.
+//! Reads records as files of test cases write them. The first two records of a checkpoint, the configuration and the head (which has the
+//! generation), are made here from the format alone, since the reference implementation makes neither.
 
 use committee::Committee;
 use header::Node;
@@ -8,13 +8,13 @@ use std::alloc::{AllocError, Global};
 use test_cases::{Reported, bytes_of};
 use wire::Author;
 
-/// The kind of a configuration, and the version with stakes.
+/// The first two bytes of a configuration's record: its kind, and version 2 of the format, the one with stakes.
 const CONFIGURATION: [u8; 2] = [0, 2];
 
-/// The kind of a head.
+/// The first byte of a head's record, its kind. The head holds the generation of the journal.
 const HEAD: u8 = 2;
 
-/// The bytes of these words, one after the other, if each word is bytes.
+/// The bytes of words of hex digits, one word after the other. None if a word isn't hex digits.
 pub fn bytes_in(alloc: Global, words: &str) -> Result<Option<Vec<u8>>, AllocError> {
     let mut bytes = Vec::new(alloc);
     for word in words.split_whitespace() {
@@ -25,7 +25,7 @@ pub fn bytes_in(alloc: Global, words: &str) -> Result<Option<Vec<u8>>, AllocErro
     Ok(Some(bytes))
 }
 
-/// Adds the bytes of a word, in which a star is followed by how often its digits occur. Gives whether it has such digits.
+/// Adds the bytes of a word such as `00*32`: hex digits, and after a star how often they are repeated. Returns whether it is such a word.
 fn add_word(alloc: Global, word: &str, bytes: &mut Vec<u8>) -> Result<bool, AllocError> {
     let (digits, times) = word.split_once('*').unwrap_or((word, "1"));
     let Ok(times) = times.parse::<u32>() else {
@@ -79,7 +79,7 @@ fn add_stakes(committee: &Committee, record: &mut Vec<u8>) -> Reported {
     Ok(())
 }
 
-/// The record of the head with the generation in this word, or 0 where the word is no number.
+/// The record of a head with this generation; a word that is no number counts as generation 0.
 pub fn head_record(alloc: Global, generation: &str) -> Result<Vec<u8>, AllocError> {
     let generation = generation.parse::<u64>().unwrap_or(0);
     let mut record = Vec::new(alloc);

@@ -1,10 +1,10 @@
-//! Outputs and records as files of cases have them.
+//! Writes outputs and records in the form that files of test cases expect.
 
 use test_cases::{Reported, write_hex};
 use wire::{Certificate, Digest, Output, batch_digest, certificate_digest, header_digest};
 
-/// Adds a line for each output: its kind, and the digest of its content. A certificate also has its voters, and a piece of the order its
-/// place.
+/// Adds a line for each output: its kind, and the digest of its content. The line of a certificate also has its voters, and that of a
+/// piece of the order the piece's place in the order.
 pub fn report_outputs(outputs: &[Output], answer: &mut String) -> Reported {
     for output in outputs {
         answer.push_str("out ")?;
@@ -49,7 +49,7 @@ fn report_order(start: u64, digests: &[Digest], answer: &mut String) -> Reported
     Ok(())
 }
 
-/// Adds a line for each record.
+/// Adds a line with the bytes of each record.
 pub fn report_records(records: &[Vec<u8>], answer: &mut String) -> Reported {
     for record in records {
         answer.push_str("record ")?;

@@ -1,4 +1,4 @@
-//! Openings of a node on two areas in which a call fails, or which a stop of the machine ends, and the openings after them.
+//! Openings of a node on two areas during which a device call fails or the machine crashes, and what the next opening finds.
 
 use crate::areas::{Areas, are_alike};
 use crate::disks::{Disks, FILL_COUNT, FILLS, Fill, outcomes};
@@ -15,10 +15,10 @@ const KINDS: [(CallKind, &str); 3] = [
     (CallKind::Sync, "sync"),
 ];
 
-/// A number of calls of one kind that no opening reaches.
+/// More calls of one kind than any opening makes: the loops over calls end here at the latest.
 const MOST_CALLS: u64 = 32;
 
-/// How many openings found the same as where no call fails, and how many something else.
+/// How many openings after a failure found what an opening without a failure finds, and how many found something else.
 #[derive(Clone, Copy)]
 struct Count {
     same: u64,
@@ -43,7 +43,7 @@ impl Count {
     }
 }
 
-/// An opening of these areas, and its result where no call fails.
+/// The areas on which a node is opened, and what the opening finds if no call fails.
 #[derive(Drop)]
 pub struct Trial<'a> {
     alloc: Global,
@@ -53,7 +53,7 @@ pub struct Trial<'a> {
 }
 
 impl<'a> Trial<'a> {
-    /// The opening of these areas.
+    /// Opens a node on these areas once without a failure, to learn what later openings have to find.
     pub fn new(
         alloc: Global,
         member: &'a Member,
@@ -68,7 +68,7 @@ impl<'a> Trial<'a> {
         })
     }
 
-    /// Makes each call fail in turn, and opens the same disks again.
+    /// Lets each device call of the opening fail in turn, opens the same disks again, and shows what was found.
     pub fn report_failing(&self, answer: &mut String) -> Reported {
         self.report_failing_reads(answer)?;
         for (kind, name) in KINDS {
@@ -79,7 +79,7 @@ impl<'a> Trial<'a> {
         Ok(())
     }
 
-    /// Reads aren't counted, since how often the disks are read is no part of the format.
+    /// Lets each read fail in turn. The answer doesn't show how many reads there were, since that is no part of the format.
     fn report_failing_reads(&self, answer: &mut String) -> Reported {
         let (calls, count) = self.count_failing(CallKind::Read)?;
         if calls > 0 && count.other == 0 {
@@ -88,7 +88,7 @@ impl<'a> Trial<'a> {
         writeln!(answer, "read fails {calls}, others {}", count.other)
     }
 
-    /// How many calls of this kind failed, and what openings after that found.
+    /// Lets each call of this kind fail in turn. Returns how many calls there were, and what the openings after the failures found.
     fn count_failing(&self, kind: CallKind) -> Result<(u64, Count), AllocError> {
         let mut count = Count::none();
         for number in 1..MOST_CALLS {
@@ -100,14 +100,14 @@ impl<'a> Trial<'a> {
         Ok((MOST_CALLS, count))
     }
 
-    /// The disks after this call failed, if it was made.
+    /// The disks as an opening leaves them whose call of this kind and number failed. None if the opening makes no such call.
     fn failed(&self, kind: CallKind, number: u64) -> Result<Option<Disks>, AllocError> {
         let disks = Disks::failing(self.alloc, self.areas, kind, number)?;
         let Opened { text, disks } = reopened(self.alloc, self.member, disks)?;
         Ok((text.as_str() == DEVICE).then_some(disks))
     }
 
-    /// Whether an opening of these disks finds the same as where no call fails, and leaves the same areas.
+    /// Whether opening a node on these disks finds the same, and leaves the same bytes, as the opening without a failure.
     fn is_same(&self, disks: Disks) -> Result<bool, AllocError> {
         let found = reopened(self.alloc, self.member, disks)?;
         let (left, right) = (&found.disks, &self.opened.disks);
@@ -118,7 +118,7 @@ impl<'a> Trial<'a> {
         )
     }
 
-    /// Stops the machine before each call of the opening and after the last one, and opens what is left.
+    /// Crashes the machine before each device call of the opening and after the last one. Opens what is left, and shows what was found.
     pub fn report_stopping(&self, answer: &mut String) -> Reported {
         let mut counts = [Count::none(); FILL_COUNT];
         for (kind, _) in KINDS {
@@ -131,7 +131,7 @@ impl<'a> Trial<'a> {
         Ok(())
     }
 
-    /// Stops the machine before each call of this kind.
+    /// Crashes the machine before each call of this kind that the opening makes.
     fn stop_before(&self, kind: CallKind, counts: &mut [Count]) -> Reported {
         for number in 1..MOST_CALLS {
             match self.failed(kind, number)? {
@@ -142,7 +142,7 @@ impl<'a> Trial<'a> {
         Ok(())
     }
 
-    /// Stops the machine with these disks, once for each outcome of each disk.
+    /// Crashes the machine with the disks in this state, once for each outcome that is tried of each disk.
     fn stop_each(&self, disks: &Disks, counts: &mut [Count]) -> Reported {
         for place in 0..FILL_COUNT {
             if let (Some((fill, _)), Some(count)) = (FILLS.get(place), counts.get_mut(place)) {
@@ -152,7 +152,7 @@ impl<'a> Trial<'a> {
         Ok(())
     }
 
-    /// Does the same with this fill.
+    /// Crashes the machine with the disks in this state; this is what a crash leaves at places that are not durable.
     fn stop_both(&self, disks: &Disks, fill: Fill, count: &mut Count) -> Reported {
         for is_second in [false, true] {
             for left in outcomes(self.alloc, disks.of_area(is_second), fill)? {
@@ -162,7 +162,7 @@ impl<'a> Trial<'a> {
         Ok(())
     }
 
-    /// Stops the machine so that it leaves these bytes of an area, and opens what is left.
+    /// Crashes the machine so that these bytes are left of one area, opens what is left, and counts what was found.
     fn stop(&self, disks: &Disks, is_second: bool, left: Vec<u8>, count: &mut Count) -> Reported {
         let mut again = disks.again(self.alloc, self.areas)?;
         let may = again.stop(is_second, left);
@@ -172,7 +172,7 @@ impl<'a> Trial<'a> {
     }
 }
 
-/// Shows for the fill at a place how many stops there were, and what was found after them.
+/// Shows for one way of filling lost places how many crashes there were, and what the openings after them found.
 fn report_fill(place: usize, counts: &[Count], answer: &mut String) -> Reported {
     let (Some((_, name)), Some(count)) = (FILLS.get(place), counts.get(place)) else {
         return Ok(());

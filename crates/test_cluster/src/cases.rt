@@ -1,4 +1,4 @@
-//! The commands of a case on a cluster.
+//! The commands of a test case on a cluster: several nodes of one committee in one process.
 
 use crate::disks::{Grip, GrippedDisk, disks_of, new_grips};
 use crate::moves::{call_of, coin, delivery, gift, leaving, member, parted};
@@ -16,21 +16,21 @@ use std::thread::Threads;
 use test_cases::{Reported, bad};
 use wire::Author;
 
-/// A cluster, the labels that the case has defined, and a grip on each node's disk.
+/// A cluster, the names that the test case has given to headers and batches, and for each node's disk a grip that makes calls fail.
 #[derive(Drop)]
 pub struct ClusterCases<'a> {
     alloc: Global,
     settings: &'a Settings,
     labels: Labels,
     grips: Vec<Grip>,
-    // The moves that are to be applied all at once.
+    // The moves that the command `plan` has collected, which `play` applies all at once.
     plan: Vec<Move>,
-    /// The cluster, once a case has opened it.
+    /// The cluster, once a test case has opened it.
     cluster: Option<Cluster<'a, HashSign, GrippedDisk, HashVerify>>,
 }
 
 impl<'a> ClusterCases<'a> {
-    /// The state before the first case.
+    /// The state before the first test case of a file.
     pub fn new(alloc: Global, settings: &'a Settings) -> Result<ClusterCases<'a>, AllocError> {
         Ok(ClusterCases {
             alloc,
@@ -42,7 +42,7 @@ impl<'a> ClusterCases<'a> {
         })
     }
 
-    /// Begins a case.
+    /// Begins a new test case: forgets the cluster and all labels.
     pub fn begin(&mut self) -> Reported {
         self.labels = Labels::new(self.alloc);
         self.grips = new_grips(self.alloc, MEMBERS)?;
@@ -77,7 +77,7 @@ impl<'a> ClusterCases<'a> {
         Ok(())
     }
 
-    /// `form` and `pack` define a header and a batch, as in a script.
+    /// The commands `form` and `pack` define a header and a batch, with the same words as in a script of the simulator.
     fn define(&mut self, command: &str, answer: &mut String) -> Reported {
         let defined = match parse(command.as_bytes()) {
             Some(Command::Form(form)) => define_header(self.alloc, &mut self.labels, &form),
@@ -108,7 +108,7 @@ impl<'a> ClusterCases<'a> {
         Ok(())
     }
 
-    /// `plan MOVE` keeps a move, which has to be one for which no disk has to be prepared.
+    /// `plan MOVE` keeps a move for `play`. Moves that prepare a disk (a stop, a failing call) cannot be planned.
     fn plan(&mut self, words: &str, answer: &mut String) -> Reported {
         let (name, words) = parted(words);
         let step = match name {
@@ -125,8 +125,7 @@ impl<'a> ClusterCases<'a> {
         Ok(())
     }
 
-    /// `play COUNT` opens a node for each of the first `COUNT` members, and applies the planned moves, whose answers it
-    /// shows.
+    /// `play COUNT` opens a node for each of the first `COUNT` members, applies the planned moves to them, and adds their answers.
     fn play(&mut self, words: &str, answer: &mut String) -> Reported {
         let count = words.parse().unwrap_or(0);
         let Some(configs) = self.settings.first(count) else {
@@ -149,7 +148,7 @@ impl<'a> ClusterCases<'a> {
         Ok(())
     }
 
-    /// Makes a move, if there is one.
+    /// Makes a move at the cluster and adds its answer. A line that was no move gets the answer for a bad line.
     fn apply(&mut self, step: Option<Move>, answer: &mut String) {
         match (&mut self.cluster, step) {
             (Some(cluster), Some(step)) => report_move(answer, cluster.apply(step)),
@@ -157,7 +156,7 @@ impl<'a> ClusterCases<'a> {
         }
     }
 
-    /// `give NODE from SENDER MESSAGE`.
+    /// `give NODE from SENDER MESSAGE` gives the node a message, as if this member had sent it.
     fn give(&mut self, words: &str, answer: &mut String) -> Reported {
         let step = gift(self.alloc, &self.labels, words)?;
         self.apply(step, answer);
@@ -177,7 +176,7 @@ impl<'a> ClusterCases<'a> {
         Ok(())
     }
 
-    /// `fail NODE CALL COUNT` sets the count-th next call of this kind of a node's disk to fail.
+    /// `fail NODE CALL COUNT` lets a call of this kind on the node's disk fail: the one that comes as the COUNT-th of its kind from now on.
     fn fail(&self, words: &str, answer: &mut String) {
         let (node, words) = parted(words);
         let (call, count) = parted(words);
@@ -195,7 +194,7 @@ impl<'a> ClusterCases<'a> {
         self.grips.get(node.0 as usize)
     }
 
-    /// `propose NODE`, `order NODE` and `outputs NODE`, which change nothing.
+    /// `propose NODE`, `order NODE` and `outputs NODE` show what the node would propose, its order, and how many outputs it has put out.
     fn look(&self, name: &str, words: &str, answer: &mut String) {
         let (Some(cluster), Some(node)) = (&self.cluster, member(words)) else {
             return bad(answer);
@@ -209,12 +208,12 @@ impl<'a> ClusterCases<'a> {
     }
 }
 
-// The move in the words of `flush NODE`.
+// Reads the words of `flush NODE`: the move at which the node writes its pending records to its disk.
 fn flush(words: &str) -> Option<Move> {
     Some(Move::Flush(member(words)?))
 }
 
-// Adds the answer to a line that is no command.
+// Adds the answer that a line gets which is no command.
 fn reported_bad(answer: &mut String) -> Reported {
     bad(answer);
     Ok(())

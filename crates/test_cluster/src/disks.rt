@@ -1,4 +1,4 @@
-//! Disks in memory that nodes have, while a test can still set calls to fail and choose what a stop leaves.
+//! Disks in memory that belong to nodes, while the test can still make calls fail and choose what a crash leaves of the disk.
 
 ghost use Rattle.std.specs.Prelude.{◌≡◌, [], All, IfOk};
 
@@ -7,18 +7,18 @@ use std::alloc::{AllocError, Global};
 use std::cell::Cell;
 use std::rc::Rc;
 
-/// What a stop leaves of a disk.
+/// What a stop (a crash of the machine) leaves of a disk.
 #[derive(Clone, Copy)]
 pub enum Leaving {
-    /// What a read gives.
+    /// The bytes that a read would give at the moment of the stop: nothing is lost.
     Read,
-    /// The bytes of the last sync.
+    /// The bytes of the last sync: whatever was written later is lost.
     Synced,
-    /// What a read gives, with this byte wherever one was written since the last sync.
+    /// The bytes that a read would give, but with this byte at every place that was written since the last sync.
     Torn(u8),
 }
 
-/// The part of a disk that a test keeps.
+/// The test's handle on a disk that a node owns: it makes calls fail and chooses what a stop leaves.
 pub struct Grip {
     alloc: Global,
     switch: Switch,
@@ -36,7 +36,7 @@ impl Drop for Grip {
 }
 
 impl Grip {
-    /// A grip with which no call is set to fail, and a stop leaves of the disk the bytes that a read would give.
+    /// A new grip. No call is set to fail, and a stop loses nothing.
     pub fn new(alloc: Global) -> Result<Grip, AllocError> {
         Ok(Grip {
             alloc,
@@ -45,7 +45,7 @@ impl Grip {
         })
     }
 
-    /// An empty disk of this grip.
+    /// An empty disk on which this grip acts.
     pub fn disk(&self) -> Result<GrippedDisk, AllocError>
         ensures { IfOk result (λ gripped. ⟦<MemDisk as Disk>⟧.device.content gripped.disk ≡ []) }
     {
@@ -57,18 +57,18 @@ impl Grip {
         })
     }
 
-    /// Sets a call to fail: the count-th next one of its kind. Gives whether one more can be set.
+    /// Lets a call of this kind fail: the one that comes as the `count`-th of its kind from now on. Returns whether one more can be set.
     pub fn fail(&self, call: CallKind, count: u64) -> bool {
         self.switch.fail(call, count).is_ok()
     }
 
-    /// Chooses what stops leave from now on.
+    /// Chooses what later stops leave of the disk.
     pub fn leave(&self, leaving: Leaving) {
         self.leaving.set(leaving);
     }
 }
 
-/// This many grips.
+/// As many new grips as `count` says.
 pub fn new_grips(alloc: Global, count: u16) -> Result<Vec<Grip>, AllocError> {
     let mut grips = Vec::new(alloc);
     for _ in 0..count {
@@ -106,7 +106,7 @@ impl Drop for GrippedDisk {
 }
 
 impl GrippedDisk {
-    // Chooses what the next stop leaves. If an allocation fails that is what a read gives.
+    // Chooses the bytes that the next stop leaves. If an allocation fails, the stop loses nothing.
     fn choose(&mut self)
         ensures history { self.new.disk.history ≡ self.old.disk.history }
         ensures faults { self.new.disk.faults ≡ self.old.disk.faults }
@@ -116,7 +116,7 @@ impl GrippedDisk {
         }
     }
 
-    // What the next stop will leave; None where that is what a read gives.
+    // The bytes that the next stop will leave. None if it loses nothing.
     fn chosen(&self) -> Result<Option<Vec<u8>>, AllocError> {
         match self.leaving.get() {
             Leaving::Read => Ok(None),
@@ -125,7 +125,7 @@ impl GrippedDisk {
         }
     }
 
-    // What a read gives, with this byte wherever one was written since the last sync.
+    // The bytes that a read would give, but with this byte at every place that was written since the last sync.
     fn torn(&self, byte: u8) -> Result<Vec<u8>, AllocError> {
         let mut torn = Vec::new(self.alloc);
         for (place, read) in self.disk.bytes().iter().enumerate() {

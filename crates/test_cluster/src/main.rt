@@ -1,5 +1,5 @@
-//! The tests of several nodes of one committee in one process, driven by lists of moves. They are files of cases; each case has a cluster
-//! of its own.
+//! The tests of a cluster: several nodes of one committee in one process, driven by lists of moves. Test cases stand in files; each has
+//! a cluster of its own.
 #![tactic(auto)]
 
 mod cases;
@@ -20,7 +20,7 @@ use std::sync::Wait;
 use std::thread::Threads;
 use test_cases::{Ending, Player, names_of};
 
-/// How many batches a member may hold: so few that a case can try one more.
+/// How many batches of one member a node may hold: so few that a test case can try one more than is allowed.
 pub const BATCHES: u64 = 2;
 
 fn main(rt: HostRuntime) -> ExitCode {
@@ -36,7 +36,7 @@ fn main(rt: HostRuntime) -> ExitCode {
     }
 }
 
-/// Plays the files with these names. Gives whether there is at least one, and all commands were answered as expected.
+/// Plays the files of test cases with these names. Returns whether there is at least one file, and each command was answered as expected.
 fn tested<R>(rt: &R, settings: &Settings, names: &[String]) -> Result<bool, Ending>
 where
     R: Files<File = File> + Print + AllocGlobal + Threads + Wait + Sync,
@@ -48,7 +48,7 @@ where
     Ok(right)
 }
 
-/// Plays the file of this name.
+/// Plays the file of test cases with this name. Returns whether each command was answered as expected.
 fn is_right<R>(rt: &R, settings: &Settings, name: &str) -> Result<bool, Ending>
 where
     R: Files<File = File> + Print + AllocGlobal + Threads + Wait + Sync,
@@ -73,7 +73,7 @@ where
     player.end()
 }
 
-/// Plays each title and command. The loop owns nothing, since everything that a loop owns makes the proof more expensive at each exit.
+/// Plays each line of a file: the title of a test case, or a command. The loop owns nothing: what a loop owns makes its proof slower.
 fn play_each<R, I, W>(
     rt: &R,
     player: &mut Player<I, W>,
@@ -93,7 +93,7 @@ where
     Ok(())
 }
 
-/// Plays a title or a command.
+/// Plays one line of a file: the title of a test case, or a command.
 fn play<R, I, W>(rt: &R, player: &mut Player<I, W>, cases: &mut ClusterCases) -> Result<(), Ending>
 where
     R: AllocGlobal + Threads + Wait + Sync,

@@ -1,4 +1,4 @@
-//! The moves of a cluster, from the words of commands. None where the words aren't a move's.
+//! Reads moves of a cluster from the words of commands. Each function returns None if the words are no such move.
 
 use crate::disks::Leaving;
 use cluster::Move;
@@ -8,20 +8,20 @@ use std::alloc::{AllocError, Global};
 use test_cases::bytes_of;
 use wire::{Author, Coin, Message, Signature, Wave};
 
-/// A signature that is good for nobody.
+/// A signature that no key of the committee has made, so that every check refuses it.
 pub const UNSIGNED: Signature = Signature([0; 64]);
 
-/// The texts before and after the first blank; the whole text and nothing where there is no blank.
+/// Splits a text at its first blank. Without a blank the first part is the whole text and the second one is empty.
 pub fn parted(text: &str) -> (&str, &str) {
     text.split_once(' ').unwrap_or((text, ""))
 }
 
-/// The member of this number.
+/// The member whose number this word is.
 pub fn member(word: &str) -> Option<Author> {
     Some(Author(word.parse().ok()?))
 }
 
-/// `NODE OUTPUT to NODE`.
+/// Reads `NODE OUTPUT to NODE`: the output of this number that the first node put out is delivered to the second node.
 pub fn delivery(words: &str) -> Option<Move> {
     let (output, to) = words.split_once(" to ")?;
     let (node, output) = output.split_once(' ')?;
@@ -32,7 +32,7 @@ pub fn delivery(words: &str) -> Option<Move> {
     })
 }
 
-/// `NODE WAVE VALUE`.
+/// Reads `NODE WAVE VALUE`: the node learns the coin of this wave.
 pub fn coin(words: &str) -> Option<Move> {
     let (node, coin) = words.split_once(' ')?;
     let (wave, value) = coin.split_once(' ')?;
@@ -44,7 +44,8 @@ pub fn coin(words: &str) -> Option<Move> {
     })
 }
 
-/// `NODE from SENDER MESSAGE`, where the message is written as in a script, or is `unsigned LABEL` for a header with a bad signature.
+/// Reads `NODE from SENDER MESSAGE`. The message is written as in a script, or is `unsigned LABEL`: the header of that label with a bad
+/// signature.
 pub fn gift(alloc: Global, labels: &Labels, words: &str) -> Result<Option<Move>, AllocError> {
     let (to, rest) = words.split_once(" from ").unwrap_or(("", ""));
     let (sender, rest) = parted(rest);
@@ -84,7 +85,8 @@ fn unsigned(labels: &Labels, label: &str) -> Result<Message, FormError> {
     Ok(Message::Header(header))
 }
 
-/// What a stop leaves: `keep`, which is also the default, `lose`, or `tear BYTE` with two digits.
+/// Reads what a stop leaves of a disk: `keep`, the default, loses nothing; `lose` loses what is not synced; `tear BYTE` (two hex digits)
+/// puts this byte wherever bytes were written since the last sync.
 pub fn leaving(alloc: Global, words: &str) -> Result<Option<Leaving>, AllocError> {
     match words {
         "" | "keep" => Ok(Some(Leaving::Read)),
@@ -106,7 +108,7 @@ fn torn(alloc: Global, digits: &str) -> Result<Option<Leaving>, AllocError> {
     }
 }
 
-/// The kind of call of this name.
+/// The kind of device call with this name, for example `sync`.
 pub fn call_of(name: &str) -> Option<CallKind> {
     match name {
         "read" => Some(CallKind::Read),

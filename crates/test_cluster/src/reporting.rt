@@ -1,4 +1,4 @@
-//! How answers are shown. If an allocation fails the text is cut short, and then isn't as expected.
+//! Writes answers of the tests as text. If an allocation fails the text is cut short, and so differs from the expected text.
 
 use cluster::{Applied, ClusterError};
 use sim_script::Labels;
@@ -6,7 +6,7 @@ use std::fmt::Display;
 use test_cases::put;
 use wire::{Digest, Header, ParentReference, genesis_digest};
 
-/// Adds the answer to a move.
+/// Adds the answer to a move of the cluster.
 pub fn report_move(answer: &mut String, outcome: Result<Applied, ClusterError>) {
     match outcome {
         Ok(applied) => report_applied(answer, applied),
@@ -28,7 +28,7 @@ fn report_applied(answer: &mut String, applied: Applied) {
     }
 }
 
-/// Adds an error, and why a journal couldn't be opened.
+/// Adds the error of a move; if a node's journal could not be opened, also the reason for that.
 pub fn report_error(answer: &mut String, error: ClusterError) {
     put_shown(answer, "error ", &error, "");
     if let ClusterError::Journal(cause) = error {
@@ -37,7 +37,7 @@ pub fn report_error(answer: &mut String, error: ClusterError) {
     put(answer, "\n");
 }
 
-/// Adds the round, the parents and the batches of a proposal.
+/// Adds the round, the parents and the batches of the header that a node proposes.
 pub fn report_proposal(
     answer: &mut String,
     labels: &Labels,
@@ -74,7 +74,7 @@ fn report_label(answer: &mut String, label: Option<&str>) {
     put(answer, label.unwrap_or("unlabelled"));
 }
 
-/// Adds the order that a node gave out.
+/// Adds the order that a node has given out: the label of each certificate.
 pub fn report_order(answer: &mut String, labels: &Labels, order: Option<&[Digest]>) {
     put(answer, "order");
     match order {
@@ -91,7 +91,7 @@ fn report_certificates(answer: &mut String, labels: &Labels, digests: &[Digest])
     }
 }
 
-/// Adds how many outputs a node put out.
+/// Adds how many outputs a node has put out.
 pub fn report_outputs(answer: &mut String, outputs: Option<u64>) {
     match outputs {
         Some(count) => put_shown(answer, "outputs ", &count, "\n"),
@@ -99,7 +99,7 @@ pub fn report_outputs(answer: &mut String, outputs: Option<u64>) {
     }
 }
 
-/// Adds a value between two texts.
+/// Adds a text, a value as it displays itself and another text to the answer.
 pub fn put_shown<T: Display>(answer: &mut String, before: &str, shown: &T, after: &str) {
     let _ = write!(answer, "{before}{shown}{after}");
 }

@@ -16,7 +16,7 @@ use sim_members::Settings;
 use std::alloc::Global;
 use test_cases::{Reported, bad};
 
-/// How many schedules are played, how many moves each has, the start value of the random numbers, and the depth of the committee.
+/// What a command asks for: how many schedules to play, how many moves each has, the seed of the random numbers, and the committee's depth.
 #[derive(Clone, Copy)]
 struct Task {
     count: u64,
@@ -25,12 +25,13 @@ struct Task {
     depth: u64,
 }
 
-/// `schedules COUNT MOVES START DEPTH`, with as many dishonest members as are tolerated: shows the results of the moves.
+/// `schedules COUNT MOVES START DEPTH` plays random schedules with as many dishonest members as the committee tolerates (one of four), and
+/// adds the results of the moves.
 pub fn play_tolerated(alloc: Global, words: &str, answer: &mut String) -> Reported {
     play_all(alloc, Honest::Three, words, answer)
 }
 
-/// `broken COUNT MOVES START DEPTH`: the same with one more dishonest member.
+/// `broken COUNT MOVES START DEPTH` does the same as `schedules`, with one dishonest member more than the committee tolerates.
 pub fn play_broken(alloc: Global, words: &str, answer: &mut String) -> Reported {
     play_all(alloc, Honest::Two, words, answer)
 }
@@ -49,7 +50,7 @@ fn play_all(alloc: Global, honest: Honest, words: &str, answer: &mut String) -> 
     Ok(())
 }
 
-/// The task in the words `COUNT MOVES START DEPTH`.
+/// Reads what to play from the words `COUNT MOVES START DEPTH`.
 fn task_of(words: &str) -> Option<Task> {
     let (count, words) = words.split_once(' ')?;
     let (moves, words) = words.split_once(' ')?;
@@ -62,7 +63,7 @@ fn task_of(words: &str) -> Option<Task> {
     })
 }
 
-/// Plays the schedule with this number.
+/// Plays the schedule with this number, and adds its results to the report.
 fn play(
     alloc: Global,
     settings: &Settings,

@@ -1,4 +1,4 @@
-//! Nodes in threads of their own, with gates that wait for one another.
+//! The tests of nodes that run in threads of their own. A thread passes its gate before each turn; here the gates wait for one another.
 
 ghost use Rattle.std.specs.Prelude.{◌≡◌, ◌+◌, [], length, vec_len, All, IfOk, OnOk};
 
@@ -14,22 +14,23 @@ use std::thread::{self, Threads};
 use test_cases::put;
 use wire::{Author, Message};
 
-// How often a gate looks for the flag that it waits for, until it opens without it.
+// How often a gate polls the flag that it waits for. After that it opens although the flag isn't raised.
 const LOOKS: u64 = 10_000_000;
 
-/// Nodes in memory.
+/// A cluster of nodes whose disks are in memory.
 type Nodes<'a> = Cluster<'a, HashSign, MemDisk, HashVerify>;
 
-// A gate that raises a flag in one of its passes, and in the first one waits until another flag is raised. It counts its passes.
+// A gate that a thread passes before each turn. It raises a flag in one of its passes, and in the first pass it waits until another flag
+// is raised. It counts its passes.
 #[derive(Drop)]
 struct FlagGate<'f> {
     passes: u64,
     count: &'f AtomicU64,
-    // The pass in which the flag is raised, before anything is waited for.
+    // The pass, counted from 1, in which this gate raises its flag. It does so before it waits for the other flag.
     raises_in: u64,
     raises: &'f AtomicBool,
     awaits: &'f AtomicBool,
-    // Raised if a gate has waited for its flag in vain.
+    // Raised if some gate waited in vain, and opened although its flag was not raised.
     missed: &'f AtomicBool,
 }
 
@@ -73,7 +74,7 @@ fn gate<'f>(
     }
 }
 
-/// Runs two nodes whose gates wait for each other, so that each needs a thread of its own.
+/// Runs two nodes in threads whose gates wait for each other: this ends well only if each node has a thread of its own.
 pub fn meet<R>(rt: &R, alloc: Global, settings: &Settings, answer: &mut String)
 where
     R: Threads + Wait + Sync,
@@ -88,8 +89,8 @@ where
     }
 }
 
-// Runs two nodes in threads for one turn, each with a gate that raises a flag and waits for the flag of the other gate. Gives whether each
-// gate was passed once, and found the other flag raised.
+// Runs two nodes in threads for one turn. Each has a gate that raises a flag and waits for the flag of the other gate. Returns whether
+// each gate was passed once, and none waited in vain.
 fn have_met<R>(rt: &R, alloc: Global, settings: &Settings) -> Result<bool, ClusterError>
 where
     R: Threads + Wait + Sync,
@@ -117,8 +118,8 @@ fn count_of(count: &AtomicU64) -> u64 {
     count.load(Ordering::SeqCst)
 }
 
-/// `circulate TURNS` gives each of four nodes its own header, without flushing it, and lets them run for this many turns, the others from
-/// node 0's second turn on. Shows how many outputs each node then has, and how many of these the others know.
+/// `circulate TURNS` gives each of four nodes its own header without flushing it, and lets all run in threads for this many turns. Nodes 1
+/// to 3 begin at node 0's second turn. Shows how many outputs each node has at the end, and how many of them each other node has taken.
 pub fn circulate<R>(rt: &R, alloc: Global, settings: &Settings, words: &str, answer: &mut String)
 where
     R: Threads + Wait + Sync,
@@ -151,7 +152,7 @@ where
     Ok(())
 }
 
-// Gives a node the header that it proposes.
+// Gives a node the header that it would propose, as its own.
 fn give_own(nodes: &mut Nodes<'_>, node: Author) -> Result<(), ClusterError>
     ensures { length nodes.new.members ≡ length nodes.old.members }
 {
@@ -166,7 +167,7 @@ fn give_own(nodes: &mut Nodes<'_>, node: Author) -> Result<(), ClusterError>
     Ok(())
 }
 
-// Shows how many outputs a node has, and in how many deliveries of one of them to another node that one knows it.
+// Adds how many outputs a node has put out, and how many of them each other node has taken already: a second delivery answers "known".
 fn report_known(
     nodes: &mut Nodes<'_>,
     node: Author,
@@ -208,7 +209,7 @@ fn is_known(
     ))
 }
 
-// Runs four nodes, the others from node 0's second turn on. Each gate is passed in each turn.
+// Runs four nodes in threads, nodes 1 to 3 from node 0's second turn on. A thread passes its gate before each of its turns.
 fn run_after<'a, R>(
     rt: &R,
     alloc: Global,
@@ -251,7 +252,7 @@ fn add<'f>(gates: &mut Vec<FlagGate<'f>>, gate: FlagGate<'f>) -> Result<(), Clus
     }
 }
 
-// The first `count` nodes, each on an empty disk in memory.
+// A cluster of the first `count` members' nodes, each on an empty disk in memory.
 fn nodes<'a>(alloc: Global, settings: &'a Settings, count: usize) -> Result<Nodes<'a>, ClusterError>
     ensures { IfOk result (λ nodes. length nodes.members ≡ count) }
 {

@@ -9,7 +9,7 @@ use test_cases::write_hex;
 use validator::Config;
 use wire::{Author, Key};
 
-/// The member whose node it is, unless a case says otherwise.
+/// The member whose node is tested, unless a test case names another one.
 pub const OWN: Author = Author(0);
 
 /// The stakes of a committee of four, all equal.
@@ -18,7 +18,7 @@ pub const FOUR: [u64; 4] = [1; 4];
 /// The stakes of a committee of seven.
 pub const SEVEN: [u64; 7] = [1; 7];
 
-/// The setting of a node, in two forms.
+/// The setting of a node (who it is, and its committee), for the running code and for the reference implementation.
 #[derive(Drop)]
 pub struct Setting {
     /// The configuration of the running code.
@@ -27,7 +27,7 @@ pub struct Setting {
     pub node: Node<HashSign>,
 }
 
-/// The setting of the member with this number among as many members as there are stakes, if there is one.
+/// The setting of member `own` of a committee that has one member for each stake. None if the committee has no such member.
 pub fn setting_of(
     alloc: Global,
     own: u8,
@@ -56,7 +56,7 @@ pub fn own_setting(alloc: Global) -> Result<Setting, AllocError> {
     }
 }
 
-/// The configuration of member 0 of four or of seven.
+/// The configuration of member 0 in a committee with these stakes (`FOUR` or `SEVEN`).
 pub fn own_config(alloc: Global, stakes: &[u64]) -> Result<Config<HashSign>, AllocError> {
     match config_of(alloc, 0, DEFAULT_DEPTH, stakes)? {
         Some(config) => Ok(config),
@@ -96,7 +96,7 @@ fn committee_of(
     }
 }
 
-/// Adds the line of a committee file that has the keys of this many members.
+/// Adds the line `members = [..]` to a committee file, with the public keys of this many members.
 fn put_keys(file: &mut String, count: usize) -> Reported {
     file.push_str("members = [")?;
     let mut byte = 0u8;
@@ -109,7 +109,7 @@ fn put_keys(file: &mut String, count: usize) -> Reported {
     file.push_str("]\n")
 }
 
-/// Adds the line of a committee file that has the stakes.
+/// Adds the line `stakes = [..]` to a committee file.
 fn put_stakes(file: &mut String, stakes: &[u64]) -> Reported {
     file.push_str("stakes = [")?;
     for stake in stakes {

@@ -1,5 +1,5 @@
-//! The tests of everything that needs a disk: of the disks, the journal and the book, of openings and scripts of a node, of lists of random
-//! steps, of the node that threads share, and of the programs. There is a file of cases for each of these crates and programs.
+//! The tests of everything that needs a disk: disks, the journal and the book, openings of a node, scripts, random lists of steps, the node
+//! that threads share, and the programs. Each of these crates and programs has a file of test cases.
 #![tactic(auto)]
 
 mod committees;
@@ -22,12 +22,12 @@ use store::{StoreCases, laws_hold};
 use test_cases::{Ending, Player, Reported, names_of};
 use validator::Config;
 
-/// What the commands of a case work on.
+/// The state that the commands of a test case work on.
 #[derive(Drop)]
 struct Cases<'a> {
     store: StoreCases<'a>,
     live: Case,
-    /// Whether the case is one of the store.
+    /// Whether `store` plays the test case (disks in memory, journal, book, openings), and not `live` (files, programs, running nodes).
     has_store: bool,
 }
 
@@ -46,7 +46,7 @@ impl<'a> Cases<'a> {
         self.store.begin()
     }
 
-    /// `store` begins a case of the store.
+    /// Carries out a command, and adds its answer. After the command `store` all commands of the test case go to `StoreCases`.
     fn obey<R>(&mut self, rt: &R, command: &str, answer: &mut String) -> Reported
     where
         R: Files<File = File> + AllocGlobal + Threads + Wait + Sync,
@@ -73,7 +73,7 @@ fn main(rt: HostRuntime) -> ExitCode {
     }
 }
 
-/// Plays the files with these names. Gives whether there is at least one, and all commands were answered as expected.
+/// Plays the files of test cases with these names. Returns whether there is at least one file, and each command was answered as expected.
 fn tested<R>(rt: &R, config: &Config<HashSign>, names: &[String]) -> Result<bool, Ending>
 where
     R: Files<File = File> + Print + AllocGlobal + Threads + Wait + Sync,
@@ -85,7 +85,7 @@ where
     Ok(right)
 }
 
-/// Plays the file of this name.
+/// Plays the file of test cases with this name. Returns whether each command was answered as expected.
 fn is_right<R>(rt: &R, config: &Config<HashSign>, name: &str) -> Result<bool, Ending>
 where
     R: Files<File = File> + Print + AllocGlobal + Threads + Wait + Sync,
@@ -95,7 +95,7 @@ where
     played(rt, config, player, &mut io::writer(rt))
 }
 
-/// Plays the cases, and prints the report of the lists after that.
+/// Plays the test cases of a file. Afterwards prints the report of the random lists of steps, if the file asked for any.
 fn played<R, I, W>(
     rt: &R,
     config: &Config<HashSign>,
@@ -128,7 +128,7 @@ where
     Ok(right)
 }
 
-/// Plays each title and command. The loop owns nothing, since everything that a loop owns makes the proof more expensive at each exit.
+/// Plays each line of a file: the title of a test case, or a command. The loop owns nothing: what a loop owns makes its proof slower.
 fn play_each<R, I, W>(rt: &R, player: &mut Player<I, W>, cases: &mut Cases) -> Result<(), Ending>
 where
     R: Files<File = File> + AllocGlobal + Threads + Wait + Sync,
@@ -144,7 +144,7 @@ where
     Ok(())
 }
 
-/// Plays a title or a command.
+/// Plays one line of a file: the title of a test case, or a command.
 fn play<R, I, W>(rt: &R, player: &mut Player<I, W>, cases: &mut Cases) -> Result<(), Ending>
 where
     R: Files<File = File> + AllocGlobal + Threads + Wait + Sync,

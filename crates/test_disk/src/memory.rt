@@ -6,7 +6,7 @@ use sim_run::losing;
 use std::alloc::{AllocError, Global};
 use std::mem;
 
-/// A disk that has these bytes.
+/// A disk in memory that holds these bytes, all of them synced.
 pub fn disk_with(alloc: Global, bytes: &[u8]) -> Result<MemDisk, AllocError> {
     MemDisk::new(alloc, bytes.to_vec(alloc)?)
 }
@@ -23,19 +23,19 @@ pub fn failing_disk(
     Ok(disk)
 }
 
-/// Takes a disk out, and leaves an empty one in its place.
+/// Moves a disk out of its place, and leaves an empty disk there.
 pub fn taken(alloc: Global, disk: &mut MemDisk) -> Result<MemDisk, AllocError> {
     Ok(mem::replace(disk, disk_with(alloc, &[])?))
 }
 
-/// Stops a disk, which loses what isn't synced.
+/// Stops a disk as a crash of the machine does. What was not synced is lost.
 pub fn stopped(alloc: Global, disk: MemDisk) -> Result<MemDisk, AllocError> {
     let mut disk = losing(alloc, disk)?;
     disk.stop();
     Ok(disk)
 }
 
-/// Stops a disk so that it leaves these bytes.
+/// Stops a disk as a crash of the machine does, and chooses that the crash leaves these bytes.
 pub fn stop_with(alloc: Global, disk: &mut MemDisk, bytes: &[u8]) -> Reported {
     disk.choose(bytes.to_vec(alloc)?);
     disk.stop();

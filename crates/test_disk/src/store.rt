@@ -42,7 +42,7 @@ use validator::Config;
 use words::{Reported, Word, parted, words_of};
 use worlds::Worlds;
 
-/// What the commands of a case work on, new in each case.
+/// The state that the commands of a test case work on, new in each test case.
 #[derive(Drop)]
 pub struct StoreCases<'a> {
     alloc: Global,
@@ -50,12 +50,12 @@ pub struct StoreCases<'a> {
     node: Node,
     worlds: Worlds,
     areas: AreaLists<'a>,
-    /// Whether the case is one of the node, and not of the store.
+    /// Whether the test case has a node, since one of its commands was `node` or `file`; without one it has a disk, a journal and a book.
     has_node: bool,
 }
 
 impl<'a> StoreCases<'a> {
-    /// The state before the first case.
+    /// The state before the first test case of a file.
     pub fn new(alloc: Global, config: &'a Config<HashSign>) -> Result<StoreCases<'a>, AllocError> {
         Ok(StoreCases {
             alloc,
@@ -67,7 +67,7 @@ impl<'a> StoreCases<'a> {
         })
     }
 
-    /// Begins a case.
+    /// Begins a new test case: forgets what the last one made.
     pub fn begin(&mut self) -> Reported {
         self.has_node = false;
         self.areas.begin();
@@ -85,12 +85,12 @@ impl<'a> StoreCases<'a> {
         self.obey_words(name, words.as_slice(), answer)
     }
 
-    /// The report of the lists.
+    /// The report of the random lists of steps that were played: how many lists there were, and of how many steps.
     pub fn report(&self) -> &[u8] {
         self.worlds.report()
     }
 
-    /// `node` or `file` makes the case one of the node, since some names of commands mean something else for the store.
+    /// Carries out a command. The commands `node` and `file` give the test case a node: some names mean something else without one.
     fn obey_words(&mut self, name: &str, words: &[Word], answer: &mut String) -> Reported {
         match name {
             "lists" => return self.worlds.obey(words, answer),
@@ -113,7 +113,7 @@ impl<'a> StoreCases<'a> {
     }
 }
 
-/// Calls each law of the libraries below that has no condition.
+/// Calls each law of the tested crates that has no precondition. A law is a function whose contract is a theorem and that does nothing.
 pub fn laws_hold() {
     journal::written_groups_stand();
     spec_records::one_record();

@@ -1,10 +1,10 @@
-//! What the words of all commands have in common.
+//! The parts that the commands of all test cases share: how their words are read, and how answers are written.
 
 use diskmodel::{CallKind, DiskFault};
 use std::fmt::Display;
 pub use test_cases::{Reported, bad, put};
 
-/// The kind of call of this name.
+/// The kind of device call with this name, for example `sync`.
 pub fn call_of(name: &str) -> Option<CallKind> {
     match name {
         "read" => Some(CallKind::Read),
@@ -15,24 +15,24 @@ pub fn call_of(name: &str) -> Option<CallKind> {
     }
 }
 
-/// The texts before and after the first blank; the whole text and nothing where there is no blank.
+/// Splits a text at its first blank. Without a blank the first part is the whole text and the second one is empty.
 pub fn parted(text: &str) -> (&str, &str) {
     text.split_once(' ').unwrap_or((text, ""))
 }
 
-/// Adds a line that says how a call of a disk failed, if it did.
+/// Adds a line to the answer that says how a device call failed; adds nothing if the call succeeded.
 pub fn report_fault(answer: &mut String, outcome: Result<(), DiskFault>) {
     if let Err(fault) = outcome {
         put_shown(answer, "", &fault, "\n");
     }
 }
 
-/// Adds a number between two texts.
+/// Adds a text, a number in decimal and another text to the answer.
 pub fn put_count(answer: &mut String, before: &str, count: u64, after: &str) {
     let _ = write!(answer, "{before}{count}{after}");
 }
 
-/// Adds a value between two texts.
+/// Adds a text, a value as it displays itself and another text to the answer.
 pub fn put_shown<T: Display>(answer: &mut String, before: &str, shown: &T, after: &str) {
     let _ = write!(answer, "{before}{shown}{after}");
 }

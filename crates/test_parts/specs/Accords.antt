@@ -1,4 +1,4 @@
--- What the programs test that compare two histories.
+-- What the tests check of the histories of two nodes: that their certificates agree.
 use Rattle.std.specs.Prelude.{◌≡◌, ℕ, Bool, true, List, slice_get}
 use Rattle.std.specs.List.{list_all}
 use Rattle.std.specs.Option.{option_map_or}
@@ -7,12 +7,12 @@ use Rattle.spec_model.specs.Admitting.{same_header}
 use Rattle.spec_model.specs.Slots.{Slots, slots_of}
 use Rattle.spec_model.specs.Words.{Certificate}
 
--- where both fill a slot, both have the same header there
+-- if both histories have a certificate for this round and author, both certificates certify the same header
 abbrev pub has_one_header : Slots → Slots → ℕ → ℕ → Bool
 has_one_header one other round author =
     option_map_or (λ c. option_map_or (λ d. same_header c.header d.header) (other round author) true) (one round author) true
 
--- in each slot that the certificates of one node fill, both have the same header if both fill it
+-- the same for each round and author that the certificates of the left history fill
 abbrev pub have_one_header : List Certificate → List Certificate → Bool
 have_one_header one other =
     list_all (λ c. has_one_header (slots_of one) (slots_of other) c.header.round c.header.author.0) one

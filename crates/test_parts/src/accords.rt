@@ -1,5 +1,5 @@
-//! Pairs of histories of two nodes of one committee, and what their orders have in common, as `oracles/accords.py` draws and
-//! computes them.
+//! The tests of pairs of histories of two nodes of one committee: what their orders have in common. `oracles/accords.py` draws the
+//! histories and computes the expected answers.
 
 mod agreeing;
 mod alike;
@@ -16,7 +16,7 @@ use playing::{Played, play_words};
 use sim_script::{BATCHES, FormError};
 use std::alloc::{AllocError, Global};
 
-/// The committee, the headers and the last history, and how many pairs there were.
+/// The state of the test cases on pairs of histories: the committee, the headers, the last history, and the number of pairs so far.
 #[derive(Drop)]
 pub struct Accords {
     alloc: Global,
@@ -28,7 +28,7 @@ pub struct Accords {
 }
 
 impl Accords {
-    /// No committee, and no pairs.
+    /// The state before the first command: no committee, and no pairs.
     pub fn new(alloc: Global) -> Accords {
         Accords {
             alloc,
@@ -61,7 +61,7 @@ impl Accords {
         }
     }
 
-    /// The depth, and after it the stakes, separated by commas.
+    /// Reads the committee of the next pairs: its depth (how many rounds a leader reaches down), then the stakes, separated by commas.
     fn gather(&mut self, words: &str) -> Result<(), FormError> {
         let (depth, stakes) = parted(words, ' ');
         self.depth = depth.parse().unwrap_or(0);
@@ -84,7 +84,7 @@ impl Accords {
         play_words(self.alloc, committee, &self.made, words)
     }
 
-    /// Plays a history, and shows what it and the one before it have in common.
+    /// Plays a history of events, and adds to the answer what it and the history played before it have in common.
     fn follow(&mut self, words: &str, answer: &mut String) -> Result<(), FormError> {
         let next = self.play(words)?;
         if let Some(last) = &self.last {

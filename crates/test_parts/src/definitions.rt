@@ -1,6 +1,6 @@
-//! The tests of the definitions: scripts over the reference implementations, whose contracts are the definitions. And those of the
-//! validator: histories of events, with the sums that `oracles/histories.py` computes over its steps; the first events are also played
-//! through the reference implementation of the tables.
+//! The tests of the definitions and of the validator. A definition is tested by scripts over the reference implementation whose contract
+//! it is. The validator takes histories of events, and sums over its answers have to be those of `oracles/histories.py`. The first events
+//! of a history also go through the reference implementation of the validator's tables.
 
 mod beside;
 mod keeping;
@@ -16,7 +16,7 @@ pub use played::{Played, coin};
 pub use validating::Gathered;
 pub use weighing::{committee_of, label_genesis};
 
-/// Calls each law; none has a precondition.
+/// Calls each law of the definitions; none has a precondition. A law is a function whose contract is a theorem and that does nothing.
 pub fn laws_hold() {
     spec_laws::one_vote();
     spec_laws::one_certificate();

@@ -1,5 +1,5 @@
-//! The tests of everything that needs no disk: the messages and the parts of a validator, the definitions, and the validator itself. The
-//! cases work on the public surface of these crates; they are in files, one for each crate or for each program that drew them.
+//! The tests of everything that needs no disk: messages, the parts of a validator, the definitions, and the validator itself. Test cases
+//! stand in files, one for each crate or for each program that drew them, and call public functions alone.
 #![tactic(auto)]
 
 mod accords;
@@ -18,7 +18,7 @@ use std::io::{self, BufRead, Write};
 use std::process::ExitCode;
 use test_cases::{Ending, Player, Reported, names_of};
 
-/// What a case is about.
+/// What the commands of a test case are about.
 #[derive(Clone, Copy)]
 enum About {
     /// The messages and the parts of a validator.
@@ -27,11 +27,11 @@ enum About {
     Definitions,
     /// A validator, and the reference implementation for its first events.
     Validator,
-    /// Pairs of histories of one committee, through the reference implementations.
+    /// Pairs of histories of two nodes of one committee, played by the reference implementations.
     Accords,
 }
 
-/// What the commands of the cases work on.
+/// The state that the commands of the test cases work on.
 #[derive(Drop)]
 struct Cases {
     about: About,
@@ -59,7 +59,8 @@ impl Cases {
         self.validator.begin()
     }
 
-    /// The first command `parts`, `validator` or `accords` starts a case of that kind, any other command one of the definitions.
+    /// Carries out a command. The first command `parts`, `validator` or `accords` says what the test case is about; any other first command
+    /// means the definitions.
     fn obey(&mut self, rt: &HostRuntime, command: &str, answer: &mut String) -> Reported {
         match self.about {
             About::Parts => self.parts.obey(command, answer),
@@ -75,8 +76,8 @@ impl Cases {
     }
 }
 
-/// The prefix of an argument that ends with a number of events. For the files that are named after it, tables are restored along their
-/// histories, each time after this many events.
+/// The prefix of an argument such as `restored-after=50`. Along each history of the files that the arguments name after it, a validator's
+/// tables are taken apart and restored after every 50 events.
 const RESTORED_AFTER: &str = "restored-after=";
 
 fn main(rt: HostRuntime) -> ExitCode {
@@ -87,8 +88,8 @@ fn main(rt: HostRuntime) -> ExitCode {
     }
 }
 
-/// Plays the files that the arguments name. Gives whether at least one was named, each of them has commands, and each command was answered
-/// as expected.
+/// Plays the files of test cases that the arguments name. Returns whether at least one was named, each has commands, and each command was
+/// answered as expected.
 fn tested(rt: &HostRuntime) -> Result<bool, Ending> {
     let names = names_of(rt, rt.alloc())?;
     let mut right = !names.is_empty();
@@ -106,7 +107,8 @@ fn tested(rt: &HostRuntime) -> Result<bool, Ending> {
     Ok(has_enough(rt, events > 0, &counts)? && right)
 }
 
-/// Restores tables along the histories of the file with this name, each time after this many events, and gives whether all were alike.
+/// Plays the histories of the file with this name and restores a validator's tables after every so many events. Returns whether the
+/// restored tables always behaved like the first ones.
 fn are_alike(
     rt: &HostRuntime,
     name: &str,
@@ -125,7 +127,7 @@ fn are_alike(
     Ok(alike)
 }
 
-/// Shows at how many states tables were restored, if they had to be, and gives whether that was often enough.
+/// Prints at how many states tables were restored, if an argument asked for it, and returns whether those were enough.
 fn has_enough(rt: &HostRuntime, restores: bool, counts: &Counts) -> Result<bool, Ending> {
     if !restores {
         return Ok(true);
@@ -136,7 +138,7 @@ fn has_enough(rt: &HostRuntime, restores: bool, counts: &Counts) -> Result<bool,
     Ok(counts.are_enough())
 }
 
-/// Plays the file with this name.
+/// Plays the file of test cases with this name. Returns whether each command was answered as expected.
 fn is_right(rt: &HostRuntime, name: &str) -> Result<bool, Ending> {
     let text = fs::read(rt, name)?;
     let mut player = Player::new(rt.alloc(), name, text.as_slice(), io::writer(rt));
@@ -153,7 +155,7 @@ where
     play_each(rt, player, &mut cases)
 }
 
-/// Plays each title and command. The loop owns nothing, since everything that a loop owns makes the proof more expensive at each exit.
+/// Plays each line of a file: the title of a test case, or a command. The loop owns nothing: what a loop owns makes its proof slower.
 fn play_each<I, W>(
     rt: &HostRuntime,
     player: &mut Player<I, W>,
@@ -172,7 +174,7 @@ where
     Ok(())
 }
 
-/// Plays a title or a command.
+/// Plays one line of a file: the title of a test case, or a command.
 fn play<I, W>(rt: &HostRuntime, player: &mut Player<I, W>, cases: &mut Cases) -> Result<(), Ending>
 where
     I: BufRead + Drop,

@@ -1,5 +1,5 @@
-//! The tests of the messages, of the committee, of the checks of messages, of counting votes, making batches and letting certificates wait,
-//! and of what a validator orders by: votes, batches, the DAG, the commit rule and the segments.
+//! The tests of messages, of the committee, of the checks that messages have to pass, of counting votes, of making batches, and of how
+//! certificates wait for their parents; and of the tables of a validator: votes, batches, the DAG, the leaders and what they order.
 
 mod certificates;
 mod committees;
@@ -25,7 +25,7 @@ use tables::Tables;
 use words::Reported;
 pub use words::{list, parted, whether};
 
-/// What the commands of a case work on.
+/// The state that the commands of a test case work on.
 #[derive(Drop)]
 pub struct Parts {
     tables: Tables,
@@ -33,7 +33,7 @@ pub struct Parts {
 }
 
 impl Parts {
-    /// The state before the first case.
+    /// The state before the first test case of a file.
     pub fn new(alloc: Global) -> Parts {
         Parts {
             tables: Tables::new(alloc),
@@ -41,7 +41,7 @@ impl Parts {
         }
     }
 
-    /// Begins a case.
+    /// Begins a new test case: forgets what the last one made.
     pub fn begin(&mut self) {
         self.tables.begin();
         self.ordering.begin();

@@ -1,6 +1,6 @@
-//! The tests of restoring tables. Each history of a file of cases is played by a member. Each time that it has taken a number of events,
-//! which an argument gives, its tables are taken apart and restored in a second member. Both then take the same number of events more, and
-//! have to be alike.
+//! The tests of restoring tables. One validator plays each history of a file. After every so many events (an argument gives the number)
+//! its tables are taken apart, and a second validator is restored from them. Both then take as many further events, and have to answer
+//! them alike.
 
 mod alike;
 mod counts;
