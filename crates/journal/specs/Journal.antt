@@ -13,27 +13,27 @@ use Rattle.journal.specs.declared.spare.Spare.{Spare}
 use Rattle.journal.specs.Areas.{reports, IsAtRest}
 use Rattle.journal.specs.Format.{group_bytes, kept, walk, stands, ScansTo}
 
--- the disk to which a journal is written
+-- the disk to which a journal appends
 abbrev pub disk_of : {D : Type 0} → Journal D → D
 disk_of journal = journal.disk
 
--- the spare disk of a journal on two disks, with the side and the generation of the one that is written to
+-- the spare disk of a journal on two disks, with the side and the generation of the area to which the journal appends
 abbrev pub spare_of : {D : Type 0} → Journal D → Option (Spare D)
 spare_of journal = journal.spare
 
--- the disk after a call that took it: the call's value holds it, or its error hands it back
+-- the disk after a call that took it by value: it is in the result of the call, or the error hands it back
 abbrev pub disk_after : {T D E : Type 0} → (T → D) → Result T (Failed E D) → D
 disk_after disk_in (Ok given) = disk_in given
 disk_after disk_in (Err failed) = failed.disk
 
--- A call that takes a disk, and gives it back with its result, gives this error exactly where the disk has failed since.
+-- A call that takes a disk and gives it back reports this error if and only if the disk has counted a failed call during it.
 abbrev pub ReportsFaultBack : {T D E : Type 0} → Device D → (T → D) → E → D → Result T (Failed E D) → Type 0
 ReportsFaultBack device disk_in error disk result =
     IfOk result (λ given. device.faults (disk_in given) ≡ device.faults disk)
     × IfErr result (λ failed. (failed.error ≡ error → device.faults disk < device.faults failed.disk)
     × (failed.error ≢ error → device.faults failed.disk ≡ device.faults disk))
 
--- A file is read as records, and the closed gate that ends its groups is its last byte.
+-- A file is read as records without damage, and its last byte is the closed gate at which reading ends.
 pub record EndsClosed (file : List ℕ) : Type 0 where
   pub records : List Record
   pub stands_for : stands file ≡ Ok records
@@ -47,52 +47,53 @@ pub record IsNewPair (live spare : List ℕ) (side : Side) (generation : ℕ) : 
   pub first : side ≡ First
   pub other_short : length spare ≡ 1
 
--- Of two disks, the one that is written to has its generation in its first group, unless the pair is new; the spare is at rest and durable.
+-- The two disks of a journal: the area to which it appends has its generation in its first group, unless the pair is new; the spare one is
+-- at rest (it will not be read) and durable.
 pub record IsAlivePair {D : Type 0} (device : Device D) (live : D) (spare : Spare D) : Type 0 where
   pub of_generation : (reports (device.content live) ≡ Some (Some spare.generation)) ⊎ IsNewPair (device.content live) (device.content spare.disk) spare.side spare.generation
   pub at_rest : IsAtRest spare.generation (device.content spare.disk)
   pub durable : LeavesOnly (device.content spare.disk) (device.outcome spare.disk)
 
--- A journal to which can be appended: its file ends with its closed gate and is durable, and its length is known. So is the spare, if there
--- is one.
+-- A journal to which groups can be appended: its file ends with the closed gate at which reading ends, is durable, and has the length that
+-- the journal has noted. A spare disk, if there is one, is durable too.
 pub record IsAlive {D : Type 0} (device : Device D) (journal : Journal D) : Type 0 where
   pub ends_closed : EndsClosed (device.content (disk_of journal))
   pub len : journal.len ≡ length (device.content (disk_of journal))
   pub durable : LeavesOnly (device.content (disk_of journal)) (device.outcome (disk_of journal))
   pub pair : IfSome (spare_of journal) (IsAlivePair device (disk_of journal))
 
--- the calls that append a group of these records to a file of this length: the group is written after the file's closed gate, and synced;
--- then the gate is opened, in a write of its own, and synced
+-- the four device calls by which a group is appended to a file of this length: the group is written after the file's closed gate, and the
+-- file is synced; then the gate is opened by a write of its own, and the file is synced again
 abbrev pub append_calls : ℕ → List (List ℕ) → List Call
 append_calls len records = Wrote len (group_bytes records) ∷ Synced ∷ Wrote (len - 1) (OPEN ∷ []) ∷ Synced ∷ []
 
--- after the earlier calls some of these were made, the first ones first
+-- a disk made some of these calls after its earlier ones: the first ones, in their order
 pub record MadeSome (calls old new : List Call) : Type 0 where
   pub made : List Call
   pub left : List Call
   pub are : calls ≡ made ++ left
   pub is : new ≡ old ++ made
 
--- these records, and then those of a group whose gate is at this place
+-- a reading of a file with one more group: the records that were read before, and then those of the group whose gate is at this place
 abbrev pub with_group : ℕ → List (List ℕ) → Result (List Record) ℕ → Result (List Record) ℕ
 with_group gate group (Ok records) = Ok (records ++ kept gate group)
 with_group gate group (Err place) = Err place
 
--- what this file is read as, and then the records of a group whose gate is its last byte
+-- what this file is read as with one more group, whose gate is the file's last byte
 abbrev pub stands_with : List ℕ → List (List ℕ) → Result (List Record) ℕ
 stands_with file group = with_group (length file - 1) group (stands file)
 
--- What an opening leaves of a file: one closed gate, if the file has at most one byte, and otherwise its bytes up to the closed gate at
+-- What an opening leaves of a file: one closed gate if the file has at most one byte, and otherwise the bytes up to the closed gate at
 -- which reading ends.
 pub record IsClosedUp (file left : List ℕ) : Type 0 where
   pub short : length file < 2 → left ≡ CLOSED ∷ []
   pub long : 2 ≤ length file → (gate : ℕ) × ScansTo file gate × (left ≡ take (gate + 1) file)
 
--- what a stop leaves is read as the records of this file, or as these and then the whole group
+-- what a stop during an append leaves is read as the records of the old file, or as those records and then the whole group
 abbrev pub IsBeforeOrAfter : List ℕ → List (List ℕ) → List ℕ → Type 0
 IsBeforeOrAfter file group left = (stands left ≡ stands file) ⊎ (stands left ≡ stands_with file group)
 
--- both files are read as the same records; neither is damaged
+-- two files are read as the same records, without damage
 abbrev pub HaveSameRecords : List ℕ → List ℕ → Type 0
 HaveSameRecords file left = (records : List Record) × (stands file ≡ Ok records) × (stands left ≡ Ok records)
 
@@ -102,14 +103,14 @@ StandsAsOneOf outcome left = outcome left ⊎ ((first : List ℕ) × outcome fir
 
 -- ---- two areas
 
--- two files have the same generation, and are read as the same records
+-- two areas have the same generation, and are read as the same records
 abbrev pub AreSame : List ℕ → List ℕ → Type 0
 AreSame file left = (reports left ≡ reports file) × HaveSameRecords file left
 
--- what a stop leaves is one of these outcomes byte for byte, or has the generation and the records of one that isn't damaged
+-- what a stop leaves of an area is one of these outcomes byte for byte, or has the generation and the records of an undamaged one of them
 abbrev pub IsAsOneOf : (List ℕ → Type 0) → List ℕ → Type 0
 IsAsOneOf outcome left = outcome left ⊎ ((was : List ℕ) × outcome was × AreSame was left)
 
--- what a stop leaves is this file, or has the same generation and records
+-- what a stop leaves is these bytes, or has the same generation and is read as the same records
 abbrev pub IsSameAs : List ℕ → List ℕ → Type 0
 IsSameAs file left = (left ≡ file) ⊎ AreSame file left

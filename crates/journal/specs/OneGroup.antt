@@ -1,4 +1,4 @@
--- No two groups have the same bytes.
+-- Two different groups never have the same bytes.
 use Rattle.std.specs.Prelude.{◌≡◌, ℕ, ◌+◌, ◌<◌, ◌≤◌, ◌^◌, List, [], ◌∷◌, ◌++◌, length, take, drop}
 use Rattle.std.specs.Int.{w32, from_be_bytes}
 use Rattle.std.proofs.Common.{refl, sym, ◌∙◌, ap, subst, arith}
@@ -9,7 +9,7 @@ use Rattle.std.proofs.lemmas.Nat.{from_be_bytes-to_be_bytes_4}
 use Rattle.journal.specs.declared.layout.TheConstants.{CLOSED, LENGTH_BYTES, MAX_GROUP_BYTES}
 use Rattle.journal.specs.Format.{FitsGroup, body_len, body_bytes, sized_body, group_bytes, IsGroup}
 
--- no two lists of records have the same body
+-- two different lists of records never have the same body
 pub same_body : (a b : List (List ℕ)) → body_len a ≤ MAX_GROUP_BYTES → body_len b ≤ MAX_GROUP_BYTES → body_bytes a ≡ body_bytes b → a ≡ b
 same_body [] [] short_a short_b same = refl
 same_body [] (s ∷ b) short_a short_b same = absurd (omega (arith, ap length same))
@@ -31,7 +31,7 @@ same_records : (a b : List (List ℕ)) → FitsGroup a → FitsGroup b → group
 same_records a b fits_a fits_b same = same_body a b fits_a.not_long fits_b.not_long (ap (drop LENGTH_BYTES) (append_cancel_right (sized_body a) (sized_body b) (CLOSED ∷ []) same))
 
 module _ (bytes : List ℕ) (count : ℕ) where
-  -- what `IsGroup` says of its records
+  -- what `IsGroup` says of the records of a group
   abbrev Said : List (List ℕ) → Type 0
   Said records = FitsGroup records × (bytes ≡ group_bytes records) × (count ≡ length records)
 
@@ -44,10 +44,10 @@ module _ (bytes : List ℕ) (count : ℕ) where
   made_once : (a b : List (List ℕ)) → a ≡ b → (p : Said a) (q : Said b) → made a p ≡ made b q
   made_once a b same p q = subst (λ (r : List (List ℕ)). (s : Said r) → made a p ≡ made r s) same (λ s. ap (made a) (said_once a p s)) q
 
-  -- these bytes are those of at most one group
+  -- bytes are those of at most one group: there is at most one proof of `IsGroup` for them
   pub one_group : IsProp (IsGroup bytes count)
   one_group x y = made_once x.records y.records (same_records x.records y.records x.fits y.fits (sym x.written ∙ y.written)) (x.fits, x.written, x.counts) (y.fits, y.written, y.counts)
 
-  -- the group's records are the ones from which these bytes were made
+  -- if bytes were made of certain records, then the group that has these bytes has those records
   pub records_are : (group : IsGroup bytes count) (records : List (List ℕ)) → FitsGroup records → bytes ≡ group_bytes records → group.records ≡ records
   records_are group records fits written = same_records group.records records group.fits fits (sym group.written ∙ written)

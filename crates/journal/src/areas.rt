@@ -1,4 +1,4 @@
-//! How the two areas of a journal on two disks are opened.
+//! How the two areas of a journal on two disks are opened: which one is read, and what the opening leaves of both.
 
 ghost use Rattle.std.specs.Prelude.{◌≡◌, ◌≢◌, ◌⊎◌, ◌+◌, ℕ, Some, None, Ok, Err, IfOk, IfErr, OnOk, IsErrOf, length, take};
 ghost use Rattle.diskmodel.specs.Disk.{LeavesOnly, AtEachMoment, NoneNew, ReportsFault};
@@ -34,7 +34,7 @@ fn read_front<D: Disk>(alloc: Global, disk: &mut D, most: u64) -> Result<Vec<u8>
     Ok(bytes)
 }
 
-// What the first group of an area says of its generation (`reports`). The area's disk is durable after the call.
+// Reads from an area's first group what it says of the area's generation (`reports`). Afterwards the area's disk is durable.
 fn reported_by<D: Disk>(alloc: Global, disk: &mut D) -> Result<Option<Option<u64>>, JournalError>
     ensures reported { IfOk result (λ reported. reported ≡ reports (D.device.content disk.old)) }
     ensures content { D.device.content disk.new ≡ D.device.content disk.old }
@@ -49,7 +49,7 @@ fn reported_by<D: Disk>(alloc: Global, disk: &mut D) -> Result<Option<Option<u64
     Ok(reports(alloc, &bytes)?)
 }
 
-// Which area is read, by what both first groups say, and its generation. A new pair begins in the first area.
+// Chooses the area that is read, by what the first groups of both say, and its generation. In a new pair that is the first area.
 #[tactic(auto, unfolding(crate::specs::Areas::chosen))]
 fn choose(
     first: Option<Option<u64>>,
@@ -76,7 +76,7 @@ fn choose(
     }
 }
 
-// Hands the records of the area that is read to a reader. The file is left with a closed gate at its end, and its length is given.
+// Gives the records of the area that is read to a reader. Leaves the file with a closed gate at its end, and returns its length.
 fn open_area<D: Disk, R: Reader>(
     alloc: Global,
     side: Side,
@@ -103,7 +103,7 @@ fn open_area<D: Disk, R: Reader>(
     Ok(gate + 1)
 }
 
-// Leaves one closed gate of an area whose first gate isn't open.
+// Cuts an area whose first gate is closed to that one gate.
 fn shut_area<D: Disk>(disk: &mut D) -> Result<(), JournalError>
     requires shut { reports (D.device.content disk.old) ≡ None }
     requires durable { LeavesOnly (D.device.content disk.old) (D.device.outcome disk.old) }
@@ -120,7 +120,7 @@ fn shut_area<D: Disk>(disk: &mut D) -> Result<(), JournalError>
     close_end(disk, len, 0)
 }
 
-// Leaves the spare area at rest: one closed gate where its first gate isn't open, and otherwise all its bytes.
+// Leaves the spare area at rest: one closed gate if its first gate is closed (`shut`), and otherwise all its bytes.
 fn rest_area<D: Disk>(disk: &mut D, shut: bool) -> Result<(), JournalError>
     requires shut { shut ≡ is_shut (D.device.content disk.old) }
     requires durable { LeavesOnly (D.device.content disk.old) (D.device.outcome disk.old) }
@@ -137,7 +137,7 @@ fn rest_area<D: Disk>(disk: &mut D, shut: bool) -> Result<(), JournalError>
     Ok(())
 }
 
-// Opens both areas. The one on this side, of this generation, is the one that is read.
+// Opens both areas, once it is known which one is read: the one on this side, with this generation.
 fn settle<D: Disk, R: Reader>(
     alloc: Global,
     side: Side,
@@ -168,16 +168,16 @@ fn settle<D: Disk, R: Reader>(
     Ok(len)
 }
 
-// The result of opening both areas.
+// What opening both areas has found.
 pub(crate) struct Opened {
     // The side of the area that is read, and its generation.
     pub(crate) side: Side,
     pub(crate) generation: u64,
-    // The length of the file that is read.
+    // The length of the area that is read, in bytes.
     pub(crate) len: u64,
 }
 
-// Opens both areas. The one on this side, of this generation, is read; a flag for each says whether its first gate is closed.
+// Opens both areas. The one on this side, of this generation, is read; the two flags say whether the first gates are closed.
 fn settle_side<D: Disk, R: Reader>(
     alloc: Global,
     choice: (Side, u64),

@@ -1,4 +1,4 @@
-//! The shape of the records in the first group of an area.
+//! The form of the records in the first group of an area: a configuration, and the head of a checkpoint.
 
 ghost use Rattle.std.specs.Prelude.{◌≡◌, ◌*◌, ◌≤◌, length};
 ghost use Rattle.journal.specs.Configuration.{number_of, stakes_size, size_in, has_front, is_configuration as reported_configuration, shaped_version as reported_version};
@@ -6,25 +6,25 @@ ghost use Rattle.journal.specs.Areas.{head_in as spec_head_in};
 
 use crate::version::Version;
 
-/// The kind of the record of a node's configuration.
+/// The kind of record that holds a node's configuration, its first byte.
 pub const CONFIGURATION: u8 = 0;
 
-/// The kind of the record of a checkpoint's head.
+/// The kind of record that holds a checkpoint's generation (its head), its first byte.
 pub const HEAD: u8 = 2;
 
-/// The bytes of a configuration before the members' keys.
+/// How many bytes of a configuration come before the members' keys.
 pub const SETTINGS_BYTES: usize = 14;
 
-/// The bytes of a key.
+/// The length of a key, in bytes.
 pub const KEY_BYTES: usize = 32;
 
-/// The bytes of a stake.
+/// The length of a stake, in bytes.
 pub const STAKE_BYTES: usize = 4;
 
-/// The bytes of a head: its kind, and the generation.
+/// The length of a head, in bytes: its kind, and the generation.
 pub const HEAD_BYTES: usize = 9;
 
-/// The version of whose configurations these bytes have the shape, if there is one.
+/// The version of the format in which these bytes have the form of a configuration; None if there is none.
 pub fn shaped_version(bytes: &[u8]) -> Option<Version>
     ensures { result ≡ reported_version bytes.now }
 {
@@ -37,7 +37,8 @@ pub fn shaped_version(bytes: &[u8]) -> Option<Version>
     }
 }
 
-// Whether bytes have the shape of a configuration: its kind, the version, and the length that its number of members requires.
+// Whether bytes have the form of a configuration of this version: its kind, the version, and the length that the number of members
+// requires.
 #[tactic(auto, unfolding(crate::specs::Configuration::is_configuration))]
 fn is_configuration(version: Version, bytes: &[u8]) -> bool
     ensures { result ≡ reported_configuration version bytes.now }
@@ -49,7 +50,7 @@ fn is_configuration(version: Version, bytes: &[u8]) -> bool
     has_front(version, bytes) && bytes.len() == size_in(version, members)
 }
 
-// Whether bytes start like a configuration of this version.
+// Whether bytes start like a configuration of this version: with its kind and the version's number.
 fn has_front(version: Version, bytes: &[u8]) -> bool
     requires { 2 ≤ length bytes.now }
     ensures { result ≡ has_front version bytes.now }
@@ -57,7 +58,7 @@ fn has_front(version: Version, bytes: &[u8]) -> bool
     bytes[0] == CONFIGURATION && bytes[1] == number_of(version)
 }
 
-/// The number by which a record names its version.
+/// The byte by which a configuration names its version.
 pub fn number_of(version: Version) -> u8
     ensures { result ≡ number_of version }
 {
@@ -67,14 +68,14 @@ pub fn number_of(version: Version) -> u8
     }
 }
 
-// How many bytes the configuration of this many members has.
+// How many bytes the configuration of this many members has in this version.
 fn size_in(version: Version, members: u16) -> usize
     ensures { result ≡ size_in version members }
 {
     SETTINGS_BYTES + members as usize * KEY_BYTES + stakes_size(version, members)
 }
 
-// How many bytes the stakes of this many members have.
+// How many bytes the stakes of this many members take in this version.
 fn stakes_size(version: Version, members: u16) -> usize
     ensures value { result ≡ stakes_size version members }
     ensures most { result ≤ members * STAKE_BYTES }
@@ -85,8 +86,8 @@ fn stakes_size(version: Version, members: u16) -> usize
     }
 }
 
-/// The generation in the record of a checkpoint's head, which is big-endian. None where these bytes are no head: another length, another
-/// first byte, or generation 0.
+/// The generation (big-endian) in the record of a checkpoint's head. None if these bytes are no head: they have another length or another
+/// first byte, or the generation is 0.
 #[tactic(auto, unfolding(crate::specs::Areas::head_in))]
 pub fn head_in(bytes: &[u8]) -> Option<u64>
     ensures { result ≡ spec_head_in bytes.now }

@@ -14,10 +14,10 @@ use crate::snapshot::Snapshot;
 use std::alloc::{AllocError, Global};
 use std::marker::Model;
 
-/// A checkpoint that is built record by record. Contracts see its records so far: a configuration, and those of the state.
+/// A checkpoint that is built record by record. Contracts see the records that it has so far: the configuration, and those of the state.
 #[derive(Drop)]
 pub struct SnapshotDraft {
-    // The bytes of a checkpoint with these records, without the first gate.
+    // The bytes of a checkpoint with the records so far, without the first gate.
     bytes: Vec<u8>,
     // The place of the generation in `bytes`.
     place: usize,
@@ -38,7 +38,7 @@ impl Model for SnapshotDraft {
 }
 
 impl SnapshotDraft {
-    /// A checkpoint with this configuration and no other record.
+    /// A draft that has this configuration and no other record yet.
     pub fn new(alloc: Global, configuration: &[u8]) -> Result<SnapshotDraft, AllocError>
         requires shaped { IsSome (shaped_version configuration.now) }
         requires fits { CanPack (configuration.now ∷ []) }
@@ -49,7 +49,7 @@ impl SnapshotDraft {
             bytes,
             place: 3 * LENGTH_BYTES + 1 + configuration.len(),
             count: 1,
-            // No record of the state may join the first group, so that group counts as full.
+            // No record of the state may join the first group, so the draft notes that this group is full.
             last: LastGroup {
                 start: 0,
                 records: MAX_GROUP_RECORDS,
@@ -57,7 +57,7 @@ impl SnapshotDraft {
         })
     }
 
-    /// Adds a record that is given in parts. If an allocation fails, nothing has changed.
+    /// Adds a record whose bytes are given in parts. If an allocation fails, the draft is as before.
     pub fn push(&mut self, parts: &[&[u8]]) -> Result<(), AllocError>
         requires { FitsAlone (whole parts.now) }
         ensures added { OnOk result (self.new ≡ self.old ++ whole parts.now ∷ []) }
@@ -68,7 +68,7 @@ impl SnapshotDraft {
         Ok(())
     }
 
-    /// Ends the draft: the checkpoint of its records.
+    /// Ends the draft, and returns the checkpoint of its records.
     pub fn close(self) -> Snapshot
         ensures { result ≡ self }
     {
@@ -82,7 +82,7 @@ impl SnapshotDraft {
     }
 }
 
-// The bytes of a checkpoint of a configuration alone.
+// The bytes of a checkpoint whose only record is a configuration.
 fn first_group(alloc: Global, configuration: &[u8]) -> Result<Vec<u8>, AllocError>
     requires { CanPack (configuration.now ∷ []) }
     ensures { IfOk result (λ bytes. bytes.items ≡ bytes_for 0 (configuration.now ∷ [])) }
@@ -98,14 +98,14 @@ fn first_group(alloc: Global, configuration: &[u8]) -> Result<Vec<u8>, AllocErro
     Ok(bytes)
 }
 
-// The group that the next record may join: the place of its length field, and how many records it has.
+// The last group of a draft, which the next record may join: the place of the group's length field, and how many records it has.
 #[derive(Clone, Copy)]
 struct LastGroup {
     start: usize,
     records: usize,
 }
 
-// Whether a group with this many records and a body of this length has room for a record of this length.
+// Whether a group of `records` records and `body` bytes has room for one more record of `len` bytes.
 fn has_room(records: usize, body: usize, len: usize) -> bool
     requires { body + (LENGTH_BYTES + len) < 2 ^ 64 }
     ensures { result ≡ (nat_lt records MAX_GROUP_RECORDS && nat_le (body + (LENGTH_BYTES + len)) MAX_GROUP_BYTES) }
@@ -113,7 +113,7 @@ fn has_room(records: usize, body: usize, len: usize) -> bool
     records < MAX_GROUP_RECORDS && body + (LENGTH_BYTES + len) <= MAX_GROUP_BYTES
 }
 
-// Adds a record, given in parts, to the bytes of a checkpoint: to its last group where that has room, and otherwise in a new group.
+// Adds a record, given in parts, to the bytes of a checkpoint: to the last group if that has room for it, and otherwise as a new group.
 fn put_record(
     bytes: &mut Vec<u8>,
     last: LastGroup,
@@ -152,7 +152,7 @@ fn whole_len(parts: &[&[u8]]) -> usize
     len
 }
 
-// Adds a record to the last group, whose body has this length and whose length field is at this place.
+// Adds a record to the last group. The group's body has this length, and its length field is at this place.
 fn join(
     bytes: &mut Vec<u8>,
     start: usize,
@@ -189,8 +189,8 @@ fn begin(bytes: &mut Vec<u8>, len: usize, parts: &[&[u8]]) -> Result<(), AllocEr
     put_after(bytes, OPEN, &lengths, parts)
 }
 
-// Replaces the closed gate at the end by one byte, and adds more bytes, a record and a closed gate. If an allocation fails, the bytes are
-// as before.
+// Replaces the closed gate at the end of the bytes by one other byte, and adds further bytes, a record, and a closed gate. If an allocation
+// fails, the bytes are as before.
 fn put_after(
     bytes: &mut Vec<u8>,
     first: u8,
@@ -210,7 +210,7 @@ fn put_after(
     Ok(())
 }
 
-// Adds these bytes, a record and a closed gate at the end.
+// Adds length fields, a record and a closed gate at the end of the bytes.
 fn put_last(bytes: &mut Vec<u8>, lengths: &[u8], parts: &[&[u8]]) -> Result<(), AllocError>
     ensures items { OnOk result (bytes.new.items ≡ bytes.old.items ++ (lengths.now ++ (whole parts.now ++ CLOSED ∷ []))) }
     ensures kept { take (vec_len bytes.old) bytes.new.items ≡ bytes.old.items }

@@ -1,12 +1,12 @@
-//! What a journal has made durable.
+//! What a journal has made durable: a group, or a checkpoint.
 
 use crate::group::Group;
 use crate::snapshot::Snapshot;
 
-/// Records that are on the disk.
+/// Records that are on the disk and synced.
 pub enum Durable {
-    /// A group that was appended.
+    /// The records of a group that was appended.
     Group(Group),
-    /// A checkpoint, to which the journal was rewritten.
+    /// The records of a checkpoint to which the journal was rewritten.
     Snapshot(Snapshot),
 }

@@ -13,16 +13,17 @@ pub enum JournalError {
     /// An allocation failed.
     #[error("1 Memory")]
     Memory,
-    /// The disk failed.
+    /// A call on the disk failed.
     #[error("2 Device")]
     Device,
-    /// The open gate at this place, in bytes from the front, has no whole group after it.
+    /// There is an open gate, but no whole group after it. The place of the gate is given in bytes from the front.
     #[error("3 Damaged")]
     Damaged(u64),
-    /// The journal was made with other settings. Opening and appending never report this: it is for the layer that knows the settings.
+    /// The journal was made with another configuration. The journal itself never reports this: it is for `opening`, which knows the
+    /// setting.
     #[error("4 ConfigMismatch")]
     ConfigMismatch,
-    /// The journal would exceed its greatest length.
+    /// The group or the checkpoint would make the journal longer than it may be.
     #[error("5 Full")]
     Full,
 }
@@ -51,7 +52,7 @@ impl<T: Drop> From<AllocFailed<T>> for JournalError {
     }
 }
 
-/// A call that failed, with the disk that it was given.
+/// A call that took a disk by value and failed, with the disk that it hands back.
 #[derive(Debug, Drop)]
 pub struct Failed<E, D> {
     /// Why the call failed.

@@ -9,9 +9,9 @@ use crate::layout::{CLOSED, LENGTH_BYTES, MAX_GROUP_BYTES, MAX_GROUP_RECORDS};
 use std::alloc::{AllocError, Global};
 use std::marker::Model;
 
-/// Records that are to be appended together, within the limits of a group. A group can't be dropped: it has to be appended.
+/// Records that are to be appended together, within the limits of a group. A group must be used: it has no `Drop`.
 pub struct Group {
-    // The length of the body, the body, and the closed gate for the next group.
+    // The bytes that are written after the group's gate: the length of the body, the body, and the closed gate for the next group.
     bytes: Vec<u8>,
     count: u64,
     ghost written: { IsGroup bytes.items count } by { one_group bytes.items count },
@@ -28,7 +28,7 @@ impl Model for Group {
 impl Group {
     ghost use Rattle.std.specs.Prelude.{List, ℕ};
 
-    /// The group of these records, or `None` outside a group's limits.
+    /// The group of these records; None if there are no records, too many, or too many bytes.
     pub fn new(alloc: Global, records: Vec<Vec<u8>>) -> Result<Option<Group>, AllocError>
         ensures { IfOk result (λ group. SomeIff group (FitsGroup (contents records.items)) (contents records.items)) }
     {
@@ -51,8 +51,7 @@ impl Group {
         self.count
     }
 
-    /// The group with these bytes, which are the length of its body, the body, and the closed gate for the next group. It has this many
-    /// records.
+    /// The group that has these bytes (the length of its body, the body, and the closed gate for the next group) and `count` records.
     pub fn of_bytes(bytes: Vec<u8>, count: u64) -> Group
         requires { IsGroup bytes.items count }
         ensures { (records : List (List ℕ)) → FitsGroup records → bytes.items ≡ group_bytes records → result ≡ records }
@@ -60,7 +59,7 @@ impl Group {
         Group { bytes, count }
     }
 
-    // The bytes to be written after the gate of this group.
+    // The bytes that are to be written after the gate of this group.
     pub(crate) fn bytes(&self) -> &[u8]
         ensures bytes { result.now ≡ group_bytes self.now }
         ensures fits { FitsGroup self.now }
@@ -75,13 +74,13 @@ impl Group {
         self.bytes.len() as u64
     }
 
-    // Ends a group that isn't appended.
+    // Uses up a group that isn't appended.
     pub(crate) fn discard(self) {
         let Group { bytes: _, count: _ } = self;
     }
 }
 
-// The length of the records' body, or `None` above a group's limit.
+// The length of the body of a group with these records; None if it is above a group's limit.
 fn body_len_within(records: &[Vec<u8>]) -> Option<usize>
     ensures { SomeIff result (body_len (contents records.now) ≤ MAX_GROUP_BYTES) (body_len (contents records.now)) }
 {
@@ -96,7 +95,7 @@ fn body_len_within(records: &[Vec<u8>]) -> Option<usize>
     Some(total)
 }
 
-// The bytes of a group of these records after its gate, with the closed gate for the next group.
+// The bytes that are written of a group after its gate, with the closed gate for the next group.
 fn bytes_of(alloc: Global, records: &[Vec<u8>], len: usize) -> Result<Vec<u8>, AllocError>
     requires fits { len ≤ MAX_GROUP_BYTES }
     requires len { len ≡ body_len (contents records.now) }
@@ -109,7 +108,7 @@ fn bytes_of(alloc: Global, records: &[Vec<u8>], len: usize) -> Result<Vec<u8>, A
     Ok(bytes)
 }
 
-// Adds the records to the bytes, each after its length.
+// Adds these records to the body, each after its length field.
 fn put_body(bytes: &mut Vec<u8>, records: &[Vec<u8>]) -> Result<(), AllocError>
     requires { body_len (contents records.now) ≤ MAX_GROUP_BYTES }
     ensures { OnOk result (bytes.new.items ≡ bytes.old.items ++ body_bytes (contents records.now)) }

@@ -1,4 +1,4 @@
-//! A journal on a disk.
+//! A journal: groups of records on one disk, or on two.
 
 ghost use Rattle.std.specs.Prelude.{◌≡◌, ◌≢◌, ◌⊎◌, ◌↔◌, ◌+◌, ◌-◌, ◌^◌, ◌<◌, List, ℕ, ◌++◌, length, Ok, Err, IfOk, IfErr, OnOk, OnErr, IsErrOf, IsSome, IsTrue, Some, None, ◌∷◌, []};
 ghost use Rattle.diskmodel.specs.Disk.{LeavesOnly, AtEachMoment, NoneNew, ReportsFault};
@@ -29,14 +29,14 @@ use diskmodel::Disk;
 use std::alloc::Global;
 use std::marker::Model;
 
-/// The length that is noted once the disk has failed. A journal that can be appended to never has it.
+/// The length that a journal notes for itself once its disk has failed. A journal that can be appended to is never so short.
 const DEAD: u64 = 0;
 
-/// Groups of records on a disk. Each group is there as a whole or not at all.
+/// A journal: groups of records on one disk or on two. A group is there as a whole or not at all.
 pub struct Journal<D: Disk> {
     disk: D,
     len: u64,
-    // The spare disk of a journal on two disks.
+    // The spare disk of a journal on two disks, which isn't read and takes the next checkpoint.
     spare: Option<Spare<D>>,
 }
 
@@ -50,8 +50,8 @@ impl<D: Disk + Drop> Drop for Journal<D> {
     }
 }
 
-/// Proof that records are on the disk: those of a group, or of a checkpoint without its head. Contracts see these records. It can't be
-/// dropped, so that it is used exactly once.
+/// Proof that records are durable: those of an appended group, or those of a checkpoint without its head. Contracts see these records. It
+/// has no `Drop`, so that it is used exactly once.
 pub struct Synced {
     durable: Durable,
 }
@@ -66,7 +66,7 @@ impl Model for Synced {
 }
 
 impl Synced {
-    /// How many records are on the disk. The call consumes the value that proves it.
+    /// How many records became durable. The call consumes the proof of it.
     pub fn records(self) -> u64
         ensures { result ≡ length self }
     {
@@ -87,7 +87,7 @@ impl Synced {
 }
 
 impl<D: Disk> Journal<D> {
-    /// Opens the journal on a disk, and gives the records of its groups, oldest first. A failed call hands the disk back.
+    /// Opens a journal on one disk, and returns the records of its groups, oldest first. A failed call hands the disk back.
     pub fn open(
         alloc: Global,
         mut disk: D,
@@ -97,18 +97,18 @@ impl<D: Disk> Journal<D> {
         ensures same { IfOk result (λ opened. stands (D.device.content (disk_of opened.0)) ≡ stands (D.device.content disk)) }
         ensures content { IfOk result (λ opened. IsClosedUp (D.device.content disk) (D.device.content (disk_of opened.0))) }
 
-        // The bytes are as before unless the disk failed.
+        // After an error the bytes are as before, unless the error is that the disk failed.
         ensures unchanged { IfErr result (λ failed. failed.error ≢ JournalError.Device → D.device.content failed.disk ≡ D.device.content disk) }
 
-        // What a stop at any moment of the call leaves might have been left before it, or is read as the same records. So durable bytes
-        // that are damaged stay as they are.
+        // What a stop at any moment of the call leaves might have been left before the call, or is read as the same records. So damaged
+        // bytes that are durable stay as they are.
         ensures any_moment { AtEachMoment D.device disk (disk_after (λ opened. disk_of opened.0) result) (StandsAsOneOf (D.device.outcome disk)) }
 
         ensures damaged { IfErr result (λ failed. (gate : ℕ) → failed.error ≡ JournalError.Damaged gate → stands (D.device.content disk) ≡ Err gate) }
         ensures never_full { IfErr result (λ failed. failed.error ≢ JournalError.Full) }
         ensures never_config { IfErr result (λ failed. failed.error ≢ JournalError.ConfigMismatch) }
 
-        // The error is Device exactly where the disk has failed.
+        // The error is Device if and only if the disk has counted a failed call.
         ensures cause { ReportsFaultBack D.device (λ opened. disk_of opened.0) JournalError.Device disk result }
 
         ensures alone { IfOk result (λ opened. spare_of opened.0 ≡ None) }
@@ -130,7 +130,7 @@ impl<D: Disk> Journal<D> {
         ensures alive { IfOk result (λ opened. IsAlive D.device opened.0) }
         ensures pair { IfOk result (λ opened. IsSome (spare_of opened.0)) }
 
-        // The area of the greater generation is read. Where neither has a group, the first area is read, with generation 0.
+        // The area of the greater generation is read. If neither area has a group, the first one is read, with generation 0.
         ensures chosen { IfOk result (λ opened. IsChosenOf D.device first second opened.0) }
 
         ensures records { IfOk result (λ opened. stands_in (pair (D.device.content first) (D.device.content second)) ≡ Ok opened.1.items) }
@@ -139,12 +139,12 @@ impl<D: Disk> Journal<D> {
         // The area that isn't read keeps all its bytes if its first gate is open.
         ensures content { IfOk result (λ opened. AreClosedUp D.device first second opened.0) }
 
-        // The bytes are as before unless a disk failed.
+        // After an error the bytes are as before, unless the error is that a disk failed.
         ensures first_unchanged { IfErr result (λ failed. failed.error ≢ JournalError.Device → D.device.content failed.disk.0 ≡ D.device.content first) }
         ensures second_unchanged { IfErr result (λ failed. failed.error ≢ JournalError.Device → D.device.content failed.disk.1 ≡ D.device.content second) }
 
-        // What a stop at any moment of the call leaves of each disk might have been left before it, or has the same generation and is read
-        // as the same records.
+        // What a stop at any moment of the call leaves of each disk might have been left before the call, or has the same generation and is
+        // read as the same records.
         ensures first_moment { AtEachMoment D.device first (disk_after (λ opened. disks_of opened.0) result).0 (IsAsOneOf (D.device.outcome first)) }
         ensures second_moment { AtEachMoment D.device second (disk_after (λ opened. disks_of opened.0) result).1 (IsAsOneOf (D.device.outcome second)) }
 
@@ -152,7 +152,7 @@ impl<D: Disk> Journal<D> {
         ensures never_full { IfErr result (λ failed. failed.error ≢ JournalError.Full) }
         ensures never_config { IfErr result (λ failed. failed.error ≢ JournalError.ConfigMismatch) }
 
-        // The error is Device exactly where one of the two disks has failed.
+        // The error is Device if and only if one of the two disks has counted a failed call.
         ensures cause { ReportsFaultsBack (faults_of_both D.device) (λ opened. disks_of opened.0) JournalError.Device (first, second) result }
     {
         let mut records = Vec::new(alloc);
@@ -165,7 +165,7 @@ impl<D: Disk> Journal<D> {
         }
     }
 
-    /// Opens the journal on one disk or on two, and hands its records to a reader, group by group. A failed call hands the disks back.
+    /// Opens a journal on one disk or on two, and gives its records to a reader, group by group. A failed call hands the disks back.
     #[tactic(auto, unfolding(crate::specs::Areas::stands_in))]
     pub fn open_store<R: Reader>(
         alloc: Global,
@@ -177,17 +177,18 @@ impl<D: Disk> Journal<D> {
         ensures same { IfOk result (λ journal. stands_in (areas_of D.device journal) ≡ stands_in (areas_in D.device store)) }
         ensures content { IfOk result (λ journal. IsOpenedOn D.device store journal) }
 
-        // The bytes are as before unless a disk failed.
+        // After an error the bytes are as before, unless the error is that a disk failed.
         ensures unchanged { IfErr result (λ failed. failed.error ≢ JournalError.Device → areas_in D.device failed.disk ≡ areas_in D.device store) }
 
-        // The opening gives back as many disks as it was given, whatever its result.
+        // The call returns as many disks as it was given. What a stop at any moment leaves of each was possible before, or is read as the
+        // same.
         ensures any_moment { OpensAtEachMoment D.device store (disk_after store_of result) }
 
         ensures damaged { IfErr result (λ failed. (place : ℕ) → failed.error ≡ JournalError.Damaged place → stands_in (areas_in D.device store) ≡ Err place) }
         ensures never_full { IfErr result (λ failed. failed.error ≢ JournalError.Full) }
         ensures never_config { IfErr result (λ failed. failed.error ≢ JournalError.ConfigMismatch) }
 
-        // The error is Device exactly where one of the disks has failed.
+        // The error is Device if and only if one of the disks has counted a failed call.
         ensures cause { ReportsFaultsBack (faults_in D.device) store_of JournalError.Device store result }
     {
         match store {
@@ -210,7 +211,7 @@ impl<D: Disk> Journal<D> {
         }
     }
 
-    // A journal on a disk whose file has this length.
+    // A journal on one disk, whose file has this length.
     fn on_one(disk: D, len: u64) -> Journal<D>
         ensures disk { disk_of result ≡ disk }
         ensures len { result.len ≡ len }
@@ -223,7 +224,7 @@ impl<D: Disk> Journal<D> {
         }
     }
 
-    // A journal on two disks that were opened.
+    // A journal on two disks, after both were opened.
     fn on_two(opened: Opened, first: D, second: D) -> Journal<D>
         ensures disk { disk_of result ≡ on_side opened.side first second }
         ensures len { result.len ≡ opened.len }
@@ -243,12 +244,12 @@ impl<D: Disk> Journal<D> {
         Journal { disk, len, spare }
     }
 
-    /// Appends a group. At `Ok` it is on the disk. At `Full` nothing has changed. At `Device` nothing can be appended any more: open the
-    /// disk again. The call allocates no memory.
+    /// Appends a group. `Ok`: it is durable. `Full`: nothing has changed. `Device`: nothing can be appended to this journal any more, and
+    /// the disk has to be opened again. The call allocates no memory.
     pub fn append(&mut self, group: Group) -> Result<Synced, JournalError>
         requires alive { IsAlive D.device self.old }
 
-        // The first group of a new journal on two disks is its configuration alone.
+        // The first group of a new journal on two disks has only the configuration.
         requires first { IsSome (spare_of self.old) → D.device.content (disk_of self.old) ≡ CLOSED ∷ [] → generation_of group ≡ Some 0 }
 
         ensures alive { OnOk result (IsAlive D.device self.new) }
@@ -256,18 +257,19 @@ impl<D: Disk> Journal<D> {
         ensures content { OnOk result (D.device.content (disk_of self.new) ≡ file_with (D.device.content (disk_of self.old)) group) }
         ensures synced { IfOk result (λ synced. synced ≡ group) }
 
-        // What a stop at any moment of the call leaves is read as the earlier records, with the whole group or without it.
+        // What a stop at any moment of the call leaves is read as the earlier records, with all of the group's records after them or with
+        // none.
         ensures any_moment { AtEachMoment D.device (disk_of self.old) (disk_of self.new) (IsBeforeOrAfter (D.device.content (disk_of self.old)) group) }
 
         ensures errors { IfErr result (λ error. (error ≡ JournalError.Device) ⊎ (error ≡ JournalError.Full)) }
 
-        // The error is Device exactly where the disk has failed.
+        // The error is Device if and only if the disk has counted a failed call.
         ensures cause { ReportsFault JournalError.Device (D.device.faults (disk_of self.old)) (D.device.faults (disk_of self.new)) result }
 
         // After `Device` nothing can be appended any more.
         ensures dead { IsErrOf result JournalError.Device → ¬ IsAlive D.device self.new }
 
-        // The disk has made the four calls that append the group, or the first ones of them.
+        // The disk has made the four calls that append a group; after an error, only the first ones of these.
         ensures calls { OnOk result (D.device.calls (disk_of self.new) ≡ D.device.calls (disk_of self.old) ++ append_calls (length (D.device.content (disk_of self.old))) group) }
         ensures calls_err { OnErr result (MadeSome (append_calls (length (D.device.content (disk_of self.old))) group) (D.device.calls (disk_of self.old)) (D.device.calls (disk_of self.new))) }
 
@@ -293,13 +295,13 @@ impl<D: Disk> Journal<D> {
         })
     }
 
-    /// Writes a checkpoint to the spare area, which is read from then on. At `Full` nothing has changed. At `Device` nothing can be written
-    /// any more: open both disks again. The call allocates no memory.
+    /// Writes a checkpoint into the spare area; that area is read from then on. `Full`: nothing has changed. `Device`: nothing can be
+    /// written any more, and both disks have to be opened again. The call allocates no memory.
     pub fn rewrite(&mut self, mut snapshot: Snapshot) -> Result<Synced, JournalError>
         requires alive { IsAlive D.device self.old }
         requires pair { IsSome (spare_of self.old) }
 
-        // The area that is read has its first group.
+        // The area that is read has its first group: the journal isn't a new one.
         requires begun { reports (D.device.content (disk_of self.old)) ≡ Some (Some (generation_in self.old)) }
 
         ensures alive { OnOk result (IsAlive D.device self.new) }
@@ -308,8 +310,8 @@ impl<D: Disk> Journal<D> {
         ensures records { OnOk result (stands_in (areas_of D.device self.new) ≡ stands_as (other_side (side_in self.old)) (generation_in self.old + 1) snapshot) }
         ensures synced { IfOk result (λ synced. synced ≡ snapshot) }
 
-        // A stop at any moment of the call may leave the spare area half written. The two areas are then read as the earlier records, or as
-        // the checkpoint.
+        // A stop at any moment of the call may leave the spare area half written. The two areas together are then read as the earlier
+        // records or as the checkpoint.
         ensures any_moment { AtEachMoment D.device (spare_disk self.old) (rewritten_disk result self.new) (StandsAsOrAfter D.device self.old snapshot) }
 
         // The disk that was read so far is untouched, whatever the result.
@@ -317,20 +319,20 @@ impl<D: Disk> Journal<D> {
 
         ensures errors { IfErr result (λ error. (error ≡ JournalError.Device) ⊎ (error ≡ JournalError.Full)) }
 
-        // The error is Device exactly where the disk that is written has failed.
+        // The error is Device if and only if the disk that is written has counted a failed call.
         ensures cause { ReportsFault JournalError.Device (D.device.faults (spare_disk self.old)) (D.device.faults (rewritten_disk result self.new)) result }
 
         // After `Device` nothing can be written any more.
         ensures dead { IsErrOf result JournalError.Device → ¬ IsAlive D.device self.new }
 
-        // The disk has made the eight calls of a rewriting, or the first ones of them.
+        // The written disk has made the eight calls of a rewriting; after an error, only the first ones of these.
         ensures calls { OnOk result (D.device.calls (disk_of self.new) ≡ D.device.calls (spare_disk self.old) ++ rewrite_calls (bytes_for (generation_in self.old + 1) snapshot)) }
         ensures calls_err { OnErr result (MadeSome (rewrite_calls (bytes_for (generation_in self.old + 1) snapshot)) (D.device.calls (spare_disk self.old)) (D.device.calls (spare_disk self.new))) }
 
         ensures full { IsErrOf result JournalError.Full ↔ ((MAX_JOURNAL_BYTES < 1 + length (bytes_for (generation_in self.old + 1) snapshot)) ⊎ (generation_in self.old ≡ 2 ^ 64 - 1)) }
         ensures unchanged { IsErrOf result JournalError.Full → self.new ≡ self.old }
 
-        // The journal stays on two disks, and after an error each disk has kept its place.
+        // The journal stays on two disks. After an error each of them has kept its place.
         ensures keeps { OnErr result (HaveKeptPlaces self.old self.new) }
     {
         let Some(spare) = &mut self.spare else {
@@ -359,7 +361,7 @@ impl<D: Disk> Journal<D> {
         self.spare.is_some()
     }
 
-    /// The generation of the area that is read: how often a journal on two disks was rewritten. It is 0 on one disk.
+    /// The generation of the area that is read: how often a journal on two disks was rewritten. It is 0 for a journal on one disk.
     pub fn generation(&self) -> u64
         ensures { result ≡ generation_in self.now }
     {
@@ -377,7 +379,7 @@ impl<D: Disk> Journal<D> {
         self.len
     }
 
-    /// Gives both disks of a journal on two disks back, in the order of their areas.
+    /// Ends a journal on two disks, and returns both in the order of their areas.
     pub fn into_disks(self) -> (D, D)
         requires { IsSome (spare_of self) }
         ensures { result ≡ by_area (side_in self) (disk_of self) (spare_disk self) }
@@ -393,7 +395,7 @@ impl<D: Disk> Journal<D> {
         }
     }
 
-    /// Gives the disks back on which the journal was opened.
+    /// Ends a journal, and returns the disks on which it was opened.
     pub fn into_store(self) -> Store<D>
         ensures { result ≡ store_of self }
     {
@@ -411,7 +413,7 @@ impl<D: Disk> Journal<D> {
         }
     }
 
-    /// Gives the disk of a journal on one disk back.
+    /// Ends a journal on one disk, and returns the disk.
     pub fn into_disk(self) -> D
         requires { spare_of self ≡ None }
         ensures { result ≡ disk_of self }
@@ -455,7 +457,7 @@ fn write_group<D: Disk>(disk: &mut D, len: u64, group: &Group) -> Result<(), Jou
     Ok(())
 }
 
-// Hands the records on a disk to a reader. The file is left with a closed gate at its end, and its length is given.
+// Opens one disk: gives its records to a reader, leaves the file with a closed gate at its end, and returns the file's length.
 fn repair<D: Disk, R: Reader>(
     alloc: Global,
     disk: &mut D,
@@ -481,7 +483,7 @@ fn repair<D: Disk, R: Reader>(
     Ok(gate + 1)
 }
 
-// Makes the closed gate at this place the last byte of a durable file, which has this length now.
+// Cuts a file after the closed gate at this place, and makes that durable. The file has this length before.
 pub(crate) fn close_end<D: Disk>(disk: &mut D, len: u64, gate: u64) -> Result<(), JournalError>
     requires len { len ≡ length (D.device.content disk.old) }
     requires found { ScansTo (D.device.content disk.old) gate }

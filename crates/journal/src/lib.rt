@@ -1,4 +1,4 @@
-//! Groups of records on a disk, each of which is there as a whole or not at all, at every moment.
+//! The journal: groups of records on a disk. At every moment, also after a crash, a group is there as a whole or not at all.
 #![tactic(auto)]
 
 mod areas;

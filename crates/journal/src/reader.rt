@@ -1,4 +1,4 @@
-//! What takes the records of a journal while the journal is opened.
+//! Readers, which take the records of a journal while it is opened.
 
 ghost use Rattle.std.specs.Prelude.{◌≡◌, ◌++◌, [], List, OnOk};
 ghost use Rattle.std.proofs.Common.{sym, ap, ◌∙◌, append_assoc};
@@ -10,17 +10,17 @@ use std::alloc::{AllocError, Global};
 
 /// What takes the records of a journal, group by group, while the journal is opened.
 pub trait Reader {
-    /// Taking these records, in their order, leads from one state of the reader to another.
+    /// What taking records means: these records, taken in their order, lead from the first state of the reader to the second.
     ghost takes: { Self → List Record → Self → Type 0 };
 
     /// Takes the records of the next group.
     fn take(&mut self, alloc: Global, group: Vec<RecordRef<'_>>) -> Result<(), AllocError>
         ensures { OnOk result (takes self.old group.entry.items self.new) };
 
-    /// Taking no records leaves the reader as it is.
+    /// If the reader takes no records, its state stays as it is.
     ghost takes_none: { (one : Self) → takes one [] one };
 
-    /// Taking some records and then others is taking all of them.
+    /// Taking some records and then others leads to the same state as taking all of them.
     ghost takes_more: { (one other third : Self) (records more : List Record) → takes one records other → takes other more third → takes one (records ++ more) third };
 }
 

@@ -14,8 +14,8 @@ use crate::record::{Record, RecordRef};
 use crate::side::Side;
 use std::alloc::{AllocError, Global};
 
-/// The records that the bytes of a journal are read as: those of the groups with open gates, from the front. `Damaged` has the place of an
-/// open gate with no whole group after it.
+/// The records that the bytes of a journal are read as: those of the groups after open gates, from the front on. `Damaged` names the place
+/// of an open gate after which there is no whole group.
 #[tactic(auto, unfolding(crate::specs::Format::stands))]
 pub fn stands(alloc: Global, bytes: &[u8]) -> Result<Vec<Record>, JournalError>
     ensures ok { IfOk result (λ records. stands bytes.now ≡ Ok records.items) }
@@ -25,7 +25,7 @@ pub fn stands(alloc: Global, bytes: &[u8]) -> Result<Vec<Record>, JournalError>
     Ok(records)
 }
 
-// The records that the bytes are read as, and the place of the closed gate that ends them.
+// The records that bytes are read as, and the place of the closed gate at which reading ends.
 #[tactic(auto, unfolding(crate::specs::Format::scan))]
 pub(crate) fn scan(alloc: Global, bytes: &[u8]) -> Result<(Vec<Record>, u64), JournalError>
     ensures ok { IfOk result (λ found. scan bytes.now ≡ Ok (found.0.items, found.1)) }
@@ -37,7 +37,7 @@ pub(crate) fn scan(alloc: Global, bytes: &[u8]) -> Result<(Vec<Record>, u64), Jo
     walk(alloc, bytes)
 }
 
-// The records and the place of the closed gate that ends them, for bytes that start with a gate.
+// The records of bytes that start with a gate, and the place of the closed gate at which reading ends.
 fn walk(alloc: Global, bytes: &[u8]) -> Result<(Vec<Record>, u64), JournalError>
     requires { 0 < length bytes.now }
     ensures ok { IfOk result (λ found. walk 0 0 bytes.now ≡ Ok (found.0.items, found.1)) }
@@ -46,8 +46,8 @@ fn walk(alloc: Global, bytes: &[u8]) -> Result<(Vec<Record>, u64), JournalError>
     walk_from(alloc, bytes, 0)
 }
 
-// As `walk`, for bytes that stand at the place `base`. The records have their places counted with `base`, and the place of the closed gate
-// is counted from `base`.
+// Like `walk`, for bytes that stand at the place `base` of a file. The places of the records are places in the file; that of the closed
+// gate is counted from `base`.
 fn walk_from(alloc: Global, bytes: &[u8], base: u64) -> Result<(Vec<Record>, u64), JournalError>
     requires some { 0 < length bytes.now }
     requires base { base ≤ SECOND_AREA }
@@ -70,11 +70,11 @@ fn walk_from(alloc: Global, bytes: &[u8], base: u64) -> Result<(Vec<Record>, u64
     Ok((records, gate as u64))
 }
 
-/// What the first group of a file says of its generation, given the file's first bytes: `None` where its first gate isn't open,
-/// `Some(None)` where the group is damaged, and otherwise the generation.
+/// What the first group of a file says of its generation, given the first bytes of the file: `None` if the first gate is closed,
+/// `Some(None)` if the group is damaged, and otherwise the generation.
 ///
 /// # Errors
-/// Out of memory.
+/// `AllocError`: out of memory.
 #[tactic(auto, unfolding(crate::specs::Areas::reports))]
 pub fn reports(alloc: Global, bytes: &[u8]) -> Result<Option<Option<u64>>, AllocError>
     ensures { IfOk result (λ reported. reported ≡ reports bytes.now) }
@@ -85,7 +85,7 @@ pub fn reports(alloc: Global, bytes: &[u8]) -> Result<Option<Option<u64>>, Alloc
     Ok(Some(first_generation(alloc, &bytes[1..])?))
 }
 
-// The generation of an area, by the bytes after its first gate.
+// The generation that the first group of an area says, given the bytes after the area's first gate.
 fn first_generation(alloc: Global, bytes: &[u8]) -> Result<Option<u64>, AllocError>
     ensures { IfOk result (λ generation. generation ≡ first_generation bytes.now) }
 {
@@ -98,7 +98,7 @@ fn first_generation(alloc: Global, bytes: &[u8]) -> Result<Option<u64>, AllocErr
     Ok(generation_of(&records))
 }
 
-// The generation of an area, by the records of its first group.
+// The generation that the records of an area's first group say.
 #[tactic(auto, unfolding(crate::specs::Areas::generation_of))]
 fn generation_of(records: &[RecordRef<'_>]) -> Option<u64>
     ensures { result ≡ generation_of (map (λ one. one.bytes) records.now) }
@@ -116,7 +116,7 @@ fn generation_of(records: &[RecordRef<'_>]) -> Option<u64>
     }
 }
 
-// The number in the length field at the front of the bytes.
+// The number in the length field with which the bytes start.
 fn length_at(bytes: &[u8]) -> u32
     requires { LENGTH_BYTES ≤ length bytes.now }
     ensures { result ≡ length_field bytes.now }
@@ -125,7 +125,7 @@ fn length_at(bytes: &[u8]) -> u32
     u32::from_be_bytes([front[0], front[1], front[2], front[3]])
 }
 
-// The body after an open gate, if the body and the next gate are within the bytes.
+// The body of the group after an open gate; None if the bytes don't have the whole body and the next gate.
 #[tactic(auto, unfolding(crate::specs::Format::body_at))]
 pub(crate) fn body_at(bytes: &[u8]) -> Option<&[u8]>
     ensures { option_copied result ≡ body_at bytes.now }
@@ -140,7 +140,7 @@ pub(crate) fn body_at(bytes: &[u8]) -> Option<&[u8]>
     Some(&bytes[LENGTH_BYTES..LENGTH_BYTES + len])
 }
 
-// The records of a body, with the place of its gate, if they are whole and not too many.
+// The records of a group's body, with the place of its gate; None if the last record isn't whole or there are too many.
 #[tactic(auto, unfolding(crate::specs::Format::group_of))]
 pub(crate) fn group_of<'b>(
     alloc: Global,
@@ -158,7 +158,7 @@ pub(crate) fn group_of<'b>(
     Ok(Some(records))
 }
 
-// The records of a body, with the place of its gate, if they are whole.
+// The records of a group's body, with the place of its gate; None if the last record isn't whole.
 fn records_of<'b>(
     alloc: Global,
     body: &'b [u8],
@@ -178,7 +178,7 @@ fn records_of<'b>(
     Ok(Some(records))
 }
 
-// The first record in the bytes and the bytes after it, if the record is whole.
+// The first record in the bytes, and the bytes after it; None if the record isn't whole.
 #[tactic(auto, unfolding(crate::specs::Format::split_record))]
 fn split_record(bytes: &[u8]) -> Option<(&[u8], &[u8])>
     ensures { option_map (λ parts. (parts.0.now, parts.1.now)) result ≡ split_record bytes.now }

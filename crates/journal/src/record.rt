@@ -6,7 +6,7 @@ use diskmodel::KeptBytes;
 use std::alloc::{AllocError, Global};
 use std::marker::Model;
 
-/// A record of a group whose gate is open.
+/// A record of a group whose gate is open, as an opening returns it.
 #[derive(Debug, Drop)]
 pub struct Record {
     /// The bytes of the record.
@@ -15,7 +15,7 @@ pub struct Record {
     pub gate: u64,
 }
 
-/// A record where it was read: its bytes are borrowed from the buffer, not copied. Contracts see the record.
+/// A record as a reader gets it: its bytes are borrowed from the buffer into which the file was read. Contracts see the record.
 pub struct RecordRef<'b> {
     /// The bytes of the record.
     pub bytes: &'b [u8],

@@ -1,4 +1,4 @@
-//! How an area is rewritten: it is closed and cleared, its groups are written after the closed gate, and then the gate is opened.
+//! How an area is rewritten: it is cut to one closed gate, its groups are written after that gate, and then the gate is opened.
 
 ghost use Rattle.std.specs.Prelude.{◌≡◌, ◌++◌, ◌∷◌, [], ℕ, IfErr, OnOk, OnErr};
 ghost use Rattle.diskmodel.specs.Disk.{LeavesOnly, AtEachMoment, ReportsFault};
@@ -10,8 +10,8 @@ use crate::error::JournalError;
 use crate::layout::{CLOSED, OPEN};
 use diskmodel::Disk;
 
-/// Rewrites an area to an open gate and these bytes. A stop at any moment of the call leaves an older area, or the new one with some open
-/// gate.
+/// Rewrites an area to an open gate and these bytes. A stop at any moment of the call leaves an area that will not be read, since its first
+/// gate is closed or its generation lower, or it leaves the new bytes after an open gate.
 pub(crate) fn rewrite_area<D: Disk>(disk: &mut D, bytes: &[u8]) -> Result<(), JournalError>
     requires { LeavesOnly (D.device.content disk.old) (D.device.outcome disk.old) }
     ensures content { OnOk result (D.device.content disk.new ≡ OPEN ∷ bytes.now) }
@@ -26,7 +26,7 @@ pub(crate) fn rewrite_area<D: Disk>(disk: &mut D, bytes: &[u8]) -> Result<(), Jo
     fill(disk, bytes)
 }
 
-// Leaves one closed gate of an area.
+// Cuts an area to one closed gate.
 fn clear<D: Disk>(disk: &mut D) -> Result<(), JournalError>
     requires { LeavesOnly (D.device.content disk.old) (D.device.outcome disk.old) }
     ensures content { OnOk result (D.device.content disk.new ≡ CLOSED ∷ []) }
@@ -45,7 +45,7 @@ fn clear<D: Disk>(disk: &mut D) -> Result<(), JournalError>
     Ok(())
 }
 
-// Writes these bytes after the closed gate of a cleared area, and opens the gate.
+// Writes these bytes after the only gate of an area, which is closed, and then opens that gate.
 fn fill<D: Disk>(disk: &mut D, bytes: &[u8]) -> Result<(), JournalError>
     requires cleared { D.device.content disk.old ≡ CLOSED ∷ [] }
     requires durable { LeavesOnly (D.device.content disk.old) (D.device.outcome disk.old) }

@@ -7,9 +7,9 @@ use crate::layout::SECOND_AREA;
 /// One of the two areas of a journal.
 #[derive(Clone, Copy, Debug, PartialEq, Eq)]
 pub enum Side {
-    /// The area on the first disk. Its places count from 0.
+    /// The area on the first disk. Places in it are counted from 0.
     First,
-    /// The area on the second disk. Its places count from `SECOND_AREA`.
+    /// The area on the second disk. Places in it are counted from `SECOND_AREA`.
     Second,
 }
 
@@ -17,7 +17,7 @@ impl Side {
     ghost use Rattle.journal.specs.Areas.{base_of, other_side};
     ghost use Rattle.journal.specs.Opened.{on_side, off_side};
 
-    // The opposite side.
+    // The other one of the two areas.
     pub(crate) fn other(self) -> Side
         ensures { result ≡ other_side self }
     {
@@ -27,7 +27,7 @@ impl Side {
         }
     }
 
-    // The number at which the places of this side's area begin to count.
+    // The number from which places in this area are counted.
     pub(crate) fn base(self) -> u64
         ensures { result ≡ base_of self }
     {
@@ -37,7 +37,7 @@ impl Side {
         }
     }
 
-    // Two values are given, one for each side. The one of this side is put first.
+    // Two values, the first for the first area and the second for the second one; returns the value of this area first, then the other.
     pub(crate) fn before_other<X>(self, first: X, second: X) -> (X, X)
         ensures { result ≡ (on_side self first second, off_side self first second) }
     {

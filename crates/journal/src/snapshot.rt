@@ -1,4 +1,4 @@
-//! The records of a checkpoint, ready to be written.
+//! A checkpoint whose records are complete, and which is ready to be written.
 
 ghost use Rattle.std.specs.Prelude.{◌≡◌, ◌+◌, ◌≤◌, ◌++◌, ◌∷◌, ℕ, vec_len, take, drop, length, IfOk, IfErr, OnOk, OnErr, IsTrue, ◌↔◌};
 ghost use Rattle.std.specs.Int.{w64, to_be_bytes};
@@ -21,10 +21,10 @@ use diskmodel::Disk;
 use std::alloc::{AllocError, Global};
 use std::marker::Model;
 
-/// The records of a checkpoint: a configuration, and those of the state. Contracts see them without the head between them, since the
-/// journal chooses the generation in it. A snapshot can't be dropped.
+/// The records of a checkpoint: a configuration, and those of the state. Contracts see them without the head, the record of the generation
+/// that stands between them: the journal chooses the generation. A snapshot has no `Drop`, so that it is used exactly once.
 pub struct Snapshot {
-    // The bytes of the groups, without the first gate.
+    // The bytes of the checkpoint's groups, without the first gate.
     bytes: Vec<u8>,
     // The place of the generation in `bytes`.
     place: usize,
@@ -45,7 +45,7 @@ impl Model for Snapshot {
 impl Snapshot {
     ghost use Rattle.journal.specs.Snapshot.{records_in, IsSnapshot};
 
-    /// A checkpoint of these records, the first of which is a configuration; `None` where there is no record, or one doesn't fit a group.
+    /// A checkpoint of these records, the first of which is a configuration; None if there is no record, or one doesn't fit a group.
     pub fn new(alloc: Global, records: &[Vec<u8>]) -> Result<Option<Snapshot>, AllocError>
         requires { BeginsShaped (contents records.now) }
         ensures { IfOk result (λ snapshot. SomeIff snapshot (CanPack (contents records.now)) (contents records.now)) }
@@ -58,7 +58,7 @@ impl Snapshot {
         Ok(Some(draft.close()))
     }
 
-    // The checkpoint with these bytes, the place of the generation in them, and the number of its records.
+    // The checkpoint that has these bytes, with its generation at this place, and `count` records without the head.
     pub(crate) fn of_bytes(bytes: Vec<u8>, place: usize, count: u64) -> Snapshot
         requires { IsSnapshot bytes.items place count }
         ensures { result ≡ records_in bytes.items }
@@ -70,15 +70,15 @@ impl Snapshot {
         }
     }
 
-    /// How many records the checkpoint has, without the head.
+    /// How many records the checkpoint has, not counting the head.
     pub fn records_count(&self) -> u64
         ensures { result ≡ length self.now }
     {
         self.count
     }
 
-    /// What holds of every snapshot: each record fits a group, and each byte of its groups is below 256, whatever the generation. The call
-    /// does nothing.
+    /// A law of every snapshot: each record fits a group, and each byte of the groups is below 256, whatever the generation. The call does
+    /// nothing.
     pub fn limits_hold(&self)
         ensures packs { CanPack self.now }
         ensures are_bytes { (generation : ℕ) → AreBytes (bytes_for generation self.now) }
@@ -86,7 +86,7 @@ impl Snapshot {
         are_bytes(&self.bytes);
     }
 
-    // How many bytes the groups take on the disk, without the first gate.
+    // How many bytes the checkpoint takes on the disk, without its first gate.
     pub(crate) fn written_len(&self) -> u64
         ensures value { (generation : ℕ) → result ≡ length (bytes_for generation self.now) }
         ensures packs { CanPack self.now }
@@ -95,7 +95,7 @@ impl Snapshot {
         self.bytes.len() as u64
     }
 
-    // Rewrites an area to this checkpoint, with this generation.
+    // Rewrites an area to this checkpoint, and gives it this generation.
     pub(crate) fn write<D: Disk>(
         &mut self,
         generation: u64,
@@ -115,7 +115,7 @@ impl Snapshot {
         rewrite_area(disk, &self.bytes)
     }
 
-    // Ends a snapshot that isn't written.
+    // Uses up a snapshot that isn't written.
     pub(crate) fn discard(self) {
         let Snapshot {
             bytes: _,
@@ -125,14 +125,14 @@ impl Snapshot {
     }
 }
 
-// Each of these bytes is a number below 256. The call does nothing.
+// A law: the value of each of these bytes is below 256. The call does nothing.
 fn are_bytes(bytes: &[u8])
     ensures { AreBytes bytes.now }
 {
     let _ = bytes;
 }
 
-// Whether the records can be written as a checkpoint: the first one fits a group together with a head, and each other one fits a group.
+// Whether these records can be a checkpoint: the first one fits a group together with a head, and each other one fits a group.
 fn can_pack(records: &[Vec<u8>]) -> bool
     ensures { IsTrue result ↔ CanPack (contents records.now) }
 {
@@ -154,7 +154,7 @@ fn fit_alone(records: &[Vec<u8>]) -> bool
     true
 }
 
-// Adds all of the records.
+// Adds all of these records to the draft of a checkpoint.
 fn push_all(draft: &mut SnapshotDraft, records: &[Vec<u8>]) -> Result<(), AllocError>
     requires { All FitsAlone (contents records.now) }
     ensures { OnOk result (draft.new ≡ draft.old ++ contents records.now) }

@@ -14,7 +14,7 @@ use crate::snapshot::Snapshot;
 use diskmodel::Disk;
 use std::mem;
 
-/// The spare disk, whose area isn't read, and the side and the generation of the area that is.
+/// The spare disk of a journal, whose area isn't read, with the side and the generation of the area that is read.
 pub struct Spare<D: Disk> {
     pub(crate) disk: D,
     pub(crate) side: Side,
@@ -32,8 +32,8 @@ impl<D: Disk + Drop> Drop for Spare<D> {
 }
 
 impl<D: Disk> Spare<D> {
-    // Writes a checkpoint of the next generation to the spare area. If that succeeds, the spare disk changes places with the one that was
-    // read so far.
+    // Writes a checkpoint of the next generation to the spare area. If that succeeds, the two disks change places: the spare one is read
+    // from then on.
     pub(crate) fn rewrite(
         &mut self,
         live: &mut D,
@@ -60,7 +60,7 @@ impl<D: Disk> Spare<D> {
         Ok(())
     }
 
-    // The spare disk and the one that was read, in the order of their areas.
+    // Both disks in the order of their areas, given the one that is read.
     pub(crate) fn into_disks(self, live: D) -> (D, D)
         ensures { result ≡ by_area self.side live self.disk }
     {

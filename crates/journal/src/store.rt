@@ -1,10 +1,10 @@
 //! The disks on which a journal is opened.
 
-/// The disk of a journal, or both disks in the order of their areas.
+/// The disks on which a journal is opened: one disk, or two in the order of their areas.
 #[derive(Debug, Drop)]
 pub enum Store<D> {
-    /// One disk.
+    /// A journal on one disk, which is never rewritten.
     One(D),
-    /// Two disks.
+    /// A journal on two disks.
     Two(D, D),
 }

@@ -1,4 +1,4 @@
-//! Reading the groups of a file through a window: the part of the file that is in memory.
+//! Reads the groups of a file through a window: only the part of the file that is needed next is in memory.
 
 ghost use Rattle.std.specs.Prelude.{◌≡◌, ◌≢◌, ◌+◌, ◌<◌, ◌≤◌, [], ℕ, List, length, Ok, IfOk, IfErr, IsTrue, false, OnOk, vec_len};
 ghost use Rattle.diskmodel.specs.Disk.{ReportsFault};
@@ -17,19 +17,19 @@ use crate::side::Side;
 use diskmodel::Disk;
 use std::alloc::{AllocError, Global};
 
-// A part of a file, from which groups are read, front first.
+// The part of a file that is in memory while its groups are read, front first.
 #[derive(Drop)]
 pub(crate) struct Window {
-    // The first `read` bytes are no longer needed. The others are those of the file from the next gate on.
+    // The bytes in memory. Of these the first `read` are no longer needed; the others are those of the file from the next gate on.
     bytes: Vec<u8>,
     read: usize,
-    // The place of the next gate, and the length of the file.
+    // The place of the next gate in the file, and the length of the file.
     pub(crate) gate: u64,
     pub(crate) len: u64,
 }
 
 impl Window {
-    // A window at the front of a file of this length. For a file that is longer than any memory the answer is `AllocError`.
+    // A window at the front of a file of this length. A file that is longer than any memory gets `AllocError`.
     pub(crate) fn new(alloc: Global, len: u64) -> Result<Window, AllocError>
         requires { 0 < len }
         ensures { IfOk result (λ window. (window.gate ≡ 0) × ((file : List ℕ) → len ≡ length file → IsWindow file window)) }
@@ -47,7 +47,7 @@ impl Window {
         })
     }
 
-    // Reads all groups from the next one on.
+    // Reads all groups from the next gate on.
     fn read_on<D: Disk, R: Reader>(
         &mut self,
         alloc: Global,
@@ -66,7 +66,7 @@ impl Window {
         Ok(())
     }
 
-    // Hands the next group to a reader, if its gate is open, and says whether it is.
+    // Gives the records of the next group to a reader if the gate is open. Returns whether it is.
     fn next<D: Disk, R: Reader>(
         &mut self,
         alloc: Global,
@@ -104,7 +104,7 @@ impl Window {
         Ok(true)
     }
 
-    // Fetches the next gate and the group after it, if there is a whole one.
+    // Reads more of the file if the window doesn't have the next gate and the whole group after it.
     fn reach<D: Disk>(&mut self, disk: &mut D) -> Result<(), JournalError>
         requires { IsWindow (D.device.content disk.old) self.old }
         ensures window { OnOk result (IsWindow (D.device.content disk.old) self.new) }
@@ -139,7 +139,7 @@ impl Window {
         true
     }
 
-    // Reads from the next gate on as many bytes as the longest group has with both its gates, or all that are left.
+    // Reads from the next gate on: as many bytes as the longest group and the gates before and after it have, or all that are left.
     fn fill<D: Disk>(&mut self, disk: &mut D) -> Result<(), JournalError>
         requires { IsWindow (D.device.content disk.old) self.old }
         ensures window { OnOk result (IsWindow (D.device.content disk.old) self.new) }
@@ -157,7 +157,7 @@ impl Window {
     }
 }
 
-// Reads the groups of the area on this side. Gives the place of the closed gate that ends them, and the length of the file.
+// Reads the groups of the area on this side. Returns the place of the closed gate at which reading ends, and the length of the file.
 pub(crate) fn read_area<D: Disk, R: Reader>(
     alloc: Global,
     side: Side,
@@ -184,7 +184,7 @@ pub(crate) fn read_area<D: Disk, R: Reader>(
     Ok((gate, len))
 }
 
-// Reads the groups of a file of this length, whose places are counted from base.
+// Reads the groups of a file of this length. Places are counted from `base`.
 fn read_groups<D: Disk, R: Reader>(
     alloc: Global,
     base: u64,

@@ -1,4 +1,4 @@
--- What becomes of an opened journal on two disks, once a reader has taken its records.
+-- How the opening of a journal on two disks ends, once a reader has taken its records.
 use Rattle.std.specs.Prelude.{◌≡◌, ◌≢◌, List, Some, Result, Ok, Err}
 use Rattle.diskmodel.specs.Disk.{Device as Disks}
 use Rattle.journal.specs.Areas.{stands_in}
@@ -18,25 +18,25 @@ use Rattle.opening.specs.PairReplayed.{version_in}
 use Rattle.opening.specs.Renewing.{IsRenewed, IsPlaced}
 use Rattle.opening.specs.Decoded.{decoded_in, Reports, StandsAt}
 
--- the result of a renewal: success, or this error
+-- the result of a renewal (an empty journal gets its configuration, one in version 1 is rewritten): it succeeded, or failed with this error
 abbrev pub done : Result (Unit {0}) JournalError
 done = Ok tt
 
 abbrev pub gives_up : JournalError → Result (Unit {0}) JournalError
 gives_up error = Err error
 
--- a validator holds the state that the areas decode to, and the journal was renewed
+-- the opening succeeded: a validator holds the state that the areas decode to, and the journal is in version 2
 pub record IsReady {S D : Type 0} (scheme : Scheme S) (device : Disks D) (setting : ConfigView S) (old : Journal D) (validator : ValidatorView S) (new : Journal D) : Type 0 where
   pub set : validator.setting ≡ setting
   pub stands : StandsAt (node_of scheme setting) (decoded_in (node_of scheme setting) (areas_of device old)) validator.tables
   pub is : IsRenewed (node_of scheme setting) device old done new
   pub placed : (records : List Record) → stands_in (areas_of device old) ≡ Ok records → IsPlaced (node_of scheme setting) device (version_in records) old new
 
--- the opening failed, and the disks are handed back with an error
+-- the opening failed, and hands the disks back with an error
 pub data IsGivenUp {D : Type 0} (node : Node) (device : Disks D) (old : Journal D) (failed : Failed JournalError (Store D)) : Type 0 where
-  -- the error is that of the records, or an allocation failed; the disks are as before
+  -- something is wrong with the records, or an allocation failed; the disks are as before
   at_records : failed.error ≢ Device → failed.error ≢ Full → Reports failed.error (decoded_in node (areas_of device old)) → failed.disk ≡ store_of old → IsGivenUp node device old failed
-  -- the error is that of the renewal. Only a journal in the first version can lack room
+  -- the renewal of the journal failed. Only a journal in version 1 can lack the room for its checkpoint
   at_renewal : (new : Journal D) → IsRenewed node device old (gives_up failed.error) new
       → (failed.error ≡ Full → (records : List Record) → stands_in (areas_of device old) ≡ Ok records → version_in records ≡ Some First)
       → failed.disk ≡ store_of new → IsGivenUp node device old failed

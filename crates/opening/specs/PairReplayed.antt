@@ -1,5 +1,5 @@
--- What a reader of the records of a journal on two disks has reached. What this says of the records so far holds whichever records follow,
--- so it stays true while they come.
+-- How far a reader of the records of a journal on two disks has got. What is said of the records so far holds whatever records follow, so
+-- it stays true as they come.
 use Rattle.std.specs.Prelude.{◌≡◌, ◌≢◌, All, ℕ, false, List, [], ◌∷◌, ◌++◌, Option, Some, None, Err}
 use Rattle.journal.specs.Configuration.{shaped_version}
 use Rattle.journal.specs.declared.error.JournalError.{JournalError}
@@ -20,18 +20,18 @@ use Rattle.opening.specs.Decoded.{own_fault, or_damaged, read_events, is_event, 
 use Rattle.opening.specs.declared.reached.Reached.{Reached}
 use Rattle.opening.specs.declared.reached.Reached.TheVariants.{Empty, Configured, Checkpoint, Standing, Failed}
 
--- the version of whose configurations the first record has the shape
+-- the version of the configuration that the first record has the form of; None without a record, or without that form
 abbrev pub version_in : List Record → Option Version
 version_in [] = None
 version_in (first ∷ rest) = shaped_version first.bytes
 
--- an error is about the bytes: no allocation and no disk failed, and there was room
+-- an error that is about the bytes: it is not a failed allocation, a failed disk or a lack of room
 pub record IsOfBytesAlone (error : JournalError) : Type 0 where
   pub memory : error ≢ Memory
   pub device : error ≢ Device
   pub full : error ≢ Full
 
--- one record came: the node's configuration in this version, in the group of this gate
+-- the reader has taken one record: the node's own configuration in this version, from the group with this gate
 pub record IsConfigured {S : Type 0} (scheme : Scheme S) (setting : ConfigView S) (records : List Record) (version : Version) (gate : ℕ) : Type 0 where
   pub first : Record
   pub are : records ≡ first ∷ []
@@ -39,8 +39,8 @@ pub record IsConfigured {S : Type 0} (scheme : Scheme S) (setting : ConfigView S
   pub shape : shaped_version first.bytes ≡ Some version
   pub own : own_fault (node_of scheme setting) first ≡ None
 
--- the records so far: the configuration, a head in the same group, and then records of a checkpoint's state. These are the gates of all
--- but the head.
+-- The reader has taken the configuration, a head from the same group, and then records of a checkpoint's state. `gates` are the gates of
+-- all of them except the head.
 pub record IsLoadingTo {S : Type 0} (scheme : Scheme S) (setting : ConfigView S) (records : List Record) (loading : LoadingView S) (gates : List ℕ) : Type 0 where
   pub first : Record
   pub head : Record
@@ -53,7 +53,7 @@ pub record IsLoadingTo {S : Type 0} (scheme : Scheme S) (setting : ConfigView S)
   pub gates_are : gates ≡ gates_of (first ∷ state)
   pub of_state : All (λ one. is_event one ≡ false) state
 
--- a validator holds a state, and the records that follow are read as events after it
+-- the reader's validator holds a state, and whatever records follow are read as events after that state
 pub record IsStandingAt {S : Type 0} (scheme : Scheme S) (setting : ConfigView S) (records : List Record) (validator : ValidatorView S) : Type 0 where
   pub set : validator.setting ≡ setting
   pub some : records ≢ []
@@ -61,20 +61,20 @@ pub record IsStandingAt {S : Type 0} (scheme : Scheme S) (setting : ConfigView S
   pub at : AreAtSound (node_of scheme setting) validator.tables state
   pub on : (more : List Record) → read_pair (node_of scheme setting) (records ++ more) ≡ or_damaged (read_events (node_of scheme setting) state more)
 
--- a validator holds a state; with this next record and those that follow, the records are read as events after it
+-- the reader's validator holds a state, and `one` and whatever records follow it are read as events after that state
 pub record IsStandingBefore {S : Type 0} (scheme : Scheme S) (setting : ConfigView S) (records : List Record) (one : Record) (validator : ValidatorView S) : Type 0 where
   pub set : validator.setting ≡ setting
   pub state : State
   pub at : AreAtSound (node_of scheme setting) validator.tables state
   pub on : (more : List Record) → read_pair (node_of scheme setting) (records ++ one ∷ more) ≡ or_damaged (read_events (node_of scheme setting) state (one ∷ more))
 
--- reading the records gives this error, whatever follows them
+-- the records taken so far give this error, whatever records follow them
 pub record IsFailedAs {S : Type 0} (scheme : Scheme S) (setting : ConfigView S) (records : List Record) (error : JournalError) : Type 0 where
   pub some : records ≢ []
   pub on : (more : List Record) → read_pair (node_of scheme setting) (records ++ more) ≡ Err error
   pub of_bytes : IsOfBytesAlone error
 
--- the stage that a reader has reached with these records
+-- how far a reader has got that has taken these records: a case for each stage
 abbrev pub HasReached : {S : Type 0} → Scheme S → ConfigView S → List Record → Reached S → Type 0
 HasReached scheme setting records Empty = records ≡ []
 HasReached scheme setting records (Configured version gate) = IsConfigured scheme setting records version gate
@@ -82,20 +82,20 @@ HasReached scheme setting records (Checkpoint loading gates) = IsLoadingTo schem
 HasReached scheme setting records (Standing validator) = IsStandingAt scheme setting records validator
 HasReached scheme setting records (Failed error) = IsFailedAs scheme setting records error
 
--- ---- one record more
+-- ---- a reader takes one more record
 
--- the error that is reported for a fault of records with these gates
+-- the error that is reported if records with these gates can't be loaded as a checkpoint
 abbrev pub error_at : List ℕ → LoadError → JournalError
 error_at gates load.Memory = Memory
 error_at gates (load.Unsound place) = Damaged (gate_of gates (at_record place))
 error_at gates load.UnsoundWhole = Damaged (gate_of gates of_whole)
 
--- a record was added to a checkpoint's records
+-- one more record was added to the records of a checkpoint that are being loaded
 pub record IsPutTo {S : Type 0} (old : LoadingView S) (old_gates : List ℕ) (bytes : List ℕ) (gate : ℕ) (new : LoadingView S) (gates : List ℕ) : Type 0 where
   pub put : new ≡ record old { records = old.records ++ bytes ∷ [] }
   pub gates_are : gates ≡ old_gates ++ gate ∷ []
 
--- with this record a fault is certain, its own or an earlier one's, whatever follows
+-- with this record the checkpoint is at fault, because of this record or an earlier one, and whatever follows
 pub record IsFaultOf {S : Type 0} (scheme : Scheme S) (old : LoadingView S) (old_gates : List ℕ) (bytes : List ℕ) (gate : ℕ) (error : JournalError) : Type 0 where
   pub cause : LoadError
   pub is : error ≡ error_at (old_gates ++ gate ∷ []) cause

@@ -1,5 +1,5 @@
--- What an opening does with a journal on two disks once its records were taken: an empty journal gets its configuration, and one in the
--- first version is rewritten as a checkpoint.
+-- Renewal: what an opening does with a journal on two disks once its records were taken. An empty journal gets its configuration, and a
+-- journal in version 1 is rewritten as a checkpoint.
 use Rattle.std.specs.Prelude.{◌≡◌, ◌≢◌, ◌⊎◌, ◌<◌, ◌+◌, ◌-◌, ◌^◌, ℕ, List, [], ◌∷◌, length, Option, Some, IsSome, Result, Ok, IfErr, OnOk}
 use Rattle.diskmodel.specs.Disk.{Device as Disks, ReportsFault}
 use Rattle.journal.specs.Areas.{Areas, pair, other_side, stands_in, reports}
@@ -27,30 +27,30 @@ use Rattle.opening.specs.PairReplayed.{version_in}
 use Rattle.opening.specs.Stages.{IsStage}
 use Rattle.opening.specs.Decoded.{decoded_in}
 
--- for each state that the earlier areas stand for, the later areas are a journal of the node at it
+-- for each state that the areas before stand for, the areas later are a proper journal of the node with that state
 abbrev pub KeepsStatesIn : Node → Areas → Areas → Type 0
 KeepsStatesIn node before later = (state : State) → StandsFor node before state → Holds node later state
 
--- a checkpoint doesn't fit an area, or there is no generation after this one
+-- a checkpoint has no room: with its gate it is longer than a journal may be, or there is no generation after this one
 abbrev pub IsTooLong : Node → ℕ → Checkpoint → Type 0
 IsTooLong node generation checkpoint =
     (MAX_JOURNAL_BYTES < 1 + length (bytes_for (generation + 1) (own_configuration Second node ∷ state_records checkpoint))) ⊎ (generation ≡ 2 ^ 64 - 1)
 
--- a checkpoint of this state, of the generation after this one, has no room
+-- a checkpoint of this state has no room, with the generation after this one
 pub record HasNoRoom (node : Node) (generation : ℕ) (state : State) : Type 0 where
   pub checkpoint : Checkpoint
   pub written : IsWritten node checkpoint
   pub is : state_in node checkpoint ≡ state
   pub full : IsTooLong node generation checkpoint
 
--- a checkpoint of this state, of the generation after this one, has room
+-- a checkpoint of this state has room, with the generation after this one
 pub record HasRoom (node : Node) (generation : ℕ) (state : State) : Type 0 where
   pub checkpoint : Checkpoint
   pub written : IsWritten node checkpoint
   pub is : state_in node checkpoint ≡ state
   pub fits : ¬ IsTooLong node generation checkpoint
 
--- two areas, one of which is read with this generation, are a journal in the first version; a checkpoint of its state has no room
+-- two areas are a journal in version 1, and a checkpoint of its state has no room, with the generation after that of the area that is read
 pub record IsFullOf (node : Node) (one other : List ℕ) : Type 0 where
   pub records : List Record
   pub stands_for : stands_in (pair one other) ≡ Ok records
@@ -62,27 +62,27 @@ pub record IsFullOf (node : Node) (one other : List ℕ) : Type 0 where
   pub is_decoded : decoded_in node (pair one other) ≡ Ok state
   pub no_room : HasNoRoom node generation state
 
--- an open journal, in any version, has no room for a checkpoint of the state that it decodes to
+-- an open journal, in either version, has no room for a checkpoint of the state that it decodes to
 pub record IsFullAt {D : Type 0} (node : Node) (device : Disks D) (journal : Journal D) : Type 0 where
   pub state : State
   pub is_decoded : decoded_in node (areas_of device journal) ≡ Ok state
   pub no_room : HasNoRoom node (generation_in journal) state
 
--- an open journal decodes to a state of which a checkpoint has room
+-- an open journal has room for a checkpoint of the state that it decodes to
 pub record HasRoomAt {D : Type 0} (node : Node) (device : Disks D) (journal : Journal D) : Type 0 where
   pub state : State
   pub is_decoded : decoded_in node (areas_of device journal) ≡ Ok state
   pub room : HasRoom node (generation_in journal) state
 
--- the area of a journal on two disks that is read has its first group, and that names its generation
+-- if a journal is on two disks, the area that is read has its first group, which names the generation
 abbrev pub HasBegun : {D : Type 0} → Disks D → Journal D → Type 0
 HasBegun device journal = IsSome (spare_of journal) → reports (device.content (disk_of journal)) ≡ Some (Some (generation_in journal))
 
--- the first record of a journal is a configuration in the second version
+-- if a journal has a first record, that is a configuration in version 2
 abbrev pub IsNewest : Areas → Type 0
 IsNewest areas = (first : Record) (rest : List Record) → stands_in areas ≡ Ok (first ∷ rest) → shaped_version first.bytes ≡ Some Second
 
--- what became of an opened journal on two disks. It decodes to the same state as before, also at every moment in between.
+-- What a renewal made of a journal on two disks. The journal decodes to the same state before, at every moment in between, and after it.
 pub record IsRenewed {X D : Type 0} (node : Node) (device : Disks D) (old : Journal D) (result : Result X JournalError) (new : Journal D) : Type 0 where
   pub alive : OnOk result (IsAlive device new)
   pub two : IsSome (spare_of new)
@@ -96,7 +96,7 @@ pub record IsRenewed {X D : Type 0} (node : Node) (device : Disks D) (old : Jour
   pub unchanged : IfErr result (λ error. error ≢ Device → new ≡ old)
   pub any_moment : IsStage device (λ one other. decoded_in node (pair one other) ≡ decoded_in node (areas_of device old)) (disks_of old) (disks_of new)
 
--- a journal on two disks was rewritten as a checkpoint, which had room: now the other area is read, with the next generation
+-- a journal on two disks had room for a checkpoint and was rewritten to it: the other area is read now, with the next generation
 pub record IsRewritten {D : Type 0} (node : Node) (device : Disks D) (old new : Journal D) : Type 0 where
   pub room : HasRoomAt node device old
   pub places : HaveChangedPlaces old new
@@ -106,8 +106,8 @@ pub record IsPlaced {D : Type 0} (node : Node) (device : Disks D) (version : Opt
   pub rewritten : version ≡ Some First → IsRewritten node device old new
   pub stays : version ≢ Some First → HaveKeptPlaces old new
 
--- Which area is read after an opening of these two. By the areas' own records it is this side, with this generation. But a journal in the
--- first version was rewritten as a checkpoint, so there it is the other side, with the next generation.
+-- Which area of a journal is read after its opening. By the first groups of both areas it is the one on `side`, with `generation`. But if
+-- the journal was in version 1 it was rewritten as a checkpoint, so the other area is read, with the next generation.
 pub record IsReadOn {D : Type 0} (node : Node) (one other : List ℕ) (journal : Journal D) : Type 0 where
   pub records : List Record
   pub stands_for : stands_in (pair one other) ≡ Ok records

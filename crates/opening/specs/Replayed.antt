@@ -1,4 +1,4 @@
--- What a validator has reached that takes the records of a journal as they are read.
+-- What a validator knows that takes the records of a journal on one disk while they are read.
 use Rattle.std.specs.Prelude.{◌≡◌, ◌≢◌, All, ℕ, Bool, List, [], ◌∷◌, drop, Option, Some, None, Result, Ok, Err, IfOk, IfErr, OnOk}
 use Rattle.journal.specs.declared.error.JournalError.{JournalError}
 use Rattle.journal.specs.declared.error.JournalError.TheVariants.{Memory, Device, Full}
@@ -11,18 +11,18 @@ use Rattle.validator.specs.Setting.{ConfigView, node_of}
 use Rattle.validator.specs.Standing.{ValidatorView}
 use Rattle.opening.specs.Decoded.{IsText, StandsAt, read_events, own_fault, is_alone, unless}
 
--- the state after the events of a journal's records, or why there is none, whatever groups they are in
+-- the state that the records of a journal lead to, or what is wrong with them, wherever the groups of these records end
 abbrev pub read_apart : Node → List Record → Result State JournalError
 read_apart node [] = Ok (fresh node)
 read_apart node (first ∷ events) = unless (own_fault node first) (read_events node (fresh node) events)
 
--- the place of the first record's gate
+-- the place of the gate of the first record's group; None without a record
 abbrev pub first_gate : List Record → Option ℕ
 first_gate [] = None
 first_gate (first ∷ events) = Some first.gate
 
--- what is known after these records: the gate of the first one, whether it is alone in its group, and either a validator that holds the
--- state after the events, or the first fault
+-- What is known after these records: the gate of the first record's group, whether that record is alone in the group, and a validator that
+-- holds the state after the events, or the first fault.
 pub record HasReplayed {S : Type 0} (scheme : Scheme S) (setting : ConfigView S) (first : Option ℕ) (alone : Bool)
     (reached : Result (ValidatorView S) JournalError) (records : List Record) : Type 0 where
   pub begins : first ≡ first_gate records

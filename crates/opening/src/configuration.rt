@@ -1,4 +1,4 @@
-//! Which versions of a configuration's record can express a committee.
+//! Which versions of the format can express a committee, and the lengths of its keys.
 
 ghost use Rattle.std.specs.Prelude.{◌≡◌, true, All};
 ghost use Rattle.spec_records.specs.Records.{CanReport};
@@ -9,14 +9,14 @@ use committee::Committee;
 use journal::Version;
 use wire::{Author, Key};
 
-/// Each of these bytes is a number below 256. The call does nothing.
+/// A law: each of these bytes is a number below 256. The call does nothing.
 pub fn are_bytes(bytes: &[u8])
     ensures { AreBytes bytes.now }
 {
     let _ = bytes;
 }
 
-/// Whether a version can express a committee: the first one, which has no stakes, only where each is 1.
+/// Whether a configuration in this version can express a committee. Version 1 has no stakes, so it can only if each stake is 1.
 pub fn can_report(version: Version, committee: &Committee) -> bool
     ensures value { result ≡ decoded_by_version version committee.now }
     ensures reports { result ≡ true → CanReport version committee.now }
@@ -27,7 +27,7 @@ pub fn can_report(version: Version, committee: &Committee) -> bool
     }
 }
 
-// Whether each stake is 1.
+// Whether the stake of each member is 1.
 fn has_ones(committee: &Committee) -> bool
     ensures { result ≡ decoded_ones committee.now }
 {
@@ -35,7 +35,7 @@ fn has_ones(committee: &Committee) -> bool
     committee.total() == committee.size() as u64
 }
 
-/// Each key of a committee has 32 bytes. The call looks at each key and changes nothing.
+/// A law: each key of a committee has 32 bytes. The call looks at each key and changes nothing.
 pub(crate) fn keys_hold(committee: &Committee)
     ensures { All (λ key. HasBytes 32 key.0) committee.now.keys }
 {
@@ -47,7 +47,7 @@ pub(crate) fn keys_hold(committee: &Committee)
     }
 }
 
-// A key has 32 bytes. The call does nothing.
+// A law: a key has 32 bytes. The call does nothing.
 fn is_key(key: &Key)
     ensures { HasBytes 32 key.now.0 }
 {

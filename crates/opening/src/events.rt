@@ -1,4 +1,4 @@
-//! The events of a journal's records.
+//! Reads the events in the records of a journal.
 
 ghost use Rattle.std.specs.Prelude.{◌≡◌, ◌≢◌, true, None, IfOk, IfErr, IfSome, OnOk};
 ghost use Rattle.header.specs.Checks.{fault_of, accepts_all};
@@ -19,14 +19,14 @@ use validator::{Config, Refusal, Step, Validator};
 use wire::{Author, Message, WireError};
 use wire_read::decode;
 
-/// The kind of an event's record.
+/// The kind of record that holds an event, its first byte.
 pub const EVENT: u8 = 1;
 
-/// The bytes of an event's record before the message: its kind, and the sender's number.
+/// How many bytes of an event's record come before the message: the kind, and the sender's number.
 pub const FRONT_BYTES: usize = 3;
 
-/// The event of a record, if it has one that passes the committee's checks. Signatures aren't tested again: they were before the record was
-/// written. On `AllocError` an allocation failed.
+/// The event of a record; None if it has none that passes the committee's checks. Signatures are not checked again, since that was done
+/// before the record was written. On `AllocError` an allocation failed.
 pub fn event_of(
     alloc: Global,
     committee: &Committee,
@@ -45,7 +45,7 @@ pub fn event_of(
     }
 }
 
-// The event of a message from this sender, if it passes the checks, whatever its signatures.
+// The event of a message from this sender, if it passes the checks without those of signatures.
 fn passed(committee: &Committee, sender: Author, message: Message) -> Option<Checked>
     ensures found { result ≡ if_passed committee.now (record { sender = sender; message = message }) }
     ensures passed { IfSome result (λ event. fault_of committee.now accepts_all event ≡ None) }
@@ -56,7 +56,7 @@ fn passed(committee: &Committee, sender: Author, message: Message) -> Option<Che
     }
 }
 
-// Bytes that can't be read are no event, unless it was an allocation that failed.
+// The answer for a record whose message can't be decoded: it has no event, unless it was an allocation that failed.
 fn unread(error: WireError) -> Result<Option<Checked>, AllocError>
     ensures { IfOk result (λ found. (found ≡ None) × (error ≢ WireError.Memory)) }
 {
@@ -66,7 +66,7 @@ fn unread(error: WireError) -> Result<Option<Checked>, AllocError>
     }
 }
 
-// Takes the event of a record, which has to be new.
+// Gives the event of a record to the validator. A record without an event, or with one that isn't new, is damage.
 pub(crate) fn take_event<S: Sign>(
     alloc: Global,
     validator: &mut Validator<'_, S>,
@@ -87,7 +87,7 @@ pub(crate) fn take_event<S: Sign>(
     only_new(step, place)
 }
 
-// An event that isn't new means that the group at this place is damaged, unless an allocation failed.
+// Turns an answer into an error unless the event was new: damage at this gate, or a failed allocation.
 fn only_new(step: Result<Step, Refusal>, gate: u64) -> Result<(), JournalError>
     ensures ok { OnOk result (is_new_step step ≡ true) }
     ensures err { IfErr result (λ error. error ≢ JournalError.Memory → (error ≡ JournalError.Damaged gate) × IsOld step) }
@@ -100,7 +100,7 @@ fn only_new(step: Result<Step, Refusal>, gate: u64) -> Result<(), JournalError>
     }
 }
 
-/// Each byte of a record with these bytes, in the group of this gate, is a number below 256. The call does nothing.
+/// A law: each byte of a record with these bytes and this gate is a number below 256. The call does nothing.
 pub fn is_text(bytes: &[u8], gate: u64)
     ensures { IsText (record { bytes = bytes.now; gate = gate }) }
 {

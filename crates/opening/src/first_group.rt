@@ -1,4 +1,4 @@
-//! The first group of a journal: the record of a node's configuration as it is written.
+//! Writes the first group of a journal, which has the record of the node's configuration.
 
 ghost use Rattle.std.specs.Prelude.{◌≡◌, ◌+◌, ◌*◌, ◌≤◌, ◌++◌, [], ◌∷◌, length, flat_map, Some, IfOk, OnOk};
 ghost use Rattle.std.specs.Int.{w32, to_be_bytes};
@@ -14,8 +14,8 @@ use std::alloc::{AllocError, Global};
 use wire::Author;
 use wire::numbers::two_bytes;
 
-/// The record of a member's configuration: kind, version, own number, depth, workers, batches, members, their keys, and
-/// their stakes where the version has them.
+/// The record of a member's configuration: kind, version, own number, depth, number of workers, number of batches, number of members, their
+/// keys, and in version 2 their stakes.
 pub fn configuration(
     alloc: Global,
     version: Version,
@@ -52,7 +52,7 @@ fn put_keys(bytes: &mut Vec<u8>, committee: &Committee) -> Result<(), AllocError
     Ok(())
 }
 
-// Adds the members' stakes to the bytes, if the version has them.
+// Adds the members' stakes to the bytes if the version has stakes.
 fn put_stakes(
     bytes: &mut Vec<u8>,
     version: Version,
@@ -82,7 +82,7 @@ fn put_each_stake(bytes: &mut Vec<u8>, committee: &Committee) -> Result<(), Allo
     Ok(())
 }
 
-/// The group that has a configuration only.
+/// The group whose only record is the configuration.
 pub fn configuration_group(
     alloc: Global,
     version: Version,

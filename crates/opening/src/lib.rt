@@ -1,4 +1,4 @@
-//! Opening a node on a disk: its journal, and the validator in the state after the journal's events.
+//! Opens a node on its disks: the journal, and a validator in the state after all that the journal holds.
 #![tactic(auto)]
 
 mod checkpoints;

@@ -1,4 +1,4 @@
-//! Taking the records of a journal on two disks while they are read: a checkpoint's, if there is one, and events'.
+//! Takes the records of a journal on two disks while they are read: those of a checkpoint, if it has one, and those of events.
 
 ghost use Rattle.std.specs.Prelude.{◌≡◌, ◌≢◌, ◌∷◌, [], ◌++◌, List, Some, None, Err, All, is_none, IfOk, IfErr, OnOk};
 ghost use Rattle.journal.specs.declared.record.Record.{Record};
@@ -19,7 +19,7 @@ use validator::{Config, Validator};
 #[derive(Drop)]
 pub(crate) struct PairReplay<'a, S: Sign> {
     config: &'a Config<S>,
-    // The version of the first record.
+    // The version of the configuration in the first record. None before that was taken.
     version: Option<Version>,
     reached: Reached<'a, S>,
 }
@@ -37,14 +37,14 @@ impl<'a, S: Sign> PairReplay<'a, S> {
         }
     }
 
-    /// The version of the configuration. None where no record was taken.
+    /// The version of the configuration in the first record. None if no record was taken.
     pub(crate) fn version(&self) -> Option<Version>
         ensures { result ≡ self.now.version }
     {
         self.version
     }
 
-    /// The validator after all records, or what is wrong with them.
+    /// Ends the reading: the validator in the state after all records, or what is wrong with them.
     pub(crate) fn finish(self, alloc: Global) -> Result<Validator<'a, S>, JournalError>
         ensures setting { (records : List Record) → HasTakenPair S.scheme self.entry records → IfOk result (λ validator. validator.setting ≡ self.entry.config.now) }
         ensures stands { let node = node_of S.scheme self.entry.config.now in (records : List Record) → HasTakenPair S.scheme self.entry records
@@ -67,7 +67,7 @@ impl<'a, S: Sign> PairReplay<'a, S> {
         }
     }
 
-    // Takes these records.
+    // Takes these records, one after the other.
     pub(crate) fn take_all(
         &mut self,
         alloc: Global,

@@ -1,4 +1,4 @@
-//! How far a reader of a journal on two disks has got, record by record.
+//! How far a reader of a journal on two disks has got: its stages, and what each record leads to.
 
 ghost use Rattle.std.specs.Prelude.{◌≡◌, ℕ, ◌++◌, ◌∷◌, [], List, All, IfOk, IfErr};
 ghost use Rattle.journal.specs.Format.{FailsAs};
@@ -17,23 +17,23 @@ use sigface::Sign;
 use std::alloc::{AllocError, Global};
 use validator::{Config, LoadError, Loading, Validator};
 
-/// How far a reader has got.
+/// How far a reader of a journal on two disks has got.
 #[derive(Drop)]
 pub(crate) enum Reached<'a, S: Sign> {
     /// No record came yet.
     Empty,
-    /// The configuration alone, in this version and in the group of this gate.
+    /// The configuration was taken and nothing else; it is in this version, and in the group with this gate.
     Configured(Version, u64),
-    /// The configuration with a head, and records of a checkpoint's state so far. The gates are those of the configuration and of these
-    /// records.
+    /// The configuration, a head, and maybe records of a checkpoint's state were taken. The gates are those of the configuration and of
+    /// these state records.
     Checkpoint(Loading<'a, S>, Vec<u64>),
-    /// The checkpoint's state, if any, and events so far: the validator in the state after them.
+    /// A checkpoint's state, if there is one, and maybe events were taken: the validator in the state after them.
     Standing(Validator<'a, S>),
-    /// The first fault.
+    /// The first fault. Records after it are ignored.
     Failed(JournalError),
 }
 
-/// What is reached by the first record.
+/// The stage after the first record, which has to be the configuration.
 pub(crate) fn after_first<'a, S: Sign>(
     alloc: Global,
     config: &'a Config<S>,
@@ -52,7 +52,7 @@ pub(crate) fn after_first<'a, S: Sign>(
     }
 }
 
-/// What is reached by the second record, after a configuration in this version: in the configuration's group it is a head.
+/// The stage after the second record. If it is in the same group as the configuration it is a head, and otherwise an event.
 pub(crate) fn after_second<'a, S: Sign>(
     alloc: Global,
     config: &'a Config<S>,
@@ -75,7 +75,7 @@ pub(crate) fn after_second<'a, S: Sign>(
     }
 }
 
-/// What is reached by a record after those of a checkpoint's state: one more of them, or the first event.
+/// The stage after a record that follows a checkpoint's state records: it is one more of these, or the first event.
 pub(crate) fn after_state<'a, S: Sign>(
     alloc: Global,
     loading: Loading<'a, S>,
@@ -98,7 +98,7 @@ pub(crate) fn after_state<'a, S: Sign>(
     }
 }
 
-/// What is reached by a record that has to be a new event.
+/// The stage after a record that has to be a new event.
 pub(crate) fn after_event<'a, S: Sign>(
     alloc: Global,
     mut validator: Validator<'a, S>,
@@ -115,11 +115,11 @@ pub(crate) fn after_event<'a, S: Sign>(
     }
 }
 
-/// A validator in the state of a checkpoint's records. The gates are those of the records, the configuration's first.
+/// A validator in the state that a checkpoint's records decode to. The gates are those of these records, the configuration's first.
 ///
 /// # Errors
-/// `Damaged` with the gate of the first record at fault, or with the first gate where only the whole is; `Memory` where an allocation
-/// failed.
+/// `Damaged` with the gate of the first record that is at fault, or with the first gate if only all records together are at fault; `Memory`
+/// if an allocation failed.
 pub(crate) fn loaded<'a, S: Sign>(
     loading: Loading<'a, S>,
     gates: Vec<u64>,
@@ -136,7 +136,7 @@ pub(crate) fn loaded<'a, S: Sign>(
     }
 }
 
-// Adds a record of a checkpoint's state, or the configuration before them, whose group has this gate.
+// Adds the configuration, or a record of a checkpoint's state, to the records that are loaded; its group has this gate.
 fn put<'a, S: Sign>(
     mut loading: Loading<'a, S>,
     mut gates: Vec<u64>,
@@ -153,7 +153,7 @@ fn put<'a, S: Sign>(
     }
 }
 
-// The journal's error where records with these gates can't be loaded.
+// The journal's error if records with these gates can't be loaded as a checkpoint.
 fn fault_at(gates: &[u64], error: LoadError) -> JournalError
     ensures { result ≡ error_at gates.now error }
 {
@@ -164,7 +164,7 @@ fn fault_at(gates: &[u64], error: LoadError) -> JournalError
     }
 }
 
-// The gate of the record at this place, or the first one where there is none.
+// The gate of the record at this place; if there is no such record, the first gate.
 fn gate_at(gates: &[u64], place: u64) -> u64
     ensures { result ≡ gate_of gates.now (at_record place) }
 {
@@ -174,14 +174,14 @@ fn gate_at(gates: &[u64], place: u64) -> u64
         .unwrap_or(first_gate(gates))
 }
 
-// The first gate, 0 where there is none.
+// The first of these gates; 0 if there is none.
 fn first_gate(gates: &[u64]) -> u64
     ensures { result ≡ first_of gates.now }
 {
     gates.first().copied().unwrap_or(0)
 }
 
-// Whether a record's kind is an event's.
+// Whether the first byte of a record says that it holds an event.
 fn is_event(bytes: &[u8]) -> bool
     ensures { (place : ℕ) → result ≡ is_event_of (record { bytes = bytes.now; gate = place }) }
 {

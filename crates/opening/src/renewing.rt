@@ -1,4 +1,4 @@
-//! Bringing an opened journal on two disks to the second version.
+//! Brings an opened journal on two disks to version 2 of the format.
 
 ghost use Rattle.std.specs.Prelude.{◌≡◌, ◌≢◌, [], List, Some, Ok, IfErr, OnOk, IsSome};
 ghost use Rattle.journal.specs.Areas.{stands_in};
@@ -18,8 +18,8 @@ use sigface::Sign;
 use std::alloc::Global;
 use validator::{Config, Validator};
 
-/// Brings an opened journal on two disks to its second version: an empty one gets its configuration, and one in the first version is
-/// rewritten as a checkpoint of the validator.
+/// Brings an opened journal on two disks to version 2: an empty journal gets its configuration, and a journal in version 1 is rewritten as
+/// a checkpoint of the validator.
 pub(crate) fn renew<S: Sign, D: Disk>(
     alloc: Global,
     config: &Config<S>,
@@ -33,7 +33,7 @@ pub(crate) fn renew<S: Sign, D: Disk>(
     requires stands { let node = node_of S.scheme config.now in StandsAt node (decoded_in node (areas_of D.device journal.old)) validator.now.tables }
     requires version { (records : List Record) × (stands_in (areas_of D.device journal.old) ≡ Ok records) × (version ≡ version_in records) }
     ensures renewed { IsRenewed (node_of S.scheme config.now) D.device journal.old result journal.new }
-    // Exactly a journal in the first version is rewritten.
+    // A journal is rewritten if and only if it is in version 1.
     ensures placed { OnOk result (IsPlaced (node_of S.scheme config.now) D.device version journal.old journal.new) }
     ensures first { IfErr result (λ error. error ≡ JournalError.Full → version ≡ Some Version.First) }
 {
@@ -44,7 +44,7 @@ pub(crate) fn renew<S: Sign, D: Disk>(
     }
 }
 
-// Writes the configuration to an empty journal on two disks.
+// Writes the configuration as the first group of an empty journal on two disks.
 fn begin<S: Sign, D: Disk>(
     alloc: Global,
     config: &Config<S>,

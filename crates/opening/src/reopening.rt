@@ -1,4 +1,4 @@
-//! Opening a node on a disk.
+//! Opens a node on one disk.
 
 ghost use Rattle.std.specs.Prelude.{◌≡◌, ◌≢◌, ◌⊎◌, ◌<◌, [], ◌∷◌, ℕ, List, true, None, Ok, Err, ◌&&◌, IfOk, IfErr, OnOk};
 ghost use Rattle.std.specs.Str.{bytes_eq};
@@ -23,20 +23,20 @@ use sigface::Sign;
 use std::alloc::{AllocError, Global};
 use validator::{Config, Validator};
 
-/// Opens a node on a disk: its journal, and the validator in the state after its events. An empty journal gets the configuration, in the
-/// second version. A journal in the first version stays in that version.
+/// Opens a node on one disk: its journal, and a validator in the state after the journal's events. An empty journal gets the configuration,
+/// in version 2. A journal in version 1 stays in that version.
 ///
 /// # Errors
-/// In this order: `Device` or `Memory`, where the disk or an allocation fails; `Damaged` with the place of an open gate without a whole
-/// group after it; `Damaged` with that of the first group, where its one record isn't a configuration in either version; `ConfigMismatch`,
-/// where it is another configuration, or has no stakes and a stake isn't 1; `Damaged` with the place of the group of the first record that
-/// is no event, fails the checks, or isn't new. The disk is handed back.
+/// The first of these is reported, and the disk is handed back: `Device` or `Memory`, if the disk or an allocation fails; `Damaged`, with
+/// the place of an open gate that no whole group follows; `Damaged`, with the place of the first group, unless that has one record which is
+/// a configuration; `ConfigMismatch`, if that is not the node's own, or has no stakes although a stake isn't 1; `Damaged`, with the place
+/// of the group of the first record that is no event, fails the checks, or isn't new.
 pub fn reopen<'a, S: Sign, D: Disk>(
     alloc: Global,
     config: &'a Config<S>,
     disk: D,
 ) -> Result<(Validator<'a, S>, Journal<D>), Failed<JournalError, D>>
-    // The validator holds the state that the bytes decoded to, and the bytes still decode to it.
+    // The validator holds the state that the bytes decoded to, and the bytes on the disk still decode to it.
     ensures setting { IfOk result (λ opened. opened.0.setting ≡ config.now) }
     ensures stands { let node = node_of S.scheme config.now in IfOk result (λ opened. StandsAt node (decoded node (D.device.content disk)) opened.0.tables) }
     ensures same { let node = node_of S.scheme config.now in IfOk result (λ opened. decoded node (D.device.content (disk_of opened.1)) ≡ decoded node (D.device.content disk)) }
@@ -46,9 +46,9 @@ pub fn reopen<'a, S: Sign, D: Disk>(
 
     // This state is kept of a legal history, and the bytes stand for it.
     ensures stands_for { IfOk result (λ opened. StandsForAt (node_of S.scheme config.now) (D.device.content disk) opened.0.tables) }
-    // For each state for which the bytes stood before the call, the disk now has a journal of the node at this state.
+    // For each state that the bytes stood for before the call, the disk now has a proper journal of the node with that state.
     ensures kept { IfOk result (λ opened. KeepsStates (node_of S.scheme config.now) (D.device.content disk) (D.device.content (disk_of opened.1))) }
-    // One of these states is the validator's.
+    // One of these states is the one that the validator holds.
     ensures holds { IfOk result (λ opened. HoldsAt (node_of S.scheme config.now) (D.device.content (disk_of opened.1)) opened.0.tables) }
 
     // What the errors say, and what a stop at any moment of the opening may leave.
@@ -73,7 +73,7 @@ pub fn reopen<'a, S: Sign, D: Disk>(
     }
 }
 
-// Whatever a stop leaves in a world of this node decodes to a state. The call looks at the keys and changes nothing.
+// A law: whatever a stop leaves in the runs of this node decodes to a state. The call looks at the keys and changes nothing.
 fn outcomes_are_decoded<S: Sign>(config: &Config<S>)
     ensures { AreLeftDecoded (node_of S.scheme config.now) }
 {
@@ -82,7 +82,7 @@ fn outcomes_are_decoded<S: Sign>(config: &Config<S>)
     config.keys_hold();
 }
 
-// Opens the journal on a disk, and hands its records to a reader.
+// Opens the journal on a disk, and gives its records to a reader.
 fn open_one<D: Disk, R: Reader>(
     alloc: Global,
     disk: D,
@@ -112,7 +112,7 @@ fn open_one<D: Disk, R: Reader>(
     }
 }
 
-// The validator in the state after a journal's events. A journal without records gets the configuration.
+// The validator in the state after a journal's events. If the journal has no records, the configuration is written to it.
 fn validator_on<'a, S: Sign, D: Disk>(
     alloc: Global,
     config: &'a Config<S>,
@@ -147,7 +147,7 @@ fn validator_on<'a, S: Sign, D: Disk>(
     Ok(validator)
 }
 
-/// The version of the first record, if that has the shape of a configuration and is alone in its group.
+/// The version of the configuration that the first record has the form of. None if it has no such form, or isn't alone in its group.
 pub fn first_version(first: &Record, events: &[Record]) -> Option<Version>
     ensures { result ≡ decoded_version first.now events.now }
 {
@@ -158,14 +158,14 @@ pub fn first_version(first: &Record, events: &[Record]) -> Option<Version>
     }
 }
 
-// Whether none of these records is in the first group.
+// Whether none of the records after the first one is in the first group.
 fn is_alone(events: &[Record]) -> bool
     ensures { result ≡ decoded_alone events.now }
 {
     events.iter().all(|event| event.gate > 0)
 }
 
-/// Whether these bytes are this configuration's, in a version that can express its committee. On `AllocError` an allocation failed.
+/// Whether these bytes are the node's own configuration, in a version that can express its committee. On `AllocError` an allocation failed.
 pub fn is_own<S: Sign>(
     alloc: Global,
     config: &Config<S>,
@@ -178,7 +178,7 @@ pub fn is_own<S: Sign>(
     Ok(can_report(version, config.committee()) && bytes == own.as_slice())
 }
 
-/// Writes the first group of an empty journal: the configuration alone, in a version that can express the committee.
+/// Writes the first group of an empty journal: the configuration in this version, which has to be able to express the committee.
 pub fn write_configuration<S: Sign, D: Disk>(
     alloc: Global,
     version: Version,

@@ -1,4 +1,4 @@
-//! Taking the events of a journal while its records are read.
+//! Takes the events of a journal on one disk while its records are read.
 
 ghost use Rattle.std.specs.Prelude.{◌≡◌, ◌≢◌, ◌∷◌, [], ◌++◌, drop, is_none, List, Some, None, Err, All, IfOk, IfErr, IfSome, OnOk};
 ghost use Rattle.journal.specs.declared.record.Record.{Record};
@@ -13,20 +13,20 @@ use sigface::Sign;
 use std::alloc::{AllocError, Global};
 use validator::{Config, Validator};
 
-/// A validator that takes the records of a journal. The first one has to be the node's configuration.
+/// A reader that gives the events of a journal to a validator. The first record has to be the node's configuration.
 #[derive(Drop)]
 pub(crate) struct Replay<'a, S: Sign> {
     config: &'a Config<S>,
-    // The place of the first record's group.
+    // The place of the first record's group. None before the first record.
     first: Option<u64>,
-    // Whether no other record is in the first group.
+    // Whether no other record was in the group of the first one.
     alone: bool,
     // The validator in the state after the events so far, or the first fault.
     reached: Result<Validator<'a, S>, JournalError>,
 }
 
 impl<'a, S: Sign> Replay<'a, S> {
-    /// A validator that has taken no record yet.
+    /// A reader with a fresh validator, which has taken no record yet.
     pub(crate) fn new(alloc: Global, config: &'a Config<S>) -> Result<Replay<'a, S>, AllocError>
         ensures config { IfOk result (λ replay. replay.config.now ≡ config.now) }
         ensures none { IfOk result (λ replay. HasTaken S.scheme replay []) }
@@ -47,7 +47,7 @@ impl<'a, S: Sign> Replay<'a, S> {
         self.first.is_none()
     }
 
-    /// The validator in the state after the events, or what is wrong with the records.
+    /// Ends the reading: the validator in the state after the events, or what is wrong with the records.
     pub(crate) fn finish(self) -> Result<Validator<'a, S>, JournalError>
         ensures setting { (records : List Record) → HasTaken S.scheme self.entry records → IfOk result (λ validator. validator.setting ≡ self.entry.config.now) }
         ensures stands { let node = node_of S.scheme self.entry.config.now in (records : List Record) → HasTaken S.scheme self.entry records
@@ -70,7 +70,7 @@ impl<'a, S: Sign> Replay<'a, S> {
         }
     }
 
-    // Takes these records.
+    // Takes these records, one after the other.
     pub(crate) fn take_all(
         &mut self,
         alloc: Global,
@@ -109,7 +109,7 @@ impl<'a, S: Sign> Replay<'a, S> {
         Ok(())
     }
 
-    // Takes a record after the first one. After a fault, records are ignored.
+    // Takes a record after the first one. After the first fault, records are ignored.
     fn take_next(&mut self, alloc: Global, bytes: &[u8], place: u64) -> Result<(), AllocError>
         requires { self.old.first ≢ None }
         ensures config { self.new.config.now ≡ self.old.config.now }
@@ -131,7 +131,7 @@ impl<'a, S: Sign> Replay<'a, S> {
     }
 }
 
-// Why a record isn't this configuration's.
+// What is wrong with the first record: it is no configuration, or isn't the node's own.
 fn own_fault<S: Sign>(
     alloc: Global,
     config: &Config<S>,

@@ -1,4 +1,4 @@
-//! Opening a node on one disk or on two.
+//! Opens a node on one disk or on two.
 
 ghost use Rattle.std.specs.Prelude.{◌≡◌, ◌≢◌, [], List, Some, Ok, IfOk, IfErr, IsSome};
 ghost use Rattle.journal.specs.Areas.{pair, stands_in};
@@ -32,22 +32,22 @@ pub fn reopen_store<'a, S: Sign, D: Disk>(
     config: &'a Config<S>,
     store: Store<D>,
 ) -> Result<(Validator<'a, S>, Journal<D>), Failed<JournalError, Store<D>>>
-    // The validator holds the state that the areas decoded to, and the areas still decode to it.
+    // The validator holds the state that the areas decoded to, and the areas on the disks still decode to it.
     ensures setting { IfOk result (λ opened. opened.0.setting ≡ config.now) }
     ensures stands { let node = node_of S.scheme config.now in IfOk result (λ opened. StandsAt node (decoded_in node (areas_in D.device store)) opened.0.tables) }
     ensures same { let node = node_of S.scheme config.now in IfOk result (λ opened. decoded_in node (areas_of D.device opened.1) ≡ decoded_in node (areas_in D.device store)) }
     ensures alive { IfOk result (λ opened. IsAlive D.device opened.1) }
     ensures configured { IfOk result (λ opened. stands_in (areas_of D.device opened.1) ≢ Ok []) }
     ensures begun { IfOk result (λ opened. HasBegun D.device opened.1) }
-    // A journal on two disks is in the second version then; one in the first version was rewritten, with the next generation.
+    // After success a journal on two disks is in version 2; if it was in version 1 it was rewritten, with the next generation.
     ensures disks { IfOk result (λ opened. IsReadIn (node_of S.scheme config.now) D.device store opened.1) }
     ensures newest { IfOk result (λ opened. IsSome (spare_of opened.1) → IsNewest (areas_of D.device opened.1)) }
 
-    // The areas stand for this state.
+    // The areas stand for the state that the validator holds.
     ensures stands_for { IfOk result (λ opened. StandsForIn (node_of S.scheme config.now) (areas_in D.device store) opened.0.tables) }
-    // For each state for which the areas stood before the call, the disks now have a journal of the node at this state.
+    // For each state that the areas stood for before the call, the disks now have a proper journal of the node with that state.
     ensures kept { IfOk result (λ opened. KeepsStatesIn (node_of S.scheme config.now) (areas_in D.device store) (areas_of D.device opened.1)) }
-    // One of these states is the validator's.
+    // One of these states is the one that the validator holds.
     ensures holds { IfOk result (λ opened. HoldsIn (node_of S.scheme config.now) (areas_of D.device opened.1) opened.0.tables) }
 
     // What the errors say, and what a stop at any moment of the opening may leave.
@@ -59,9 +59,8 @@ pub fn reopen_store<'a, S: Sign, D: Disk>(
     }
 }
 
-/// Opens a node on two disks, given in the order of their areas: its journal, and the validator in the state after the records of the area
-/// that is read. An empty journal gets the configuration, in the second version. A journal in the first version is rewritten as a
-/// checkpoint.
+/// Opens a node on two disks, given in the order of their areas: its journal, and a validator in the state after the records of the area
+/// that is read. An empty journal gets the configuration, in version 2. A journal in version 1 is rewritten as a checkpoint.
 ///
 /// # Errors
 /// Both disks are handed back. The first of these is reported:
@@ -78,23 +77,23 @@ pub fn reopen_pair<'a, S: Sign, D: Disk>(
     first: D,
     second: D,
 ) -> Result<(Validator<'a, S>, Journal<D>), Failed<JournalError, (D, D)>>
-    // The validator holds the state that both areas decoded to, and they still decode to it.
+    // The validator holds the state that both areas decoded to, and the areas on the disks still decode to it.
     ensures setting { IfOk result (λ opened. opened.0.setting ≡ config.now) }
     ensures stands { let node = node_of S.scheme config.now in IfOk result (λ opened. StandsAt node (decoded_in node (pair (D.device.content first) (D.device.content second))) opened.0.tables) }
     ensures same { let node = node_of S.scheme config.now in IfOk result (λ opened. decoded_in node (areas_of D.device opened.1) ≡ decoded_in node (pair (D.device.content first) (D.device.content second))) }
     ensures alive { IfOk result (λ opened. IsAlive D.device opened.1) }
     ensures configured { IfOk result (λ opened. stands_in (areas_of D.device opened.1) ≢ Ok []) }
     ensures begun { IfOk result (λ opened. HasBegun D.device opened.1) }
-    // The journal is in the second version then; one in the first version was rewritten, with the next generation.
+    // After success the journal is in version 2; if it was in version 1 it was rewritten, with the next generation.
     ensures two { IfOk result (λ opened. IsSome (spare_of opened.1)) }
     ensures read { IfOk result (λ opened. IsReadOn (node_of S.scheme config.now) (D.device.content first) (D.device.content second) opened.1) }
     ensures newest { IfOk result (λ opened. IsNewest (areas_of D.device opened.1)) }
 
-    // The areas stand for this state.
+    // The areas stand for the state that the validator holds.
     ensures stands_for { IfOk result (λ opened. StandsForIn (node_of S.scheme config.now) (pair (D.device.content first) (D.device.content second)) opened.0.tables) }
-    // For each state for which the areas stood before the call, the disks now have a journal of the node at this state.
+    // For each state that the areas stood for before the call, the disks now have a proper journal of the node with that state.
     ensures kept { IfOk result (λ opened. KeepsStatesIn (node_of S.scheme config.now) (pair (D.device.content first) (D.device.content second)) (areas_of D.device opened.1)) }
-    // One of these states is the validator's.
+    // One of these states is the one that the validator holds.
     ensures holds { IfOk result (λ opened. HoldsIn (node_of S.scheme config.now) (areas_of D.device opened.1) opened.0.tables) }
 
     // What the errors say, and what a stop at any moment of the opening may leave.
@@ -149,7 +148,7 @@ fn open_both<'a, S: Sign, D: Disk>(
     }
 }
 
-// Whatever a stop leaves in a world of this node decodes to a state. The call looks at the keys and changes nothing.
+// A law: whatever a stop leaves in the runs of this node decodes to a state. The call looks at the keys and changes nothing.
 fn both_are_decoded<S: Sign>(config: &Config<S>)
     ensures { AreLeftDecodedIn (node_of S.scheme config.now) }
 {
@@ -158,8 +157,7 @@ fn both_are_decoded<S: Sign>(config: &Config<S>)
     config.keys_hold();
 }
 
-// The validator in the state after the records that a reader took of an opened journal on two disks, and this journal in the second
-// version.
+// The validator in the state after the records that a reader took of a journal on two disks, and the journal, renewed to version 2.
 fn finish_on<'a, S: Sign, D: Disk>(
     alloc: Global,
     config: &'a Config<S>,
@@ -182,7 +180,7 @@ fn finish_on<'a, S: Sign, D: Disk>(
     }
 }
 
-// A validator, and its journal, which is brought to the second version.
+// A validator, and its journal after a renewal has brought that to version 2.
 fn renew_for<'a, S: Sign, D: Disk>(
     alloc: Global,
     config: &'a Config<S>,

@@ -12,21 +12,21 @@ pub record BatchView : Type 0 where
   pub worker : ℕ
   pub transactions : List (List ℕ)
 
--- a transaction: its length, and its bytes
+-- the bytes of a transaction in a batch's body: its length in four bytes, and its own bytes
 abbrev pub transaction_bytes : List ℕ → List ℕ
 transaction_bytes transaction = to_be_bytes w32 (length transaction) ++ transaction
 
--- the body of a batch: author, worker, and the transactions after their count
+-- the bytes of a batch's body: the author, the worker, the number of transactions, and the transactions
 abbrev pub batch_body : BatchView → List ℕ
 batch_body b =
     to_be_bytes w16 b.author.0 ++ to_be_bytes w16 b.worker ++ to_be_bytes w32 (length b.transactions)
     ++ flat_map transaction_bytes b.transactions
 
--- how many bytes a body of these transactions has
+-- how many bytes the body of a batch with these transactions has
 abbrev pub body_len : List (List ℕ) → ℕ
 body_len transactions = 8 + sum_by (λ t. 4 + length t) transactions
 
--- a body of these transactions has room for one more of this length: it then has at most 500,000 bytes
+-- the body of a batch with these transactions has room for one more transaction of this length: it has at most 500,000 bytes with it
 abbrev pub has_room : List (List ℕ) → ℕ → Bool
 has_room transactions len = nat_le (body_len transactions + (4 + len)) MAX_BATCH_BYTES
 
@@ -42,7 +42,7 @@ pub record IsBatch (b : BatchView) : Type 0 where
   pub each : All IsTransaction b.transactions
   pub short : body_len b.transactions ≤ MAX_BATCH_BYTES
 
--- this many transactions, each with its length before it
+-- the first `count` transactions in these bytes; each has its length before it
 unfoldable pub transactions_in : ℕ → List ℕ → List (List ℕ)
 transactions_in zero bytes = []
 transactions_in (suc n) bytes =
@@ -51,11 +51,11 @@ transactions_in (suc n) bytes =
 
 -- ---- how the types keep a batch
 
--- the batch of this author and worker whose body, from its ninth byte on, has this many transactions
+-- the batch of this author and worker whose body has `count` transactions after its first eight bytes
 abbrev pub contents_of : Author → ℕ → ℕ → List ℕ → BatchView
 contents_of author worker count body = record { author = author; worker = worker; transactions = transactions_in count (drop 8 body) }
 
--- a body that grows: it is whole but for its count, which may be any four bytes
+-- a body to which transactions are still added: everything in it is right except the number of transactions, which may be any four bytes
 pub record IsOpen (author : Author) (worker count : ℕ) (body : List ℕ) : Type 0 where
   pub fits : IsBatch (contents_of author worker count body)
   pub head : take 4 body ≡ to_be_bytes w16 author.0 ++ to_be_bytes w16 worker

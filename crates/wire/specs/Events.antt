@@ -1,4 +1,4 @@
--- Incoming messages.
+-- Events: incoming messages with their senders.
 use Rattle.wire.specs.declared.keys.Author.{Author}
 use Rattle.wire.specs.declared.message.Message.{Message}
 

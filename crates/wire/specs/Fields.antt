@@ -6,20 +6,20 @@ use Rattle.wire.specs.declared.keys.Author.{Author}
 use Rattle.wire.specs.declared.keys.Digest.{Digest}
 use Rattle.wire.specs.declared.keys.Signature.{Signature}
 
--- each number is a byte
+-- each of these numbers is a byte: below 256
 abbrev pub AreBytes : List ℕ → Type 0
 AreBytes = All (λ byte. byte < 256)
 
--- this many bytes
+-- these numbers are bytes, and there are `count` of them
 pub record HasBytes (count : ℕ) (bytes : List ℕ) : Type 0 where
   pub count_is : length bytes ≡ count
   pub each : AreBytes bytes
 
--- a member's number, or a worker's, has two bytes
+-- the number of a member or of a worker fits two bytes
 abbrev pub IsNumber : ℕ → Type 0
 IsNumber n = n < 2 ^ 16
 
--- a member is named by its number
+-- a member is named by a number of two bytes
 abbrev pub IsAuthor : Author → Type 0
 IsAuthor a = IsNumber a.0
 
@@ -31,11 +31,11 @@ IsDigest d = HasBytes 32 d.0
 abbrev pub IsSignature : Signature → Type 0
 IsSignature s = HasBytes 64 s.0
 
--- rounds go up to 2^48
+-- the number of a round is at most 2^48
 abbrev pub IsRound : ℕ → Type 0
 IsRound round = round ≤ MAX_ROUND
 
--- waves go from 1 up to 2^47 - 1
+-- the number of a wave is from 1 to 2^47 - 1
 pub record IsWave (wave : ℕ) : Type 0 where
   pub least : 0 < wave
   pub limit : wave ≤ MAX_WAVE

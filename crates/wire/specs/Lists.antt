@@ -1,4 +1,4 @@
--- Lists of any elements.
+-- The prefixes of a list.
 use Rattle.std.specs.Prelude.{◌≡◌, List, ◌++◌}
 
 -- one list is a prefix of another

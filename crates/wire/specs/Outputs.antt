@@ -1,4 +1,4 @@
--- The bytes of an output: its receiver, and its content.
+-- The bytes of an output (something that a node hands out): its receiver, and its content.
 use Rattle.std.specs.Prelude.{ℕ, ◌+◌, ◌*◌, ◌≤◌, List, ◌∷◌, ◌++◌, length, All}
 use Rattle.std.specs.List.{flat_map}
 use Rattle.std.specs.Int.{w16, w32, w64, to_be_bytes}
@@ -20,19 +20,19 @@ receiver_of (output.Vote v) = v.author.0
 receiver_of (output.Certificate c) = 65535
 receiver_of (output.Order start digests) = 65534
 
--- a digest: its bytes
+-- the bytes of a digest
 abbrev pub digest_bytes : Digest → List ℕ
 digest_bytes d = d.0
 
--- the digests after their count
+-- the bytes of a list of digests: how many they are, and each of them
 abbrev pub digests_bytes : List Digest → List ℕ
 digests_bytes digests = to_be_bytes w32 (length digests) ++ flat_map digest_bytes digests
 
--- a piece of the order: after the tag 7 the place of its first digest, and the digests
+-- the bytes of a piece of the order: the tag 7, the place of its first digest in the order, and its digests
 abbrev pub order_bytes : ℕ → List Digest → List ℕ
 order_bytes start digests = 7 ∷ to_be_bytes w64 start ++ digests_bytes digests
 
--- the content of an output: a message, or a piece of the order
+-- the content of an output: the bytes of a message or of a piece of the order
 abbrev pub content_of : Output → List ℕ
 content_of (output.Batch b) = encoding (message.Batch b)
 content_of (output.Ack to ack) = encoding (message.BatchAck ack)
@@ -41,7 +41,7 @@ content_of (output.Vote v) = encoding (message.Vote v)
 content_of (output.Certificate c) = encoding (message.Certificate c)
 content_of (output.Order start digests) = order_bytes start digests
 
--- the length of an output's content
+-- how many bytes the content of an output takes
 abbrev pub content_len : Output → ℕ
 content_len (output.Batch b) = length_of (message.Batch b)
 content_len (output.Ack to ack) = length_of (message.BatchAck ack)
@@ -50,7 +50,7 @@ content_len (output.Vote v) = length_of (message.Vote v)
 content_len (output.Certificate c) = length_of (message.Certificate c)
 content_len (output.Order start digests) = 13 + 32 * length digests
 
--- the bytes of an output
+-- the bytes of an output: its receiver in two bytes, and its content
 abbrev pub output_bytes : Output → List ℕ
 output_bytes o = to_be_bytes w16 (receiver_of o) ++ content_of o
 

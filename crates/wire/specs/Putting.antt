@@ -1,7 +1,7 @@
--- Appending bytes to others.
+-- What it means that bytes are only appended.
 use Rattle.std.specs.Prelude.{ℕ, List}
 use Rattle.wire.specs.Lists.{Begins}
 
--- each prefix of the old bytes is a prefix of the new ones
+-- whatever was a prefix of the old bytes is a prefix of the new ones
 abbrev pub Keeps : List ℕ → List ℕ → Type 0
 Keeps old new = (start : List ℕ) → Begins start old → Begins start new

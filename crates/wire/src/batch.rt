@@ -11,20 +11,20 @@ use crate::shared_bytes::SharedBytes;
 use std::alloc::{AllocError, AllocFailed, Global};
 use std::marker::Model;
 
-/// Bytes of a body before its transactions: author, worker and count.
+/// How many bytes of a batch's body come before its transactions: those of author, worker and number of transactions.
 const HEAD_BYTES: usize = 8;
 
-/// Where the count of a body begins.
+/// Where in a batch's body the number of transactions begins, in bytes.
 const COUNT_PLACE: usize = 4;
 
-/// Bytes of a transaction's length.
+/// How many bytes the length of a transaction takes.
 const LENGTH_BYTES: usize = 4;
 
-/// A closed body may keep one in so many bytes of its room spare.
+/// A closed body gives unused memory back if that is more than one eighth of what it has allocated.
 const SPARE_PART: usize = 8;
 
-/// Transactions that an author's worker gathered, in their order: at most `MAX_TRANSACTION_BYTES` each,
-/// and at most `MAX_BATCH_BYTES` in the body, which is what is sent, stored and digested.
+/// Transactions that an author's worker gathered, in their order. Each has at most `MAX_TRANSACTION_BYTES`. The body, which is what is
+/// sent, stored and digested, has at most `MAX_BATCH_BYTES`.
 #[derive(Debug)]
 pub struct Batch {
     author: Author,
@@ -56,8 +56,8 @@ impl Model for Batch {
 }
 
 impl Batch {
-    /// The batch of this body, which has this author, this worker and so many transactions. The body is copied once, into a block of its
-    /// length. On `AllocError` an allocation failed.
+    /// The batch with this body, which has this author, this worker and `count` transactions. The body is copied once, into a block of its
+    /// exact length. On `AllocError` an allocation failed.
     pub fn from_body(
         alloc: Global,
         author: Author,
@@ -99,7 +99,7 @@ impl Batch {
         self.count
     }
 
-    /// The same batch with one more owner. The body isn't copied. On `AllocError` an allocation failed.
+    /// A second owner of the same batch. The body isn't copied. On `AllocError` an allocation failed.
     pub fn share(&self) -> Result<Batch, AllocError>
         ensures { IfOk result (λ batch. batch ≡ self.now) }
     {
@@ -111,7 +111,7 @@ impl Batch {
         })
     }
 
-    /// The batch's encoding: author, worker, the number of transactions, the transactions.
+    /// The batch's body, as it is sent and digested: author, worker, the number of transactions, the transactions.
     pub fn body(&self) -> &[u8]
         ensures value { result.now ≡ batch_body self.now }
         ensures len { length result.now ≡ body_len self.now.transactions }
@@ -128,7 +128,7 @@ pub struct OpenBatch {
     author: Author,
     worker: u16,
     count: u32,
-    // The body so far. Its count is written when the batch is closed.
+    // The body so far. The number of transactions is written into it when the batch is closed.
     body: Vec<u8>,
 }
 
@@ -150,8 +150,8 @@ impl OpenBatch {
         OpenBatch::with_room(alloc, author, worker, 0)
     }
 
-    /// A batch without transactions, with room for this many bytes of transactions and their lengths, but never for more than a body may
-    /// have.
+    /// A batch without transactions that has memory for this many bytes of transactions with their lengths, but never for more than a body
+    /// may have.
     pub fn with_room(
         alloc: Global,
         author: Author,
@@ -202,7 +202,7 @@ impl OpenBatch {
         Ok(())
     }
 
-    /// The batch of these transactions. If an allocation fails the open batch is handed back as it was.
+    /// Closes the batch. If an allocation fails the open batch is handed back as it was.
     pub fn close(self) -> Result<Batch, AllocFailed<OpenBatch>>
         ensures { MatchResult result (λ batch. batch ≡ self) (λ failed. failed.value ≡ self) }
     {
@@ -233,8 +233,8 @@ impl OpenBatch {
     }
 }
 
-// Gives back what a body doesn't need of its room, where that is more than an eighth of it: a batch is kept for long. Where no smaller
-// block can be had the body keeps its own, so that nothing fails here.
+// Gives back the memory that a body doesn't use, if that is more than an eighth of all it has: a batch is kept for long. If no smaller
+// block can be allocated the body keeps its own, so nothing can fail here.
 fn release_spare_room(body: &mut Vec<u8>)
     ensures items { body.new.items ≡ body.old.items }
     ensures capacity { vec_capacity body.new ≤ vec_capacity body.old }

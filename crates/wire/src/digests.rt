@@ -17,16 +17,16 @@ use crate::references::{BatchReference, ParentReference};
 use crate::round::Round;
 use sha2::{Digest as Hasher, Sha256};
 
-/// The letter B, which precedes a batch's body in what is digested.
+/// The letter B, which is digested before a batch's body.
 const BATCH_LETTER: u8 = 0x42;
 
-/// The letter H, which precedes a header in what is digested.
+/// The letter H, which is digested before a header's body.
 const HEADER_LETTER: u8 = 0x48;
 
-/// The letter C, which precedes a certificate in what is digested.
+/// The letter C, which is digested before the parts of a certificate.
 const CERTIFICATE_LETTER: u8 = 0x43;
 
-// The bytes of a reference to a batch, in one array: each call of the hasher costs as much as hashing a few bytes more.
+// The bytes of a reference to a batch, in one array: a call of the hasher costs as much as hashing a few more bytes.
 fn batch_bytes(batch: &BatchReference) -> [u8; 34]
     ensures { result ≡ batch_reference_bytes batch.now }
 {
@@ -36,7 +36,7 @@ fn batch_bytes(batch: &BatchReference) -> [u8; 34]
     bytes
 }
 
-// Hashes the references to batches, without their count.
+// Hashes the references to batches, but not how many they are.
 fn feed_batches(hasher: &mut Sha256, batches: &[BatchReference])
     ensures { (m : List ℕ) → Holds256 hasher.old m → Holds256 hasher.new (m ++ flat_map batch_reference_bytes batches.now) }
 {
@@ -73,7 +73,7 @@ fn slot_bytes(author: Author, round: Round) -> [u8; 11]
     bytes
 }
 
-// What is hashed of a header before its references to batches: the letter, author, round, and how many such references there are.
+// The bytes that are hashed of a header before its references to batches: the letter, author, round, and how many references there are.
 fn head_bytes(author: Author, round: Round, batches: u16) -> [u8; 13]
     ensures { result ≡ (72 ∷ to_be_bytes w16 author.0 ++ to_be_bytes w64 round) ++ to_be_bytes w16 batches }
 {
@@ -100,7 +100,7 @@ fn body_digest(
     Digest(hasher.finalize())
 }
 
-/// The digest of a batch. The body that is digested has the batch's author and worker too.
+/// The digest of a batch. The author and the worker are part of what is digested.
 pub fn batch_digest(batch: &Batch) -> Digest
     ensures { result.0 ≡ batch_digest_of batch.now }
 {

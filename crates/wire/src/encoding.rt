@@ -1,4 +1,4 @@
-//! Messages as bytes.
+//! Encodes messages as bytes.
 
 ghost use Rattle.std.specs.Prelude.{◌≡◌, ℕ, List, ◌≤◌, ◌+◌, ◌*◌, ◌++◌, ◌∷◌, length, take, IfOk, OnOk, OnErr};
 ghost use Rattle.wire.specs.declared.limits.TheConstants.{MAX_BATCH_BYTES, MAX_BATCHES, MAX_FRAME_BYTES, MAX_PARENTS, MAX_VOTES};
@@ -36,31 +36,31 @@ pub const CERTIFICATE_TAG: u8 = 5;
 /// The tag of a coin message.
 pub const COIN_TAG: u8 = 6;
 
-/// Bytes of an acknowledgement, with its tag.
+/// The length of an acknowledgement with its tag, in bytes.
 pub(crate) const ACK_BYTES: usize = 35;
 
-/// Bytes of a vote, with its tag.
+/// The length of a vote with its tag, in bytes.
 pub(crate) const VOTE_BYTES: usize = 109;
 
-/// Bytes of a coin, with its tag.
+/// The length of a coin with its tag, in bytes.
 const COIN_BYTES: usize = 17;
 
-/// Bytes of a header's body without its references: author, round and both counts.
+/// The length of a header's body without its references, in bytes: author, round, and the numbers of batches and parents.
 const HEADER_FRONT_BYTES: usize = 14;
 
-/// Bytes of a reference to a batch or to a parent.
+/// The length of a reference to a batch or to a parent, in bytes.
 const REFERENCE_BYTES: usize = 34;
 
-/// Bytes of a signature.
+/// The length of a signature, in bytes.
 const SIGNATURE_BYTES: usize = 64;
 
-/// Bytes of a count.
+/// The length of the number of a list's entries, in bytes.
 const COUNT_BYTES: usize = 2;
 
-/// Bytes of a vote in a certificate.
+/// The length of a vote in a certificate, in bytes.
 const VOTE_ENTRY_BYTES: usize = 66;
 
-// Adds bytes. Earlier bytes stay, also if the allocation fails.
+// Adds bytes to a message. What was there before stays, also if the allocation fails.
 #[tactic(auto, using(crate::proofs::Joining::put_kept))]
 fn put_bytes(out: &mut Vec<u8>, bytes: &[u8]) -> Result<(), AllocError>
     ensures bytes { OnOk result (out.new.items ≡ out.old.items ++ bytes.now) }
@@ -91,8 +91,8 @@ pub(crate) fn put_batch(out: &mut Vec<u8>, batch: &Batch) -> Result<(), AllocErr
     put_bytes(out, batch.body())
 }
 
-// Lengthens bytes by so many, which are then to be written, and gives where these begin: the one test for room of a message. Where the
-// allocation fails all stays as it was.
+// Lengthens a buffer by `count` bytes, which are written afterwards, and returns where they begin. This is the only allocation for a
+// message. If it fails, the buffer is as before.
 fn lengthen(out: &mut Vec<u8>, count: usize) -> Result<usize, AllocError>
     requires { count ≤ MAX_FRAME_BYTES }
     ensures place { IfOk result (λ place. place ≡ length out.old.items) }
@@ -105,7 +105,7 @@ fn lengthen(out: &mut Vec<u8>, count: usize) -> Result<usize, AllocError>
     Ok(place)
 }
 
-// Writes bytes at a place of an area, and gives the place after them. What stands before the place stays.
+// Writes bytes at a place of the buffer, and returns the place after them. What stands before the place stays.
 #[tactic(auto, using(std::proofs::lemmas::Slice::overwrites))]
 fn write_at(area: &mut [u8], place: usize, bytes: &[u8]) -> usize
     requires room { place + length bytes.now ≤ length area.old }
@@ -210,7 +210,7 @@ fn write_votes(area: &mut [u8], place: usize, votes: &VoteEntries) -> usize
     next
 }
 
-// Writes a tag, and the body of a header after it.
+// Writes a message's tag, and the body of a header after it.
 fn write_header_body(area: &mut [u8], place: usize, tag: u8, header: &HeaderBody) -> usize
     requires room { place + (1 + header_body_len header.now) ≤ length area.old }
     ensures bytes { take result area.new ≡ take place area.old ++ tag ∷ header_body header.now }
@@ -371,10 +371,10 @@ pub(crate) fn certificate_length(certificate: &Certificate) -> usize
     1 + (header_body_length(&certificate.header) + votes)
 }
 
-/// The length of a message's encoding, in bytes.
+/// The length of a message's encoding with its tag, in bytes.
 pub fn encoded_len(message: &Message) -> usize
     ensures len { result ≡ length (encoding message.now) }
-    // A message fits a frame, together with its sender.
+    // Each message fits a frame, together with its sender.
     ensures limit { result ≤ 1 + MAX_BATCH_BYTES }
 {
     message.limits_hold();
@@ -388,13 +388,13 @@ pub fn encoded_len(message: &Message) -> usize
     }
 }
 
-/// Adds the encoding of a message to these bytes. On `AllocError` an allocation failed, and a part of the encoding may have been added.
+/// Adds the encoding of a message to a buffer. On `AllocError` an allocation failed, and part of the encoding may have been added.
 #[tactic(auto, using(crate::proofs::Joining::rest_at_refusal))]
 pub fn encode_onto(out: &mut Vec<u8>, message: &Message) -> Result<(), AllocError>
     ensures bytes { OnOk result (out.new.items ≡ out.old.items ++ encoding message.now) }
     ensures message { OnOk result (IsMessage message.now) }
     ensures len { OnOk result (length out.new.items ≡ length out.old.items + length_of message.now) }
-    // A message fits a frame, together with its sender.
+    // Each message fits a frame, together with its sender.
     ensures limit { OnOk result (length_of message.now ≤ 1 + MAX_BATCH_BYTES) }
     ensures kept { OnErr result ((rest : List ℕ) × (out.new.items ≡ out.old.items ++ rest)) }
 {
@@ -413,7 +413,7 @@ pub fn encode_onto(out: &mut Vec<u8>, message: &Message) -> Result<(), AllocErro
 pub fn encode(alloc: Global, message: &Message) -> Result<Vec<u8>, AllocError>
     ensures encoding { IfOk result (λ bytes. Spells message.now bytes.items) }
     ensures len { IfOk result (λ bytes. length bytes.items ≡ length_of message.now) }
-    // A message fits a frame, together with its sender.
+    // Each message fits a frame, together with its sender.
     ensures limit { IfOk result (λ bytes. length bytes.items ≤ 1 + MAX_BATCH_BYTES) }
 {
     let mut out = Vec::with_capacity(alloc, encoded_len(message))?;

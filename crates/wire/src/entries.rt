@@ -1,4 +1,4 @@
-//! Lists with a limit and an order.
+//! Sorted lists with at most so many entries.
 
 ghost use Rattle.std.specs.Prelude.{◌≡◌, ◌<◌, ◌≤◌, ◌++◌, [], ◌∷◌, ℕ, Bool, length, IsTrue, ◌↔◌, IfOk, OnOk, OnErr};
 ghost use Rattle.wire.specs.Rising.{rises, follows, AreEntries};
@@ -6,23 +6,23 @@ ghost use Rattle.wire.specs.Rising.{rises, follows, AreEntries};
 use std::alloc::{AllocError, Global};
 use std::marker::Model;
 
-/// An element of a list.
+/// What can be an entry of such a list: a reference to a batch, a reference to a parent, or a vote.
 pub trait Entry: Copy {
-    // How many entries a list has, at most.
+    // The greatest number of entries that a list of this type may have.
     ghost limit: { ℕ };
 
-    // What holds of each entry.
+    // What holds of each value of the type, such as that its digest has 32 bytes.
     ghost fits: { Self → Type 0 };
 
     // Whether the left entry may come right before the right one.
     ghost before: { Self → Self → Bool };
 
-    /// What holds of each entry. The call does nothing.
+    /// A law: what `fits` says holds of each entry. The call does nothing.
     fn entry_holds(&self)
         ensures { fits self.now };
 }
 
-/// Entries in strictly ascending order, at most as many as the limit. Each list in a header or certificate is of this type.
+/// A list of entries in strictly ascending order, with at most `limit` of them. Each list in a header or certificate is of this type.
 #[derive(Debug)]
 pub struct Entries<E: Entry> {
     list: Vec<E>,
@@ -56,7 +56,7 @@ impl<E: Entry> Model for Entries<E> {
 }
 
 impl<E: Entry> Entries<E> {
-    /// No entries.
+    /// A list without entries.
     pub fn new(alloc: Global) -> Entries<E>
         ensures { result ≡ [] }
     {
@@ -65,7 +65,7 @@ impl<E: Entry> Entries<E> {
         }
     }
 
-    /// No entries, with room for so many. On `AllocError` an allocation failed.
+    /// A list without entries that has memory for `room` of them. On `AllocError` an allocation failed.
     pub fn with_room(alloc: Global, room: usize) -> Result<Entries<E>, AllocError>
         ensures { IfOk result (λ entries. entries ≡ []) }
     {
@@ -89,7 +89,7 @@ impl<E: Entry> Entries<E> {
         self.list.is_empty()
     }
 
-    /// Adds an entry at the end, if there is room and `may_follow` allows it. On `AllocError` an allocation failed.
+    /// Adds an entry at the end. The list must have room for it, and `may_follow` must allow it. On `AllocError` an allocation failed.
     pub fn push(&mut self, entry: E) -> Result<(), AllocError>
         requires room { length self.old < E.limit }
         requires follows { IsTrue (follows (λ last. E.before last entry) self.old) }

@@ -1,4 +1,4 @@
-//! Why bytes, or the parts of a message, are refused.
+//! Why bytes are no message, or parts can't be one.
 
 ghost use Rattle.std.specs.Prelude.{◌≡◌};
 ghost use Rattle.wire.specs.declared.error.WireError.TheVariants.{Memory};
@@ -12,22 +12,22 @@ pub enum WireError {
     /// An allocation failed.
     #[error("1 Memory")]
     Memory,
-    /// The input ends within a field.
+    /// The bytes end within a field.
     #[error("2 Short")]
     Short,
-    /// Bytes are left after the last field.
+    /// There are more bytes after the message's last field.
     #[error("3 Trailing")]
     Trailing,
     /// No message has this tag.
     #[error("4 BadTag")]
     BadTag,
-    /// A list isn't strictly ascending.
+    /// The entries of a list aren't strictly ascending.
     #[error("5 NotCanonical")]
     NotCanonical,
-    /// A count, a length, or the sum of a batch's lengths is above its limit.
+    /// The number of a list's entries, the length of a transaction, or the length of a batch's body is above its limit.
     #[error("6 TooMany")]
     TooMany,
-    /// A round or a wave is out of its range.
+    /// The number of a round or of a wave is out of its range.
     #[error("7 BadRound")]
     BadRound,
 }

@@ -9,20 +9,20 @@ use crate::round::Round;
 use crate::votes::VoteEntries;
 use std::alloc::{AllocError, Global};
 
-/// What an author proposes in a round: batches to order, on top of certificates of the round before.
+/// What an author proposes in a round: batches to be ordered, and as parents certificates of the round before.
 #[derive(Clone, Debug, Drop)]
 pub struct HeaderBody {
-    /// Who proposes.
+    /// The member that proposes.
     pub author: Author,
     /// The header's round.
     pub round: Round,
-    /// The batches to order.
+    /// The batches to be ordered.
     pub batches: BatchReferences,
-    /// The certificates of the round before.
+    /// The parents: certificates of the round before.
     pub parents: ParentReferences,
 }
 
-/// A proposal with its author's signature of the header digest.
+/// A proposal, with its author's signature of the header's digest.
 #[derive(Clone, Debug, Drop)]
 pub struct Header {
     /// What is proposed.
@@ -31,7 +31,7 @@ pub struct Header {
     pub signature: Signature,
 }
 
-/// A member's vote for the header of an author and round. The voter signs the certificate digest.
+/// A member's vote for the header of an author and round. The voter signs the digest that the header's certificate will have.
 #[derive(Clone, Copy, Debug, PartialEq, Eq)]
 pub struct Vote {
     /// The header's digest.
@@ -40,13 +40,13 @@ pub struct Vote {
     pub round: Round,
     /// The header's author.
     pub author: Author,
-    /// Who votes.
+    /// The member that votes.
     pub voter: Author,
-    /// The voter's signature of the certificate digest.
+    /// The voter's signature of the digest that the header's certificate will have.
     pub signature: Signature,
 }
 
-/// A header with the votes that make it part of the ledger. Its digest doesn't depend on the votes.
+/// A header with the votes of a quorum, which make it part of the ledger. The certificate's digest doesn't depend on the votes.
 #[derive(Clone, Debug, Drop)]
 pub struct Certificate {
     /// The header, without its signature.
@@ -63,7 +63,7 @@ impl HeaderBody {
         self.clone()
     }
 
-    /// What holds of every header body. The call does nothing.
+    /// A law: what holds of every header body, such as that its round is in range. The call does nothing.
     pub fn limits_hold(&self)
         ensures { IsHeaderBody self.now }
     {
@@ -82,7 +82,7 @@ impl Header {
         self.clone()
     }
 
-    /// What holds of every header. The call does nothing.
+    /// A law: what holds of every header, such as that its signature has 64 bytes. The call does nothing.
     pub fn limits_hold(&self)
         ensures { IsHeader self.now }
     {
@@ -92,7 +92,7 @@ impl Header {
 }
 
 impl Vote {
-    /// What holds of every vote. The call does nothing.
+    /// A law: what holds of every vote, such as that its signature has 64 bytes. The call does nothing.
     pub fn limits_hold(&self)
         ensures { IsVote self.now }
     {
@@ -112,7 +112,7 @@ impl Certificate {
         self.clone()
     }
 
-    /// What holds of every certificate. The call does nothing.
+    /// A law: what holds of every certificate, such as that its votes are sorted. The call does nothing.
     pub fn limits_hold(&self)
         ensures { IsCertificate self.now }
     {

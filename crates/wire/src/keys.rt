@@ -1,4 +1,4 @@
-//! Values of fixed size: members, digests, keys and signatures.
+//! Values of fixed size: members' numbers, digests, keys and signatures.
 
 ghost use Rattle.std.specs.Prelude.{[], ◌∷◌};
 ghost use Rattle.std.specs.Cmp.Rules.{hashing};
@@ -8,7 +8,7 @@ ghost use Rattle.wire.specs.Fields.{AreBytes, IsAuthor, IsDigest, IsSignature};
 use crate::numbers::fits_two_bytes;
 use std::hash::{Hash, Hasher};
 
-/// A member of the committee, by its number from 0 on. On the wire it may have any value of two bytes.
+/// A member of the committee, named by its number from 0 on. In bytes that came in it may be any number of two bytes.
 #[derive(Clone, Copy, Debug, PartialEq, Eq, PartialOrd, Ord, Hash)]
 pub struct Author(pub u16);
 
@@ -16,7 +16,7 @@ pub struct Author(pub u16);
 #[derive(Clone, Copy, Debug, PartialEq, Eq, PartialOrd, Ord)]
 pub struct Digest(pub [u8; 32]);
 
-// Hashes the digest in one write; a derive would write its bytes one by one.
+// Hashes the digest in one write; a derived implementation would hash its bytes one by one.
 impl Hash for Digest {
     ghost hash_input = { λ digest. digest.0 ∷ [] };
 
@@ -35,7 +35,7 @@ pub struct Key(pub [u8; 32]);
 #[derive(Clone, Copy, Debug, PartialEq, Eq)]
 pub struct Signature(pub [u8; 64]);
 
-// Each of these bytes is a number below 256. The call does nothing.
+// A law: each of these bytes is a number below 256. The call does nothing.
 fn are_bytes(bytes: &[u8])
     ensures { AreBytes bytes.now }
 {
@@ -43,7 +43,7 @@ fn are_bytes(bytes: &[u8])
 }
 
 impl Author {
-    /// Every author's number has two bytes. The call does nothing.
+    /// A law: every author's number fits two bytes. The call does nothing.
     pub fn limits_hold(&self)
         ensures { IsAuthor self.now }
     {
@@ -52,7 +52,7 @@ impl Author {
 }
 
 impl Digest {
-    /// Every digest has 32 bytes. The call does nothing.
+    /// A law: every digest has 32 bytes. The call does nothing.
     pub fn limits_hold(&self)
         ensures { IsDigest self.now }
     {
@@ -61,7 +61,7 @@ impl Digest {
 }
 
 impl Signature {
-    /// Every signature has 64 bytes. The call does nothing.
+    /// A law: every signature has 64 bytes. The call does nothing.
     pub fn limits_hold(&self)
         ensures { IsSignature self.now }
     {

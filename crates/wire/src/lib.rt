@@ -1,5 +1,5 @@
-//! The messages of the validators: their types, the one encoding of each message in bytes, and the digests. The types keep the limits of
-//! the messages, and the order of every list in them.
+//! The messages of the validators: their types, the one encoding of each message in bytes, and the digests. No value of these types breaks
+//! a limit of the messages or the order of a list in them.
 #![tactic(auto)]
 
 mod batch;

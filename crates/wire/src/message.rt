@@ -8,19 +8,19 @@ use crate::keys::{Author, Digest};
 use crate::numbers::fits_eight_bytes;
 use crate::round::Wave;
 
-/// An acknowledgement: a member holds a batch.
+/// An acknowledgement: a member says that it holds a batch.
 #[derive(Clone, Copy, Debug, PartialEq, Eq)]
 pub struct BatchAck {
-    /// Who acknowledges.
+    /// The member that acknowledges.
     pub author: Author,
-    /// The batch's digest.
+    /// The digest of the batch.
     pub batch: Digest,
 }
 
 /// The value of a wave's coin, which chooses the wave's leader.
 #[derive(Clone, Copy, Debug, PartialEq, Eq)]
 pub struct Coin {
-    /// The wave.
+    /// The wave that the coin is for.
     pub wave: Wave,
     /// The coin's value: any number of eight bytes.
     pub value: u64,
@@ -29,22 +29,22 @@ pub struct Coin {
 /// A message between validators.
 #[derive(Debug, Drop)]
 pub enum Message {
-    /// A worker's transactions.
+    /// A batch of a worker's transactions.
     Batch(Batch),
-    /// An acknowledgement of a batch.
+    /// An acknowledgement that a member holds a batch.
     BatchAck(BatchAck),
-    /// A proposal.
+    /// A header, by which a member makes a proposal.
     Header(Header),
-    /// A vote for a proposal.
+    /// A vote for a header.
     Vote(Vote),
-    /// A proposal with the votes of a quorum.
+    /// A header with the votes of a quorum.
     Certificate(Certificate),
-    /// A wave's coin.
+    /// The coin of a wave, which chooses its leader.
     Coin(Coin),
 }
 
 impl BatchAck {
-    /// What holds of every acknowledgement. The call does nothing.
+    /// A law: what holds of every acknowledgement, such as that its digest has 32 bytes. The call does nothing.
     pub fn limits_hold(&self)
         ensures { IsAck self.now }
     {
@@ -54,7 +54,7 @@ impl BatchAck {
 }
 
 impl Coin {
-    /// What holds of every coin. The call does nothing.
+    /// A law: what holds of every coin: its wave is in range, and its value has eight bytes. The call does nothing.
     pub fn limits_hold(&self)
         ensures { IsCoin self.now }
     {
@@ -64,7 +64,7 @@ impl Coin {
 }
 
 impl Message {
-    /// Every message keeps all limits. The call does nothing.
+    /// A law: every message keeps all limits. The call does nothing.
     pub fn limits_hold(&self)
         ensures { IsMessage self.now }
     {

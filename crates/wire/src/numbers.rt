@@ -1,4 +1,4 @@
-//! Numbers as bytes, big-endian.
+//! Numbers as big-endian bytes.
 
 ghost use Rattle.std.specs.Prelude.{◌≡◌, ◌<◌, ◌^◌};
 ghost use Rattle.std.specs.Int.{w16, w32, w64, to_be_bytes};
@@ -35,14 +35,14 @@ pub(crate) fn four_bytes(number: u32) -> [u8; 4]
     bytes
 }
 
-// A number of two bytes is within its range. The call does nothing.
+// A law: a number of the type `u16` is below 2^16. The call does nothing.
 pub(crate) fn fits_two_bytes(number: u16)
     ensures { number < 2 ^ 16 }
 {
     let _ = number;
 }
 
-// A number of eight bytes is within its range. The call does nothing.
+// A law: a number of the type `u64` is below 2^64. The call does nothing.
 pub(crate) fn fits_eight_bytes(number: u64)
     ensures { number < 2 ^ 64 }
 {

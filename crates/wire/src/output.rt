@@ -1,4 +1,4 @@
-//! The outputs of a validator.
+//! The outputs of a validator: what it hands out to members and to its host.
 
 ghost use Rattle.std.specs.Prelude.{◌≡◌, ◌<◌, ◌≤◌, ◌++◌, [], ◌∷◌, List, length, IsTrue, ◌↔◌, OnOk, OnErr};
 
@@ -10,24 +10,24 @@ use crate::message::BatchAck;
 use std::alloc::{AllocError, Global};
 use std::marker::Model;
 
-/// One output of a validator.
+/// One output of a validator, which is for a member, for all members, or for the node's host.
 #[derive(Debug, Drop)]
 pub enum Output {
-    /// An own batch, to all.
+    /// A batch of the node's own member, for all members.
     Batch(Batch),
-    /// An acknowledgement of a batch, to the batch's author.
+    /// An acknowledgement of a batch, for the batch's author.
     Ack { to: Author, ack: BatchAck },
-    /// An own header, to all.
+    /// A header of the node's own member, for all members.
     Header(Header),
-    /// A vote, to the header's author.
+    /// A vote for a header, for the header's author.
     Vote(Vote),
-    /// An own certificate, to all.
+    /// A certificate of the node's own header, for all members.
     Certificate(Certificate),
-    /// The part of the order that begins at the place `start`, to the host.
+    /// A piece of the order, for the host. `start` is the place of its first digest in the order.
     Order { start: u64, digests: OrderDigests },
 }
 
-/// Certificate digests in their order, at most `MAX_ORDER_DIGESTS`.
+/// Digests of certificates in the ledger's order; at most `MAX_ORDER_DIGESTS` of them.
 #[derive(Debug)]
 pub struct OrderDigests {
     list: Vec<Digest>,
@@ -52,7 +52,7 @@ impl Model for OrderDigests {
 }
 
 impl OrderDigests {
-    /// No digests.
+    /// A list without digests.
     pub fn new(alloc: Global) -> OrderDigests
         ensures { result ≡ [] }
     {

@@ -1,4 +1,4 @@
-//! The outputs of a validator as bytes.
+//! Encodes the outputs of a validator as bytes.
 
 ghost use Rattle.std.specs.Prelude.{◌≡◌, ◌≤◌, ◌+◌, ◌*◌, ◌++◌, length, IfOk, OnOk};
 ghost use Rattle.wire.specs.declared.limits.TheConstants.{MAX_FRAME_BYTES, MAX_ORDER_DIGESTS};
@@ -12,22 +12,22 @@ use crate::numbers::{eight_bytes, four_bytes, two_bytes};
 use crate::output::{OrderDigests, Output};
 use std::alloc::{AllocError, Global};
 
-/// The receiver number of outputs to all members. No member has it.
+/// The receiver's number in outputs for all members. No member has this number.
 pub const TO_ALL: u16 = 0xffff;
 
-/// The receiver number of outputs to the node's own host. No member has it.
+/// The receiver's number in outputs for the node's own host. No member has this number.
 pub const HOST: u16 = 0xfffe;
 
 /// The tag of a piece of the order.
 pub const ORDER_TAG: u8 = 7;
 
-/// Bytes of a receiver.
+/// The length of a receiver's number, in bytes.
 const RECEIVER_BYTES: usize = 2;
 
-/// Bytes of a piece of the order before its digests: tag, place and count.
+/// The length of a piece of the order before its digests, in bytes: the tag, the place, and the number of digests.
 const ORDER_FRONT_BYTES: usize = 13;
 
-/// Bytes of a digest.
+/// The length of a digest, in bytes.
 const DIGEST_BYTES: usize = 32;
 
 fn receiver(output: &Output) -> u16
@@ -102,7 +102,7 @@ fn content_length(output: &Output) -> usize
 pub fn encode_output(alloc: Global, output: &Output) -> Result<Vec<u8>, AllocError>
     ensures bytes { IfOk result (λ bytes. bytes.items ≡ output_bytes output.now) }
     ensures fits { IfOk result (λ _. IsOutput output.now) }
-    // The output fits a frame.
+    // Each output fits a frame.
     ensures limit { IfOk result (λ bytes. length bytes.items ≤ MAX_FRAME_BYTES) }
 {
     let mut out = Vec::with_capacity(alloc, RECEIVER_BYTES + content_length(output))?;

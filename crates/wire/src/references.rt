@@ -13,12 +13,12 @@ use crate::numbers::fits_two_bytes;
 pub struct BatchReference {
     /// The batch's digest.
     pub digest: Digest,
-    /// The worker that holds it: below the committee's number of workers.
+    /// The worker that holds the batch; its number is below the committee's number of workers.
     pub worker: u16,
 }
 
 impl BatchReference {
-    /// What holds of every reference to a batch. The call does nothing.
+    /// A law: what holds of every reference to a batch, such as that its digest has 32 bytes. The call does nothing.
     pub fn limits_hold(&self)
         ensures { IsBatchReference self.now }
     {
@@ -37,7 +37,7 @@ pub struct ParentReference {
 }
 
 impl ParentReference {
-    /// What holds of every reference to a parent. The call does nothing.
+    /// A law: what holds of every reference to a parent, such as that its digest has 32 bytes. The call does nothing.
     pub fn limits_hold(&self)
         ensures { IsParentReference self.now }
     {
@@ -70,14 +70,14 @@ impl Entry for ParentReference {
     }
 }
 
-/// The batches of a header: at most `MAX_BATCHES`, sorted strictly by digest.
+/// The batches that a header names: at most `MAX_BATCHES`, strictly ascending by digest.
 pub type BatchReferences = Entries<BatchReference>;
 
-/// The parents of a header: at most `MAX_PARENTS`, sorted strictly by author.
+/// The parents that a header names: at most `MAX_PARENTS`, strictly ascending by author.
 pub type ParentReferences = Entries<ParentReference>;
 
 impl Entries<BatchReference> {
-    /// Whether a batch with this digest may be the next one: the last one's digest is lower.
+    /// Whether a batch with this digest may be added next: the digest of the last batch is lower.
     pub fn may_follow(&self, digest: &Digest) -> bool
         ensures { result ≡ batch_follows self.now digest.now }
     {
@@ -89,7 +89,7 @@ impl Entries<BatchReference> {
 }
 
 impl Entries<ParentReference> {
-    /// Whether a parent by this author may be the next one: the last one's author is lower.
+    /// Whether a parent of this author may be added next: the author of the last parent has a lower number.
     pub fn may_follow(&self, author: Author) -> bool
         ensures { result ≡ parent_follows self.now author }
     {

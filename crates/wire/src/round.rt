@@ -5,7 +5,7 @@ ghost use Rattle.std.specs.Prelude.{◌≡◌, ◌<◌, ◌≤◌, ◌↔◌, �
 use crate::error::WireError;
 use std::marker::Model;
 
-/// A round of the ledger: 0, the genesis, to `Round::MAX`.
+/// A round of the ledger, from 0, the round of the genesis certificates, to `Round::MAX`.
 #[derive(Clone, Copy, Debug, PartialEq, Eq, PartialOrd, Ord, Hash)]
 pub struct Round {
     number: u64,
@@ -28,7 +28,7 @@ impl Round {
     /// The greatest round.
     pub const MAX: u64 = 1 << 48;
 
-    /// The round of this number, or `BadRound` above `Round::MAX`.
+    /// The round with this number. `BadRound` if it is above `Round::MAX`.
     pub fn new(number: u64) -> Result<Round, WireError>
         ensures ok { IfOk result (λ round. round ≡ number) }
         ensures bad_round { IsErrOf result WireError.BadRound ↔ (Round.MAX < number) }
@@ -40,7 +40,7 @@ impl Round {
         Ok(Round { number })
     }
 
-    /// The round of the genesis.
+    /// Round 0, the round of the genesis certificates.
     pub fn genesis() -> Round
         ensures { result ≡ 0 }
     {
@@ -56,7 +56,7 @@ impl Round {
     }
 }
 
-/// A wave, by its number, from 1 to `Wave::MAX`. Wave w has the three rounds `2w - 1`, `2w` and `2w + 1`.
+/// A wave, by its number, from 1 to `Wave::MAX`. The wave w consists of the three rounds `2w - 1`, `2w` and `2w + 1`.
 #[derive(Clone, Copy, Debug, PartialEq, Eq, PartialOrd, Ord, Hash)]
 pub struct Wave {
     number: u64,
@@ -76,10 +76,10 @@ impl Model for Wave {
 }
 
 impl Wave {
-    /// The greatest wave: its last round is the greatest odd one.
+    /// The greatest wave. Its last round is the greatest odd round.
     pub const MAX: u64 = (1 << 47) - 1;
 
-    /// The wave of this number, or `BadRound` for 0 and above `Wave::MAX`.
+    /// The wave with this number. `BadRound` if it is 0 or above `Wave::MAX`.
     pub fn new(number: u64) -> Result<Wave, WireError>
         ensures ok { IfOk result (λ wave. wave ≡ number) }
         ensures bad_round { IsErrOf result WireError.BadRound ↔ ((number ≡ 0) ⊎ (Wave.MAX < number)) }

@@ -6,7 +6,7 @@ use bytes::Bytes;
 use std::alloc::{AllocError, AllocFailed};
 use std::marker::Model;
 
-/// Immutable bytes that several owners can share without a copy. Contracts see them as a list.
+/// Immutable bytes that several owners share without a copy. Contracts see them as a list of bytes.
 #[derive(Debug)]
 pub struct SharedBytes {
     items: Bytes,
@@ -27,7 +27,7 @@ impl Model for SharedBytes {
 }
 
 impl SharedBytes {
-    /// These bytes, which aren't copied. If an allocation fails they are handed back.
+    /// Takes these bytes over without a copy. If an allocation fails they are handed back.
     pub fn from_vec(items: Vec<u8>) -> Result<SharedBytes, AllocFailed<Vec<u8>>>
         ensures ok { IfOk result (λ bytes. bytes ≡ items.items) }
         ensures value_returned { IfErr result (λ failed. failed.value.items ≡ items.items) }
@@ -36,7 +36,7 @@ impl SharedBytes {
         Ok(SharedBytes { items })
     }
 
-    /// The same bytes with one more owner. On `AllocError` an allocation failed.
+    /// A second owner of the same bytes. On `AllocError` an allocation failed.
     pub fn share(&self) -> Result<SharedBytes, AllocError>
         ensures { IfOk result (λ bytes. bytes ≡ self.now) }
     {

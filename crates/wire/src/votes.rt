@@ -7,17 +7,17 @@ ghost use Rattle.wire.specs.References.{IsVoteEntry, vote_before, vote_follows};
 use crate::entries::{Entries, Entry};
 use crate::keys::{Author, Signature};
 
-/// A member's vote in a certificate: its signature of the certificate digest.
+/// A member's vote in a certificate: the member, and its signature of the certificate's digest.
 #[derive(Clone, Copy, Debug, PartialEq, Eq)]
 pub struct VoteEntry {
-    /// Who votes.
+    /// The member that votes.
     pub voter: Author,
     /// The voter's signature of the certificate digest.
     pub signature: Signature,
 }
 
 impl VoteEntry {
-    /// What holds of every vote of a certificate. The call does nothing.
+    /// A law: what holds of every vote in a certificate, such as that its signature has 64 bytes. The call does nothing.
     pub fn limits_hold(&self)
         ensures { IsVoteEntry self.now }
     {
@@ -38,11 +38,11 @@ impl Entry for VoteEntry {
     }
 }
 
-/// The votes of a certificate: at most `MAX_VOTES`, sorted strictly by voter.
+/// The votes of a certificate: at most `MAX_VOTES`, strictly ascending by voter.
 pub type VoteEntries = Entries<VoteEntry>;
 
 impl Entries<VoteEntry> {
-    /// Whether a vote by this voter may be the next one: the last one's voter is lower.
+    /// Whether a vote of this voter may be added next: the voter of the last vote has a lower number.
     pub fn may_follow(&self, voter: Author) -> bool
         ensures { result ≡ vote_follows self.now voter }
     {
