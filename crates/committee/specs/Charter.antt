@@ -1,4 +1,4 @@
--- A committee, and what its members weigh. Whatever counts members sums their stakes.
+-- A committee, and how much its members weigh. What a set of members weighs is the sum of their stakes.
 use Rattle.std.specs.Prelude.{◌≡◌, ◌≢◌, ℕ, ◌+◌, ◌-◌, ◌*◌, ◌/◌, ◌<◌, ◌≤◌, Bool, List, length, cond, sum, sum_by, get_or, All, AllPairs}
 use Rattle.std.specs.List.{range_with_len}
 use Rattle.wire.specs.declared.keys.Key.{Key}
@@ -7,7 +7,7 @@ use Rattle.committee.specs.declared.members.TheConstants.{MIN_MEMBERS, MAX_MEMBE
 use Rattle.committee.specs.declared.stakes.TheConstants.{MIN_STAKE, MAX_STAKE}
 
 -- a committee: the members' keys in the order of their numbers, the members' stakes, the depth in rounds, how many workers each member has,
--- and the greatest number of batches that a member holds
+-- and how many batches a node may hold, of all members together
 pub record Charter : Type 0 where
   pub keys : List Key
   pub stakes : List ℕ
@@ -15,25 +15,25 @@ pub record Charter : Type 0 where
   pub workers : ℕ
   pub batches : ℕ
 
--- ---- what members weigh
+-- ---- weights
 
--- the numbers of this many members, from 0 on
+-- the numbers of a committee's members, if it has this size: 0, 1, and so on
 abbrev pub numbers : ℕ → List ℕ
 numbers size = range_with_len 0 size
 
--- the stake of the member with this number
+-- the stake of the member with this number; 0 if no member has it
 abbrev pub stake_of : Charter → ℕ → ℕ
 stake_of charter member = get_or charter.stakes member 0
 
--- the weight of the members for whom something holds: the sum of their stakes
+-- the weight of the members for whom a test holds: the sum of their stakes
 abbrev pub weight : Charter → (ℕ → Bool) → ℕ
 weight charter holds = sum_by (λ member. cond (holds member) (stake_of charter member) 0) (numbers (length charter.keys))
 
--- the stake of all members
+-- the sum of all members' stakes
 abbrev pub total_of : Charter → ℕ
 total_of charter = sum charter.stakes
 
--- the greatest weight that members who aren't honest may have together: less than a third of the total
+-- the tolerated weight: what the members who aren't honest may weigh together at most, which is less than a third of the total
 abbrev pub tolerated_of : Charter → ℕ
 tolerated_of charter = (total_of charter - 1) / 3
 
@@ -41,11 +41,11 @@ tolerated_of charter = (total_of charter - 1) / 3
 abbrev pub quorum_of : Charter → ℕ
 quorum_of charter = 2 * total_of charter / 3 + 1
 
--- the least weight of enough supporters: at least a third of the total, and more than is tolerated, so that one of them is honest
+-- the least weight of support: at least a third of the total, so more than is tolerated, so that one of the supporters is honest
 abbrev pub support_of : Charter → ℕ
 support_of charter = (total_of charter + 2) / 3
 
--- ---- the invariant of every committee
+-- ---- what holds of every committee
 
 -- a committee is sound: its number of members is allowed, no key occurs twice, each member has a stake within the limits, no member alone
 -- is a quorum, and its other limits are within their bounds

@@ -8,42 +8,42 @@ use Rattle.committee.specs.declared.limits.TheConstants.{MIN_DEPTH, MAX_DEPTH, D
 use Rattle.committee.specs.declared.members.TheConstants.{MIN_MEMBERS, MAX_MEMBERS}
 use Rattle.committee.specs.declared.stakes.TheConstants.{MIN_STAKE, MAX_STAKE, DEFAULT_STAKE}
 
--- the elements of an array
+-- the elements of a TOML array, as a list
 abbrev pub elements : Items → List Data
 elements no_items = []
 elements (item element rest) = element ∷ elements rest
 
--- the elements of the list of members, if there is such a list
+-- the elements of the file's list of members; None if there is no such list
 abbrev pub members_in : Members → Option (List Data)
 members_in file = option_map elements (option_and_then as_array (get_member (codes "members") file))
 
--- the file gives the members' stakes
+-- the file has a value `stakes`, of whatever type
 abbrev pub has_stakes : Members → Bool
 has_stakes file = is_some (get_member (codes "stakes") file)
 
--- a committee has 4 to 31 members; where the file gives no stakes, their number is 3 f + 1
+-- a committee may have n members: from 4 to 31; without stakes in the file the number also has to be 3 f + 1
 abbrev pub is_size : Bool → ℕ → Bool
 is_size staked n = (nat_le MIN_MEMBERS n && nat_le n MAX_MEMBERS) && (staked || (n % 3 == 1))
 
--- the number, if it is a whole one within these bounds
+-- a number if it is within these bounds, and otherwise None
 abbrev pub number_within : ℕ → ℕ → ℤ → Option ℕ
 number_within least greatest (pos n) = if nat_le least n && nat_le n greatest then Some n else None
 number_within least greatest (negsuc n) = None
 
--- a limit: the number in the file, if it is a whole one within the bounds; the default where the file has none
+-- a limit of the committee: the number in the file if it is a whole one within the bounds, and the default if the file has none
 abbrev pub limit : ℕ → ℕ → ℕ → Option Data → Option ℕ
 limit least greatest default None = Some default
 limit least greatest default (Some value) = option_and_then (number_within least greatest) (as_integer value)
 
--- the depth is 2 to 1000 rounds, 50 by default
+-- the depth that the file says: 2 to 1000 rounds, 50 if it says none
 abbrev pub depth_in : Members → Option ℕ
 depth_in file = limit MIN_DEPTH MAX_DEPTH DEFAULT_DEPTH (get_member (codes "depth") file)
 
--- there are 1 to 16 workers, 1 by default
+-- the number of workers of a member that the file says: 1 to 16, and 1 if it says none
 abbrev pub workers_in : Members → Option ℕ
 workers_in file = limit MIN_WORKERS MAX_WORKERS DEFAULT_WORKERS (get_member (codes "workers") file)
 
--- there are 1 to 1048576 batches, 1048576 by default
+-- how many batches a node may hold, of all members together, as the file says: 1 to 1048576, and 1048576 if it says none
 abbrev pub batches_in : Members → Option ℕ
 batches_in file = limit MIN_HELD_BATCHES MAX_HELD_BATCHES DEFAULT_HELD_BATCHES (get_member (codes "batches") file)
 
@@ -55,12 +55,12 @@ stake_in element = option_and_then (number_within MIN_STAKE MAX_STAKE) (as_integ
 abbrev pub is_no_stake : Data → Bool
 is_no_stake element = is_none (stake_in element)
 
--- the stakes of this many members in a list, if it has one for each
+-- the stakes in a list, if it has one for each of `size` members
 abbrev pub stakes_among : ℕ → List Data → Option (List ℕ)
 stakes_among size list =
     if (length list == size) && not (list_any is_no_stake list) then Some (filter_map stake_in list) else None
 
--- the stakes of this many members: those in the file, if it has a list of such numbers; 1 each where it has none
+-- the stakes of `size` members: those in the file, if it has a list of one for each; 1 for each member if the file has no stakes
 abbrev pub stakes_in : ℕ → Members → Option (List ℕ)
 stakes_in size file =
     option_map_or (λ value. option_and_then (λ items. stakes_among size (elements items)) (as_array value)) (get_member (codes "stakes") file)

@@ -1,8 +1,8 @@
--- What is kept beside a committee.
+-- The numbers that a committee keeps beside its stakes, so that they are computed once.
 use Rattle.std.specs.Prelude.{◌≡◌, ℕ}
 use Rattle.committee.specs.Charter.{Charter, IsCharter, total_of, tolerated_of, quorum_of, support_of}
 
--- the keys and stakes are a committee, and these are the sizes that follow from its stakes
+-- the keys and stakes are those of a committee, and these weights are the ones that follow from its stakes
 pub record IsKept (charter : Charter) (total tolerated quorum support : ℕ) : Type 0 where
   pub committee : IsCharter charter
   pub total_is : total ≡ total_of charter

@@ -1,4 +1,4 @@
-//! The committee.
+//! A committee, and how it is read from its file.
 
 ghost use Rattle.std.specs.Prelude.{◌≡◌, ◌≢◌, ◌+◌, ◌*◌, ◌<◌, ◌≤◌, ◌↔◌, false, length, AllPairs, IsSome, IfSome, IsErrOf, IfOk, IfErr, slice_get, option_copied};
 ghost use Rattle.toml.specs.Errors.{IsBlank};
@@ -24,8 +24,8 @@ use std::marker::Model;
 use toml::Table;
 use wire::{Author, Key};
 
-/// A committee: 4 to 31 members, each with a key of its own and a stake, and the limits that all of them keep.
-/// No member's stake is a quorum. The members who aren't honest may hold less than a third of the total stake.
+/// A committee: 4 to 31 members, each with a key of its own and a stake, and the limits that all of them keep. No member's stake alone is a
+/// quorum. It is assumed that the members who aren't honest hold less than a third of the total stake.
 #[derive(Debug)]
 pub struct Committee {
     keys: Vec<Key>,
@@ -33,7 +33,7 @@ pub struct Committee {
     depth: u64,
     workers: u16,
     batches: u32,
-    // The sizes that follow from the stakes, computed once.
+    // The weights that follow from the stakes, computed once.
     total: u64,
     tolerated: u64,
     quorum: u64,
@@ -78,8 +78,8 @@ impl Committee {
     /// missing). There are 4 to 31 members; without `stakes` there are 3f + 1 of them. Other keys of the file are ignored.
     ///
     /// # Errors
-    /// The first that applies: `NotToml`, `BadSize`, `BadKey`, `RepeatedKey`, `BadLimit`, `BadStake`; or `Memory`, where an allocation
-    /// failed, in place of any other answer. To read a text that is only white space and comments takes no memory.
+    /// The first that applies: `NotToml`, `BadSize`, `BadKey`, `RepeatedKey`, `BadLimit`, `BadStake`; or `Memory`, in place of any other
+    /// answer, if an allocation failed. A text of white space and comments alone is read without an allocation.
     pub fn read(alloc: Global, text: &str) -> Result<Committee, CommitteeError>
         ensures ok { IfOk result (λ committee. answer_to (parse_document text.now) ≡ Ok committee) }
         ensures refused { IfErr result (λ error. error ≢ CommitteeError.Memory → answer_to (parse_document text.now) ≡ Err error) }
@@ -97,7 +97,7 @@ impl Committee {
         }
     }
 
-    /// How many members there are. They are numbered from 0.
+    /// How many members the committee has. They are numbered from 0.
     pub fn size(&self) -> u16
         ensures value { result ≡ length self.now.keys }
         ensures least { MIN_MEMBERS ≤ result }
@@ -106,7 +106,7 @@ impl Committee {
         self.keys.len() as u16
     }
 
-    /// The stake of a member, or None for a number that is no member's.
+    /// The stake of the member with this number; None if no member has it.
     pub fn stake(&self, author: Author) -> Option<u64>
         ensures value { result ≡ slice_get self.now.stakes author.0 }
         ensures member { IsSome result ↔ (author.0 < length self.now.keys) }
@@ -124,28 +124,28 @@ impl Committee {
         self.total
     }
 
-    /// What the members who aren't honest may weigh together: less than a third of the total.
+    /// The tolerated weight: what the members who aren't honest may weigh together at most, which is less than a third of the total.
     pub fn tolerated(&self) -> u64
         ensures { result ≡ tolerated_of self.now }
     {
         self.tolerated
     }
 
-    /// What a quorum weighs at least: more than two thirds of the total.
+    /// The least weight of a quorum: more than two thirds of the total.
     pub fn quorum(&self) -> u64
         ensures { result ≡ quorum_of self.now }
     {
         self.quorum
     }
 
-    /// What support weighs at least, so that an honest member is among it: at least a third of the total.
+    /// The least weight of support: at least a third of the total, so that one of the supporters is honest.
     pub fn support(&self) -> u64
         ensures { result ≡ support_of self.now }
     {
         self.support
     }
 
-    /// What the members in a set weigh: the sum of their stakes.
+    /// The weight of the members in a set: the sum of their stakes.
     pub fn weight(&self, members: &MemberSet) -> u64
         ensures value { result ≡ weight self.now (has members.now) }
         ensures most { result ≤ total_of self.now }
@@ -159,7 +159,7 @@ impl Committee {
         weight
     }
 
-    /// The key of a member, or None for a number that is no member's.
+    /// The public key of the member with this number; None if no member has it.
     pub fn key(&self, author: Author) -> Option<&Key>
         ensures value { option_copied result ≡ slice_get self.now.keys author.0 }
         ensures member { IsSome result ↔ (author.0 < length self.now.keys) }
@@ -186,7 +186,7 @@ impl Committee {
         self.workers
     }
 
-    /// How many batches a member holds at most.
+    /// How many batches a node holds at most, those of all members together.
     pub fn batches(&self) -> u32
         ensures value { result ≡ self.now.batches }
         ensures least { MIN_HELD_BATCHES ≤ result }
@@ -195,7 +195,7 @@ impl Committee {
         self.batches
     }
 
-    /// What holds of each committee: its size, that no two members have the same key, its stakes, and its limits. The call does nothing.
+    /// A law: what holds of each committee of its size, keys, stakes and limits; for example no key occurs twice. The call does nothing.
     pub fn limits_hold(&self)
         ensures { IsCharter self.now }
     {

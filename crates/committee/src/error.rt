@@ -15,19 +15,19 @@ pub enum CommitteeError {
     /// The text is no TOML.
     #[error("2 NotToml")]
     NotToml,
-    /// There is no list of members; or it has fewer than 4 or more than 31; or the file has no stakes, and their number is not 3f + 1.
+    /// There is no list of members; or it has fewer than 4 or more than 31 elements; or there are no stakes, and the number isn't 3f + 1.
     #[error("3 BadSize")]
     BadSize,
-    /// A member is no key of 64 digits 0 to 9 and a to f.
+    /// An element of the list of members is no key, which has 64 digits 0 to 9 and a to f.
     #[error("4 BadKey")]
     BadKey,
     /// Two members have the same key.
     #[error("5 RepeatedKey")]
     RepeatedKey,
-    /// A limit is no whole number within its bounds.
+    /// The depth, the number of workers or the number of batches is no whole number within its bounds.
     #[error("6 BadLimit")]
     BadLimit,
-    /// The stakes aren't one whole number within its bounds for each member, or one member's is a quorum.
+    /// The stakes aren't one whole number within the bounds for each member, or one member's stake alone is a quorum.
     #[error("7 BadStake")]
     BadStake,
 }

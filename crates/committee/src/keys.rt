@@ -1,4 +1,4 @@
-//! The members' keys.
+//! Reads the members' keys.
 
 ghost use Rattle.std.specs.Prelude.{◌≡◌, ◌≢◌, ◌<◌, true, false, map, IsTrue, IfOk, IfErr};
 ghost use Rattle.std.specs.List.{list_all, list_any, filter_map};
@@ -10,7 +10,7 @@ use std::alloc::Global;
 use toml::Value;
 use wire::Key;
 
-/// The digits of a key: two a byte.
+/// How many hexadecimal digits a key has: two for each byte.
 const KEY_DIGITS: usize = 64;
 
 fn is_digit(byte: u8) -> bool
@@ -59,7 +59,7 @@ fn key_of(element: &Value) -> Option<Key>
     }
 }
 
-/// The keys of the members, or `BadKey` where an element of the list is no key.
+/// The keys in the list of members. `BadKey` if an element of the list is no key.
 pub(crate) fn keys_of(alloc: Global, elements: &[Value]) -> Result<Vec<Key>, CommitteeError>
     ensures each { IfOk result (λ _. list_any is_no_key (map view elements.now) ≡ false) }
     ensures keys { IfOk result (λ keys. keys.items ≡ filter_map key_of (map view elements.now)) }
@@ -76,7 +76,7 @@ pub(crate) fn keys_of(alloc: Global, elements: &[Value]) -> Result<Vec<Key>, Com
     Ok(keys)
 }
 
-/// Whether a key occurs twice.
+/// Whether some key occurs twice.
 pub(crate) fn repeats(keys: &[Key]) -> bool
     ensures { result ≡ repeats keys.now }
 {

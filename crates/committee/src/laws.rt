@@ -1,5 +1,5 @@
-//! What two quorums of a committee share, what quorums and support weigh, and that honest members are among them. The calls do nothing:
-//! their contracts are laws.
+//! Laws of weights: what two quorums share, what quorums and support weigh, and that honest members are among them. A law is a function
+//! whose contract is a theorem and that does nothing.
 
 ghost use Rattle.std.specs.Prelude.{◌≡◌};
 ghost use Rattle.committee.specs.Shared.{QuorumsOverlap, QuorumMeetsSupport, SomeIfWeighs, SupportIsHonest, ToleratedLeaveQuorum, HonestAreQuorum, QuorumsShareHonest, SupportHasHonest, EqualStakes};
@@ -7,22 +7,22 @@ ghost use Rattle.committee.specs.declared.limits.TheConstants.{MIN_DEPTH, MAX_DE
 ghost use Rattle.committee.specs.declared.members.TheConstants.{MIN_MEMBERS, MAX_MEMBERS};
 ghost use Rattle.committee.specs.declared.stakes.TheConstants.{MIN_STAKE, MAX_STAKE, DEFAULT_STAKE, MAX_TOTAL};
 
-/// Two quorums of a committee share members who weigh more than is tolerated.
+/// Any two quorums of a committee share members who weigh more than is tolerated, so at least one honest member.
 pub fn quorums_overlap()
     ensures { QuorumsOverlap }
 {}
 
-/// A quorum of a committee shares a member with any members who weigh enough for support.
+/// Any quorum of a committee shares a member with any members who weigh enough for support.
 pub fn quorum_meets_support()
     ensures { QuorumMeetsSupport }
 {}
 
-/// If the members for whom something holds weigh more than 0, there is such a member.
+/// If the members for whom a test holds weigh more than 0, there is such a member.
 pub fn some_if_weighs()
     ensures { SomeIfWeighs }
 {}
 
-/// Support is more than what is tolerated.
+/// Members who weigh enough for support weigh more than is tolerated.
 pub fn support_is_honest()
     ensures { SupportIsHonest }
 {}
@@ -32,28 +32,28 @@ pub fn tolerated_leave_quorum()
     ensures { ToleratedLeaveQuorum }
 {}
 
-/// Where the faulty members weigh no more than is tolerated, all others are a quorum.
+/// If the faulty members weigh no more than is tolerated, all others together are a quorum.
 pub fn honest_are_quorum()
     ensures { HonestAreQuorum }
 {}
 
-/// Where the faulty members weigh no more than is tolerated, two quorums share a member who isn't faulty.
+/// If the faulty members weigh no more than is tolerated, any two quorums share a member who isn't faulty.
 pub fn quorums_share_honest()
     ensures { QuorumsShareHonest }
 {}
 
-/// Where the faulty members weigh no more than is tolerated, any members who weigh enough for support include one who isn't faulty.
+/// If the faulty members weigh no more than is tolerated, any members who weigh enough for support include one who isn't faulty.
 pub fn support_has_honest()
     ensures { SupportHasHonest }
 {}
 
-/// Where each member has the stake 1, members weigh as much as there are of them: of 3f + 1 members, 2f + 1 are a quorum, f + 1 are
+/// If each member has the stake 1, a set of members weighs as much as it has members: of 3f + 1 members, 2f + 1 are a quorum, f + 1 are
 /// support, and f are tolerated.
 pub fn equal_stakes()
     ensures { EqualStakes }
 {}
 
-/// The limits in numbers.
+/// The limits of a committee as numbers. The call does nothing: it is a theorem.
 pub fn limits_in_numbers()
     ensures least_members { MIN_MEMBERS ≡ 4 }
     ensures most_members { MAX_MEMBERS ≡ 31 }

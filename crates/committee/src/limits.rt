@@ -1,4 +1,4 @@
-//! The limits of a committee.
+//! The limits that a committee file may set, and their bounds.
 
 ghost use Rattle.std.specs.Prelude.{◌≡◌};
 ghost use Rattle.toml.specs.Data.{get_member};
@@ -7,31 +7,31 @@ ghost use Rattle.committee.specs.File.{number_within, limit, depth_in, workers_i
 
 use toml::Table;
 
-/// The depth of a committee, in rounds, at least.
+/// The smallest depth that a committee may have, in rounds: how far below a leader a certificate may be to be ordered with it.
 pub const MIN_DEPTH: u64 = 2;
 
-/// The depth, in rounds, at most.
+/// The greatest depth that a committee may have, in rounds.
 pub const MAX_DEPTH: u64 = 1000;
 
-/// The depth, in rounds, where the file has none.
+/// The depth of a committee whose file names none, in rounds.
 pub const DEFAULT_DEPTH: u64 = 50;
 
-/// Workers of each member, at least.
+/// The smallest number of workers that a member may have.
 pub const MIN_WORKERS: u16 = 1;
 
-/// Workers of each member, at most.
+/// The greatest number of workers that a member may have.
 pub const MAX_WORKERS: u16 = 16;
 
-/// Workers of each member where the file has no number.
+/// The number of workers of each member if the file names none.
 pub const DEFAULT_WORKERS: u16 = 1;
 
-/// The least limit on the batches that a member holds.
+/// The smallest number to which a committee may limit the batches that a node holds, of all members together.
 pub const MIN_HELD_BATCHES: u32 = 1;
 
-/// The greatest limit on the batches that a member holds.
+/// The greatest number to which a committee may limit the batches that a node holds, of all members together.
 pub const MAX_HELD_BATCHES: u32 = 1_048_576;
 
-/// The limit on the batches that a member holds, where the file has none.
+/// How many batches a node may hold, of all members together, if the file names no number.
 pub const DEFAULT_HELD_BATCHES: u32 = 1_048_576;
 
 pub(crate) fn number_within(number: i64, least: u64, greatest: u64) -> Option<u64>
@@ -60,14 +60,14 @@ fn limit(table: &Table, name: &str, least: u64, greatest: u64, default: u64) -> 
     }
 }
 
-/// The depth, or None where it is no whole number within its limits.
+/// The depth that the file says, or the default one. None if it is no whole number within its bounds.
 pub(crate) fn depth_in(table: &Table) -> Option<u64>
     ensures { result ≡ depth_in (table_view table.now) }
 {
     limit(table, "depth", MIN_DEPTH, MAX_DEPTH, DEFAULT_DEPTH)
 }
 
-/// The number of workers, or None where it is no whole number within its limits.
+/// The number of workers that the file says, or the default one. None if it is no whole number within its bounds.
 pub(crate) fn workers_in(table: &Table) -> Option<u64>
     ensures { result ≡ workers_in (table_view table.now) }
 {
@@ -80,7 +80,7 @@ pub(crate) fn workers_in(table: &Table) -> Option<u64>
     )
 }
 
-/// The number of batches, or None where it is no whole number within its limits.
+/// The number of batches that the file says, or the default one. None if it is no whole number within its bounds.
 pub(crate) fn batches_in(table: &Table) -> Option<u64>
     ensures { result ≡ batches_in (table_view table.now) }
 {

@@ -1,4 +1,4 @@
-//! The list of members.
+//! Reads the list of members.
 
 ghost use Rattle.std.specs.Prelude.{◌≡◌, map, option_map};
 ghost use Rattle.toml.specs.View.{view, table_view};
@@ -6,13 +6,13 @@ ghost use Rattle.committee.specs.File.{members_in, is_size};
 
 use toml::{Table, Value};
 
-/// The members of a committee, at least.
+/// The smallest number of members that a committee may have.
 pub const MIN_MEMBERS: u16 = 4;
 
-/// The members of a committee, at most.
+/// The greatest number of members that a committee may have.
 pub const MAX_MEMBERS: u16 = 31;
 
-/// The elements of the list of members, or None where there is no such list.
+/// The elements of the file's list of members; None if there is no such list.
 pub(crate) fn members_in(table: &Table) -> Option<&[Value]>
     ensures { option_map (λ elements. map view elements.now) result ≡ members_in (table_view table.now) }
 {
@@ -25,7 +25,7 @@ pub(crate) fn members_in(table: &Table) -> Option<&[Value]>
     }
 }
 
-/// Whether a committee may have this many members: 4 to 31, and where the file has no stakes 3f + 1.
+/// Whether a committee may have this many members: from 4 to 31; without stakes in the file the number also has to be 3f + 1.
 pub(crate) fn is_size(staked: bool, members: usize) -> bool
     ensures { result ≡ is_size staked members }
 {

@@ -7,13 +7,13 @@ ghost use Rattle.committee.specs.declared.members.TheConstants.{MAX_MEMBERS};
 
 use wire::Author;
 
-/// A set of members, a bit each.
+/// A set of members: one bit for each.
 #[derive(Clone, Copy, Debug, PartialEq, Eq)]
 pub struct MemberSet {
     bits: u32,
 }
 
-// Whether the bit of a place is 1. From 32 on there is none.
+// Whether the bit at this place is 1. From place 32 on there is no bit.
 fn is_set(bits: u32, place: u16) -> bool
     ensures { result ≡ (bit_at bits place == 1) }
 {
@@ -21,7 +21,7 @@ fn is_set(bits: u32, place: u16) -> bool
 }
 
 impl MemberSet {
-    /// The set without a member.
+    /// The empty set.
     pub fn none() -> MemberSet
         ensures { (member : ℕ) → has result member ≡ false }
     {
@@ -54,12 +54,12 @@ impl MemberSet {
     pub fn remove_all(&mut self, others: &MemberSet)
         ensures { (member : ℕ) → has self.new member ≡ (has self.old member && not (has others.now member)) }
     {
-        // What both have.
+        // The members that are in both sets.
         let common = self.bits & others.bits;
         self.bits ^= common;
     }
 
-    /// Whether a member is in the set. A number of 32 or more is in none.
+    /// Whether a member is in the set. No set has a member with a number of 32 or more.
     pub fn contains(&self, member: Author) -> bool
         ensures { result ≡ has self.now member.0 }
     {

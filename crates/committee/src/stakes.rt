@@ -1,4 +1,4 @@
-//! The stakes of a committee's members, and the sizes that follow from their total.
+//! Reads the members' stakes, and computes the weights that follow from them.
 
 ghost use Rattle.std.specs.Prelude.{◌≡◌, ◌≢◌, ◌+◌, ◌-◌, ◌*◌, ◌/◌, ◌≤◌, map, sum, replicate, None, Some, IfOk, IfErr, nat_le};
 ghost use Rattle.std.specs.List.{list_any};
@@ -12,19 +12,19 @@ use crate::members::MAX_MEMBERS;
 use std::alloc::Global;
 use toml::{Table, Value};
 
-/// The stake of a member, at least.
+/// The smallest stake that a member may have.
 pub const MIN_STAKE: u64 = 1;
 
-/// The stake of a member, at most.
+/// The greatest stake that a member may have.
 pub const MAX_STAKE: u64 = 1_000_000;
 
-/// The stake of each member where the file has no stakes.
+/// The stake of each member if the file names no stakes.
 pub const DEFAULT_STAKE: u64 = 1;
 
 /// The greatest sum of all members' stakes.
 pub const MAX_TOTAL: u64 = MAX_MEMBERS as u64 * MAX_STAKE;
 
-/// Whether the file has the key `stakes`, whatever the type of its value.
+/// Whether the file has a value `stakes`, of whatever type.
 pub(crate) fn has_stakes(table: &Table) -> bool
     ensures { result ≡ has_stakes (table_view table.now) }
 {
@@ -72,7 +72,7 @@ fn equal_stakes(alloc: Global, members: usize) -> Result<Vec<u64>, CommitteeErro
     }
 }
 
-/// The stakes of this many members, or `BadStake` where the file's value of `stakes` isn't a list of one stake for each.
+/// The stakes of this many members: those in the file, or 1 for each. `BadStake` if `stakes` isn't a list of one stake for each member.
 pub(crate) fn stakes_in(
     alloc: Global,
     members: usize,
@@ -103,7 +103,7 @@ pub(crate) fn total_of(stakes: &[u64]) -> u64
     total
 }
 
-/// The least weight of a quorum, where all members weigh this total.
+/// The least weight of a quorum, if all members together weigh `total`: more than two thirds of it.
 pub(crate) fn quorum_of(total: u64) -> u64
     requires { total ≤ MAX_TOTAL }
     ensures { result ≡ 2 * total / 3 + 1 }
@@ -111,7 +111,7 @@ pub(crate) fn quorum_of(total: u64) -> u64
     2 * total / 3 + 1
 }
 
-/// The greatest weight that members who aren't honest may have together, where all members weigh this total: less than a third of it.
+/// The tolerated weight, if all members together weigh `total`: less than a third of it.
 pub(crate) fn tolerated_of(total: u64) -> u64
     requires { 1 ≤ total }
     ensures { result ≡ (total - 1) / 3 }
@@ -119,7 +119,7 @@ pub(crate) fn tolerated_of(total: u64) -> u64
     (total - 1) / 3
 }
 
-/// The least weight of support, where all members weigh this total: a third of it or more.
+/// The least weight of support, if all members together weigh `total`: at least a third of it.
 pub(crate) fn support_of(total: u64) -> u64
     requires { total ≤ MAX_TOTAL }
     ensures { result ≡ (total + 2) / 3 }
@@ -127,7 +127,7 @@ pub(crate) fn support_of(total: u64) -> u64
     (total + 2) / 3
 }
 
-/// Whether one member's stake alone reaches the least weight of a quorum.
+/// Whether the stake of one member alone is a quorum.
 pub(crate) fn one_is_quorum(stakes: &[u64], quorum: u64) -> bool
     ensures { result ≡ list_any (λ stake. nat_le quorum stake) stakes.now }
 {

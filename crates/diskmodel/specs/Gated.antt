@@ -1,7 +1,7 @@
--- The parts of a disk whose calls wait for a gate.
+-- The two parts of a disk whose syncs wait for a gate: the inner disk, and the gate.
 use Rattle.diskmodel.specs.declared.gated.GatedDisk.{GatedDisk}
 
--- the disk
+-- the inner disk
 abbrev pub disk_of : {D G : Type 0} → GatedDisk D G → D
 disk_of gated = gated.disk
 

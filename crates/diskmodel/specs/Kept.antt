@@ -5,7 +5,7 @@ use Rattle.diskmodel.specs.declared.call.Call.{Call}
 use Rattle.diskmodel.specs.declared.call.Call.TheVariants.{Stopped}
 use Rattle.diskmodel.specs.Outcomes.{AreBytes, IsOutcome, state}
 
--- these values are those that the calls lead to, and what a read gives is a possible outcome
+-- these values are what the calls of a disk lead to, from the bytes `first`; and what a read gives is a possible outcome of a stop
 pub record Keeps (first : List ℕ) (calls : List Call) (durable : List ℕ) (smallest greatest : ℕ) (spans : List Span) (content : List ℕ) : Type 0 where
   pub durable_is : (state first calls).durable ≡ durable
   pub smallest_is : (state first calls).smallest ≡ smallest
@@ -17,16 +17,16 @@ pub record Keeps (first : List ℕ) (calls : List Call) (durable : List ℕ) (sm
   pub durable_bytes : AreBytes durable
   pub possible : IsOutcome first calls content
 
--- a call is a stop
+-- this call, if there is one, is a stop
 abbrev pub is_stop : Option Call → Bool
 is_stop (Some (Stopped found)) = true
 is_stop _ = false
 
--- the last call is a stop
+-- the last of these calls is a stop
 abbrev pub ends_in_stop : List Call → Bool
 ends_in_stop calls = is_stop (slice_get calls (length calls - 1))
 
--- a stop that was the last call is replaced by another stop
+-- the last call was a stop, and another stop takes its place
 pub record ReplacesStop (found : List ℕ) (old new : List Call) : Type 0 where
   pub before : List Call
   pub gone : List ℕ

@@ -5,18 +5,18 @@ use Rattle.diskmodel.specs.declared.call.Call.TheVariants.{Stopped}
 use Rattle.diskmodel.specs.Kept.{ReplacesStop}
 use Rattle.diskmodel.specs.declared.history.History.{History}
 
--- the record has this call appended
+-- this call was added at the end of the disk's record
 pub record Adds (call : Call) (old new : History) : Type 0 where
   pub first : new.first.items ≡ old.first.items
   pub calls : new.calls.items ≡ old.calls.items ++ call ∷ []
 
--- the record and what a read gives are as before
+-- the disk's record, and what a read gives, are as before
 pub record IsAsBefore (old new : History) : Type 0 where
   pub first : new.first.items ≡ old.first.items
   pub calls : new.calls.items ≡ old.calls.items
   pub content : new.content.items ≡ old.content.items
 
--- the record has this stop appended, or in the place of a stop that was its last call
+-- this stop was added at the end of the disk's record; if the last call was a stop, it took the place of that
 pub record TakesStop (found : List ℕ) (old new : History) : Type 0 where
   pub first : new.first.items ≡ old.first.items
   pub calls : (new.calls.items ≡ old.calls.items ++ Stopped found ∷ []) ⊎ ReplacesStop found old.calls.items new.calls.items

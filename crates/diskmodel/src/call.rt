@@ -1,9 +1,9 @@
-//! The calls of a disk, as they are recorded.
+//! The calls of a disk, as its record has them.
 ghost use Rattle.std.specs.Prelude.{◌≡◌, ◌+◌, ◌<◌, ◌≤◌, ◌↔◌, List, ℕ, IsTrue};
 
 use std::marker::Model;
 
-/// Bytes in a record of calls or in a journal. Contracts see them as a list.
+/// The bytes in a recorded call or in a record of a journal. Contracts see them as a list.
 #[derive(Debug)]
 pub struct KeptBytes {
     items: Vec<u8>,
@@ -38,7 +38,7 @@ impl KeptBytes {
         &self.items
     }
 
-    /// Gives the bytes back. The call allocates no memory.
+    /// Hands the bytes out. The call allocates no memory.
     pub fn into_vec(self) -> Vec<u8>
         ensures { result.items ≡ self }
     {
@@ -59,7 +59,7 @@ pub enum Call {
     },
     /// The disk was cut to this length.
     Cut(u64),
-    /// All that a read gave was made durable.
+    /// A sync: all that a read gives was made durable.
     Synced,
     /// The machine stopped, and left these bytes.
     Stopped(KeptBytes),

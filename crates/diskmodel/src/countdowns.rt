@@ -1,4 +1,4 @@
-//! Which of the next calls of a disk are set to fail.
+//! Which of the next calls of a disk in memory will fail, since a test has set them to.
 ghost use Rattle.std.specs.Prelude.{◌≡◌, ◌↔◌, IsTrue, OnOk, OnErr};
 ghost use Rattle.std.specs.List.{Contains};
 ghost use Rattle.diskmodel.specs.Countdowns.{lowered};
@@ -6,7 +6,7 @@ ghost use Rattle.diskmodel.specs.Countdowns.{lowered};
 use crate::call::CallKind;
 use std::alloc::{AllocError, Global};
 
-/// For each kind of call, which of its next calls fail: 1 is the next one.
+/// For each kind of call, which of the next calls will fail, as numbers: 1 is the next call of this kind.
 #[derive(Drop)]
 pub struct Countdowns {
     pub read: Vec<u64>,
@@ -15,7 +15,7 @@ pub struct Countdowns {
     pub sync: Vec<u64>,
 }
 
-/// Lowers each count by one and drops those that reach 0. Gives whether one of them did.
+/// Lowers each number by 1, and removes those that reach 0. Returns whether one did, so that the call has to fail.
 fn count_down(counts: &mut Vec<u64>) -> bool
     ensures fails { IsTrue result ↔ Contains counts.old.items 1 }
     ensures lowered { counts.new.items ≡ lowered counts.old.items }
@@ -43,7 +43,7 @@ impl Countdowns {
         }
     }
 
-    /// Sets the count-th next call of this kind to fail too.
+    /// Lets one more call of this kind fail: the one that comes as the `count`-th of its kind from now on.
     pub fn tell(&mut self, call: CallKind, count: u64) -> Result<(), AllocError>
         ensures told { OnOk result (counts_of self.new ≡ reporting (counts_of self.old) call count) }
         ensures err { OnErr result (counts_of self.new ≡ counts_of self.old) }
@@ -57,7 +57,7 @@ impl Countdowns {
         Ok(())
     }
 
-    /// Counts a call of this kind, and gives whether it is set to fail.
+    /// Counts a call of this kind, and returns whether it has to fail.
     pub fn count(&mut self, call: CallKind) -> bool
         ensures fails { IsTrue result ↔ Contains (counts_for (counts_of self.old) call) 1 }
         ensures counted { counts_of self.new ≡ counting (counts_of self.old) call }

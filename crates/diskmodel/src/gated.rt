@@ -6,18 +6,18 @@ ghost use Rattle.diskmodel.specs.Gated.{disk_of, gate_of};
 
 use crate::disk::{Disk, DiskFault, StopDisk};
 
-/// What a sync has to wait for.
+/// A gate that a sync has to pass before it is made.
 pub trait Gate {
     /// Returns once the sync may go on.
     fn pass(&mut self);
 }
 
-/// The gate that lets each sync go on at once.
+/// A gate that lets each sync pass at once.
 impl Gate for () {
     fn pass(&mut self) {}
 }
 
-/// A disk whose syncs wait for a gate. Its calls are those of the inner disk; only a sync passes the gate first.
+/// A disk whose syncs wait for a gate. All its calls are those of the inner disk; before a sync the gate is passed.
 #[derive(Drop)]
 pub struct GatedDisk<D, G> {
     disk: D,
@@ -40,7 +40,7 @@ impl<D, G> GatedDisk<D, G> {
         &self.disk
     }
 
-    /// The inner disk and the gate, taken apart again.
+    /// Takes the inner disk and the gate apart again.
     pub fn into_parts(self) -> (D, G)
         ensures disk { result.0 ≡ disk_of self }
         ensures gate { result.1 ≡ gate_of self }
@@ -73,7 +73,7 @@ impl<D: Disk, G: Gate> Disk for GatedDisk<D, G> {
         ensures cause { HasCause (D.device.faults self.old.disk) (D.device.faults self.new.disk) result }
         ensures calls { D.device.calls self.new.disk ≡ D.device.calls self.old.disk }
 
-        // Only a sync passes the gate.
+        // The gate is untouched, since only a sync passes it.
         ensures gate { self.new.gate ≡ self.old.gate }
     {
         self.disk.len()

@@ -1,4 +1,4 @@
-//! The record of a disk in memory, and the state that it leads to.
+//! The record of a disk in memory (the calls that it has had), and the state that these lead to.
 ghost use Rattle.std.specs.Prelude.{◌≡◌, ◌⊎◌, ℕ, ◌+◌, ◌-◌, ◌<◌, ◌≤◌, ◌↔◌, min, max, Bool, true, false, IsTrue, IfOk, OnOk, OnErr};
 ghost use Rattle.std.specs.Prelude.{List, [], ◌∷◌, ◌++◌, length, take, slice_index, vec_len, vec_capacity};
 ghost use Rattle.diskmodel.specs.Disk.{written};
@@ -10,10 +10,10 @@ use crate::call::{Call, KeptBytes, Span};
 use crate::refusals::Refusals;
 use std::alloc::{AllocError, Global};
 
-/// For how many calls a call makes room in the record: itself, and a stop after it.
+/// For how many entries a call makes room in the record: one for itself, and one for a stop after it, which may not allocate.
 pub const CALL_AND_STOP: usize = 2;
 
-/// The smallest and the greatest length since the last sync, in bytes.
+/// The smallest and the greatest length of a disk since its last sync, in bytes.
 #[derive(Clone, Copy, PartialEq, Eq)]
 pub struct Lengths {
     pub smallest: usize,
@@ -21,7 +21,7 @@ pub struct Lengths {
 }
 
 impl Lengths {
-    /// One length only.
+    /// The lengths of a disk that has had this length only.
     pub fn only(len: usize) -> Lengths
         ensures { result ≡ record { smallest = len; greatest = len } }
     {
@@ -40,7 +40,7 @@ impl Lengths {
         self.greatest = self.greatest.max(len);
     }
 
-    /// Whether a length is between the smallest and the greatest one, these included.
+    /// Whether this length is at least the smallest and at most the greatest one.
     pub fn include(&self, len: usize) -> bool
         ensures { IsTrue result ↔ ((self.now.smallest ≤ len) × (len ≤ self.now.greatest)) }
     {
@@ -48,7 +48,7 @@ impl Lengths {
     }
 }
 
-/// The bytes with which a disk began, its calls since, and the state that they lead to.
+/// The bytes with which a disk began, its calls since then, and the state that these lead to.
 pub struct History {
     alloc: Global,
     pub first: Vec<u8>,
@@ -58,9 +58,9 @@ pub struct History {
     pub spans: Vec<Span>,
     pub content: Vec<u8>,
     ghost kept: { Keeps first.items calls.items durable.items lengths.smallest lengths.greatest spans.items content.items },
-    // Unless the last call is a stop, there is room for one more call.
+    // Unless the last call is a stop, the list has memory for one more call.
     ghost room: { ends_in_stop calls.items ≡ false → vec_len calls < vec_capacity calls },
-    // There is room for the greatest length since the last sync.
+    // The list has memory for the greatest length since the last sync.
     ghost fits: { lengths.greatest ≤ vec_capacity content },
 }
 
@@ -111,7 +111,7 @@ fn overlay(
     Ok(())
 }
 
-/// Copies the bytes that a span holds from one slice to the same places of another, as far as that one goes.
+/// Copies the bytes at the places of a span from one slice to the same places of another, as far as that is long enough.
 fn copy_span(into: &mut [u8], from: &[u8], span: &Span)
     requires { length into.old ≤ length from.now }
     ensures len { length into.new ≡ length into.old }
@@ -123,8 +123,8 @@ fn copy_span(into: &mut [u8], from: &[u8], span: &Span)
     into[start..start + count].copy_from_slice(&from[start..start + count]);
 }
 
-/// Copies the bytes that spans hold from one slice to the same places of another, as far as that one goes. At all other places the two are
-/// the same already.
+/// Copies the bytes at the places of these spans from one slice to the same places of another, as far as that is long enough. At all other
+/// places the two slices are the same already.
 fn copy_spans(into: &mut [u8], from: &[u8], spans: &[Span])
     requires shorter { length into.old ≤ length from.now }
     requires unwritten { (place : ℕ) → place < length into.old → is_written spans.now place ≡ false → slice_index from.now place ≡ slice_index into.old place }
@@ -135,8 +135,8 @@ fn copy_spans(into: &mut [u8], from: &[u8], spans: &[Span])
     }
 }
 
-/// Brings an older copy of the content up to date. It differs at most where it was written since then, and past the smallest length since
-/// then, so nothing else is copied.
+/// Brings an older copy of a disk's content up to date. The copy differs from the content at most at places that were written since it was
+/// made, and past the smallest length since then; nothing else is copied.
 fn catch_up(copy: &mut Vec<u8>, content: &[u8], smallest: usize, spans: &[Span])
     requires in_copy { smallest ≤ vec_len copy.old }
     requires in_content { smallest ≤ length content.now }
@@ -149,7 +149,7 @@ fn catch_up(copy: &mut Vec<u8>, content: &[u8], smallest: usize, spans: &[Span])
     let _ = copy.extend_from_slice(&content[smallest..]);
 }
 
-/// Removes the last call if it is a stop. After that there is room for another stop.
+/// Removes the last call if it is a stop, so that there is room in the list for another stop.
 fn forget_last_stop(calls: &mut Vec<Call>)
     requires { ends_in_stop calls.old.items ≡ false → vec_len calls.old < vec_capacity calls.old }
     ensures room { vec_len calls.new < vec_capacity calls.new }
@@ -163,7 +163,7 @@ fn forget_last_stop(calls: &mut Vec<Call>)
 impl History {
     ghost use Rattle.diskmodel.specs.Recorded.{Adds, IsAsBefore, TakesStop};
 
-    /// A disk with these bytes, all of them durable.
+    /// The record of a disk that begins with these bytes, all of them durable.
     pub fn new(alloc: Global, bytes: Vec<u8>) -> Result<History, AllocError>
         ensures first { IfOk result (λ history. history.first.items ≡ bytes.items) }
         ensures calls { IfOk result (λ history. history.calls.items ≡ []) }
@@ -188,14 +188,14 @@ impl History {
         self.spans.iter().any(|span| span.holds(place))
     }
 
-    /// Whether a stop may leave these bytes.
+    /// Whether a stop at this moment may leave these bytes.
     pub fn can_leave(&self, found: &[u8]) -> bool
         ensures { IsTrue result ↔ IsOutcome self.now.first.items self.now.calls.items found.now }
     {
         self.lengths.include(found.len()) && self.keeps_durable(found)
     }
 
-    /// Whether the bytes that a stop can't change are unchanged.
+    /// Whether these bytes are the durable ones at each place where a stop can't change the byte.
     fn keeps_durable(&self, found: &[u8]) -> bool
         requires { self.now.lengths.smallest ≤ length found.now }
         ensures { IsTrue result ↔ ((place : ℕ) → place < self.now.lengths.smallest → is_written self.now.spans.items place ≡ false
@@ -234,7 +234,7 @@ impl History {
         Ok(())
     }
 
-    /// Cuts the content to a length. If an allocation fails, nothing has changed.
+    /// Cuts the content to this length. If an allocation fails, nothing has changed.
     pub fn cut(&mut self, len: usize, refusals: &mut Refusals) -> Result<(), AllocError>
         requires { len ≤ length self.old.content.items }
         ensures added { OnOk result (Adds (Call.Cut len) self.old self.new) }
@@ -249,7 +249,7 @@ impl History {
         Ok(())
     }
 
-    /// Makes the content durable. If an allocation fails, nothing has changed.
+    /// Syncs the disk: makes its content durable. If an allocation fails, nothing has changed.
     pub fn sync(&mut self, refusals: &mut Refusals) -> Result<(), AllocError>
         ensures added { OnOk result (Adds Call.Synced self.old self.new) }
         ensures content { self.new.content.items ≡ self.old.content.items }
@@ -267,8 +267,8 @@ impl History {
         Ok(())
     }
 
-    /// Stops the machine, which leaves these bytes. The call allocates no memory: the content has had this length before, and a stop right
-    /// after a stop replaces it in the record.
+    /// Stops the machine, which leaves these bytes. The call allocates no memory: the content has been as long before, and a stop right
+    /// after a stop takes its place in the record.
     pub fn stop(&mut self, found: KeptBytes)
         requires { IsOutcome self.old.first.items self.old.calls.items found }
         ensures taken { TakesStop found self.old self.new }

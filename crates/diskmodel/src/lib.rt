@@ -1,4 +1,4 @@
-//! A disk as a list of bytes, and what a stop of the machine may leave of it.
+//! The model of a disk: a list of bytes, and which bytes a stop of the machine may leave of it.
 #![tactic(auto)]
 
 mod call;

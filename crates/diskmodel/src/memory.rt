@@ -1,4 +1,4 @@
-//! A disk in memory, for tests. Its calls can be set to fail, and a stop of the machine can be played on it.
+//! A disk in memory, for tests. Each of its calls can be made to fail, and a stop of the machine can be simulated on it.
 ghost use Rattle.std.specs.Prelude.{◌≡◌, ◌⊎◌, ℕ, ◌+◌, ◌-◌, ◌<◌, ◌≤◌, ◌↔◌, List, [], None, Some, length, take, drop, IsTrue, IsFalse, IsErr, Ok, IfOk, OnOk, OnErr, is_ok};
 ghost use Rattle.std.specs.List.{Contains};
 ghost use Rattle.diskmodel.specs.Disk.{HasCause, NoneNew, GoesOn};
@@ -13,7 +13,7 @@ use crate::switch::Switch;
 use crate::tally::Tally;
 use std::alloc::{AllocError, Global};
 
-/// A disk in memory. It keeps the bytes with which it began and the record of its calls.
+/// A disk in memory. It keeps the bytes with which it began, and a record of its calls.
 pub struct MemDisk {
     history: History,
     countdowns: Countdowns,
@@ -62,7 +62,7 @@ impl MemDisk {
         })
     }
 
-    /// A disk with these bytes and a switch, by which calls can be set to fail while another thread has the disk.
+    /// A disk with these bytes, and with a switch by which another thread can make its calls fail.
     ///
     /// # Errors
     /// An allocation failed.
@@ -83,14 +83,14 @@ impl MemDisk {
         Ok(disk)
     }
 
-    /// What a read gives.
+    /// The bytes that a read gives.
     pub fn bytes(&self) -> &[u8]
         ensures { result.now ≡ content_of self.now }
     {
         &self.history.content
     }
 
-    /// The bytes at the last successful sync, or at the beginning if there was none. A stop may leave them.
+    /// The bytes at the last successful sync, or at the beginning if there was none. They are a possible outcome of a stop.
     pub fn durable(&self) -> &[u8]
         ensures value { result.now ≡ (state_of self.now).durable }
         ensures outcome { CanStopAt self.now result.now }
@@ -105,18 +105,19 @@ impl MemDisk {
         self.history.is_written(place)
     }
 
-    /// The calls so far, without those that failed. A stop is among them if its outcome was chosen, and replaces a stop right before it.
+    /// The calls so far, oldest first, without those that failed. A stop is among them if its outcome was chosen; it replaces a stop right
+    /// before it.
     pub fn calls(&self) -> &[Call]
         ensures { result.now ≡ calls_of self.now }
     {
         &self.history.calls
     }
 
-    /// Sets a call to fail: the count-th next one of its kind, once, and without any effect. A count of 0 sets none. Each kind is counted
-    /// by itself, and several calls of a kind can be set to fail.
+    /// Lets a call fail: the one that comes as the `count`-th of its kind from now on. It fails once, and without any effect. With 0 none
+    /// fails. Each kind of call is counted by itself, and several calls of a kind can be set to fail.
     ///
     /// # Errors
-    /// An allocation failed; then no call was set to fail.
+    /// An allocation failed; then no further call was set to fail.
     pub fn fail(&mut self, call: CallKind, count: u64) -> Result<(), AllocError>
         ensures told { OnOk result (told_of self.new ≡ reporting (told_of self.old) call count) }
         ensures err { OnErr result (told_of self.new ≡ told_of self.old) }
@@ -133,14 +134,14 @@ impl MemDisk {
         self.history.can_leave(bytes)
     }
 
-    /// Chooses what the next stop leaves, if that is one of its outcomes then. Otherwise the stop leaves what a read gives.
+    /// Chooses what the next stop leaves. If that is no possible outcome then, the stop leaves what a read gives.
     pub fn choose(&mut self, outcome: Vec<u8>)
         ensures { self.new ≡ choosing self.old outcome.items }
     {
         self.choice = Some(KeptBytes::from_vec(outcome));
     }
 
-    /// Counts a failure.
+    /// Counts a failed call, and returns its error.
     fn fault(&mut self) -> DiskFault
         ensures undisturbed { IsUndisturbed self.old self.new }
         ensures told { told_of self.new ≡ told_of self.old }
@@ -151,7 +152,7 @@ impl MemDisk {
         DiskFault
     }
 
-    /// Counts a call with the switch, and gives whether it is set to fail.
+    /// Counts a call at the switch, and returns whether the switch has set it to fail.
     fn is_switched(&self, call: CallKind) -> bool
         ensures { switch_of self.now ≡ None → IsFalse result }
     {
@@ -161,7 +162,7 @@ impl MemDisk {
         }
     }
 
-    /// Counts a call, and fails if the call was set to.
+    /// Counts a call, and fails if a test has set it to fail.
     fn fail_if_told(&mut self, call: CallKind) -> Result<(), DiskFault>
         ensures undisturbed { IsUndisturbed self.old self.new }
         ensures cause { HasCause self.old.faults.count self.new.faults.count result }
@@ -178,7 +179,7 @@ impl MemDisk {
         Ok(())
     }
 
-    /// Counts a failed allocation as a failure of the disk.
+    /// Turns a failed allocation into a failed call, and counts that.
     fn counted(&mut self, outcome: Result<(), AllocError>) -> Result<(), DiskFault>
         ensures undisturbed { IsUndisturbed self.old self.new }
         ensures told { told_of self.new ≡ told_of self.old }
@@ -239,7 +240,7 @@ impl Disk for MemDisk {
         ensures cause { HasCause self.old.faults.count self.new.faults.count result }
         ensures calls { made_of self.new ≡ made_of self.old }
 
-        // Without a switch it fails only if it was set to. It isn't recorded.
+        // Without a switch a read fails only if it was set to. Reads aren't in the record of calls.
         ensures heeds { Heeds CallKind.Read self.old self.new result }
         ensures undisturbed { IsUndisturbed self.old self.new }
         ensures succeeds { switch_of self.old ≡ None → OnErr result (Contains (counts_for (told_of self.old) CallKind.Read) 1) }
@@ -260,7 +261,7 @@ impl Disk for MemDisk {
         ensures recorded { OnOk result (Adds (Call.Wrote at bytes.now) self.old.history self.new.history) }
         ensures heeds { Heeds CallKind.Write self.old self.new result }
 
-        // Without a switch it fails only if it was set to, or an allocation failed for a list without room.
+        // Without a switch a write fails only if it was set to, or if an allocation failed for a list that had too little room.
         ensures succeeds { switch_of self.old ≡ None → OnErr result (Contains (counts_for (told_of self.old) CallKind.Write) 1 ⊎ IsRefused (room_for (length bytes.now)) self.old.refusals self.new.refusals) }
     {
         self.fail_if_told(CallKind::Write)?;
@@ -300,7 +301,7 @@ impl Disk for MemDisk {
         self.counted(outcome)
     }
 
-    // The disk keeps what a stop may leave, so later reads still succeed.
+    // The disk keeps all that a stop may leave, so later reads still succeed.
     fn end_reading(&mut self)
         ensures { self.new ≡ self.old }
     {}
@@ -309,7 +310,7 @@ impl Disk for MemDisk {
 impl StopDisk for MemDisk {
     ghost use Rattle.diskmodel.specs.Memory.{content_of, made_of, CanStopAt, choice_of, told_of, switch_of, TimeGoesOn};
 
-    /// The call allocates no memory, and uses up the choice.
+    /// Stops the machine. The call allocates no memory, and uses up the choice of what the stop leaves.
     fn stop(&mut self)
         ensures content { CanStopAt self.old (content_of self.new) }
         ensures outcomes { NoneNew (CanStopAt self.old) (CanStopAt self.new) }
@@ -318,7 +319,7 @@ impl StopDisk for MemDisk {
         ensures faults { self.new.faults.count ≡ self.old.faults.count }
         ensures calls { made_of self.new ≡ made_of self.old }
 
-        // Each outcome can be chosen. Without a choice a read gives the same as before.
+        // Each possible outcome can be chosen. Without a choice a read gives the same bytes as before.
         ensures chosen { (found : List ℕ) → choice_of self.old ≡ Some found → CanStopAt self.old found → content_of self.new ≡ found }
         ensures otherwise { ((found : List ℕ) → choice_of self.old ≡ Some found → ¬ CanStopAt self.old found) → content_of self.new ≡ content_of self.old }
         ensures spent { choice_of self.new ≡ None }

@@ -1,11 +1,11 @@
-//! Which allocations for lists failed. Only `grow` counts them.
+//! A count of failed allocations for lists, which contracts read. Only `grow` adds to it.
 ghost use Rattle.std.specs.Prelude.{◌≡◌, ℕ, ◌+◌, ◌<◌, ◌≤◌, OnOk, OnErr, vec_len, vec_capacity};
 
 use crate::tally::Tally;
 use std::alloc::AllocError;
 
-/// How often an allocation for a list failed; and of the last time, for how many more elements the list had room, and for how many room was
-/// wanted. Only contracts read this.
+/// How often an allocation for a list has failed; and of the last such failure, how many more elements the list had room for, and how many
+/// it was asked for. Only contracts read this.
 #[derive(Drop)]
 pub struct Refusals {
     count: Tally,
@@ -16,7 +16,7 @@ pub struct Refusals {
 impl Refusals {
     ghost use Rattle.diskmodel.specs.Refusals.{IsRefused};
 
-    /// No allocation has failed.
+    /// A count of no failed allocation.
     pub fn none() -> Refusals
         ensures { result.count.count ≡ 0 }
     {
@@ -27,7 +27,7 @@ impl Refusals {
         }
     }
 
-    /// Makes room in a list for this many more elements. A failed allocation is counted.
+    /// Makes room in a list for this many more elements. If the allocation fails, that is counted.
     pub fn grow<T>(&mut self, list: &mut Vec<T>, additional: usize) -> Result<(), AllocError>
         ensures items { list.new.items ≡ list.old.items }
         ensures capacity { vec_capacity list.old ≤ vec_capacity list.new }

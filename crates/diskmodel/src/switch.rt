@@ -1,4 +1,4 @@
-//! A switch that sets calls of disks to fail while another thread has the disks.
+//! A switch by which a thread makes calls of disks fail while another thread has the disks.
 ghost use Rattle.std.specs.Prelude.{◌≡◌, IfOk, IsOk, vec_len};
 
 use crate::call::CallKind;
@@ -8,23 +8,23 @@ use std::sync::Arc;
 use std::sync::atomic::{AtomicU64, Ordering};
 use thiserror::Error;
 
-/// How many calls of one kind a switch can have set to fail at once.
+/// How many calls of one kind a switch can have set to fail at the same time.
 pub const MAX_SWITCHED: usize = 16;
 
-/// A switch can set no more calls of this kind to fail until one of those that are set was made.
+/// The error of a switch that has set as many calls of one kind to fail as it can. It can set more once one of them was made.
 #[derive(Clone, Copy, Debug, PartialEq, Eq, Error)]
 #[error("no more calls of this kind can be told to fail")]
 pub struct TooManyTold;
 
-/// A call that a switch has set to fail, until it is made.
+/// A call that a switch has set to fail, and that can be revoked until it is made.
 #[derive(Clone, Copy, Debug, PartialEq, Eq)]
 pub struct Told {
     call: CallKind,
     place: usize,
 }
 
-/// A row of words for each kind of call. A word is free at 0; otherwise it says which of the next calls fails. A disk may not wait for a
-/// lock, so the words are atomic, and no contract knows what they hold.
+/// A row of atomic words for each kind of call. A word is free if it is 0; otherwise it says which of the next calls fails. They are atomic
+/// because a disk may not wait for a lock. No contract knows what they hold.
 #[derive(Drop)]
 pub struct SwitchView {
     read: Vec<AtomicU64>,
@@ -33,7 +33,7 @@ pub struct SwitchView {
     sync: Vec<AtomicU64>,
 }
 
-/// Free words for the calls of one kind.
+/// A row of free words, for the calls of one kind.
 fn row(alloc: Global) -> Result<Vec<AtomicU64>, AllocError>
     ensures { IfOk result (λ row. vec_len row ≡ MAX_SWITCHED) }
 {
@@ -44,7 +44,7 @@ fn row(alloc: Global) -> Result<Vec<AtomicU64>, AllocError>
     Ok(row)
 }
 
-/// Counts a call at this word, and gives whether it is the one that fails.
+/// Counts a call at one word, and returns whether it is the call that has to fail.
 fn count_down(word: &AtomicU64) -> bool {
     let was = word.fetch_update(Ordering::SeqCst, Ordering::SeqCst, |count| {
         count.checked_sub(1)
@@ -53,7 +53,7 @@ fn count_down(word: &AtomicU64) -> bool {
 }
 
 impl SwitchView {
-    /// No call fails.
+    /// The words of a switch that has set no call to fail.
     fn none(alloc: Global) -> Result<SwitchView, AllocError> {
         Ok(SwitchView {
             read: row(alloc)?,
@@ -74,7 +74,7 @@ impl SwitchView {
     }
 }
 
-/// Sets calls to fail, of all disks that are made with it. The switch and its clones may go to other threads.
+/// A switch makes calls fail, of all disks that are made with it. The switch and its clones may be sent to other threads.
 pub struct Switch {
     words: Arc<SwitchView, Global>,
 }
@@ -85,7 +85,7 @@ impl Drop for Switch {
     }
 }
 
-// The identity of the memory that a switch shares with its clones.
+// What contracts see of a switch: the identity of the memory that it shares with its clones.
 impl Model for Switch {
     ghost use Rattle.diskmodel.specs.declared.switch.SwitchView.{SwitchView};
     ghost use Rattle.std.specs.Arc.{arc_value};
@@ -108,7 +108,7 @@ impl Switch {
     /// Another handle to the same switch.
     ///
     /// # Errors
-    /// As many handles to the switch exist as can be counted.
+    /// There are as many handles to the switch as can be counted.
     pub fn try_clone(&self) -> Result<Switch, AllocError>
         ensures { IfOk result (λ twin. twin ≡ self.now) }
     {
@@ -116,16 +116,16 @@ impl Switch {
         Ok(Switch { words })
     }
 
-    /// Sets a call to fail: the count-th next one of its kind, of all disks that are made with this switch, once, and without any effect. A
-    /// count of 0 sets none. Each kind is counted by itself.
+    /// Lets a call fail: the one that comes as the `count`-th of its kind from now on, counted over all disks that are made with this
+    /// switch. It fails once, and without any effect. With 0 none fails.
     ///
     /// # Errors
-    /// `MAX_SWITCHED` calls of this kind are set to fail already and weren't made yet. Then none was set.
+    /// `MAX_SWITCHED` calls of this kind are set to fail already and haven't been made yet. Then no further one was set.
     pub fn fail(&self, call: CallKind, count: u64) -> Result<Told, TooManyTold>
         ensures { count ≡ 0 → IsOk result }
     {
         if count == 0 {
-            // A count of 0 sets nothing. The answer's place is past the last word, so that revoking it changes nothing.
+            // With 0 nothing is set. The place in the answer is past the last word, so that revoking it changes nothing.
             return Ok(Told {
                 call,
                 place: MAX_SWITCHED,
@@ -140,19 +140,19 @@ impl Switch {
         Err(TooManyTold)
     }
 
-    /// Revokes that a call was set to fail. If that call was made already this changes nothing, unless another call was set to fail since
-    /// then.
+    /// Revokes that a call was set to fail. If that call has been made already nothing changes, unless the same word was given to another
+    /// call since then: then that one is revoked.
     pub fn take_back(&self, told: Told) {
         if let Some(word) = self.words.of(told.call).get(told.place) {
             word.store(0, Ordering::SeqCst);
         }
     }
 
-    /// Counts a call of this kind, and gives whether it is set to fail.
+    /// Counts a call of this kind, and returns whether it has to fail.
     pub(crate) fn count(&self, call: CallKind) -> bool {
         let mut is_due = false;
         for word in self.words.of(call) {
-            // Each word counts the call, even if an earlier word already says that it fails.
+            // Each word has to count the call, also after an earlier word has said that the call fails.
             is_due |= count_down(word);
         }
         is_due

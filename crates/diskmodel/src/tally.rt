@@ -1,4 +1,4 @@
-//! A count that only proofs read. It is in no memory, so it never overflows.
+//! A count that exists in proofs alone. It is in no memory, so it never overflows.
 ghost use Rattle.std.specs.Prelude.{◌≡◌, ℕ, ◌+◌};
 ghost use Rattle.std.specs.Borrow.{ftrue};
 
@@ -14,7 +14,7 @@ impl Model for Tally {
     ghost also_owns = { λ _. ftrue };
 }
 
-// A struct with `also_owns` isn't `Send` by itself. This one owns nothing.
+// The compiler can't derive that a struct with `also_owns` may be sent to other threads. This one owns nothing, so it may.
 unsafe impl Send for Tally {}
 
 impl Tally {

@@ -1,4 +1,4 @@
--- The answers of admission, and the pieces in which an order is put out.
+-- The answers of a node to events, and the pieces in which a grown order is put out.
 use Rattle.std.specs.Prelude.{ℕ, ◌+◌, ◌-◌, ◌*◌, ◌/◌, Bool, true, false, List, map, length, take, drop}
 use Rattle.std.specs.List.{range_with_len}
 use Rattle.wire.specs.declared.keys.Digest.{Digest}
@@ -8,16 +8,16 @@ use Rattle.wire.specs.declared.output.Output.TheVariants as output
 use Rattle.header.specs.declared.admission.Admission.{Admission}
 use Rattle.header.specs.declared.admission.Admission.TheVariants.{New, Known, Refused}
 
--- an answer says that the event is new
+-- the answer says that the event is new
 abbrev pub is_new : Admission → Bool
 is_new (New outputs) = true
 is_new (Known outputs) = false
 is_new (Refused refusal) = false
 
--- one piece, counted from 0, of a list that follows the first `start` digests of the order
+-- one piece of a list of digests; pieces are counted from 0. The list comes after the first `start` digests of the order
 abbrev pub piece_at : ℕ → List Digest → ℕ → Output
 piece_at start digests piece = output.Order (start + MAX_ORDER_DIGESTS * piece) (take MAX_ORDER_DIGESTS (drop (MAX_ORDER_DIGESTS * piece) digests))
 
--- a list in pieces of as many digests as an output may have; only the last one may have fewer
+-- a list of digests in pieces, each with as many digests as an output may have; only the last piece may have fewer
 abbrev pub pieces : ℕ → List Digest → List Output
 pieces start digests = map (piece_at start digests) (range_with_len 0 ((length digests + (MAX_ORDER_DIGESTS - 1)) / MAX_ORDER_DIGESTS))

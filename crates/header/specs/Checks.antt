@@ -1,4 +1,4 @@
--- The tests of an incoming message, in their order, each with its refusal.
+-- The tests that an incoming message has to pass, in their order, each with its refusal.
 use Rattle.std.specs.Prelude.{◌≡◌, Bool, true, false, ◌==◌, nat_lt, nat_le, ℕ, List, [], ◌∷◌, ◌++◌, length, Option, Some, None, unwrap_or, slice_get, sum_by, if◌then◌else◌}
 use Rattle.std.specs.List.{list_all}
 use Rattle.std.specs.Option.{option_map_or}
@@ -21,12 +21,12 @@ use Rattle.wire.specs.declared.votes.VoteEntry.{VoteEntry}
 use Rattle.header.specs.declared.error.CheckError.{CheckError}
 use Rattle.header.specs.declared.error.CheckError.TheVariants.{UnknownAuthor, BadSender, BadSignature, TooFewParents, TooManyParents, TooFewVotes, UnknownWorker}
 
--- a test, and the refusal if it fails
+-- a test: whether it holds, and the refusal otherwise
 pub record Test : Type 0 where
   pub holds : Bool
   pub otherwise : CheckError
 
--- a test as the tables below write it
+-- a test, in the short form in which the tables below write it
 abbrev pub test : Bool → CheckError → Test
 test holds otherwise = record { holds = holds; otherwise = otherwise }
 
@@ -35,27 +35,27 @@ abbrev pub first_failing : List Test → Option CheckError
 first_failing [] = None
 first_failing (t ∷ rest) = if t.holds then first_failing rest else Some t.otherwise
 
--- which signatures of a digest are accepted for a key
+-- a verifier of signatures, as contracts see it: whether a signature of a digest is good for a key
 abbrev pub Accepts : Type 0
 Accepts = Key → Digest → Signature → Bool
 
--- every signature is accepted
+-- the verifier that finds every signature good
 abbrev pub accepts_all : Accepts
 accepts_all key digest signature = true
 
--- this number is a member's
+-- this number is that of a member of the committee
 abbrev pub is_member : Charter → Author → Bool
 is_member charter author = nat_lt author.0 (length charter.keys)
 
--- the weight of an author in the tests of parents and votes: the stake of a member, and 1 for anybody else
+-- what an author weighs in the tests of parents and votes: a member its stake, anybody else 1, since membership is tested later
 abbrev pub named_weight : Charter → Author → ℕ
 named_weight charter author = unwrap_or (slice_get charter.stakes author.0) 1
 
--- this number is a worker's
+-- this number is that of a worker
 abbrev pub is_worker : Charter → ℕ → Bool
 is_worker charter worker = nat_lt worker charter.workers
 
--- the signature of a digest is good, for the key of a member
+-- the signer is a member, and the signature of the digest is good for its key
 abbrev pub is_signed : Charter → Accepts → Author → Digest → Signature → Bool
 is_signed charter accepts signer digest signature =
     option_map_or (λ key. accepts key digest signature) (slice_get charter.keys signer.0) false
@@ -64,11 +64,11 @@ is_signed charter accepts signer digest signature =
 abbrev pub header_signed : HeaderBody → Digest
 header_signed body = record { 0 = header_digest_of body }
 
--- the digest that each voter for a header signs, given the header's digest, round and author
+-- the digest that voters sign for a header, given the header's digest, round and author: that of its certificate
 abbrev pub vote_signed : List ℕ → ℕ → Author → Digest
 vote_signed header round author = record { 0 = certificate_digest_of header round author.0 }
 
--- the tests of what a header and a certificate have in common
+-- the tests of a header's body, which headers and certificates have in common
 abbrev pub body_tests : Charter → HeaderBody → List Test
 body_tests charter body =
     test (nat_le (quorum_of charter) (sum_by (λ parent. named_weight charter parent.author) body.parents)) TooFewParents
@@ -77,7 +77,7 @@ body_tests charter body =
     ∷ test (list_all (λ batch. is_worker charter batch.worker) body.batches) UnknownWorker
     ∷ []
 
--- the tests of a batch; it has to come from its author
+-- the tests of a batch, whose sender has to be its author
 abbrev pub batch_tests : Charter → Author → BatchView → List Test
 batch_tests charter sender batch =
     test (is_member charter batch.author) UnknownAuthor
@@ -85,11 +85,11 @@ batch_tests charter sender batch =
     ∷ test (is_worker charter batch.worker) UnknownWorker
     ∷ []
 
--- the tests of an acknowledgement; it has to come from the member who acknowledges
+-- the tests of an acknowledgement, whose sender has to be the member that acknowledges
 abbrev pub ack_tests : Author → BatchAck → List Test
 ack_tests sender ack = test (ack.author.0 == sender.0) BadSender ∷ []
 
--- the tests of a header; it has to come from its author
+-- the tests of a header, whose sender has to be its author
 abbrev pub header_tests : Charter → Accepts → Author → Header → List Test
 header_tests charter accepts sender header =
     test (is_member charter header.body.author) UnknownAuthor
@@ -98,7 +98,7 @@ header_tests charter accepts sender header =
     ++ test (is_signed charter accepts header.body.author (header_signed header.body) header.signature) BadSignature
     ∷ []
 
--- the tests of a vote; it has to come from its voter
+-- the tests of a vote, whose sender has to be its voter
 abbrev pub vote_tests : Charter → Accepts → Author → Vote → List Test
 vote_tests charter accepts sender vote =
     test (is_member charter vote.author) UnknownAuthor
@@ -107,7 +107,7 @@ vote_tests charter accepts sender vote =
     ∷ test (is_signed charter accepts vote.voter (vote_signed vote.header.0 vote.round vote.author) vote.signature) BadSignature
     ∷ []
 
--- the tests of a certificate's votes, which all sign one digest; before any signature it is tested that all voters are members
+-- the tests of a certificate's votes, which all sign the same digest. That all voters are members is tested before any signature
 abbrev pub votes_tests : Charter → Accepts → Digest → List VoteEntry → List Test
 votes_tests charter accepts digest votes =
     test (nat_le (quorum_of charter) (sum_by (λ vote. named_weight charter vote.voter) votes)) TooFewVotes
@@ -115,14 +115,14 @@ votes_tests charter accepts digest votes =
     ∷ test (list_all (λ vote. is_signed charter accepts vote.voter digest vote.signature) votes) BadSignature
     ∷ []
 
--- the tests of a certificate, which may come from any member
+-- the tests of a certificate, which any member may send
 abbrev pub certificate_tests : Charter → Accepts → Certificate → List Test
 certificate_tests charter accepts certificate =
     test (is_member charter certificate.header.author) UnknownAuthor
     ∷ body_tests charter certificate.header
     ++ votes_tests charter accepts (vote_signed (header_digest_of certificate.header) certificate.header.round certificate.header.author) certificate.votes
 
--- the tests that follow the one of the sender, by the kind of the message
+-- the tests of a message after that of its sender's membership, by the kind of the message
 abbrev pub message_tests : Charter → Accepts → Author → Message → List Test
 message_tests charter accepts sender (message.Batch batch) = batch_tests charter sender batch
 message_tests charter accepts sender (message.BatchAck ack) = ack_tests sender ack
@@ -131,16 +131,16 @@ message_tests charter accepts sender (message.Vote vote) = vote_tests charter ac
 message_tests charter accepts sender (message.Certificate certificate) = certificate_tests charter accepts certificate
 message_tests charter accepts sender (message.Coin coin) = []
 
--- all tests of a message from its sender
+-- all tests of a message that came from this sender
 abbrev pub tests_of : Charter → Accepts → Event → List Test
 tests_of charter accepts event =
     test (is_member charter event.sender) UnknownAuthor ∷ message_tests charter accepts event.sender event.message
 
--- why a message from its sender is refused; None where it passes all tests
+-- the refusal of a message that came from this sender; None if it passes all tests
 abbrev pub fault_of : Charter → Accepts → Event → Option CheckError
 fault_of charter accepts event = first_failing (tests_of charter accepts event)
 
--- a message from its sender passed the tests of some committee, whatever its signatures
+-- a message passed the tests of some committee, except those of signatures
 pub record HasPassed (event : Event) : Type 0 where
   pub charter : Charter
   pub committee : IsCharter charter

@@ -1,4 +1,4 @@
--- Making a header of given parts.
+-- How a header is made of given parts, and which faults the parts can have.
 use Rattle.std.specs.Prelude.{ℕ, Bool, not, nat_lt, List, length, Option, Some, None, if◌then◌else◌}
 use Rattle.wire.specs.Digests.{header_digest_of}
 use Rattle.wire.specs.References.{batches_rise, parents_rise}
@@ -13,7 +13,7 @@ use Rattle.wire.specs.declared.limits.TheConstants.{MAX_BATCHES, MAX_PARENTS}
 use Rattle.wire.specs.declared.references.BatchReference.{BatchReference}
 use Rattle.wire.specs.declared.references.ParentReference.{ParentReference}
 
--- the fault of a list that may have at most this many entries, which have to be in strictly ascending order
+-- the fault of a list with `count` entries, if it has one: it has more than `limit`, or they aren't in strictly ascending order
 abbrev pub list_fault : ℕ → ℕ → Bool → Option WireError
 list_fault limit count rises = if nat_lt limit count then Some TooMany else if not rises then Some NotCanonical else None
 
@@ -23,7 +23,7 @@ batches_fault batches = list_fault MAX_BATCHES (length batches) (batches_rise ba
 abbrev pub parents_fault : List ParentReference → Option WireError
 parents_fault parents = list_fault MAX_PARENTS (length parents) (parents_rise parents)
 
--- the first of two faults
+-- the first of two faults, if there is one
 abbrev pub first_fault : Option WireError → Option WireError → Option WireError
 first_fault (Some fault) other = Some fault
 first_fault None other = other
@@ -32,6 +32,6 @@ first_fault None other = other
 abbrev pub body_of : Author → ℕ → List BatchReference → List ParentReference → HeaderBody
 body_of author round batches parents = record { author = author; round = round; batches = batches; parents = parents }
 
--- a header with this body, signed
+-- a header with this body, and with the signature of its digest
 abbrev pub signed_by : (Digest → Signature) → HeaderBody → Header
 signed_by sign body = record { body = body; signature = sign (record { 0 = header_digest_of body }) }

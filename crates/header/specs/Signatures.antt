@@ -1,4 +1,4 @@
--- The signatures in a message that passed its tests.
+-- That the signatures of a message which passed its tests are good.
 use Rattle.std.specs.Prelude.{◌≡◌, true, None, All}
 use Rattle.committee.specs.Charter.{Charter}
 use Rattle.wire.specs.Digests.{header_digest_of}
@@ -16,7 +16,7 @@ AreSigned charter accepts (message.Certificate certificate) =
     certificate.votes
 AreSigned charter accepts _ = Unit {0}
 
--- if a message passes all its checks, its signatures are good
+-- a message that passes all its tests has good signatures
 abbrev pub PassedAreSigned : Type 0
 PassedAreSigned = (charter : Charter) (accepts : Accepts) (event : Event) → fault_of charter accepts event ≡ None
     → AreSigned charter accepts event.message

@@ -1,4 +1,4 @@
-//! The answers to events.
+//! The answers of a node to events, with the outputs that they put out.
 
 ghost use Rattle.std.specs.Prelude.{◌≡◌, ◌+◌, ◌*◌, ◌<◌, ◌≤◌, ◌^◌, ◌++◌, ◌∷◌, [], OnOk, OnErr, IfOk, drop, length, take};
 ghost use Rattle.header.specs.Answers.{is_new, pieces};
@@ -9,7 +9,7 @@ use std::alloc::{AllocError, Global};
 use std::marker::Model;
 use wire::{Digest, MAX_ORDER_DIGESTS, OrderDigests, Output};
 
-// The digests from this place on.
+// The digests of the list from this place on.
 fn part_from(digests: &[Digest], place: usize) -> &[Digest]
     requires { place ≤ length digests.now }
     ensures { result.now ≡ drop place digests.now }
@@ -17,7 +17,7 @@ fn part_from(digests: &[Digest], place: usize) -> &[Digest]
     &digests[place..]
 }
 
-// The first digests, at most `most` of them.
+// The first digests of the list, at most `most` of them.
 fn first_of(digests: &[Digest], most: usize) -> &[Digest]
     ensures value { result.now ≡ take most digests.now }
     ensures few { length result.now ≤ most }
@@ -39,7 +39,7 @@ fn order_digests(alloc: Global, digests: &[Digest]) -> Result<OrderDigests, Allo
     Ok(found)
 }
 
-/// The outputs of an event, in their order.
+/// The outputs that an event puts out, in their order.
 #[derive(Debug)]
 pub struct Outputs {
     list: Vec<Output>,
@@ -61,7 +61,7 @@ impl Model for Outputs {
 }
 
 impl Outputs {
-    /// No outputs.
+    /// An empty list of outputs.
     pub fn new(alloc: Global) -> Outputs
         ensures { result ≡ [] }
     {
@@ -70,7 +70,7 @@ impl Outputs {
         }
     }
 
-    /// Adds an output at the end. On `AllocError` an allocation failed.
+    /// Adds an output at the end of the list. On `AllocError` an allocation failed.
     pub fn push(&mut self, output: Output) -> Result<(), AllocError>
         ensures ok { OnOk result (self.new ≡ self.old ++ output ∷ []) }
         ensures err { OnErr result (self.new ≡ self.old) }
@@ -79,7 +79,7 @@ impl Outputs {
         Ok(())
     }
 
-    /// Adds other outputs at the end. On `AllocError` an allocation failed.
+    /// Adds other outputs at the end of the list. On `AllocError` an allocation failed.
     pub fn append(&mut self, mut others: Outputs) -> Result<(), AllocError>
         ensures ok { OnOk result (self.new ≡ self.old ++ others) }
         ensures err { OnErr result (self.new ≡ self.old) }
@@ -88,8 +88,8 @@ impl Outputs {
         Ok(())
     }
 
-    /// Adds the digests by which an order of `start` digests has grown, in pieces as large as an output may be. On `AllocError` an
-    /// allocation failed.
+    /// Adds outputs with the digests by which an order has grown that had `start` digests before, in pieces as large as an output may be.
+    /// On `AllocError` an allocation failed.
     pub fn push_order(
         &mut self,
         alloc: Global,
@@ -128,12 +128,12 @@ impl Outputs {
     }
 }
 
-/// The answer to an event.
+/// The answer of a node to an event.
 #[derive(Debug, Drop)]
 pub enum Admission {
-    /// The event is accepted, and recorded.
+    /// The event is new: the node accepts it and keeps its record. These are the outputs that it puts out.
     New(Outputs),
-    /// The event was accepted before, and changes nothing.
+    /// The event was accepted before and changes nothing. These are the outputs that it puts out again.
     Known(Outputs),
     /// The event is refused, and changes nothing.
     Refused(Refusal),

@@ -16,8 +16,8 @@ use sigface::Verify;
 use std::marker::Model;
 use wire::{Author, Digest, Key, Message, Signature};
 
-/// A message that passed `check` or `recheck`, with its sender, and with the digests that its tests computed. No other function makes one,
-/// so its message has passed the tests of some committee.
+/// A message that passed `check` or `recheck`, with its sender, and with the digests that the tests have computed. No other function makes
+/// a value of this type, so the message has passed the tests of some committee.
 #[derive(Debug)]
 pub struct Checked {
     sender: Author,
@@ -56,14 +56,14 @@ impl Checked {
         self.sender
     }
 
-    /// What was sent.
+    /// The message that was sent.
     pub fn message(&self) -> &Message
         ensures { result.now ≡ self.now.message }
     {
         &self.message
     }
 
-    /// What was sent, without its sender.
+    /// The message that was sent, without its sender.
     pub fn into_message(self) -> Message
         ensures { result ≡ self.message }
     {
@@ -75,7 +75,7 @@ impl Checked {
         message
     }
 
-    /// The digest of a batch; None for another message.
+    /// The digest of the batch if the message is one; None for another message.
     pub fn batch_digest(&self) -> Option<&Digest>
         ensures { option_copied result ≡ batch_digest_in self.now.message }
     {
@@ -85,7 +85,7 @@ impl Checked {
         }
     }
 
-    /// The digest of a header, or of a certificate's header; None for another message.
+    /// The digest of the header, or of the certificate's header; None for another message.
     pub fn header_digest(&self) -> Option<&Digest>
         ensures { option_copied result ≡ header_digest_in self.now.message }
     {
@@ -96,7 +96,7 @@ impl Checked {
         }
     }
 
-    /// The digest of a certificate; None for another message.
+    /// The digest of the certificate if the message is one; None for another message.
     pub fn certificate_digest(&self) -> Option<&Digest>
         ensures { option_copied result ≡ certificate_digest_in self.now.message }
     {
@@ -107,7 +107,7 @@ impl Checked {
     }
 }
 
-/// A verifier that accepts every signature, for messages whose signatures were tested before.
+/// A verifier that finds every signature good, for messages whose signatures were tested before.
 struct AcceptAll;
 
 impl Verify for AcceptAll {
@@ -118,10 +118,10 @@ impl Verify for AcceptAll {
     }
 }
 
-/// Tests a message from its sender, its signatures too. The call allocates no memory.
+/// Tests a message that came from this sender, with its signatures. The call allocates no memory.
 ///
 /// # Errors
-/// That of the first test that fails, never `Memory`.
+/// The refusal of the first test that fails; never `Memory`.
 pub fn check<V: Verify>(
     committee: &Committee,
     verifier: &V,
@@ -130,7 +130,7 @@ pub fn check<V: Verify>(
 ) -> Result<Checked, CheckError>
     ensures checked { IfOk result (λ checked. checked ≡ record { sender = sender; message = message }) }
     ensures passed { IfOk result (λ checked. fault_of committee.now (V.accepts verifier.now) checked ≡ None) }
-    // A message that passes also passes if signatures aren't tested.
+    // A message that passes would also pass without the tests of its signatures.
     ensures passed_unsigned { IfOk result (λ checked. fault_of committee.now accepts_all checked ≡ None) }
     ensures refused { IfErr result (λ error. fault_of committee.now (V.accepts verifier.now) (record { sender = sender; message = message }) ≡ Some error) }
     ensures no_memory { ¬ IsErrOf result CheckError.Memory }
@@ -144,10 +144,10 @@ pub fn check<V: Verify>(
     })
 }
 
-/// Tests a message from its sender without its signatures, as one from the node's own journal. The call allocates no memory.
+/// Tests a message from this sender without its signatures, such as one from the node's own journal. The call allocates no memory.
 ///
 /// # Errors
-/// That of the first test that fails, never `BadSignature` or `Memory`.
+/// The refusal of the first test that fails; never `BadSignature` or `Memory`.
 pub fn recheck(
     committee: &Committee,
     sender: Author,
@@ -162,8 +162,8 @@ pub fn recheck(
     check(committee, &AcceptAll, sender, message)
 }
 
-/// Whether an event is a certificate that passes those tests of a committee that need no signatures. Every waiting certificate does, but
-/// what keeps it doesn't know of which committee. The call allocates no memory and computes no digest.
+/// Whether an event is a certificate that passes the tests of this committee that need no signatures. Every certificate that waits for
+/// parents has passed, but the type doesn't say for which committee. The call allocates no memory and computes no digest.
 pub fn passes(committee: &Committee, event: &Checked) -> bool
     ensures passed { IsTrue result → fault_of committee.now accepts_all event.now ≡ None }
     ensures only { IsSome (certificate_digest_in event.now.message) → fault_of committee.now accepts_all event.now ≡ None → IsTrue result }

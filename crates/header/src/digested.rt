@@ -2,18 +2,18 @@
 
 use wire::Digest;
 
-/// The digests of a message, each computed once.
+/// The digests that are kept with a message, each computed once.
 #[derive(Clone, Copy, Debug, PartialEq, Eq)]
 pub(crate) enum Digested {
-    /// No digest is kept of an acknowledgement, a vote or a coin.
+    /// An acknowledgement, a vote or a coin, of which no digest is kept.
     Nothing,
     /// The digest of a batch.
     Batch(Digest),
     /// The digest of a header.
     Header(Digest),
-    /// The digests of a certificate and of its header.
+    /// A certificate, of which two digests are kept.
     Certificate {
-        /// The digest of its header.
+        /// The digest of the certificate's header.
         header: Digest,
         /// The digest of the certificate itself.
         certificate: Digest,

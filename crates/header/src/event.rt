@@ -1,4 +1,4 @@
-//! Incoming messages.
+//! Events: incoming messages with their senders.
 
 use std::marker::Model;
 use wire::{Author, Message};
@@ -6,9 +6,9 @@ use wire::{Author, Message};
 /// A message with its sender.
 #[derive(Debug, Drop)]
 pub struct Event {
-    /// The member who sent the message.
+    /// The member that sent the message.
     pub sender: Author,
-    /// What was sent.
+    /// The message that was sent.
     pub message: Message,
 }
 

@@ -1,4 +1,4 @@
-//! The tests of each kind of message, in their order. The first that fails is reported.
+//! The tests of each kind of message, in their order. Of those that fail, the first is reported.
 
 ghost use Rattle.std.specs.Prelude.{◌≡◌, ◌≤◌, length, sum_by, IfOk};
 ghost use Rattle.std.specs.List.{list_all};
@@ -19,14 +19,14 @@ use wire::{
     certificate_digest, header_digest,
 };
 
-/// Whether this number is a member's.
+/// Whether this number is that of a member.
 pub(crate) fn is_member(committee: &Committee, author: Author) -> bool
     ensures { result ≡ is_member committee.now author }
 {
     author.0 < committee.size()
 }
 
-// The weight of an author. One who is no member weighs 1, since membership is tested later.
+// What an author weighs in the tests of parents and votes: a member its stake, anybody else 1, since membership is tested later.
 fn named_weight(committee: &Committee, author: Author) -> u64
     ensures value { result ≡ named_weight committee.now author }
     ensures most { result ≤ MAX_STAKE }
@@ -240,7 +240,7 @@ fn test_certificate<V: Verify>(
     })
 }
 
-/// Tests a certificate with this digest, which isn't computed again. The first test that fails is reported.
+/// Tests a certificate whose digest is given, so that it isn't computed again. Of the tests that fail, the first is reported.
 pub(crate) fn test_digested<V: Verify>(
     committee: &Committee,
     verifier: &V,
@@ -257,7 +257,7 @@ pub(crate) fn test_digested<V: Verify>(
     test_votes(committee, verifier, digest, &certificate.votes)
 }
 
-/// Tests a message from its sender. The first test that fails is reported; a message that passes gives its digests.
+/// Tests a message from this sender. Of the tests that fail, the first is reported. If all pass, returns the message's digests.
 pub(crate) fn test_message<V: Verify>(
     committee: &Committee,
     verifier: &V,

@@ -1,20 +1,20 @@
-//! What holds of messages that passed. The calls do nothing: their contracts are laws.
+//! Laws of messages that passed their tests. A law is a function whose contract is a theorem and that does nothing.
 
 ghost use Rattle.header.specs.Quorums.{PassedHaveQuorums, OnesAreCounted};
 ghost use Rattle.header.specs.Signatures.{PassedAreSigned};
 
-/// In a header or certificate that passed, the parents' authors weigh a quorum; in a certificate the voters do too.
+/// In a header or certificate that passed its tests, the parents' authors weigh a quorum; in a certificate the voters do too.
 pub fn passed_have_quorums()
     ensures { PassedHaveQuorums }
 {}
 
-/// Each signature in a message that passed is good: a header's for its author, a vote's for its voter, and in a certificate each vote's for
-/// its voter.
+/// Each signature in a message that passed its tests is good: a header's for its author, a vote's for its voter, and in a certificate that
+/// of each vote for its voter.
 pub fn passed_are_signed()
     ensures { PassedAreSigned }
 {}
 
-/// Where each member has the stake 1, the tests count parents and votes.
+/// If each member has the stake 1, parents and votes weigh in the tests as much as there are of them.
 pub fn ones_are_counted()
     ensures { OnesAreCounted }
 {}

@@ -1,5 +1,5 @@
-//! The tests that an incoming message has to pass before anything else sees it; and the types of a node, of an event with its sender, and
-//! of the answer to an event.
+//! The tests that an incoming message has to pass before anything else sees it; and the types of a node's setting, of an event, and of the
+//! answer to an event.
 #![tactic(auto)]
 
 mod admission;

@@ -1,4 +1,4 @@
-//! Making headers.
+//! Makes signed headers of given parts.
 
 ghost use Rattle.std.specs.Prelude.{◌≡◌, ◌⊎◌, Some, IfOk, IfErr};
 ghost use Rattle.header.specs.Making.{batches_fault, parents_fault, first_fault, body_of, signed_by};
@@ -11,7 +11,7 @@ use wire::{
     ParentReference, ParentReferences, Round, WireError, header_digest,
 };
 
-// The references to these batches, as a header has them.
+// The list of these batches, as a header has it.
 fn batches_of(alloc: Global, batches: &[BatchReference]) -> Result<BatchReferences, WireError>
     ensures ok { IfOk result (λ named. named ≡ batches.now) }
     ensures err { IfErr result (λ error. (error ≡ Memory) ⊎ (batches_fault batches.now ≡ Some error)) }
@@ -29,7 +29,7 @@ fn batches_of(alloc: Global, batches: &[BatchReference]) -> Result<BatchReferenc
     Ok(named)
 }
 
-// The references to these parents, as a header has them.
+// The list of these parents, as a header has it.
 fn parents_of(alloc: Global, parents: &[ParentReference]) -> Result<ParentReferences, WireError>
     ensures ok { IfOk result (λ named. named ≡ parents.now) }
     ensures err { IfErr result (λ error. (error ≡ Memory) ⊎ (parents_fault parents.now ≡ Some error)) }
@@ -47,13 +47,13 @@ fn parents_of(alloc: Global, parents: &[ParentReference]) -> Result<ParentRefere
     Ok(named)
 }
 
-/// The signed header of an author and round, with these batches and parents. Whether it passes the tests of a committee is for `check` to
-/// say.
+/// The signed header of an author and round with these batches and parents. It need not pass the tests of a committee: `check` says whether
+/// it does.
 ///
 /// # Errors
-/// The first fault that reading its bytes would find: `TooMany` for more than `MAX_BATCHES` batches, `NotCanonical` where these aren't
-/// sorted strictly by digest; then the same for more than `MAX_PARENTS` parents, which have to be sorted strictly by author. `Memory` where
-/// an allocation failed.
+/// The first fault that decoding the header's bytes would find. For the batches: `TooMany` for more than `MAX_BATCHES`, `NotCanonical` if
+/// they aren't strictly ascending by digest. Then for the parents: `TooMany` for more than `MAX_PARENTS`, `NotCanonical` if they aren't
+/// strictly ascending by author. `Memory` if an allocation failed.
 pub fn make<S: Sign>(
     alloc: Global,
     signer: &S,

@@ -1,4 +1,4 @@
-//! A node of a committee.
+//! The setting of a node: who it is in which committee.
 
 ghost use Rattle.std.specs.Prelude.{◌≡◌, ◌==◌, ◌<◌, ◌≤◌, length};
 ghost use Rattle.committee.specs.Charter.{quorum_of};
@@ -8,14 +8,14 @@ use committee::Committee;
 use sigface::Sign;
 use wire::Author;
 
-/// A node of a committee: its number, the committee and its signer.
+/// The setting of a node: its number, its committee, and its signer.
 #[derive(Drop)]
 pub struct Node<S: Sign> {
     /// The node's number in the committee.
     pub own: Author,
     /// The committee.
     pub committee: Committee,
-    /// The signer of the node.
+    /// The signer of the node's own messages.
     pub signer: S,
 }
 
@@ -29,14 +29,14 @@ impl<S: Sign> Node<S> {
         self.committee.size()
     }
 
-    /// The least weight of a quorum.
+    /// The least weight of a quorum of the node's committee.
     pub fn quorum(&self) -> u64
         ensures { result ≡ quorum_of self.now.committee }
     {
         self.committee.quorum()
     }
 
-    /// Whether an author is the node itself.
+    /// Whether an author is the node's own member.
     pub fn is_own(&self, author: Author) -> bool
         ensures { result ≡ (author.0 == self.now.own.0) }
     {

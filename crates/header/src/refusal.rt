@@ -6,49 +6,49 @@ ghost use Rattle.header.specs.declared.refusal.Refusal.TheVariants.{Memory};
 use std::alloc::{AllocError, AllocFailed};
 use thiserror::Error;
 
-/// Why an event is refused. Printed as its number and its name.
+/// Why a node refuses an event that passed the checks. Printed as its number and its name.
 #[derive(Clone, Copy, Debug, PartialEq, Eq, Error)]
 pub enum Refusal {
     /// An allocation failed.
     #[error("1 Memory")]
     Memory,
-    /// The node is down.
+    /// The node is down: a call on its disk failed, or its journal was full.
     #[error("2 Down")]
     Down,
-    /// The event's round is low.
+    /// The event's round is too old: it is 0, or at or below the garbage-collection round.
     #[error("3 TooOld")]
     TooOld,
-    /// A parent isn't held.
+    /// The certificate of a parent isn't there, and its round is not one that was garbage-collected.
     #[error("4 MissingParents")]
     MissingParents,
-    /// A named batch isn't held with the named worker, or, in an own header, isn't available.
+    /// A batch that the header names isn't held with the worker that it names; or, in an own header, isn't available to other members yet.
     #[error("5 MissingBatch")]
     MissingBatch,
-    /// The node has voted for another header in this slot.
+    /// The node has voted for another header of this round and author.
     #[error("6 Equivocation")]
     Equivocation,
-    /// The slot holds a certificate of another header.
+    /// There is a certificate of another header of this round and author.
     #[error("7 CertConflict")]
     CertConflict,
-    /// Something else is held under the same digest.
+    /// Another batch or certificate is held under the same digest.
     #[error("8 DigestClash")]
     DigestClash,
-    /// The node has another own header of this round.
+    /// The node already has another own header of this round.
     #[error("9 AlreadyProposed")]
     AlreadyProposed,
-    /// The message isn't for a batch or a header of this node, or isn't from this node where it has to be.
+    /// The vote or acknowledgement isn't for a header or batch of this node, or a message that has to come from this node doesn't.
     #[error("10 NotOurs")]
     NotOurs,
-    /// The coin of an earlier wave is missing.
+    /// The coin of an earlier wave isn't known yet.
     #[error("11 CoinOutOfTurn")]
     CoinOutOfTurn,
-    /// The certificates of the wave's last round aren't a quorum's yet.
+    /// The wave's last round doesn't have certificates of a quorum yet.
     #[error("12 CoinEarly")]
     CoinEarly,
-    /// The wave has a coin with another value.
+    /// The wave has a coin with another value already.
     #[error("13 CoinConflict")]
     CoinConflict,
-    /// No more batches can be held, or no more events accepted.
+    /// The greatest number of batches is held, or as many events were accepted in this run as can be.
     #[error("14 StoreFull")]
     StoreFull,
 }

@@ -1,4 +1,4 @@
--- What a journal's summary says: the state and the events that the bytes of its two files are read as.
+-- What the summary of a journal says: the state and the events that the bytes of the journal's two files are read as.
 use Rattle.std.specs.Prelude.{◌≡◌, ℕ, ◌==◌, ◌++◌, List, [], ◌∷◌, length, map, Result, Ok, Option, Some, None, nat_le, if◌then◌else◌}
 use Rattle.std.specs.Option.{option_and_then, option_map, option_map_or}
 use Rattle.committee.specs.Charter.{Charter}
@@ -24,42 +24,42 @@ use Rattle.validator.specs.Standing.{AreAtSound}
 use Rattle.journal_account.specs.declared.summary.Summary.{Summary}
 use Rattle.journal_account.specs.declared.votes.Given.{Given}
 
--- ---- the parts of a journal's records
+-- ---- the parts of a journal's records: configuration, head, the state of a checkpoint, events
 
--- the records that follow a head, if there is one in the group of the first record
+-- the records after a checkpoint's head; None if there is no head, which would be in the group of the first record
 unfoldable pub after_head : Record → List Record → Option (List Record)
 after_head first [] = None
 after_head first (second ∷ rest) = if second.gate == first.gate then Some rest else None
 
--- the records of events: those that follow the first group, and follow the records of a checkpoint's state where there is one
+-- the records of events: those after the first group and, if there is a checkpoint, after the records of its state
 unfoldable pub events_in : List Record → List Record
 events_in [] = []
 events_in (first ∷ rest) = option_map_or events_part (after_head first rest) rest
 
--- the state with which a journal begins, by the records that follow the configuration: a checkpoint's, or the fresh one
+-- the state with which a journal begins, given the records after the configuration: that of a checkpoint, or the fresh state
 unfoldable pub base_of : Node → Record → List Record → Result State ℕ
 base_of node first rest = option_map_or (λ records. read_state node first (state_part records)) (after_head first rest) (Ok (fresh node))
 
--- the state with which a journal begins, by all its records, or why they aren't the node's
+-- the state with which a journal begins, given all its records; or what is wrong with them
 unfoldable pub base_in : Node → List Record → Result State JournalError
 base_in node [] = Ok (fresh node)
 base_in node (first ∷ rest) = unless (own_fault node first) (base_of node first rest)
 
--- the generation of the checkpoint with which the records begin, if they do
+-- the generation of the checkpoint with which the records begin; None if they begin with a configuration alone
 unfoldable pub generation_in : List Record → Option ℕ
 generation_in [] = None
 generation_in (first ∷ []) = None
 generation_in (first ∷ second ∷ rest) = if second.gate == first.gate then head_in second.bytes else None
 
--- the side of the file from which the records are, which the place of the first one shows
+-- which of the two files these records are from: the place of the first one shows that
 unfoldable pub side_in : List Record → Side
 side_in [] = sides.First
 side_in (first ∷ rest) = if nat_le SECOND_AREA first.gate then sides.Second else sides.First
 
--- ---- what the bytes are read as
+-- ---- what the bytes of a journal are read as
 
--- The bytes of a journal are read as a state and later events: the records begin with that state and have these events, each of which is
--- new. The bytes stand for the state after them and for no other, and an opening finds that state.
+-- The bytes of a journal are read as a state and later events: its records begin with that state, and have these events, each of which is
+-- new. The bytes stand for the state after the events and for no other state, and an opening of the node finds that state.
 pub record IsReadAs (node : Node) (areas : Areas) (base : State) (events : History) : Type 0 where
   pub records : List Record
   pub stand : stands_in areas ≡ Ok records
@@ -70,16 +70,16 @@ pub record IsReadAs (node : Node) (areas : Areas) (base : State) (events : Histo
   pub one_state : (other : State) → StandsFor node areas other → other ≡ after_all node base events
   pub is_decoded : decoded_in node areas ≡ Ok (after_all node base events)
 
--- areas are read as a state and the events after it, and the tables hold the state after these events
+-- the two files are read as a state and events after it, and the validator's tables hold the state after these events
 pub record IsReadAt (node : Node) (areas : Areas) (tables : Tables) : Type 0 where
   pub base : State
   pub events : History
   pub read_as : IsReadAs node areas base events
   pub at : AreAtSound node tables (after_all node base events)
 
--- ---- what a summary has
+-- ---- what the parts of a summary say
 
--- the numbers in this summary are those of the state and the events that a journal is read as
+-- the numbers in the summary are those of the state and the events that the journal is read as
 pub record Sums (node : Node) (areas : Areas) (summary : Summary) : Type 0 where
   pub base : State
   pub events : History
@@ -90,34 +90,35 @@ pub record Sums (node : Node) (areas : Areas) (summary : Summary) : Type 0 where
   pub floor : summary.floor ≡ floor_in node (after_all node base events)
   pub checkpoint : summary.checkpoint ≡ option_map (λ generation. (generation, side_in read_as.records)) (generation_in read_as.records)
 
--- the vote that a header stands for: the node votes for each header that it takes, its own included
+-- the vote that the node gives with a header that it takes; an own header counts as voted for
 abbrev pub given_to : Header → Given
 given_to header = record { author = header.body.author; round = header.body.round; digest = header_digest header.body }
 
--- the vote that the node gave at an event, if the event is a header
+-- the vote that the node gave at an event; None if the event is no header
 abbrev pub given_by : Event → Option Given
 given_by event = option_map given_to (as_header event.message)
 
--- the vote that the node gave at the event of a record
+-- the vote that the node gave at the event in a record; None if there is none
 abbrev pub given_in : Charter → Record → Option Given
 given_in charter one = option_and_then given_by (event_in charter one.bytes)
 
--- the vote for another's header as a checkpoint has it, and the vote for an own header
+-- a vote in a checkpoint, for another member's header, as the summary gives it; given_as: the vote that an own header in a checkpoint
+-- stands for
 abbrev pub given_for : KeptVote → Given
 given_for vote = record { author = record { 0 = vote.author }; round = vote.round; digest = vote.header }
 
 abbrev pub given_as : KeptHeader → Given
 given_as voted = given_to voted.header
 
--- these are the votes in the checkpoint of a state, first those for others' headers
+-- `votes` are those in the checkpoint of a state: first the votes for other members' headers, then those for own headers
 pub record AreKeptVotes (node : Node) (state : State) (votes : List Given) : Type 0 where
   pub checkpoint : Checkpoint
   pub written : IsWritten node checkpoint
   pub is : state_in node checkpoint ≡ state
   pub are : votes ≡ map given_for checkpoint.votes ++ map given_as checkpoint.headers
 
--- these are the votes of the state and the events that a journal is read as: first those of the state, then those given at the events, in
--- their order
+-- `votes` are all that the journal holds: first those of the state with which it begins, then those given at its events, in the order of
+-- the events.
 pub record AreVotes (node : Node) (areas : Areas) (votes : List Given) : Type 0 where
   pub base : State
   pub events : History
@@ -126,7 +127,7 @@ pub record AreVotes (node : Node) (areas : Areas) (votes : List Given) : Type 0 
   pub of_base : AreKeptVotes node base kept
   pub are : votes ≡ kept ++ map given_to (headers events)
 
--- these digests are the order after the state and the events that a journal is read as
+-- `digests` are the order that the journal leads to: after the state with which it begins, and its events
 pub record AreOrdered (node : Node) (areas : Areas) (digests : List Digest) : Type 0 where
   pub base : State
   pub events : History

@@ -1,4 +1,4 @@
-//! Which of a journal's two files is read, and its records, by the same definitions as in an opening of a node.
+//! Chooses which of a journal's two files is read, and reads its records, by the definitions that an opening of a node obeys too.
 
 ghost use Rattle.std.specs.Prelude.{◌≡◌, ◌<◌, ◌^◌, Ok, All, map, IfOk, IfErr};
 ghost use Rattle.journal.specs.Areas.{reports, chosen, pair, stands_in, moved, moved_by};
@@ -10,11 +10,11 @@ use journal::{JournalError, Record, SECOND_AREA, Side, reports, stands};
 use opening::is_text;
 use std::alloc::Global;
 
-/// The file that is read, of two with these bytes: the one of the greater generation. None where neither begins with an open gate.
+/// The file that is read, of two files with these bytes: the one of the greater generation. None if neither begins with an open gate.
 ///
 /// # Errors
-/// `Damaged` at the first gate of the file whose first group is no journal's, or of the second file where both have the same generation;
-/// `Memory` where an allocation failed.
+/// `Damaged` at the first gate of a file whose first group is not that of a journal, or of the second file if both have the same
+/// generation; `Memory` if an allocation failed.
 pub fn side_read(alloc: Global, first: &[u8], second: &[u8]) -> Result<Option<Side>, Flaw>
     ensures ok { IfOk result (λ side. chosen (reports first.now) (reports second.now) ≡ Ok side) }
     ensures err { IfErr result (λ flaw. FailsAs flaw.error (chosen (reports first.now) (reports second.now))) }
@@ -24,10 +24,10 @@ pub fn side_read(alloc: Global, first: &[u8], second: &[u8]) -> Result<Option<Si
     choose(one, other)
 }
 
-/// The records of a journal with these bytes in its two files. The bytes are dropped.
+/// The records of a journal with these bytes in its two files. The call takes the bytes over and frees them.
 ///
 /// # Errors
-/// Those of `side_read`; `Damaged` at an open gate without a whole group after it, or `Memory`.
+/// Those of `side_read`; `Damaged` at an open gate that no whole group follows; `Memory` if an allocation failed.
 #[tactic(auto, unfolding(journal::specs::Areas::stands_in))]
 pub fn records_in(alloc: Global, first: Vec<u8>, second: Vec<u8>) -> Result<Vec<Record>, Flaw>
     ensures ok { IfOk result (λ records. stands_in (pair first.items second.items) ≡ Ok records.items) }
@@ -40,7 +40,7 @@ pub fn records_in(alloc: Global, first: Vec<u8>, second: Vec<u8>) -> Result<Vec<
     }
 }
 
-// The file that is read, by what the first groups of both say of their generations.
+// Chooses the file that is read, by what the first groups of both files say of their generations.
 #[tactic(auto, unfolding(journal::specs::Areas::chosen))]
 fn choose(first: Option<Option<u64>>, second: Option<Option<u64>>) -> Result<Option<Side>, Flaw>
     ensures ok { IfOk result (λ side. chosen first second ≡ Ok side) }
@@ -64,7 +64,7 @@ fn choose(first: Option<Option<u64>>, second: Option<Option<u64>>) -> Result<Opt
     }
 }
 
-// The records of the first file.
+// The records of the first file, given its bytes.
 fn first_records(alloc: Global, bytes: Vec<u8>) -> Result<Vec<Record>, Flaw>
     ensures ok { IfOk result (λ records. stands bytes.items ≡ Ok records.items) }
     ensures err { IfErr result (λ flaw. FailsAs flaw.error (stands bytes.items)) }
@@ -78,7 +78,7 @@ fn first_records(alloc: Global, bytes: Vec<u8>) -> Result<Vec<Record>, Flaw>
     }
 }
 
-// The records of the second file, whose places count from `SECOND_AREA`.
+// The records of the second file, given its bytes. Places in it are counted from `SECOND_AREA`.
 fn second_records(alloc: Global, bytes: Vec<u8>) -> Result<Vec<Record>, Flaw>
     ensures ok { IfOk result (λ records. moved SECOND_AREA (stands bytes.items) ≡ Ok records.items) }
     ensures err { IfErr result (λ flaw. FailsAs flaw.error (moved SECOND_AREA (stands bytes.items))) }
@@ -96,7 +96,7 @@ fn second_records(alloc: Global, bytes: Vec<u8>) -> Result<Vec<Record>, Flaw>
     }
 }
 
-// Makes the places of records, all of them below this length, count from `SECOND_AREA`.
+// Adds `SECOND_AREA` to the places of these records. All of the places are below `len` before.
 fn move_all(records: &mut Vec<Record>, len: u64)
     requires below { All (λ one. one.gate < len) records.old.items }
     requires room { len < 2 ^ 63 }

@@ -1,4 +1,4 @@
-//! The events of a journal's records, and the validator after them, by the same definitions as in an opening of a node.
+//! Reads the events in a journal's records and gives them to a validator, by the definitions that an opening of a node obeys too.
 
 ghost use Rattle.std.specs.Prelude.{◌≡◌, ◌≢◌, true, IfErr, OnOk};
 ghost use Rattle.journal.specs.Format.{FailsAs};
@@ -20,7 +20,7 @@ use validator::{Refusal, Step, Validator};
 use wire::Author;
 use wire_read::decode;
 
-// Why a record has no event.
+// Says why a record has no event.
 fn why_none(alloc: Global, committee: &Committee, bytes: &[u8]) -> Why {
     if bytes.len() < FRONT_BYTES || bytes[0] != EVENT {
         return Why::Kind;
@@ -35,7 +35,7 @@ fn why_none(alloc: Global, committee: &Committee, bytes: &[u8]) -> Why {
     }
 }
 
-// Takes the event of a record, which has to be new.
+// Gives the event of a record to the validator. The record has to have an event, and that has to be new.
 fn take_event<S: Sign>(
     alloc: Global,
     validator: &mut Validator<'_, S>,
@@ -56,7 +56,7 @@ fn take_event<S: Sign>(
     only_new(step, one.gate)
 }
 
-// An event that isn't new means that the group at this place is damaged, unless an allocation failed.
+// Turns an answer into a flaw unless the event was new: damage of the group with this gate, or a failed allocation.
 fn only_new(step: Result<Step, Refusal>, gate: u64) -> Result<(), Flaw>
     ensures ok { OnOk result (is_new_step step ≡ true) }
     ensures err { IfErr result (λ flaw. flaw.error ≢ errors.Memory → (flaw.error ≡ errors.Damaged gate) × IsOld step) }
@@ -69,7 +69,7 @@ fn only_new(step: Result<Step, Refusal>, gate: u64) -> Result<(), Flaw>
     }
 }
 
-/// Takes the events of these records, each of which has to be new.
+/// Gives the events of these records to the validator. Each of them has to be new.
 pub(crate) fn replay<S: Sign>(
     alloc: Global,
     validator: &mut Validator<'_, S>,

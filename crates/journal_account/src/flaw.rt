@@ -12,64 +12,64 @@ use thiserror::Error;
 use validator::Refusal;
 use wire::WireError;
 
-/// What is wrong with a journal, in words.
+/// What is wrong with a journal, in words for its operator.
 #[derive(Clone, Copy, Debug, Error)]
 pub enum Why {
     /// An allocation failed.
     #[error("out of memory")]
     Memory,
-    /// No whole group follows an open gate.
+    /// There is an open gate (the commit byte before a group), but no whole group after it.
     #[error("no whole group stands behind this open gate")]
     Group,
-    /// The file doesn't begin with a first group, which is a configuration alone or one with the head of a checkpoint.
+    /// The file doesn't begin as a journal does: its first group holds neither a configuration alone nor one with the head of a checkpoint.
     #[error("the first group isn't a configuration, alone or with a checkpoint's head")]
     FirstGroup,
     /// The first groups of both files have the same generation.
     #[error("both files have the same generation")]
     Same,
-    /// A record of a checkpoint's state doesn't follow the format, or isn't sound.
+    /// A record of a checkpoint's state breaks the format, or holds what no node could have.
     #[error("a record of the checkpoint is at fault")]
     State,
-    /// Each record of a checkpoint's state is sound by itself, and the whole isn't.
+    /// Each record of a checkpoint's state is in order by itself, but together they are no state that a node could have.
     #[error("the records of the checkpoint don't go together")]
     WholeState,
-    /// The keys, stakes and limits of the configuration are no committee's.
+    /// No committee can have the keys, stakes and limits of the configuration.
     #[error("the configuration is no committee's: {0}")]
     NoCommittee(CommitteeError),
-    /// The own number in the configuration is no member's.
+    /// The configuration says that the node has a number which no member has.
     #[error("the configuration's own number is no member's")]
     NoMember,
-    /// The configuration isn't the expected one.
+    /// The configuration is another one than the expected one.
     #[error("it is another committee's journal")]
     Other,
-    /// A record isn't of the kind that events have.
+    /// A record where events are expected is of another kind.
     #[error("a record is no event")]
     Kind,
-    /// The message of an event can't be read.
+    /// The message in an event's record can't be decoded.
     #[error("a message can't be read: {0}")]
     Unread(WireError),
     /// The message of an event fails a check of the committee.
     #[error("an event fails a check: {0}")]
     Unchecked(CheckError),
-    /// An event occurs a second time.
+    /// The same event occurs a second time.
     #[error("an event is there twice")]
     Known,
-    /// An event would have been refused after the ones before it.
+    /// The node would have refused an event after the events before it.
     #[error("an event would have been refused: {0}")]
     Refused(Refusal),
 }
 
-/// Why a journal can't be read as one: the error that an opening reports, and what is wrong.
+/// Why the bytes can't be read as a journal: the error that an opening would report, and what is wrong in words.
 #[derive(Clone, Copy, Debug)]
 pub struct Flaw {
-    /// The error of an opening: `Memory`, `Damaged` with a place in bytes, or `ConfigMismatch`.
+    /// The error that an opening of a node would report: `Memory`, `Damaged` with a place in bytes, or `ConfigMismatch`.
     pub error: JournalError,
     /// What is wrong with the journal.
     pub why: Why,
 }
 
 impl Flaw {
-    /// Something is wrong with the group whose gate is at this place.
+    /// The flaw of a group that is damaged: the one whose gate is at this place.
     pub fn at(gate: u64, why: Why) -> Flaw
         ensures { result.error ≡ errors.Damaged gate }
     {
@@ -79,7 +79,7 @@ impl Flaw {
         }
     }
 
-    /// An allocation failed.
+    /// The flaw of a failed allocation.
     pub fn memory() -> Flaw
         ensures { result.error ≡ errors.Memory }
     {
@@ -89,12 +89,12 @@ impl Flaw {
         }
     }
 
-    /// Whether an allocation failed.
+    /// Whether the flaw is a failed allocation.
     pub fn is_memory(&self) -> bool {
         matches!(self.error, JournalError::Memory)
     }
 
-    /// The configuration isn't the expected one.
+    /// The flaw of a journal whose configuration isn't the expected one.
     pub fn other() -> Flaw
         ensures { result.error ≡ errors.ConfigMismatch }
     {

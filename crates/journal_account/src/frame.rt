@@ -1,4 +1,4 @@
-//! The last own header of a journal, as a frame by which it can be given to its node again.
+//! Takes the last own header out of a journal, as a frame by which it can be given to its node again.
 
 use crate::flaw::Flaw;
 use crate::kept::kept_in;
@@ -11,14 +11,14 @@ use std::alloc::{AllocError, Global};
 use validator::Config;
 use wire::{Author, Header, Message, encode};
 
-/// The bytes of a record before its sender: its kind.
+/// How many bytes of a record come before the sender: that of the kind.
 const KIND_BYTES: usize = 1;
 
-/// The frame of the last own header in a journal with these records: its length in four bytes, the sender, and the message. It is of the
-/// last event that is an own header; without one, of the last own header in the checkpoint. None where the journal has no own header.
+/// The frame of the last own header in a journal with these records: its length in four bytes, the sender, and the message. That header is
+/// in the last event that is one, or else in the checkpoint. None if the journal has no own header.
 ///
 /// # Errors
-/// Those of `after_records`, except that events aren't tested.
+/// Those of `after_records`, except that the events aren't checked.
 pub fn last_frame<S: Sign>(
     alloc: Global,
     config: &Config<S>,
@@ -38,7 +38,7 @@ pub fn last_frame<S: Sign>(
     }
 }
 
-// Whether a record's event is an own header.
+// Whether a record has an event that is a header of the node itself.
 fn is_own_header(
     alloc: Global,
     committee: &Committee,
@@ -54,7 +54,7 @@ fn is_own_header(
     }
 }
 
-// The frame of an own header.
+// The frame of an own header: sender and message, with the length before them.
 fn header_frame(alloc: Global, own: Author, header: Header) -> Result<Option<Vec<u8>>, AllocError> {
     let mut body = Vec::new(alloc);
     body.extend_from_slice(&own.0.to_be_bytes())?;
@@ -62,7 +62,7 @@ fn header_frame(alloc: Global, own: Author, header: Header) -> Result<Option<Vec
     frame_of(alloc, &body)
 }
 
-// The frame with this body. None where the length doesn't fit four bytes, as it does in any group.
+// The frame with this body. None if the length doesn't fit four bytes; that of a record always does.
 fn frame_of(alloc: Global, body: &[u8]) -> Result<Option<Vec<u8>>, AllocError> {
     let Ok(len) = u32::try_from(body.len()) else {
         return Ok(None);

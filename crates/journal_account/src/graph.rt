@@ -1,4 +1,4 @@
-//! The certificates of a journal as a graph: what each names as parents, and what became of it.
+//! The certificates of a journal as a graph: which parents each names, and which leader ordered it.
 
 use crate::flaw::Flaw;
 use crate::kept::kept_in;
@@ -15,37 +15,37 @@ use std::alloc::{AllocError, Global};
 use validator::Config;
 use wire::{Author, Digest, HeaderBody, Message, Round, Vote, header_digest};
 
-/// A certificate that the journal's member has held.
+/// A certificate that the journal's node has held.
 #[derive(Drop)]
 pub struct Vertex {
     /// The certificate's digest, round and author.
     pub named: Named,
-    /// The authors of its parents, which are of the round before.
+    /// The authors of the certificate's parents, which are certificates of the round before.
     pub parents: Vec<Author>,
-    /// The wave whose leader orders this certificate, if any does.
+    /// The wave whose leader put this certificate into the order; None if no leader did.
     pub wave: Option<u64>,
 }
 
-/// What became of a wave.
+/// Whether the leader of a wave was committed.
 #[derive(Clone, Copy, Debug, PartialEq, Eq)]
 pub enum Fate {
     /// The wave's leader is committed, and is in the order.
     Committed,
-    /// The leader of a later wave is committed, and its own isn't.
+    /// The wave's own leader isn't committed, but that of a later wave is.
     Skipped,
-    /// No leader of this or a later wave is committed.
+    /// Neither the wave's own leader nor that of a later wave is committed yet.
     Open,
 }
 
 /// The certificates of a journal, and what is known of its waves.
 pub struct Graph {
-    // The certificates, by round and then author.
+    // The certificates, sorted by round and then by author.
     vertices: Vec<Vertex>,
     waves: Waves,
-    // The last committed wave; 0 where there is none.
+    // The last wave whose leader is committed; 0 if there is none.
     last_committed: u64,
     floor: u64,
-    // The floor of the checkpoint; 0 where there is none.
+    // The garbage-collection round of the checkpoint with which the journal begins; 0 if it has none.
     first: u64,
     members: u16,
 }
@@ -64,10 +64,10 @@ impl Drop for Graph {
 }
 
 impl Graph {
-    /// The graph of a journal with these records.
+    /// Makes the graph of a journal with these records.
     ///
     /// # Errors
-    /// Those of an opening of a node: `Damaged` with a place in bytes, `ConfigMismatch`, or `Memory` where an allocation failed.
+    /// Those of an opening of a node: `Damaged` with a place in bytes, `ConfigMismatch`, or `Memory` if an allocation failed.
     pub fn new<S: Sign>(
         alloc: Global,
         config: &Config<S>,
@@ -102,17 +102,17 @@ impl Graph {
         self.members
     }
 
-    /// The floor, as a round: what is below it is no longer held.
+    /// The garbage-collection round (the floor): the node no longer holds certificates of rounds below it.
     pub fn floor(&self) -> u64 {
         self.floor
     }
 
-    /// The first round in the graph: that of the genesis, or the floor of a checkpoint. It has nothing of lower rounds.
+    /// The lowest round in the graph: that of the genesis certificates, or the floor of the checkpoint with which the journal begins.
     pub fn first_round(&self) -> u64 {
         self.first
     }
 
-    /// The greatest round of a certificate, or 0.
+    /// The greatest round of a certificate; 0 if there is none.
     pub fn last_round(&self) -> u64 {
         match self.vertices.last() {
             Some(vertex) => vertex.named.round.number(),
@@ -120,7 +120,7 @@ impl Graph {
         }
     }
 
-    /// The certificate in this slot, of a round above 0.
+    /// The certificate of this round, which is above 0, and of this author.
     pub fn at(&self, round: u64, author: Author) -> Option<&Vertex> {
         match self.vertices.get(place_of(&self.vertices, round, author)) {
             Some(vertex) if is_at(&vertex.named, round, author) => Some(vertex),
@@ -128,12 +128,12 @@ impl Graph {
         }
     }
 
-    /// The author whose certificate is a wave's leader, if the wave's coin is known.
+    /// The author whose certificate is the leader of a wave; None if the coin of the wave isn't known.
     pub fn leader_of(&self, wave: u64) -> Option<Author> {
         self.waves.leader_of(wave)
     }
 
-    /// What became of a wave, whose first round isn't below the first round of the graph.
+    /// Whether the leader of a wave was committed. The first round of the wave must not be below the first round of the graph.
     pub fn fate_of(&self, wave: u64) -> Fate {
         if wave > self.last_committed {
             return Fate::Open;
@@ -149,17 +149,17 @@ impl Graph {
     }
 }
 
-// An own header, until its certificate is complete.
+// An own header that has votes, but no certificate yet.
 #[derive(Drop)]
 struct Voted {
     header: Digest,
     vertex: Vertex,
-    // The weight of the members who voted on the header.
+    // The weight of the members that have voted on the header so far.
     weight: u64,
 }
 
-// The certificates of a checkpoint and of the events in these records, by round and then author: those that came in, and those of own
-// headers for which a quorum voted.
+// The certificates that a journal holds, sorted by round and then by author: those of its checkpoint, those that came in as events, and
+// those of own headers for which a quorum voted.
 fn vertices_in(
     alloc: Global,
     committee: &Committee,
@@ -184,7 +184,7 @@ fn vertices_in(
     Ok(vertices)
 }
 
-// Adds an own header of a checkpoint, unless its certificate is complete: then the checkpoint has the certificate too.
+// Adds an own header from a checkpoint. One whose certificate is complete is left out: the checkpoint has the certificate too.
 fn add_voted(
     alloc: Global,
     committee: &Committee,
@@ -206,7 +206,7 @@ fn add_voted(
     Ok(())
 }
 
-// Adds the certificates of an event.
+// Adds the certificates that an event brings: one that came in, or the one that a vote completes.
 fn add(
     alloc: Global,
     committee: &Committee,
@@ -238,7 +238,7 @@ fn add(
     Ok(())
 }
 
-// The certificate that a vote with this stake completes.
+// The certificate of the own header that a vote completes to a quorum. The voter has this stake. None if it completes none.
 fn completed(voted: &mut Vec<Voted>, vote: &Vote, stake: u64, quorum: u64) -> Option<Vertex> {
     let place = voted.iter().position(|one| one.header == vote.header)?;
     voted[place].weight = voted[place].weight.saturating_add(stake);
@@ -250,7 +250,7 @@ fn completed(voted: &mut Vec<Voted>, vote: &Vote, stake: u64, quorum: u64) -> Op
     }
 }
 
-// The certificate of a header.
+// The certificate of a header, as a vertex of the graph.
 fn vertex_of(alloc: Global, body: &HeaderBody) -> Result<Vertex, AllocError> {
     let mut parents = Vec::with_capacity(alloc, body.parents.len())?;
     for parent in body.parents.as_slice() {
@@ -263,7 +263,7 @@ fn vertex_of(alloc: Global, body: &HeaderBody) -> Result<Vertex, AllocError> {
     })
 }
 
-// The place in the list of the certificate in this slot, or where it would be inserted.
+// The place of the certificate of this round and author in the list, or the place where it would be inserted.
 fn place_of(vertices: &[Vertex], round: u64, author: Author) -> usize {
     vertices.partition_point(|vertex| {
         let here = vertex.named.round.number();
@@ -275,7 +275,7 @@ fn is_at(named: &Named, round: u64, author: Author) -> bool {
     named.round.number() == round && named.author == author
 }
 
-// Notes for the certificate with this digest the wave whose leader orders it.
+// Notes at the certificate with this digest which wave's leader orders it.
 fn mark(vertices: &mut Vec<Vertex>, waves: &Waves, digest: &Digest, wave: Option<u64>) {
     let Some(named) = waves.find(digest) else {
         return;

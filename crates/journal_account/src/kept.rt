@@ -1,4 +1,4 @@
-//! The votes, headers, certificates and coins in a checkpoint.
+//! Reads the votes, headers, certificates and coins that a checkpoint holds.
 
 ghost use Rattle.std.specs.Prelude.{◌≡◌, ◌++◌, map, IfOk, OnOk};
 ghost use Rattle.spec_model.specs.States.{State};
@@ -19,7 +19,7 @@ use validator::{Config, Validator};
 use votebook::Slot;
 use wire::{Author, Digest, header_digest};
 
-/// What the checkpoint holds with which a journal of these records begins; nothing where it has no checkpoint.
+/// The content of the checkpoint with which a journal of these records begins; empty if it begins with none.
 ///
 /// # Errors
 /// Those of `after_records`.
@@ -32,7 +32,7 @@ pub(crate) fn kept_in<S: Sign>(
     Ok(parts_of(alloc, validator.tables())?)
 }
 
-/// The votes in a validator's state: first those for others' headers, sorted by round and then author, and then those for own ones.
+/// The votes in a validator's state: first those for other members' headers, by round and then author, and then those for own headers.
 pub(crate) fn given_by_kept<S: Sign>(
     alloc: Global,
     validator: &Validator<'_, S>,
@@ -48,7 +48,7 @@ pub(crate) fn given_by_kept<S: Sign>(
     Ok(votes)
 }
 
-// The votes for the headers of others.
+// The votes for other members' headers.
 fn given_to_others(alloc: Global, kept: &[(Slot, Digest)]) -> Result<Vec<Given>, AllocError>
     ensures { IfOk result (λ votes. votes.items ≡ map (λ entry. given_for (vote_of entry)) kept.now) }
 {

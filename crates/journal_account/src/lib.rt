@@ -1,5 +1,5 @@
-//! The summary of a journal, from the bytes of its two files, without running a node: it is what an opening of a node on these bytes would
-//! find.
+//! The summary of a journal, made from the bytes of its two files without running a node. It says what an opening of a node on these bytes
+//! would find.
 #![tactic(auto)]
 
 mod areas;

@@ -1,4 +1,4 @@
-//! The state of a checkpoint, by the same definitions as in an opening of a node.
+//! Loads the state of a checkpoint, by the definitions that an opening of a node obeys too.
 
 ghost use Rattle.std.specs.Prelude.{◌≡◌, ◌≢◌, ◌∷◌, IfOk, IfErr};
 ghost use Rattle.journal.specs.Format.{FailsAs};
@@ -13,11 +13,11 @@ use sigface::Sign;
 use std::alloc::Global;
 use validator::{Config, LoadError, Loading, Validator};
 
-/// The validator in the state of a checkpoint. The first record is this configuration's; the others follow the head.
+/// A validator in the state of a checkpoint. The first record is the node's configuration; the others are those after the head.
 ///
 /// # Errors
-/// `Damaged` with the gate of the first record at fault, or with the first gate where only the whole is; `Memory` where an allocation
-/// failed.
+/// `Damaged` with the gate of the first record that is at fault, or with the first gate if only all records together are at fault; `Memory`
+/// if an allocation failed.
 pub(crate) fn load<'a, S: Sign>(
     alloc: Global,
     config: &'a Config<S>,
@@ -43,7 +43,7 @@ pub(crate) fn load<'a, S: Sign>(
     }
 }
 
-// What is wrong with a journal whose checkpoint can't be loaded.
+// The flaw of a journal whose checkpoint can't be loaded.
 fn fault_of(first: &Record, state: &[Record], error: LoadError) -> Flaw
     ensures { result.error ≡ error_at (gates_of (first.now ∷ state.now)) error }
 {
@@ -54,7 +54,7 @@ fn fault_of(first: &Record, state: &[Record], error: LoadError) -> Flaw
     }
 }
 
-// The gate of the record at this place, counted from the first record at 0; the first record's gate where there is none at the place.
+// The gate of the record at this place, where the first record has the place 0; if there is no such record, the first record's gate.
 fn gate_at(first: &Record, state: &[Record], place: u64) -> u64
     ensures { result ≡ gate_of (gates_of (first.now ∷ state.now)) (at_record place) }
 {

@@ -1,4 +1,4 @@
-//! The order in a journal.
+//! The order of certificates that a journal leads to.
 
 ghost use Rattle.std.specs.Prelude.{◌≡◌, Ok, IfOk, IfErr};
 ghost use Rattle.journal.specs.Areas.{Areas, stands_in};
@@ -15,10 +15,10 @@ use std::alloc::Global;
 use validator::Config;
 use wire::Digest;
 
-/// The digests of the certificates that are ordered after a journal of these records, in their order.
+/// The order that a journal with these records leads to: the digests of the ordered certificates.
 ///
 /// # Errors
-/// Those of an opening of a node: `Damaged` with a place in bytes, `ConfigMismatch`, or `Memory` where an allocation failed.
+/// Those of an opening of a node: `Damaged` with a place in bytes, `ConfigMismatch`, or `Memory` if an allocation failed.
 pub fn order_of<S: Sign>(
     alloc: Global,
     config: &Config<S>,

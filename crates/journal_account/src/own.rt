@@ -1,4 +1,4 @@
-//! Whose journal it is: the first record has to be the expected configuration.
+//! Tests whose journal it is: the first record has to be the expected configuration.
 
 ghost use Rattle.std.specs.Prelude.{◌≡◌, ◌≢◌, None, Some, IfErr, OnOk};
 ghost use Rattle.journal.specs.declared.error.JournalError.TheVariants as errors;
@@ -12,10 +12,10 @@ use sigface::Sign;
 use std::alloc::Global;
 use validator::Config;
 
-/// Tests the first record of a journal, which has to be this configuration.
+/// Tests that the first record of a journal is this configuration.
 ///
 /// # Errors
-/// `Damaged` at the place of its group, where it is no configuration; `ConfigMismatch`, where it is another one; `Memory` where an
+/// `Damaged` with the place of the record's group, if it is no configuration; `ConfigMismatch` if it is another one; `Memory` if an
 /// allocation failed.
 pub(crate) fn test_first<S: Sign>(
     alloc: Global,

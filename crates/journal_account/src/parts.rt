@@ -1,4 +1,4 @@
-//! The parts of a journal's records: the first group, those of a checkpoint's state, and those of events.
+//! Takes a journal's records apart: those of the first group, those of a checkpoint's state, and those of events.
 
 ghost use Rattle.std.specs.Prelude.{◌≡◌, ◌≤◌, length, take, drop};
 ghost use Rattle.std.specs.Option.{option_copied, option_map};
@@ -8,7 +8,7 @@ ghost use Rattle.journal_account.specs.Accounts.{after_head, events_in, generati
 use journal::{Record, SECOND_AREA, Side, head_in};
 use opening::EVENT;
 
-/// The records of events: those that follow the first group, and the records of a checkpoint's state where there is one.
+/// The records of events: those after the first group and, if there is a checkpoint, after the records of its state.
 #[tactic(auto, unfolding(crate::specs::Accounts::events_in))]
 pub(crate) fn events_of(records: &[Record]) -> &[Record]
     ensures { result.now ≡ events_in records.now }
@@ -25,7 +25,7 @@ pub(crate) fn events_of(records: &[Record]) -> &[Record]
     }
 }
 
-/// The generation of the checkpoint with which these records begin, and the file that has it. None where they begin with a configuration
+/// The generation of the checkpoint with which these records begin, and the file that has it. None if they begin with a configuration
 /// alone.
 pub(crate) fn checkpoint_in(records: &[Record]) -> Option<(u64, Side)>
     ensures { result ≡ option_map (λ generation. (generation, side_in records.now)) (generation_in records.now) }
@@ -36,7 +36,7 @@ pub(crate) fn checkpoint_in(records: &[Record]) -> Option<(u64, Side)>
     }
 }
 
-/// The file from which records are: the second one, where their places count from its base.
+/// The file that these records are from. It is the second one if their places are counted from that file's base, `SECOND_AREA`.
 #[tactic(auto, unfolding(crate::specs::Accounts::side_in))]
 fn side_in(records: &[Record]) -> Side
     ensures { result ≡ side_in records.now }
@@ -47,7 +47,7 @@ fn side_in(records: &[Record]) -> Side
     }
 }
 
-/// The generation in the head, if the first group has one.
+/// The generation in the head of the first group; None if that group has no head.
 #[tactic(auto, unfolding(crate::specs::Accounts::generation_in))]
 fn generation_in(records: &[Record]) -> Option<u64>
     ensures { result ≡ generation_in records.now }
@@ -58,7 +58,7 @@ fn generation_in(records: &[Record]) -> Option<u64>
     }
 }
 
-/// The records that follow a head, if there is one in the group of the first record.
+/// The records after a checkpoint's head; None if there is no head, which would be in the group of the first record.
 #[tactic(auto, unfolding(crate::specs::Accounts::after_head))]
 pub(crate) fn after_head<'r>(first: &Record, rest: &'r [Record]) -> Option<&'r [Record]>
     ensures { option_copied result ≡ after_head first.now rest.now }
@@ -69,7 +69,7 @@ pub(crate) fn after_head<'r>(first: &Record, rest: &'r [Record]) -> Option<&'r [
     }
 }
 
-/// How many records come before the first one of an event.
+/// How many of these records come before the first one that holds an event.
 pub(crate) fn state_count(records: &[Record]) -> usize
     ensures state { take result records.now ≡ state_part records.now }
     ensures events { drop result records.now ≡ events_part records.now }
@@ -82,7 +82,7 @@ pub(crate) fn state_count(records: &[Record]) -> usize
     count
 }
 
-// Whether a record's kind is an event's.
+// Whether a record holds an event, by its first byte.
 fn is_event(one: &Record) -> bool
     ensures { result ≡ is_event_of one.now }
 {

@@ -1,4 +1,4 @@
-//! Reading a journal: the validator in the state after its records.
+//! Reads a journal: makes the validator in the state that its records lead to.
 
 ghost use Rattle.std.specs.Prelude.{◌≡◌, ◌∷◌, [], take, Ok, All, IfOk, IfErr};
 ghost use Rattle.journal.specs.Areas.{Areas, stands_in};
@@ -20,7 +20,7 @@ use sigface::Sign;
 use std::alloc::Global;
 use validator::{Config, Validator};
 
-/// The validator in the state after a journal of these records, the first of which has to be this configuration.
+/// The validator in the state that a journal of these records leads to. The first record has to be this configuration.
 ///
 /// # Errors
 /// `Damaged`, `ConfigMismatch` and `Memory`, in the order in which an opening of a node reports them.
@@ -31,7 +31,8 @@ pub fn after_records<'a, S: Sign>(
 ) -> Result<Validator<'a, S>, Flaw>
     ensures setting { IfOk result (λ validator. validator.setting ≡ config.now) }
     ensures stands { let node = node_of S.scheme config.now in IfOk result (λ validator. StandsAt node (read_pair node records.now) validator.tables) }
-    // Where two files are read as these records, they stand for a state and later events, and the validator is in the state after these.
+    // If two files are read as these records, they stand for a state and later events, and the validator is in the state after these
+    // events.
     ensures read { let node = node_of S.scheme config.now in (areas : Areas) → IsPair areas → stands_in areas ≡ Ok records.now
         → IfOk result (λ validator. IsReadAt node areas validator.tables) }
     ensures err { IfErr result (λ flaw. Reports flaw.error (read_pair (node_of S.scheme config.now) records.now)) }
@@ -44,7 +45,7 @@ pub fn after_records<'a, S: Sign>(
     Ok(validator)
 }
 
-/// The validator with which a journal of these records begins: in the state of its checkpoint, or in the fresh state where it has none.
+/// The validator in the state with which a journal of these records begins: that of its checkpoint, or the fresh state if it has none.
 ///
 /// # Errors
 /// Those of `after_records`.
@@ -66,7 +67,7 @@ pub(crate) fn begun<'a, S: Sign>(
     }
 }
 
-// The validator with which a journal begins, from its first record, the configuration, and the records that follow.
+// The validator in the state with which a journal begins, given the configuration, which is the first record, and the records after it.
 fn begun_by<'a, S: Sign>(
     alloc: Global,
     config: &'a Config<S>,
@@ -86,7 +87,7 @@ fn begun_by<'a, S: Sign>(
     }
 }
 
-// Records have bytes. The call does nothing.
+// A law: each byte of these records is a number below 256. The call does nothing.
 pub(crate) fn are_texts(records: &[Record])
     ensures { All IsText records.now }
 {

@@ -1,4 +1,4 @@
-//! The configuration with which a journal begins.
+//! Reads the configuration with which a journal begins.
 
 ghost use Rattle.std.specs.Prelude.{◌≡◌, [], Ok, None, IfOk};
 
@@ -10,13 +10,13 @@ use std::alloc::{AllocError, Global};
 use validator::Config;
 use wire::Author;
 
-/// The configuration of the member whose journal has these records: of the given committee, or otherwise of the one in the first record,
-/// and with the own number in that record. None where there is no record.
+/// The configuration of the member whose journal has these records, with the own number that the first record says. Its committee is the
+/// given one; without a given one, that of the first record. None if there is no record.
 ///
 /// # Errors
-/// `Damaged` at the place of the first group, where its first record is no configuration, or where no committee is given and the record's
-/// own one, or its member, isn't valid; `ConfigMismatch`, where the own number is no member's of the given committee; `Memory` where an
-/// allocation failed.
+/// `Damaged` with the place of the first group, if its first record is no configuration, or if no committee is given and the record names
+/// none that is valid, or an own number of no member; `ConfigMismatch` if the own number is no member's of the given committee; `Memory` if
+/// an allocation failed.
 pub fn config_in(
     alloc: Global,
     committee: Option<Committee>,
@@ -43,7 +43,7 @@ pub fn config_in(
     }
 }
 
-// The committee in a first record of this version.
+// The committee that a configuration of this version, the first record, describes.
 fn own_committee(alloc: Global, version: Version, first: &Record) -> Result<Committee, Flaw> {
     let text = committee_text(alloc, version, first.bytes.as_slice())?;
     match Committee::read(alloc, text.as_str()) {
@@ -53,7 +53,7 @@ fn own_committee(alloc: Global, version: Version, first: &Record) -> Result<Comm
     }
 }
 
-/// The own number in a first record, if the record is long enough.
+/// The own number that a configuration says; None if the record is too short.
 pub fn own_number(bytes: &[u8]) -> Option<Author> {
     match bytes {
         [_, _, first, second, ..] => Some(Author(u16::from_be_bytes([*first, *second]))),
@@ -61,15 +61,15 @@ pub fn own_number(bytes: &[u8]) -> Option<Author> {
     }
 }
 
-// The member with the number in a first record, if there is one. Its signer is the insecure one for tests, whose keys are the members';
-// nothing that is reported depends on its signatures.
+// The configuration of the member that the first record names; None if the committee has no such member. Its signer is the insecure one of
+// the tests, made from the member's public key; nothing that is reported depends on its signatures.
 fn member_of(committee: Committee, first: &Record) -> Option<Config<HashSign>> {
     let own = own_number(first.bytes.as_slice())?;
     let key = *committee.key(own)?;
     Config::new(committee, own, HashSign::new(key))
 }
 
-// A committee file with the settings of these bytes, which have the shape of a configuration of this version.
+// The text of a committee file with the settings of a configuration of this version.
 fn committee_text(alloc: Global, version: Version, bytes: &[u8]) -> Result<String, AllocError> {
     let (depth, workers) = (two_at(bytes, 4), two_at(bytes, 6));
     let (batches, members) = (four_at(bytes, 8), two_at(bytes, 12));
@@ -90,7 +90,7 @@ fn committee_text(alloc: Global, version: Version, bytes: &[u8]) -> Result<Strin
     Ok(text)
 }
 
-// Adds the key of a member, as a string of digits.
+// Adds the key of a member to the text, as a string of hex digits.
 fn put_key(text: &mut String, bytes: &[u8], member: u16) -> Result<(), AllocError> {
     let at = SETTINGS_BYTES + member as usize * KEY_BYTES;
     text.push_str("\"")?;
@@ -101,7 +101,7 @@ fn put_key(text: &mut String, bytes: &[u8], member: u16) -> Result<(), AllocErro
     Ok(())
 }
 
-// The stake of a member: 1 in the first version.
+// The stake of a member in a configuration; version 1 has no stakes, so there it is 1.
 fn stake_at(version: Version, bytes: &[u8], members: u16, member: u16) -> u32 {
     match version {
         Version::First => 1,
@@ -112,7 +112,7 @@ fn stake_at(version: Version, bytes: &[u8], members: u16, member: u16) -> u32 {
     }
 }
 
-// The number in the two bytes at a place; 0 where they are missing.
+// The number in the two bytes at this place; 0 if they are missing.
 fn two_at(bytes: &[u8], at: usize) -> u16 {
     match bytes.get(at..) {
         Some([first, second, ..]) => u16::from_be_bytes([*first, *second]),
@@ -120,7 +120,7 @@ fn two_at(bytes: &[u8], at: usize) -> u16 {
     }
 }
 
-// The number in the four bytes at a place; 0 where they are missing.
+// The number in the four bytes at this place; 0 if they are missing.
 fn four_at(bytes: &[u8], at: usize) -> u32 {
     match bytes.get(at..) {
         Some([first, second, third, fourth, ..]) => {

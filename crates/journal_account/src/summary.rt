@@ -18,15 +18,15 @@ use validator::Config;
 /// The summary of a journal.
 #[derive(Clone, Copy, Debug, PartialEq, Eq)]
 pub struct Summary {
-    /// The number of events, after the checkpoint where there is one.
+    /// How many events the journal has; if it has a checkpoint, how many after that.
     pub events: u64,
-    /// The number of ordered certificates.
+    /// How many certificates are in the order.
     pub order: u64,
-    /// The node's round.
+    /// The round of the node.
     pub round: u64,
-    /// The floor, as a round.
+    /// The garbage-collection round (the floor).
     pub floor: u64,
-    /// The generation of the checkpoint with which the journal begins, and the file that has it. None where it has no checkpoint.
+    /// The generation of the checkpoint with which the journal begins, and the file that has it. None if it has no checkpoint.
     pub checkpoint: Option<(u64, Side)>,
 }
 
@@ -43,7 +43,7 @@ impl Summary {
     }
 }
 
-/// The summary of a journal with these records and this configuration.
+/// The summary of a journal with these records; the first one has to be this configuration.
 ///
 /// # Errors
 /// Those of an opening of a node: `Damaged` with a place in bytes, `ConfigMismatch`, or `Memory` where an allocation failed.

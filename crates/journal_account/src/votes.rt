@@ -1,4 +1,4 @@
-//! The votes that a journal's member has given.
+//! The votes that a journal's node has given.
 
 ghost use Rattle.std.specs.Prelude.{◌≡◌, ◌++◌, Ok, IfOk, IfErr, OnOk, filter_map};
 ghost use Rattle.std.specs.Option.{option_to_list};
@@ -22,7 +22,7 @@ use std::alloc::{AllocError, Global};
 use validator::Config;
 use wire::{Author, Digest, Message, header_digest};
 
-/// A vote of the member for a header; an own header counts as voted for.
+/// A vote of the node for a header; an own header counts as voted for.
 #[derive(Clone, Copy, Debug, PartialEq, Eq)]
 pub struct Given {
     /// The header's author.
@@ -33,9 +33,9 @@ pub struct Given {
     pub digest: Digest,
 }
 
-/// The votes that the member has given by a journal of these records, those for its own headers included. First come those of the
-/// checkpoint, for others' headers by round and then author and for own ones by round; then those of the events, in their order. A
-/// checkpoint has no votes of rounds below its floor.
+/// The votes that a node has given by its journal, which has these records. First come those in the checkpoint: for other members' headers
+/// by round and then author, and for own headers by round. Then come those given at events, in the order of the events. A checkpoint has no
+/// votes of rounds below its floor.
 ///
 /// # Errors
 /// Those of an opening of a node: `Damaged` with a place in bytes, `ConfigMismatch`, or `Memory` where an allocation failed.
@@ -59,7 +59,7 @@ pub fn votes_of<S: Sign>(
     Ok(votes)
 }
 
-// The votes given at the events of records, in their order.
+// The votes that the node gave at the events in these records, in the order of the records.
 fn given_in_each(
     alloc: Global,
     committee: &Committee,
@@ -85,7 +85,7 @@ fn push_given(votes: &mut Vec<Given>, given: Option<Given>) -> Result<(), AllocE
     Ok(())
 }
 
-// The vote given at the event of a record, if any.
+// The vote that the node gave at the event in a record; None if there is none.
 fn given_in(alloc: Global, committee: &Committee, one: &Record) -> Result<Option<Given>, AllocError>
     ensures { IfOk result (λ given. given ≡ given_in committee.now one.now) }
 {
@@ -95,7 +95,7 @@ fn given_in(alloc: Global, committee: &Committee, one: &Record) -> Result<Option
     }
 }
 
-// The vote given at an event, if the event is a header.
+// The vote that the node gave at an event; None if the event is no header.
 fn given_by(event: &Checked) -> Option<Given>
     ensures { result ≡ given_by event.now }
 {

@@ -1,4 +1,4 @@
-//! The certificates of a journal by their digests, and which of them are leaders.
+//! The certificates of a journal by their digests, and which of them are leaders of waves.
 
 use crate::flaw::Flaw;
 use crate::kept::kept_in;
@@ -12,7 +12,7 @@ use std::alloc::{AllocError, Global};
 use validator::Config;
 use wire::{Author, Digest, HeaderBody, Message, Round, certificate_digest, header_digest};
 
-/// A certificate that the member may hold: one that came in, or that of an own header.
+/// A certificate that the node may hold: one that came in, or that of an own header.
 #[derive(Clone, Copy, Debug, PartialEq, Eq, PartialOrd, Ord)]
 pub struct Named {
     /// The certificate's digest.
@@ -25,7 +25,7 @@ pub struct Named {
 
 /// The certificates and the coins in a journal.
 pub struct Waves {
-    // The certificates, by digest.
+    // The certificates, sorted by digest.
     named: Vec<Named>,
     // The value of each coin, that of wave 1 first.
     coins: Vec<u64>,
@@ -43,10 +43,10 @@ impl Drop for Waves {
 }
 
 impl Waves {
-    /// The certificates and coins of a journal with these records: of the checkpoint with which it begins, and of its events.
+    /// The certificates and coins of a journal with these records: those of the checkpoint with which it begins, and those of its events.
     ///
     /// # Errors
-    /// Those of `after_records`, except that events aren't tested.
+    /// Those of `after_records`, except that the events aren't checked.
     pub fn new<S: Sign>(
         alloc: Global,
         config: &Config<S>,
@@ -68,7 +68,7 @@ impl Waves {
         Ok(waves)
     }
 
-    // Adds the certificates and the coins of a checkpoint.
+    // Adds the certificates and coins of a checkpoint.
     fn add_kept(&mut self, kept: &Kept) -> Result<(), AllocError> {
         for (certificate, _) in &kept.certificates {
             self.named.push(certificate_of(&certificate.header))?;
@@ -84,7 +84,7 @@ impl Waves {
         Ok(())
     }
 
-    // Adds the certificates and the coins of an event.
+    // Adds the certificates and the coin that an event brings.
     fn add(&mut self, event: &Checked) -> Result<(), AllocError> {
         match event.message() {
             Message::Header(header) => self.named.push(certificate_of(&header.body))?,
@@ -106,7 +106,7 @@ impl Waves {
         }
     }
 
-    /// The author whose certificate of a wave's first round is the leader: the one that the wave's coin chooses, if that is known.
+    /// The author whose certificate of the wave's first round is the leader, as the wave's coin says. None if the coin isn't known.
     pub fn leader_of(&self, wave: u64) -> Option<Author> {
         if wave == 0 || self.members == 0 {
             return None;
@@ -118,8 +118,8 @@ impl Waves {
         }
     }
 
-    /// The wave whose leader a certificate is, if any: the wave of its round, if that is the wave's first round and the coin chooses its
-    /// author.
+    /// The wave whose leader a certificate is; None if it is no leader. It is one if its round is the first of a wave, and the coin of that
+    /// wave chooses its author.
     pub fn led_by(&self, one: Named) -> Option<u64> {
         let round = one.round.number();
         if round % 2 == 0 {
@@ -134,7 +134,7 @@ impl Waves {
     }
 }
 
-/// The certificate of a header.
+/// The digest, round and author of a header's certificate.
 pub(crate) fn certificate_of(body: &HeaderBody) -> Named {
     let header = header_digest(body);
     Named {
@@ -144,9 +144,9 @@ pub(crate) fn certificate_of(body: &HeaderBody) -> Named {
     }
 }
 
-/// For each certificate of an order the wave whose leader orders it. Each leader comes last of those that it orders, and no other
-/// certificate among them is a leader. None for a certificate that isn't known: a checkpoint has only those from its floor on, so after a
-/// known certificate each leader is known. On `AllocError` an allocation failed.
+/// For each certificate of an order, the wave whose leader put it there. Among the certificates that a leader orders it comes last, and no
+/// other one of them is a leader. None for a certificate that isn't known: a checkpoint has those from its floor on alone, so after the
+/// first known certificate each leader is known. On `AllocError` an allocation failed.
 pub fn waves_of(
     alloc: Global,
     waves: &Waves,

@@ -8,7 +8,7 @@ use sim_script::{OWN, committee_file, member_list, signer};
 use std::alloc::AllocError;
 use validator::Config;
 
-/// How many batches of one member a node may hold, in a committee file that also names the depth.
+/// How many batches a node may hold, in a committee file that also names the depth.
 const BATCHES: u64 = 1_048_576;
 
 /// The configuration of the node in the committee of a task.

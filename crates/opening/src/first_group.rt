@@ -14,8 +14,8 @@ use std::alloc::{AllocError, Global};
 use wire::Author;
 use wire::numbers::two_bytes;
 
-/// The record of a member's configuration: kind, version, own number, depth, number of workers, number of batches, number of members, their
-/// keys, and in version 2 their stakes.
+/// The record of a member's configuration: kind, version, own number, depth, number of workers, greatest number of batches, number of
+/// members, their keys, and in version 2 their stakes.
 pub fn configuration(
     alloc: Global,
     version: Version,

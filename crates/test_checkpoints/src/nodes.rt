@@ -15,8 +15,8 @@ pub struct Member {
     pub config: Config<HashSign>,
 }
 
-/// Reads a node from words such as `0 50 16 1,1,1,1`: its own number, the depth, the greatest number of batches that it holds of a member,
-/// and the stakes of all members.
+/// Reads a node from words such as `0 50 16 1,1,1,1`: its own number, the depth, how many batches it may hold, and the stakes of all
+/// members. None if the words are no node.
 pub fn member_of(alloc: Global, words: &str) -> Result<Option<Member>, AllocError> {
     let words: Vec<&str> = words.split(' ').collect(alloc)?;
     let [own, depth, batches, stakes] = words.as_slice() else {

@@ -45,8 +45,8 @@ fn add_times(part: &[u8], times: u32, bytes: &mut Vec<u8>) -> Reported {
     Ok(())
 }
 
-/// The record of a node's configuration in version 2: kind, version, own number, depth, workers of a member, batches of a member, number of
-/// members, their keys, and their stakes.
+/// The record of a node's configuration in version 2: kind, version, own number, depth, number of workers, greatest number of batches,
+/// number of members, their keys, and their stakes.
 pub fn configuration_record(alloc: Global, node: &Node<HashSign>) -> Result<Vec<u8>, AllocError> {
     let committee = &node.committee;
     let mut record = Vec::new(alloc);

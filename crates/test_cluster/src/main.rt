@@ -20,7 +20,7 @@ use std::sync::Wait;
 use std::thread::Threads;
 use test_cases::{Ending, Player, names_of};
 
-/// How many batches of one member a node may hold: so few that a test case can try one more than is allowed.
+/// How many batches a node may hold: so few that a test case can try one more than is allowed.
 pub const BATCHES: u64 = 2;
 
 fn main(rt: HostRuntime) -> ExitCode {
