@@ -1,4 +1,4 @@
-//! The certificates of a journal as a graph in the language of Graphviz: one row for each round, one column for each member.
+//! Draws the certificates of a journal as a graph in the language of Graphviz: one row for each round, one column for each member.
 
 use crate::ending::Ending;
 use crate::reporting::short;
@@ -6,11 +6,11 @@ use journal_account::{Fate, Graph, Vertex};
 use std::io::{self, Write};
 use wire::Author;
 
-/// How many colours tell apart what different leaders order.
+/// How many colours there are, to tell certificates apart that different leaders order.
 const COLOURS: u64 = 12;
 
-/// Writes the rounds from one to another, both included, as far as there are certificates. Round 0 is that of the genesis. With a
-/// checkpoint the first round is its floor.
+/// Draws the rounds from `first` to `last`, both included, as far as there are certificates. Round 0 is that of the genesis certificates.
+/// If the journal begins with a checkpoint, nothing below its garbage-collection round is drawn.
 pub(crate) fn draw<W: Write>(
     graph: &Graph,
     from: u64,
@@ -32,7 +32,7 @@ pub(crate) fn draw<W: Write>(
     Ok(())
 }
 
-/// Writes the graph of a journal without a record.
+/// Draws an empty graph, for a journal without a record.
 pub(crate) fn draw_nothing<W: Write>(writer: &mut W) -> Result<(), Ending> {
     begin(writer)?;
     writeln!(writer, "}}")?;
@@ -48,7 +48,7 @@ fn begin<W: Write>(writer: &mut W) -> io::Result<()> {
     )
 }
 
-// The row of a round: its name, and a place for each member, from left to right.
+// Writes the row of a round: its name, and a place for each member, from left to right.
 fn put_row<W: Write>(graph: &Graph, round: u64, writer: &mut W) -> io::Result<()> {
     writeln!(writer, "  {{")?;
     writeln!(writer, "    rank=same")?;
@@ -84,7 +84,7 @@ fn fate_in_words(fate: Fate) -> &'static str {
     }
 }
 
-// The place of a round and a member in the drawing.
+// Writes the place of a round and a member: its certificate, or an empty place.
 fn put_place<W: Write>(
     graph: &Graph,
     round: u64,
@@ -104,12 +104,12 @@ fn put_place<W: Write>(
     }
 }
 
-// Whether the certificate of a slot is a leader.
+// Whether the certificate of this round and author is the leader of a wave.
 fn leads(graph: &Graph, round: u64, author: Author) -> bool {
     round % 2 == 1 && graph.leader_of(round / 2 + 1) == Some(author)
 }
 
-// A certificate: its author and digest, the wave whose leader orders it, whether it is a leader itself, and whether it is below the floor.
+// Writes a certificate: author, digest, the wave whose leader orders it, whether it is a leader itself, and whether it is below the floor.
 fn put_vertex<W: Write>(
     graph: &Graph,
     vertex: &Vertex,
@@ -143,7 +143,7 @@ fn put_vertex<W: Write>(
     writeln!(writer, "]")
 }
 
-// The edges from the certificates of a round to their parents.
+// Writes the edges from the certificates of a round to their parents.
 fn put_edges<W: Write>(graph: &Graph, round: u64, writer: &mut W) -> io::Result<()> {
     let below = round.saturating_sub(1);
     for member in 0..graph.members() {

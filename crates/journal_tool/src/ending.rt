@@ -1,21 +1,21 @@
-//! How a run ends.
+//! How a run of `narwhal-journal` ends.
 
 use journal_account::Flaw;
 use std::alloc::{AllocError, AllocFailed};
 use std::io::{self, ErrorKind, Write};
 
-/// How a run ends.
+/// How a run of `narwhal-journal` ends.
 #[derive(Clone, Copy, Debug)]
 pub(crate) enum Ending {
     /// Everything that was asked was reported.
     Done,
-    /// The journal is damaged, or another member's, or it disagrees with the other one; a line says so.
+    /// The journal is damaged or another member's, or the orders of two journals contradict each other. A line has been written about it.
     Wrong,
-    /// The journal is damaged or another member's, and no line says so yet.
+    /// The journal is damaged or another member's, which has still to be written.
     Flawed(Flaw),
-    /// The arguments aren't those of a command, or the committee file can't be read.
+    /// The arguments aren't those of a command, or the committee file can't be read. The text says what is wrong.
     Usage(&'static str),
-    /// A journal can't be read.
+    /// A journal's file can't be read.
     Unreadable,
     /// An allocation failed.
     Memory,
@@ -36,7 +36,7 @@ impl Ending {
         }
     }
 
-    /// Writes the line of an ending that is no success. If that fails, there is nobody to report it to.
+    /// Writes the line about an ending that is no success. If that fails, there is nobody left to report it to.
     pub fn write_to<W: Write>(self, errors: &mut W) {
         let _ = match self {
             Ending::Done | Ending::Wrong => Ok(()),
@@ -49,7 +49,7 @@ impl Ending {
         let _ = errors.flush();
     }
 
-    /// The ending for a file that can't be opened or read.
+    /// The ending for a journal's file that can't be opened or read.
     pub fn of_file(error: &io::Error) -> Ending {
         if error.kind() == ErrorKind::OutOfMemory {
             Ending::Memory
@@ -81,7 +81,7 @@ impl<T: Drop> From<AllocFailed<T>> for Ending {
     }
 }
 
-// Among the failures of a command only that of writing the output is an error of this type.
+// Of all failures of a command, only that of writing the output is an error of this type.
 impl From<io::Error> for Ending {
     fn from(_: io::Error) -> Ending {
         Ending::Output

@@ -1,4 +1,4 @@
-//! The bytes of a journal's two files.
+//! Reads the bytes of a journal's two files.
 
 use crate::ending::Ending;
 use journal::{CLOSED, SECOND_AREA, Side};
@@ -9,7 +9,7 @@ use std::fs::File;
 use std::io::ErrorKind;
 use std::rt::Files;
 
-/// What is added to a journal's path for its second file.
+/// What is added to the path of a journal for the path of its second file.
 const SECOND: &str = ".2";
 
 /// The bytes of both files of a journal.
@@ -19,10 +19,10 @@ pub(crate) struct Both {
     pub second: Vec<u8>,
 }
 
-/// The bytes of the journal at a path, and of its second file; no bytes for a second file that isn't there, which a node would create.
+/// The bytes of the journal at a path and of its second file. If that one isn't there it counts as empty: a node would create it.
 ///
 /// # Errors
-/// `Unreadable` where the first one is no regular file, or where one of them can't be read; `Memory` where an allocation failed.
+/// `Unreadable` if the first one is no regular file, or if one of them can't be read; `Memory` if an allocation failed.
 pub(crate) fn both_at<R: Files<File = File> + AllocGlobal>(
     rt: &R,
     alloc: Global,
@@ -41,7 +41,7 @@ pub(crate) fn both_at<R: Files<File = File> + AllocGlobal>(
     Ok(Both { first, second })
 }
 
-// The path of the second file.
+// The path of a journal's second file.
 fn path_beside(alloc: Global, path: &str) -> Result<String, AllocError> {
     let mut beside = String::new(alloc);
     beside.push_str(path)?;
@@ -49,11 +49,11 @@ fn path_beside(alloc: Global, path: &str) -> Result<String, AllocError> {
     Ok(beside)
 }
 
-/// The bytes of the file that is listed, and the number from which its places count. If only one of the two files begins with an open gate,
-/// it is that one; if both do, the one that an opening reads; and if neither does, the first.
+/// The bytes of the file that `list` shows, and the number from which places in it are counted. If only one of the two files begins with an
+/// open gate, it is that one; if both do, it is the one that an opening reads; and if neither does, it is the first.
 ///
 /// # Errors
-/// `Flawed` where both begin with an open gate and it can't be determined which is read; `Memory` where an allocation failed.
+/// `Flawed` if both begin with an open gate and it can't be determined which is read; `Memory` if an allocation failed.
 pub(crate) fn listed(alloc: Global, both: Both) -> Result<(Vec<u8>, u64), Ending> {
     let Both { first, second } = both;
     match side_listed(alloc, &first, &second)? {
@@ -75,7 +75,7 @@ fn side_listed(alloc: Global, first: &[u8], second: &[u8]) -> Result<Side, Endin
     }
 }
 
-// Whether a file begins with an open gate.
+// Whether a file begins with an open gate (the commit byte before a group), and has more bytes after it.
 fn is_open(bytes: &[u8]) -> bool {
     bytes.len() >= 2 && bytes[0] != CLOSED
 }

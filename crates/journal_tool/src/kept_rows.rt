@@ -1,4 +1,4 @@
-//! What a list shows of a checkpoint's records.
+//! What a list shows of the records of a checkpoint's state.
 
 use crate::ending::Ending;
 use crate::listing::{Row, batch_row, certificate_row, header_row};
@@ -8,7 +8,7 @@ use std::alloc::Global;
 use wire::WireError;
 use wire_read::{Reader, batch_of, certificate_of, header_of};
 
-// The kinds of a state's records, as docs/FORMATS.md has them.
+// The kinds of records that a checkpoint's state has, as docs/FORMATS.md names them.
 const ORDER: u8 = 3;
 
 const BATCH: u8 = 4;
@@ -21,16 +21,16 @@ const CERTIFICATE: u8 = 7;
 
 const COINS: u8 = 8;
 
-/// The bytes of a vote: its kind, author, round and header digest.
+/// The length of a vote's record, in bytes: its kind, author, round and header digest.
 const VOTE_BYTES: usize = 43;
 
-/// The bytes of a batch's record before the members who acknowledged it: its kind, whether it is named, and their number.
+/// How many bytes of a batch's record come before the members who acknowledged it: kind, whether it is named, and the number of members.
 const BATCH_FRONT_BYTES: usize = 4;
 
-/// The bytes of a member's number.
+/// The length of a member's number, in bytes.
 const MEMBER_BYTES: usize = 2;
 
-/// The row of a record that is no configuration and no event.
+/// The row for a record that is neither a configuration nor an event.
 pub(crate) fn kept_row(alloc: Global, record: &[u8]) -> Result<Row, Ending> {
     let Some((kind, rest)) = record.split_first() else {
         return Ok(Row::of("unreadable"));
@@ -60,7 +60,7 @@ fn unreadable(error: WireError) -> Result<Row, Ending> {
     }
 }
 
-// The row of a batch's record.
+// The row for the record of a batch in a checkpoint.
 fn kept_batch(alloc: Global, record: &[u8]) -> Result<Row, Ending> {
     if record.len() < BATCH_FRONT_BYTES {
         return Ok(Row::of("unreadable"));
@@ -75,7 +75,7 @@ fn kept_batch(alloc: Global, record: &[u8]) -> Result<Row, Ending> {
     }
 }
 
-// The row of a vote's record.
+// The row for the record of a vote in a checkpoint.
 fn kept_vote(record: &[u8]) -> Row {
     if record.len() != VOTE_BYTES {
         return Row::of("unreadable");

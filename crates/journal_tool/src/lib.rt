@@ -1,4 +1,4 @@
-//! The commands on a journal, which report lines. Its two files are read and never written.
+//! The commands of `narwhal-journal`, which report on a journal. Its two files are read and never written.
 #![tactic(auto)]
 
 mod drawing;

@@ -1,4 +1,4 @@
-//! The records of a journal's file, line by line, as their bytes are: only the groups are tested.
+//! Lists the records of a journal's file as their bytes are: the groups have to be whole, but the records are not checked.
 
 use crate::ending::Ending;
 use crate::kept_rows::kept_row;
@@ -12,15 +12,15 @@ use wire::{
 };
 use wire_read::decode;
 
-/// The columns of a list.
+/// The names of a list's columns.
 pub(crate) const COLUMNS: [&str; 8] = [
     "place", "gate", "kind", "sender", "author", "round", "wave", "digest",
 ];
 
-/// The bytes from a gate to its group's body: the gate, and the body's length.
+/// How many bytes there are from a gate to the body of its group: the gate, and the length of the body.
 const FRONT_OF_BODY: u64 = 5;
 
-/// What a list shows of a record. What the record doesn't have is None.
+/// What a list shows of a record. What the record doesn't have is None, and shown as missing.
 #[derive(Clone, Copy)]
 pub(crate) struct Row {
     pub kind: &'static str,
@@ -32,7 +32,7 @@ pub(crate) struct Row {
 }
 
 impl Row {
-    /// A row of which only the kind is shown.
+    /// A row that shows the record's kind and nothing else.
     pub fn of(kind: &'static str) -> Row {
         Row {
             kind,
@@ -45,11 +45,11 @@ impl Row {
     }
 }
 
-/// Writes a line for each record of the groups from a place on, in bytes: those after open gates, and the one that may follow the closed
-/// gate. Places count from the file's base.
+/// Writes a line for each record of the groups from this place on, in bytes: of the groups after open gates, and of the one group that may
+/// follow the closed gate. Places are counted from `base`.
 ///
 /// # Errors
-/// `Flawed` at the place of an open gate without a whole group after it, after the lines of the groups before it; `Memory`; `Output`.
+/// `Flawed` with the place of an open gate after which there is no whole group, once the groups before it were listed; `Memory`; `Output`.
 pub(crate) fn list<W: Write>(
     alloc: Global,
     bytes: &[u8],
@@ -84,7 +84,7 @@ pub(crate) fn list<W: Write>(
     Ok(())
 }
 
-// The result at a place that no whole group follows.
+// The result of a list that ends at this place, since no whole group follows there. It is a flaw if the gate is open.
 fn end_at(place: u64, is_open: bool) -> Result<(), Ending> {
     if is_open {
         Err(Ending::Flawed(Flaw::at(place, Why::Group)))
@@ -93,7 +93,7 @@ fn end_at(place: u64, is_open: bool) -> Result<(), Ending> {
     }
 }
 
-// The number in the length field at the front, and the bytes after it.
+// The number in the length field with which the bytes start, and the bytes after it.
 fn split_length(bytes: &[u8]) -> Option<(usize, &[u8])> {
     match bytes {
         [first, second, third, fourth, rest @ ..] => {
@@ -104,7 +104,7 @@ fn split_length(bytes: &[u8]) -> Option<(usize, &[u8])> {
     }
 }
 
-// The body after a gate and the bytes after the body, if the next gate is within the bytes too, and the body has whole records.
+// The body of the group after a gate, and the bytes after it. None unless the body has whole records, and the next gate is there too.
 fn split_group(bytes: &[u8]) -> Option<(&[u8], &[u8])> {
     let (len, rest) = split_length(bytes)?;
     if len == 0 || len > MAX_GROUP_BYTES || rest.len() <= len {
@@ -118,7 +118,7 @@ fn split_group(bytes: &[u8]) -> Option<(&[u8], &[u8])> {
     }
 }
 
-// The first record, and the bytes after it, if the record is whole.
+// The first record in the bytes, and the bytes after it. None if the record isn't whole.
 fn split_record(bytes: &[u8]) -> Option<(&[u8], &[u8])> {
     let (len, rest) = split_length(bytes)?;
     if rest.len() < len {
@@ -127,7 +127,7 @@ fn split_record(bytes: &[u8]) -> Option<(&[u8], &[u8])> {
     Some(rest.split_at(len))
 }
 
-// Whether a body has whole records, and not too many.
+// Whether a group's body consists of whole records, and not too many.
 fn is_whole(body: &[u8]) -> bool {
     let mut rest = body;
     for _ in 0..MAX_GROUP_RECORDS {
@@ -142,7 +142,7 @@ fn is_whole(body: &[u8]) -> bool {
     rest.is_empty()
 }
 
-// Writes a line for each record of a whole group.
+// Writes a line for each record of a group.
 fn list_group<W: Write>(
     alloc: Global,
     place: u64,
@@ -188,7 +188,7 @@ fn put_row<W: Write>(
     )
 }
 
-// The row of a record.
+// The row for a record.
 fn row_of(alloc: Global, record: &[u8]) -> Result<Row, Ending> {
     if record.first() == Some(&0) {
         let own = own_number(record).map(|own| own.0 as u64);
@@ -217,7 +217,7 @@ fn row_of(alloc: Global, record: &[u8]) -> Result<Row, Ending> {
     }
 }
 
-// The row of a message.
+// The row for the message of an event's record.
 fn message_row(message: &Message) -> Row {
     match message {
         Message::Batch(batch) => batch_row("batch", batch),
@@ -241,7 +241,7 @@ fn message_row(message: &Message) -> Row {
     }
 }
 
-/// The row of a batch.
+/// The row for a batch.
 pub(crate) fn batch_row(kind: &'static str, batch: &Batch) -> Row {
     Row {
         author: Some(batch.author().0 as u64),
@@ -250,7 +250,7 @@ pub(crate) fn batch_row(kind: &'static str, batch: &Batch) -> Row {
     }
 }
 
-/// The row of a header.
+/// The row for a header.
 pub(crate) fn header_row(kind: &'static str, header: &Header) -> Row {
     Row {
         author: Some(header.body.author.0 as u64),
@@ -260,7 +260,7 @@ pub(crate) fn header_row(kind: &'static str, header: &Header) -> Row {
     }
 }
 
-/// The row of a certificate.
+/// The row for a certificate.
 pub(crate) fn certificate_row(kind: &'static str, certificate: &Certificate) -> Row {
     let body = &certificate.header;
     let digest = certificate_digest(&header_digest(body), body.round, body.author);

@@ -1,34 +1,34 @@
-//! Lines of columns: separated by tabs, or as JSON objects.
+//! Writes lines of columns, separated by tabs or as JSON objects.
 
 use crate::ending::Ending;
 use std::io::{self, Write};
 use wire::Digest;
 
-/// The value of a column. A missing value is a dash, or null.
+/// The value of a column. A missing value is shown as a dash, or in JSON as null.
 #[derive(Clone, Copy)]
 pub(crate) enum Column<'a> {
     /// A number.
     Number(Option<u64>),
-    /// A word, without a quote or a backslash.
+    /// A word. It contains no quote and no backslash, so that it needs no escaping.
     Word(&'a str),
-    /// The first four bytes of a digest.
+    /// The first four bytes of a digest, as a number.
     Short(Option<u32>),
-    /// A digest.
+    /// A whole digest.
     Digest(&'a Digest),
 }
 
-/// The first four bytes of a digest.
+/// The first four bytes of a digest, as a number.
 pub(crate) fn short(digest: &Digest) -> u32 {
     let [first, second, third, fourth, ..] = digest.0;
     short_of([first, second, third, fourth])
 }
 
-/// The number in these bytes, which are the first four of a digest.
+/// These bytes, the first four of a digest, as a number.
 pub(crate) fn short_of(bytes: [u8; 4]) -> u32 {
     u32::from_be_bytes(bytes)
 }
 
-/// Writes the line of the columns' names, if there are names and lines aren't objects.
+/// Writes a line with the names of the columns. If there are none, or lines are JSON objects, it writes nothing.
 pub(crate) fn put_names<W: Write>(
     json: bool,
     names: &[&str],
@@ -47,7 +47,7 @@ pub(crate) fn put_names<W: Write>(
     Ok(())
 }
 
-/// Writes a line of these columns.
+/// Writes a line with these columns.
 pub(crate) fn put_line<W: Write>(
     json: bool,
     names: &[&str],
@@ -65,7 +65,7 @@ pub(crate) fn put_line<W: Write>(
     Ok(())
 }
 
-// A column, after the one before it.
+// Writes the value of a column, after a tab if it isn't the first one.
 fn put_column<W: Write>(i: usize, column: Column<'_>, writer: &mut W) -> io::Result<()> {
     if i > 0 {
         write!(writer, "\t")?;
@@ -79,7 +79,7 @@ fn put_column<W: Write>(i: usize, column: Column<'_>, writer: &mut W) -> io::Res
     }
 }
 
-// A member of an object, after the one before it.
+// Writes a column as a member of a JSON object, after a comma if it isn't the first one.
 fn put_member<W: Write>(
     i: usize,
     name: &str,

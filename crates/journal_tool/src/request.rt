@@ -1,23 +1,23 @@
-//! What the arguments ask.
+//! Reads what the arguments of `narwhal-journal` ask for.
 
 use crate::ending::Ending;
 
-/// A command, by what it prints.
+/// A command of `narwhal-journal`, named by what it prints.
 #[derive(Clone, Copy, Debug, PartialEq, Eq)]
 pub(crate) enum Command {
-    /// The journal's summary.
+    /// Prints the summary of a journal.
     Verify,
-    /// Each record.
+    /// Prints each record of a journal.
     List,
-    /// Each vote that was given.
+    /// Prints each vote that the journal's node has given.
     Votes,
-    /// The last own header, as a frame.
+    /// Prints the last own header in a journal, as a frame.
     LastHeader,
-    /// The order.
+    /// Prints the order that a journal leads to.
     Order,
-    /// Whether one of two orders is a prefix of the other.
+    /// Prints whether the order of one of two journals is a prefix of the other's.
     Compare,
-    /// The certificates, as a graph.
+    /// Prints the certificates of a journal as a graph.
     Graph,
 }
 
@@ -28,30 +28,30 @@ pub(crate) struct Request<'a> {
     pub command: Command,
     /// The path of the journal.
     pub journal: &'a str,
-    /// The path of the committee file, or of the other journal.
+    /// The path of the committee file; for `compare`, that of the other journal.
     pub other: Option<&'a str>,
-    /// The place of the first group that is listed, in bytes; or of the first certificate of the order that is shown.
+    /// From where on is shown: for `list` a place in the file, in bytes; for `order` a place in the order.
     pub from: u64,
-    /// The first and the last round that are drawn.
+    /// The first and the last round that a graph shows.
     pub rounds: (u64, u64),
-    /// Whether a frame is written as raw bytes.
+    /// Whether the frame is written as raw bytes, and not in digits.
     pub bytes: bool,
     /// Whether lines are JSON objects.
     pub json: bool,
 }
 
-// What the next word has to be.
+// What the next argument has to be.
 #[derive(Clone, Copy, PartialEq, Eq)]
 enum Awaits {
-    // A path or an option.
+    // The next argument is a path or an option.
     Any,
-    // The number of `--from`.
+    // The next argument is the number after `--from`.
     From,
-    // The rounds of `--rounds`.
+    // The next argument is the pair of rounds after `--rounds`.
     Rounds,
 }
 
-// What the arguments after the command contain.
+// What the arguments after the command have said so far.
 #[derive(Clone, Copy)]
 struct Words<'a> {
     journal: Option<&'a str>,
@@ -63,10 +63,10 @@ struct Words<'a> {
     json: bool,
 }
 
-/// The request in the arguments after the program's name.
+/// Reads the arguments after the program's name.
 ///
 /// # Errors
-/// `Usage` with what is wrong.
+/// `Usage` with a text that says what is wrong.
 pub(crate) fn request_of(args: &[String]) -> Result<Request<'_>, Ending> {
     let Some((first, rest)) = args.split_first() else {
         return Err(Ending::Usage("a command and a journal are needed"));
@@ -101,7 +101,7 @@ fn command_of(word: &str) -> Result<Command, Ending> {
     }
 }
 
-// Each option has to be one of the command.
+// Tests that the command takes each option that was given.
 fn test_options(command: Command, words: &Words<'_>) -> Result<(), Ending> {
     let takes_from = matches!(command, Command::List | Command::Order);
     let takes_json = !matches!(
@@ -123,7 +123,7 @@ fn test_options(command: Command, words: &Words<'_>) -> Result<(), Ending> {
     }
 }
 
-// The paths and the options, in any order.
+// Reads the paths and options after the command, which may come in any order.
 fn words_of(rest: &[String]) -> Result<Words<'_>, Ending> {
     let mut words = Words {
         journal: None,
@@ -144,7 +144,7 @@ fn words_of(rest: &[String]) -> Result<Words<'_>, Ending> {
     }
 }
 
-// These words, with one more argument read.
+// Reads one more argument.
 fn with_word<'a>(words: Words<'a>, word: &'a str) -> Result<Words<'a>, Ending> {
     match words.awaits {
         Awaits::Any => with_option(words, word),
@@ -161,7 +161,7 @@ fn with_word<'a>(words: Words<'a>, word: &'a str) -> Result<Words<'a>, Ending> {
     }
 }
 
-// These words, with one more option or path.
+// Reads one more argument, which is an option or a path.
 fn with_option<'a>(words: Words<'a>, word: &'a str) -> Result<Words<'a>, Ending> {
     match word {
         "--bytes" => Ok(Words {
@@ -184,7 +184,7 @@ fn with_option<'a>(words: Words<'a>, word: &'a str) -> Result<Words<'a>, Ending>
     }
 }
 
-// These words, with one more path, of which there are two at most. An argument that starts with a dash is no path.
+// Reads one more argument as a path. There are two paths at most, and an argument that starts with a dash is none.
 fn with_path<'a>(words: Words<'a>, path: &'a str) -> Result<Words<'a>, Ending> {
     if path.starts_with("-") {
         return Err(Ending::Usage("there is no such option"));
@@ -209,7 +209,7 @@ fn number_of(text: &str) -> Result<u64, Ending> {
     }
 }
 
-// The first and the last round.
+// Reads a pair of rounds such as `1-6`: the first and the last one.
 fn rounds_of(text: &str) -> Result<(u64, u64), Ending> {
     let wrong = Err(Ending::Usage("--rounds needs two rounds, as 1-6"));
     let Some((first, last)) = text.split_once("-") else {

@@ -1,4 +1,4 @@
-//! Running a command on a journal, whose two files are opened only for reading.
+//! Carries out a command on a journal, whose two files are opened only for reading.
 
 use crate::drawing::{draw, draw_nothing};
 use crate::ending::Ending;
@@ -22,9 +22,9 @@ use std::str;
 use validator::Config;
 use wire::Digest;
 
-/// Carries out the command in the arguments after the program's name, and gives the exit status: 0; 1 where the journal is damaged, another
-/// member's, or disagrees with the other one; 2 for wrong arguments; 5 where a journal can't be read; 6 where an allocation failed; 7 where
-/// the output can't be written. Nothing is written but to the writer, and lines to the errors.
+/// Carries out the command that the arguments name. Returns the exit status. 0: success. 1: the journal is damaged or another member's, or
+/// the orders of two journals contradict each other. 2: wrong arguments. 5: a journal can't be read. 6: an allocation failed. 7: the output
+/// can't be written. Results go to `writer`, and lines about failures to `errors`; nothing else is written.
 pub fn run<R, W, E>(rt: &R, alloc: Global, args: &[String], writer: &mut W, errors: &mut E) -> u8
 where
     R: Files<File = File> + AllocGlobal,
@@ -71,8 +71,8 @@ where
     }
 }
 
-// The records of a journal, and the configuration of its member: in the committee of the given file, or otherwise in the journal's own.
-// None where there is no record.
+// The records of a journal, and the configuration of its node: with the committee of the given file, or else with the one that the journal
+// names. None if the journal has no record.
 fn read<R: Files<File = File> + AllocGlobal>(
     rt: &R,
     alloc: Global,
@@ -89,7 +89,7 @@ fn read<R: Files<File = File> + AllocGlobal>(
     Ok((config, records))
 }
 
-// The committee of a file.
+// Reads the committee from the file at this path.
 fn committee_at<R: Files<File = File> + AllocGlobal>(
     rt: &R,
     alloc: Global,
@@ -110,7 +110,7 @@ fn committee_at<R: Files<File = File> + AllocGlobal>(
     }
 }
 
-// Reports a journal's summary, or what is wrong with it.
+// Reports the summary of a journal, or what is wrong with it.
 fn verify<R, W>(
     rt: &R,
     alloc: Global,
@@ -152,7 +152,7 @@ fn verified<R: Files<File = File> + AllocGlobal>(
     }
 }
 
-// Writes a journal's summary. Where the journal has no checkpoint, none is mentioned.
+// Writes the summary of a journal. If the journal has no checkpoint, no line speaks of one.
 fn put_summary<W: Write>(json: bool, summary: Summary, writer: &mut W) -> Result<(), Ending> {
     let Summary {
         events,
@@ -188,7 +188,7 @@ fn put_summary<W: Write>(json: bool, summary: Summary, writer: &mut W) -> Result
     Ok(())
 }
 
-// The number of the area in a file.
+// The number by which lines name the file: 0 for the first, 1 for the second.
 fn area_of(side: Side) -> u64 {
     match side {
         Side::First => 0,
@@ -204,7 +204,7 @@ fn names_of(command: Command) -> &'static [&'static str] {
     }
 }
 
-// Reports what a command asks of a journal that has a configuration.
+// Reports what a command asks for, of a journal that has a configuration.
 fn report<W: Write>(
     alloc: Global,
     request: Request<'_>,
@@ -304,7 +304,7 @@ fn report_last<W: Write>(
     records: &[Record],
     writer: &mut W,
 ) -> Result<(), Ending> {
-    // A journal that can't be opened isn't reported on.
+    // The summary is made first, so that nothing is reported of a journal that a node could not open.
     let _ = summary_of(alloc, config, records)?;
     let Some(frame) = last_frame(alloc, config, records)? else {
         return Ok(());
@@ -318,7 +318,7 @@ fn report_last<W: Write>(
     Ok(())
 }
 
-// Reports whether one of two journals' orders is a prefix of the other, and where they differ.
+// Reports whether the order of one of two journals is a prefix of the other's, or where the two differ.
 fn compare<R, W>(
     rt: &R,
     alloc: Global,

@@ -1,20 +1,21 @@
--- The makers of a node's own batches, each as what it has gathered.
+-- The batch makers of a node, one for each of its workers, as the transactions that each has gathered.
 use Rattle.std.specs.Prelude.{◌≡◌, ◌≢◌, ℕ, zero, suc, List, [], ◌∷◌, ◌++◌, length, Option, Some, IsNone, IfSome, IsTrue, ◌↔◌, slice_get, slice_set}
 use Rattle.batchmaker.specs.Giving.{given}
 use Rattle.wire.specs.Batches.{BatchView, has_room}
 use Rattle.wire.specs.declared.keys.Author.{Author}
 
--- makers for this many workers of an author, without a transaction
+-- the makers of an author with this many workers; none of them has a transaction yet
 abbrev pub fresh_makers : Author → ℕ → List BatchView
 fresh_makers own zero = []
 fresh_makers own (suc worker) = fresh_makers own worker ++ record { author = own; worker = worker; transactions = [] } ∷ []
 
--- the maker of one worker has changed, and no other
+-- the maker of this worker has changed, and the others have not
 pub record Becomes (worker : ℕ) (maker next : BatchView) (before later : List BatchView) : Type 0 where
   pub was : slice_get before worker ≡ Some maker
   pub is : later ≡ slice_set before worker next
 
--- A transaction was added to the open batch of a worker; or that batch had no room and was given, and the transaction begins the next one.
+-- A worker's open batch got a transaction. If it had no room for that, it was closed and handed out, and the transaction begins the next
+-- batch.
 pub record IsPushed (worker : ℕ) (transaction : List ℕ) (full : Option BatchView) (before later : List BatchView) : Type 0 where
   pub maker : BatchView
   pub next : BatchView
@@ -26,7 +27,7 @@ pub record IsPushed (worker : ℕ) (transaction : List ℕ) (full : Option Batch
   pub some : IfSome full (λ batch. batch.transactions ≢ [])
   pub each_once : given full ++ next.transactions ≡ maker.transactions ++ transaction ∷ []
 
--- The open batch of a worker was given, if it had a transaction, and the next one is empty.
+-- A worker's open batch was closed and handed out, if it had a transaction; the next batch is empty.
 pub record IsSealed (worker : ℕ) (sealed : Option BatchView) (before later : List BatchView) : Type 0 where
   pub maker : BatchView
   pub becomes : Becomes worker maker (record maker { transactions = [] }) before later

@@ -1,12 +1,12 @@
-//! The own number, as an argument gives it.
+//! Reads the node's own number from an argument.
 
 ghost use Rattle.std.specs.Prelude.{◌≡◌, ◌≢◌, ◌<◌, ◌^◌, ◌+◌, ◌*◌, ◌-◌, [], All, IfSome, IsNone};
 ghost use Rattle.node_io.specs.Numbers.{IsDigit, number_of};
 
 use wire::Author;
 
-/// The member's number that these decimal digits give. None where the text is empty or has anything else in it, or the number doesn't fit
-/// two bytes.
+/// The member with the number that these decimal digits give. None if the text is empty or has anything but digits, or if the number
+/// doesn't fit two bytes.
 #[tactic(auto, using(crate::proofs::Digits::number_grows))]
 pub fn own_of(text: &str) -> Option<Author>
     ensures digits { IfSome result (λ own. All IsDigit text.now × (text.now ≢ [])) }
@@ -25,7 +25,7 @@ pub fn own_of(text: &str) -> Option<Author>
     Some(Author(number))
 }
 
-// A number with one more digit at its end.
+// The number that has one more digit at its end. None if it doesn't fit two bytes.
 fn with_digit(number: u16, digit: u8) -> Option<u16>
     ensures some { IfSome result (λ longer. IsDigit digit × (longer ≡ number * 10 + (digit - 48))) }
     ensures none { IsNone result → IsDigit digit → number * 10 + (digit - 48) < 2 ^ 16 → ⊥ }

@@ -1,4 +1,4 @@
-//! Streams that wait even if their descriptor was set not to block.
+//! Streams whose calls wait, even if their file descriptor was set not to block.
 
 ghost use Rattle.std.specs.Prelude.{◌≡◌, ◌⊎◌};
 ghost use Rattle.std.specs.IoError.{error_kind};
@@ -9,11 +9,11 @@ use std::io::{self, ErrorKind, Read, Write};
 use std::thread::sleep;
 use std::time::{Clock, Duration};
 
-/// How many milliseconds a stream that would block waits before it is tried again.
+/// How many milliseconds to wait before a call is made again that would have blocked.
 const PAUSE_MILLIS: u64 = 1;
 
-/// A stream that waits. If a call would block, since its descriptor is set so, it sleeps a little and reports an interruption, so that the
-/// caller makes the call again.
+/// A stream whose calls wait. If a call would block because the descriptor is set so, this sleeps a little and reports an interruption, at
+/// which the caller makes the call again.
 pub struct Blocking<'c, C: Clock, F: Drop> {
     clock: &'c C,
     stream: F,
@@ -29,7 +29,7 @@ impl<'c, C: Clock, F: Drop> Drop for Blocking<'c, C, F> {
 }
 
 impl<'c, C: Clock, F: Drop> Blocking<'c, C, F> {
-    /// The same stream; it waits by this clock.
+    /// The same stream, which now waits by this clock.
     pub fn new(clock: &'c C, stream: F) -> Blocking<'c, C, F>
         ensures { result.stream ≡ stream }
     {
@@ -71,7 +71,7 @@ impl<'c, C: Clock, F: Write + Drop> Write for Blocking<'c, C, F> {
     }
 }
 
-// The error of a call. If the call would have blocked: an interruption, after a pause.
+// The error that a call reports. If the call would have blocked this pauses, and the error is an interruption.
 fn waited<C: Clock>(clock: &C, error: io::Error) -> io::Error
     ensures blocked { error_kind error ≡ ErrorKind.WouldBlock → error_kind result ≡ ErrorKind.Interrupted }
     ensures other { (error_kind error ≡ ErrorKind.WouldBlock → ⊥) → result ≡ error }

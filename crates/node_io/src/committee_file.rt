@@ -1,4 +1,4 @@
-//! Reading the committee file.
+//! Reads the committee file.
 
 ghost use Rattle.std.specs.Prelude.{◌≡◌, ◌⊎◌, ◌≤◌, IfOk, IfErr, vec_len};
 
@@ -8,13 +8,13 @@ use std::fs::File;
 use std::io::ErrorKind;
 use std::rt::Files;
 
-/// The greatest length of a committee file, in bytes. One of 31 members has some 2,200.
+/// The greatest length that a committee file may have, in bytes. A file for 31 members has some 2,200.
 pub const MAX_COMMITTEE_FILE_BYTES: usize = 16_777_216;
 
 /// The bytes of the committee file at a path.
 ///
 /// # Errors
-/// `Usage` where no regular file can be read there, or the file is too long. `Memory` where an allocation failed.
+/// `Usage` if there is no regular file that can be read, or if it is too long. `Memory` if an allocation failed.
 pub fn read_committee_file<R: Files<File = File> + AllocGlobal>(
     rt: &R,
     path: &str,

@@ -1,4 +1,4 @@
-//! How a run ends.
+//! How a run of a node ends.
 
 ghost use Rattle.std.specs.Prelude.{◌≡◌};
 ghost use Rattle.node_io.specs.Endings.{status_of, config_number_of, journal_number_of, of_config, of_journal};
@@ -7,18 +7,18 @@ use committee::CommitteeError;
 use journal::JournalError;
 use std::io::Write;
 
-/// How a run ends.
+/// How a run of a node ends.
 #[derive(Clone, Copy, Debug, PartialEq, Eq)]
 pub enum Ending {
-    /// The input has ended.
+    /// The input has ended, and all of it was handled.
     Done,
-    /// There aren't three arguments, the committee file can't be read, or the own number is no member's.
+    /// There aren't three arguments; or the committee file can't be read; or the own number is that of no member.
     Usage,
     /// The text of the committee file describes no committee.
     Config(CommitteeError),
     /// The journal can't be opened or appended to.
     Journal(JournalError),
-    /// The input can't be read, or isn't frames.
+    /// The input can't be read, or isn't a stream of frames.
     Input,
     /// An allocation failed outside the handling of an event, or a thread couldn't be made.
     Memory,
@@ -27,7 +27,7 @@ pub enum Ending {
 }
 
 impl Ending {
-    /// The exit status.
+    /// The exit status of the program.
     pub fn status(self) -> u8
         ensures { result ≡ status_of self }
     {
@@ -42,7 +42,7 @@ impl Ending {
         }
     }
 
-    /// Writes the line of an ending that is no success. If that fails, there is nobody to report it to.
+    /// Writes the line about an ending that is no success. If that fails, there is nobody left to report it to.
     pub fn write_to<W: Write>(self, errors: &mut W) {
         let _ = match self {
             Ending::Done => Ok(()),

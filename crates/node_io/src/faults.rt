@@ -7,21 +7,21 @@ use crate::ending::Ending;
 use crate::input::End;
 use journal::JournalError;
 
-/// What went wrong while a node ran, as one of its threads or all of them saw it.
+/// What went wrong while a node ran, as one of its threads saw it, or as all of them together did.
 #[derive(Clone, Copy, Debug, PartialEq, Eq)]
 pub struct Faults {
-    /// The fault of the journal, if a record couldn't be appended.
+    /// The fault of the journal, if records couldn't be written to it.
     pub journal: Option<JournalError>,
     /// An output couldn't be written.
     pub output: bool,
     /// An allocation failed outside the handling of an event, or a thread couldn't be made.
     pub memory: bool,
-    /// The input couldn't be read, or wasn't frames.
+    /// The input couldn't be read, or wasn't a stream of frames.
     pub input: bool,
 }
 
 impl Faults {
-    /// No faults.
+    /// Nothing went wrong.
     pub fn none() -> Faults
         ensures { result ≡ record { journal = None; output = false; memory = false; input = false } }
     {
@@ -33,7 +33,7 @@ impl Faults {
         }
     }
 
-    /// The fault that an allocation failed.
+    /// Only this went wrong: an allocation failed.
     pub fn of_memory() -> Faults
         ensures { result ≡ record { journal = None; output = false; memory = true; input = false } }
     {
@@ -43,7 +43,7 @@ impl Faults {
         }
     }
 
-    /// The fault of a journal to which a record couldn't be appended.
+    /// Only this went wrong: records couldn't be written to the journal.
     pub fn of_journal(error: JournalError) -> Faults
         ensures { result ≡ record { journal = Some error; output = false; memory = false; input = false } }
     {
@@ -53,7 +53,7 @@ impl Faults {
         }
     }
 
-    /// The fault of an input of which no more frames come, and whether an allocation failed outside the handling of an event before.
+    /// What went wrong with an input that ended like this, and whether an allocation had failed before, outside the handling of an event.
     pub fn of_input(end: End, lacked_memory: bool) -> Faults
         ensures { result ≡ after_input end lacked_memory }
     {
@@ -64,7 +64,7 @@ impl Faults {
         }
     }
 
-    /// The faults that either of two threads saw.
+    /// What went wrong in either of two threads.
     pub fn and(self, other: Faults) -> Faults
         ensures journal { result.journal ≡ first_of self.journal other.journal }
         ensures output { result.output ≡ (self.output || other.output) }
@@ -79,8 +79,8 @@ impl Faults {
         }
     }
 
-    /// How the run ends. Of several faults the first in this order is reported: the journal's, the output's, a failed allocation, the
-    /// input's. A failed allocation in the journal counts as a failed allocation.
+    /// How the run ends. If several things went wrong, the first in this order is reported: the journal's fault, the output's, a failed
+    /// allocation, the input's. An allocation that failed for the journal counts as a failed allocation.
     pub fn ending(self) -> Ending
         ensures { result ≡ ending_of self }
     {
@@ -101,7 +101,7 @@ impl Faults {
     }
 }
 
-// The first of two faults of the journal, if there is one; a failed allocation gives way to any other fault.
+// Of two faults of the journal the first one, if there is one. A failed allocation gives way to any other fault.
 fn first_of(one: Option<JournalError>, other: Option<JournalError>) -> Option<JournalError>
     ensures { result ≡ first_of one other }
 {

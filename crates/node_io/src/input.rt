@@ -1,4 +1,4 @@
-//! Reading the bodies of the frames of a stream.
+//! Reads a stream of frames, and hands out the bodies of the frames.
 
 ghost use Rattle.std.specs.Prelude.{◌≡◌, ◌≢◌, ◌⊎◌, ◌++◌, ◌∷◌, [], List, Vec, ℕ, None, Some, Err, IfOk, IfErr, IsErrOf, OnOk, OnErr, if◌then◌else◌};
 ghost use Rattle.std.specs.Io.KnownBytes.{IsAtEnd};
@@ -12,7 +12,7 @@ use std::marker::Model;
 use wire::WireError;
 use wire_read::FrameReader;
 
-/// How many bytes are read at once, at most.
+/// How many bytes are read from the stream at once, at most.
 const PIECE_BYTES: usize = 1_048_576;
 
 /// Why no more frames come.
@@ -20,19 +20,19 @@ const PIECE_BYTES: usize = 1_048_576;
 pub enum End {
     /// The stream has ended after a whole frame.
     Whole,
-    /// The stream can't be read, a length in it is refused, or it has ended within a frame.
+    /// The stream can't be read, a frame's length in it is above the limit, or it has ended within a frame.
     Broken,
     /// An allocation failed.
     Memory,
 }
 
-/// A stream of frames. Contracts see the reader under it, the bytes so far of the next frame, and why no more frames come.
+/// A stream of frames. Contracts see the reader under it, the bytes of the next frame so far, and why no more frames come, if none do.
 pub struct Input<I: Read + Drop> {
     alloc: Global,
     reader: I,
     piece: Vec<u8>,
     frames: FrameReader,
-    /// The error of the next call, if the end was found already.
+    /// What the next call reports, if no more frames come.
     end: Option<End>,
 }
 
@@ -73,8 +73,8 @@ impl<I: Read + Drop> Input<I> {
         })
     }
 
-    /// The bodies of the frames that the next piece of the stream completes. It reads once, so it waits only if no byte is there. Once it
-    /// has reported the end, it does so at every call.
+    /// The bodies of the frames that the next piece of the stream completes. This reads once, so it waits only if no byte is there yet.
+    /// Once it has reported that no more frames come, it does so at every call.
     pub fn next(&mut self) -> Result<Vec<Vec<u8>>, End>
         ensures again { (end : End) → self.old.end ≡ Some end → (result ≡ Err end) × (self.new ≡ self.old) }
         ensures ok { IfOk result (λ bodies. ReadsAndCuts I.remaining self.old self.new (bodies_bytes bodies.items)) }
@@ -92,7 +92,7 @@ impl<I: Read + Drop> Input<I> {
         found
     }
 
-    // The bodies of the frames that the next piece completes, if no end was found before.
+    // The bodies of the frames that the next piece completes, if no call has found before that no more frames come.
     fn read(&mut self) -> Result<Vec<Vec<u8>>, End>
         requires { self.old.end ≡ None }
         ensures ok { IfOk result (λ bodies. ReadsAndCuts I.remaining self.old self.new (bodies_bytes bodies.items)) }
@@ -114,7 +114,7 @@ impl<I: Read + Drop> Input<I> {
     }
 }
 
-// The bodies of the frames that a piece completes; and if no frames come after them, the reason.
+// The bodies of the frames that a piece completes; also the reason, if no more frames come after these.
 fn cut(alloc: Global, frames: &mut FrameReader, piece: &[u8]) -> (Vec<Vec<u8>>, Option<End>)
     ensures { Cuts frames.old piece.now (bodies_bytes result.0.items) frames.new result.1 }
 {
@@ -125,8 +125,8 @@ fn cut(alloc: Global, frames: &mut FrameReader, piece: &[u8]) -> (Vec<Vec<u8>>, 
     }
 }
 
-// The bodies that end before the length that is refused, and why no more frames come. A refusal takes nothing of the bytes that were fed,
-// so here each byte is fed alone.
+// The bodies of the frames before a length that is refused, and why no more frames come. The frame reader takes nothing of the bytes of a
+// call that it refuses, so here it is fed one byte at a time.
 fn bodies_before_fault(
     alloc: Global,
     frames: &mut FrameReader,
@@ -145,7 +145,7 @@ fn bodies_before_fault(
     (all, None)
 }
 
-// Adds the bodies of the frames that a byte completes.
+// Feeds one byte, and adds the bodies of the frames that it completes.
 fn add_bodies(frames: &mut FrameReader, byte: u8, all: &mut Vec<Vec<u8>>) -> Result<(), End>
     ensures ok { OnOk result ((more : List (Vec ℕ Global)) × (all.new.items ≡ all.old.items ++ more) × Takes frames.old (byte ∷ []) (bodies_bytes more) frames.new) }
     ensures err { IfErr result (λ end. (end ≡ End.Memory) ⊎ ((end ≡ End.Broken) × (frames.new ≡ frames.old) × BreaksWith frames.old (byte ∷ []))) }
@@ -170,7 +170,7 @@ fn end_of(error: WireError) -> End
     }
 }
 
-// Why no more frames come where the stream ends, after a whole frame or within one.
+// Why no more frames come if the stream ends here: after a whole frame, or within one.
 fn end_at_stop(is_after_frame: bool) -> End
     ensures { result ≡ (if is_after_frame then End.Whole else End.Broken) }
 {
@@ -181,7 +181,7 @@ fn end_at_stop(is_after_frame: bool) -> End
     }
 }
 
-// Why no more frames come after a read with this error. None where it was interrupted, so that the read is to be made again.
+// Why no more frames come after a read with this error. None if the read was interrupted, so that it has to be made again.
 fn end_after(kind: ErrorKind) -> Option<End>
     ensures interrupted { kind ≡ ErrorKind.Interrupted → result ≡ None }
     ensures memory { kind ≡ ErrorKind.OutOfMemory → result ≡ Some End.Memory }

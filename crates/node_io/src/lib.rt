@@ -1,4 +1,4 @@
-//! The edges of a running node: its arguments, its frames and what they ask, its faults, and how its run ends.
+//! What lies between a running node and its surroundings: arguments, frames and what they ask, what can go wrong, and how a run ends.
 #![tactic(auto)]
 
 mod arguments;

@@ -1,4 +1,4 @@
-//! The makers of the node's own batches.
+//! The batch makers of a node, one for each of its workers.
 
 ghost use Rattle.std.specs.Prelude.{◌≡◌, ◌≢◌, ◌≤◌, ◌<◌, ◌↔◌, [], Some, IfOk, IfErr, IsErr, IsErrOf, OnErr, length, slice_get};
 ghost use Rattle.wire.specs.Batches.{BatchView};
@@ -12,7 +12,7 @@ use std::alloc::{AllocError, Global};
 use std::marker::Model;
 use wire::{Author, Batch};
 
-/// A batch maker for each worker of a member. Contracts see what each has gathered, in the order of the workers.
+/// A batch maker for each worker of the node. Contracts see the transactions that each has gathered, in the order of the workers.
 pub struct Makers {
     makers: Vec<BatchMaker>,
 }
@@ -33,7 +33,7 @@ impl Model for Makers {
 }
 
 impl Makers {
-    /// The makers of a member, without a transaction. On `AllocError` an allocation failed.
+    /// A maker for each worker of a member; none has a transaction yet. On `AllocError` an allocation failed.
     pub fn new(alloc: Global, committee: &Committee, own: Author) -> Result<Makers, AllocError>
         ensures { IfOk result (λ makers. makers ≡ fresh_makers own committee.now.workers) }
     {
@@ -44,7 +44,7 @@ impl Makers {
         Ok(Makers { makers })
     }
 
-    /// `UnknownWorker` where the committee has no such worker.
+    /// Tests that the committee has a worker with this number; `UnknownWorker` if it hasn't.
     pub fn test(&self, worker: u16) -> Result<(), CheckError>
         ensures err { IfErr result (λ error. error ≡ CheckError.UnknownWorker) }
         ensures known { IsErr result ↔ (length self.now ≤ worker) }
@@ -56,8 +56,8 @@ impl Makers {
         }
     }
 
-    /// Adds a transaction to the open batch of a worker, who is known. If the batch has no room for it, the batch is given, and the
-    /// transaction begins the next one. `TooBig` for a transaction of more than `MAX_TRANSACTION_BYTES`.
+    /// Adds a transaction to the open batch of this worker, which exists. If the batch has no room for it, that batch is closed and
+    /// returned, and the transaction begins the next one. `TooBig` if the transaction has more than `MAX_TRANSACTION_BYTES`.
     pub fn push(&mut self, worker: u16, transaction: &[u8]) -> Result<Option<Batch>, MakeError>
         requires { worker < length self.old }
         ensures ok { IfOk result (λ full. IsPushed worker transaction.now full self.old self.new) }
@@ -67,7 +67,7 @@ impl Makers {
         self.makers[worker as usize].push(transaction)
     }
 
-    /// Closes the open batch of a worker, who is known, and gives it; None where it has no transaction. On `AllocError` an allocation
+    /// Closes the open batch of this worker, which exists, and returns it; None if it has no transaction. On `AllocError` an allocation
     /// failed.
     pub fn seal(&mut self, worker: u16) -> Result<Option<Batch>, AllocError>
         requires { worker < length self.old }

@@ -11,7 +11,7 @@ use std::alloc::AllocError;
 use thiserror::Error;
 use wire::WireError;
 
-/// Why what a frame brought is refused. Printed as the kind of the refusal, its number and its name.
+/// Why a node refuses what a frame brought. Printed as the kind of the refusal, its number and its name.
 #[derive(Clone, Copy, Debug, PartialEq, Eq, Error)]
 pub enum Rejection {
     /// The frame can't be decoded.

@@ -1,4 +1,4 @@
-//! What the body of a frame asks.
+//! What the body of a frame asks of a node.
 
 ghost use Rattle.std.specs.Prelude.{◌≡◌, ◌≢◌, Err, IsErrOf};
 ghost use Rattle.std.specs.Int.{w16};
@@ -9,24 +9,24 @@ use std::alloc::Global;
 use wire::{Author, MAX_TRANSACTION_BYTES, Message, WireError};
 use wire_read::decode;
 
-/// The sender number of transactions. No member has it.
+/// The sender's number in frames that bring transactions of the host. No member has this number.
 pub const TRANSACTIONS: u16 = 0xffff;
 
-/// The sender number of requests to seal a batch. No member has it.
+/// The sender's number in frames that ask to close a batch. No member has this number.
 pub const SEALS: u16 = 0xfffe;
 
-/// What the body of a frame asks.
+/// What the body of a frame asks of a node.
 #[derive(Drop)]
 pub enum Request<'f> {
-    /// A transaction for the open batch of a worker.
+    /// To add a transaction to the open batch of a worker.
     Transaction { worker: u16, bytes: &'f [u8] },
     /// To close the open batch of a worker.
     Seal { worker: u16 },
-    /// A message from its sender.
+    /// To take a message from its sender.
     Message { sender: Author, message: Message },
 }
 
-// The number in the first two bytes, and the bytes after it.
+// The number in the first two bytes of a body, and the bytes after it.
 fn number_of(bytes: &[u8]) -> Result<(u16, &[u8]), WireError>
     ensures number { Gives (λ found. (found.0, found.1.now)) result (number_at w16 bytes.now) }
     ensures never_memory { result ≢ Err WireError.Memory }
@@ -37,8 +37,8 @@ fn number_of(bytes: &[u8]) -> Result<(u16, &[u8]), WireError>
     }
 }
 
-/// What the body of a frame asks. `Short` where it ends within a number, `Trailing` where bytes follow the worker of a seal, `TooMany` for
-/// a transaction above its limit, and otherwise the error of reading the message.
+/// Reads what the body of a frame asks. `Short` if it ends within a number; `Trailing` if bytes follow the worker's number where a batch is
+/// to be closed; `TooMany` if a transaction is too long; otherwise the error of decoding the message.
 pub fn request_of(alloc: Global, body: &[u8]) -> Result<Request<'_>, WireError>
     ensures asked { Gives shown result (asked_in body.now) }
     ensures memory { IsErrOf result WireError.Memory → BringsMessage body.now }

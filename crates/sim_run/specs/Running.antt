@@ -1,4 +1,4 @@
--- How the parts of a running node belong together.
+-- When the parts of a simulated node belong to one node.
 use Rattle.std.specs.Prelude.{◌≡◌, IsSome}
 use Rattle.flusher.specs.Rounds.{IsFlusherOf, journal_of}
 use Rattle.flusher.specs.declared.flusher.Flusher.{Flusher}
@@ -9,7 +9,7 @@ use Rattle.validator.specs.Setting.{ConfigView}
 use Rattle.diskmodel.specs.Disk.{Device}
 use Rattle.sigface.specs.Scheme.{Scheme}
 
--- a node has this configuration, and the seat and the flusher are its own; its journal is on two disks
+-- the node has this configuration, the seat and the flusher are its own, and its journal is on two disks
 pub record AreOne {S D : Type 0} (scheme : Scheme S) (device : Device D) (config : ConfigView S) (node : NodeView S) (seat : SeatView) (flusher : Flusher D) : Type 0 where
   pub set : node.setting ≡ config
   pub of_node : IsOf node seat

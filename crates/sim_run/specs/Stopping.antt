@@ -3,10 +3,10 @@ use Rattle.std.specs.Prelude.{ℕ, ◌+◌, if◌then◌else◌}
 use Rattle.diskmodel.specs.declared.memory.MemDisk.{MemDisk}
 use Rattle.sim_run.specs.declared.stopping.StoppingDisk.{StoppingDisk}
 
--- the disk in memory
+-- the disk in memory under it
 abbrev pub memory_of : StoppingDisk → MemDisk
 memory_of stopping = stopping.disk
 
--- how often it has failed: as often as the disk in memory, and once more if the machine stopped before a sync
+-- how many calls have failed: those of the disk in memory, and one more if the machine stopped before a sync
 abbrev pub faults_in : StoppingDisk → ℕ
 faults_in stopping = stopping.disk.faults.count + (if stopping.is_stopped then 1 else 0)

@@ -1,42 +1,42 @@
-//! The answers to commands.
+//! The answers of the simulated node to the commands of a script.
 
 use header::CheckError;
 use node::{FlushError, Refusal};
 use wire::{Digest, Output, WireError};
 
-/// The answer to a command.
+/// The answer to a command of a script.
 #[derive(Drop)]
 pub enum Answer {
-    /// Nothing is printed.
+    /// No line is printed for the command.
     Nothing,
-    /// The event is new, with its ticket.
+    /// The event is new; this is its ticket: how many records have to be settled before its outputs may leave.
     New(u64),
-    /// The event was accepted before, with its ticket.
+    /// The event was accepted before; this is its ticket.
     Known(u64),
-    /// The message can't be read.
+    /// The message can't be decoded.
     Unread(WireError),
     /// The message fails a check.
     Unchecked(CheckError),
-    /// The event, or a reading of the order, is refused.
+    /// The node refuses the event, or a reading of the order.
     Refused(Refusal),
-    /// This many records were settled.
+    /// A round settled this many records.
     Settled(u64),
     /// The journal was rewritten to a checkpoint of this generation.
     Generation(u64),
-    /// The round or the checkpoint failed.
+    /// A round or a checkpoint failed.
     Fault(FlushError),
-    /// No output may leave.
+    /// There is no output that may leave.
     OutNone,
     /// This output left.
     Out(Output),
-    /// The order after the settled records: the digests of its certificates.
+    /// The order that the settled records lead to: the digests of its certificates.
     Order(Vec<Digest>),
-    /// The round after all accepted records.
+    /// The node's round after all accepted records.
     Round(u64),
-    /// The digest of the header that the node voted for in a slot.
+    /// The digest of the header that the node voted for in a round and author; None if it has not voted there.
     Voted(Option<Digest>),
-    /// A number of records.
+    /// How many records were accepted, or how many of them are settled.
     Count(u64),
-    /// The node was opened again, on a journal with this many records of events.
+    /// The node was opened again after a stop, on a journal with this many records of events.
     Reopened(u64),
 }

@@ -1,24 +1,24 @@
-//! Why a run ends early.
+//! Why a run of the simulator ends early.
 
 use diskmodel::TooManyTold;
 use journal::JournalError;
 use std::alloc::{AllocError, AllocFailed};
 use std::io;
 
-/// Why a run ended before its script did.
+/// Why a run of the simulator ended before its script did.
 #[derive(Drop)]
 pub enum Ending {
-    /// The line is no command.
+    /// A line of the script is no command.
     BadCommand,
     /// An allocation failed outside the handling of an event, or more calls were set to fail than is possible at once.
     Memory,
-    /// The journal couldn't be opened.
+    /// The node's journal couldn't be opened.
     Fault(JournalError),
     /// A read of the script or a write of an answer failed.
     InputOutput,
-    /// The script has more lines than are counted.
+    /// The script has more lines than the simulator can count.
     TooLong,
-    /// A group or a checkpoint was completely written, although the machine was to stop before a sync of it.
+    /// The machine was to stop before a certain sync, but the group or checkpoint was written and synced without it.
     Unstopped,
 }
 

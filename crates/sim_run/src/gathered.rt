@@ -1,4 +1,4 @@
-//! The lines that are printed.
+//! Collects lines of answers, so that many are written at once.
 
 use crate::answer::Answer;
 use crate::ending::Ending;
@@ -11,7 +11,7 @@ use std::io::{self, Write};
 /// How many bytes of lines are collected before they are written.
 const ENOUGH: usize = 65_536;
 
-/// Lines that wait to be written together.
+/// Lines that wait until they are written together.
 #[derive(Drop)]
 pub struct Gathered {
     lines: String,
@@ -24,12 +24,12 @@ impl Gathered {
         }
     }
 
-    /// Adds the line of an answer, if it has one.
+    /// Adds the line of an answer, if the answer has one.
     pub fn add(&mut self, labels: &Labels, answer: &Answer) -> Result<(), Ending> {
         Ok(add_line(&mut self.lines, labels, answer)?)
     }
 
-    /// Adds the line of a fault of the journal.
+    /// Adds the line that reports a fault of the journal.
     pub fn add_fault(&mut self, error: &JournalError) -> Result<(), Ending> {
         Ok(writeln!(self.lines, "fault {error}")?)
     }
@@ -39,7 +39,7 @@ impl Gathered {
         self.lines.len() >= ENOUGH
     }
 
-    /// Writes all lines. If that fails they are lost.
+    /// Writes all lines that wait. If that fails they are lost.
     pub fn write_to<W: Write>(&mut self, writer: &mut W) -> io::Result<()> {
         if self.lines.is_empty() {
             return Ok(());

@@ -9,12 +9,12 @@ use std::cell::Cell;
 #[derive(Drop)]
 pub struct Machine {
     switch: Switch,
-    // The machine stops right before the sync with this number from now on; 0 means that it doesn't stop.
+    // The machine stops right before the sync that comes as this one from now on; 0 means that it doesn't stop.
     syncs_left: Cell<u64>,
 }
 
 impl Machine {
-    /// A machine of which no call is set to fail, and which doesn't stop.
+    /// A machine that has set no call to fail and doesn't stop.
     pub fn new(alloc: Global) -> Result<Machine, AllocError> {
         Ok(Machine {
             switch: Switch::new(alloc)?,
@@ -27,18 +27,18 @@ impl Machine {
         MemDisk::with_switch(alloc, Vec::new(alloc), &self.switch)
     }
 
-    /// Sets a call of this kind to fail: the one with this number from now on, counting both disks.
+    /// Lets a call of this kind fail: the one that comes as the `count`-th of its kind from now on, over both disks together.
     pub fn fail(&self, call: CallKind, count: u64) -> Result<(), Ending> {
         self.switch.fail(call, count)?;
         Ok(())
     }
 
-    /// Lets the machine stop right before the sync with this number from now on, counting both disks; 0 means that it doesn't stop.
+    /// Lets the machine stop right before the sync that comes as the `sync`-th from now on, over both disks together. 0: it doesn't stop.
     pub fn stop_before(&self, sync: u64) {
         self.syncs_left.set(sync);
     }
 
-    /// Counts down to the stop before a sync; gives whether its moment has come.
+    /// Counts one sync, and returns whether the machine has to stop before it.
     pub fn comes_to_stop(&self) -> bool {
         let left = self.syncs_left.get();
         self.syncs_left.set(left.saturating_sub(1));

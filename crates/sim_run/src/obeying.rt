@@ -1,4 +1,4 @@
-//! Carrying out a command of a script.
+//! Carries out the commands of a script.
 
 use crate::answer::Answer;
 use crate::ending::Ending;
@@ -12,7 +12,7 @@ use std::alloc::Global;
 use std::sync::Wait;
 use wire::{Author, Digest, Message, Round, WireError};
 
-/// Carries out a command. A stop opens the node again.
+/// Carries out a command. At a stop the node is opened again.
 pub fn step<'a, R: Wait>(
     rt: &R,
     alloc: Global,
@@ -28,7 +28,7 @@ pub fn step<'a, R: Wait>(
     Ok((running, answer))
 }
 
-// Carries out a command that isn't a stop. A command that no node carries out is a bad one.
+// Carries out a command that isn't a stop. A line that is no such command is a bad one.
 fn obey<R: Wait>(
     rt: &R,
     alloc: Global,
@@ -53,7 +53,7 @@ fn obey<R: Wait>(
     }
 }
 
-// The answer to a command that only looks or collects; None for any other command.
+// The answer to a command that only asks or collects something; None for any other command.
 fn look<R: Wait>(rt: &R, running: &mut Running<'_>, command: &Command<'_>) -> Option<Answer> {
     match command {
         Command::Collect => Some(collect(rt, running)),
@@ -96,7 +96,7 @@ fn order<R: Wait>(rt: &R, running: &mut Running<'_>) -> Result<Answer, Ending> {
     }
 }
 
-// No header of a round above the limit has been voted for.
+// A round above the limit can't be one in which the node has voted.
 fn peek<R: Wait>(rt: &R, running: &mut Running<'_>, author: Author, round: u64) -> Option<Digest> {
     match Round::new(round) {
         Ok(round) => running.voted(rt, author, round),
@@ -113,7 +113,7 @@ fn kind_of(call: Call) -> CallKind {
     }
 }
 
-// The answer to the definition of a label.
+// The answer to a command that defines a label.
 fn answer_to(defined: Result<(), FormError>) -> Result<Answer, Ending> {
     match defined {
         Ok(()) => Ok(Answer::Nothing),
@@ -123,7 +123,7 @@ fn answer_to(defined: Result<(), FormError>) -> Result<Answer, Ending> {
     }
 }
 
-// Submits the message of a command. An allocation that fails for it is a refusal of the event.
+// Submits the message of a command to the node. A failed allocation is answered as a refusal of the event.
 fn submit<R: Wait>(
     rt: &R,
     alloc: Global,

@@ -1,4 +1,4 @@
-//! Playing a script, line by line.
+//! Plays a script, line by line.
 
 use crate::answer::Answer;
 use crate::ending::Ending;
@@ -14,11 +14,12 @@ use std::io::{self, Read, Write};
 use std::sync::Wait;
 use wire::{Output, Vote};
 
-/// Runs the script that is read, and writes a line for each command. Where several lines of the script are available, their answers may be
-/// written together, but always before more input is waited for. Gives the exit status: 0, or 2 after a bad line (which is reported to the
-/// errors), 3 where an allocation failed outside the handling of an event or more calls were set to fail than is possible at once, 4 where
-/// the journal couldn't be opened or had no room for a group that was to be stopped (which is that line's answer), 5 where a read or write
-/// failed, 6 after more lines than can be counted, 7 where a group was completely written though it was to be stopped.
+/// Runs a script and writes a line for each command. If several lines of the script can be read at once, their answers may be written
+/// together, but always before the run waits for more input. Returns the exit status. 0: the script was run to its end. 2: a line was bad,
+/// which is reported to the errors. 3: an allocation failed outside the handling of an event, or more calls were set to fail than is
+/// possible at once. 4: the journal couldn't be opened, or had no room for a group that was to be stopped (a line says so). 5: a read or
+/// write failed. 6: the script has more lines than can be counted. 7: a group was written as a whole although the machine was to stop in
+/// it.
 pub fn run<R: Wait, I: Read + Drop, W: Write, E: Write>(
     rt: &R,
     alloc: Global,
@@ -49,12 +50,12 @@ pub fn run<R: Wait, I: Read + Drop, W: Write, E: Write>(
     }
 }
 
-/// Both disks of the journal after a script; None where the script wasn't run to its end.
+/// Both disks of the journal as a script leaves them; None if the script wasn't run to its end.
 pub fn disks_after<R: Wait>(rt: &R, alloc: Global, script: &[u8]) -> Option<Disks> {
     Some(left_by(rt, alloc, script)?.disks)
 }
 
-/// The vote that may leave next after a script; None where the next output is another one or there is none, or the script wasn't run to its
+/// The vote that may leave next after a script. None if the next output is no vote, if there is none, or if the script wasn't run to its
 /// end.
 pub fn vote_after<R: Wait>(rt: &R, alloc: Global, script: &[u8]) -> Option<Vote> {
     match left_by(rt, alloc, script)?.output? {
@@ -69,7 +70,7 @@ fn left_by<R: Wait>(rt: &R, alloc: Global, script: &[u8]) -> Option<Left> {
     play(rt, alloc, &mut script, &mut io::sink(), &mut gathered).ok()
 }
 
-// The exit status after an ending before the script's end.
+// The exit status of a run that ended before its script.
 fn status_of(ending: &Ending) -> u8 {
     match ending {
         Ending::BadCommand => 2,
@@ -81,7 +82,7 @@ fn status_of(ending: &Ending) -> u8 {
     }
 }
 
-// Adds the line of the ending, if it has one.
+// Adds the line that reports why the run ended, if there is one for it.
 fn reported(gathered: &mut Gathered, ending: Ending) -> Ending {
     match ending {
         Ending::Fault(error) => match gathered.add_fault(&error) {
@@ -98,14 +99,14 @@ fn report_bad_line<E: Write>(alloc: Global, errors: &mut E, number: u64) {
     }
 }
 
-/// What is left after a script: both disks of the journal, and the next output that may leave.
+/// What a script leaves: both disks of the journal, and the next output that may leave the node.
 #[derive(Drop)]
 struct Left {
     disks: Disks,
     output: Option<Output>,
 }
 
-// Plays the lines. The node is opened at the first line that isn't a setting.
+// Plays the lines of a script. The node is opened at the first line that isn't a setting.
 fn play<R: Wait, I: Read + Drop, W: Write>(
     rt: &R,
     alloc: Global,
@@ -128,7 +129,7 @@ fn play<R: Wait, I: Read + Drop, W: Write>(
     obey_all(rt, alloc, running, script, writer, gathered)
 }
 
-// Reads the settings, up to a line that isn't one, if there is such a line.
+// Reads the settings at the beginning of a script, up to the first line that isn't one.
 fn read_settings<I: Read + Drop, W: Write>(
     alloc: Global,
     script: &mut Script<I>,
@@ -151,7 +152,7 @@ fn read_settings<I: Read + Drop, W: Write>(
     Err(Ending::TooLong)
 }
 
-// Carries out the line that was read last, and those that follow.
+// Carries out the line that was read last, and all lines after it.
 fn obey_all<R: Wait, I: Read + Drop, W: Write>(
     rt: &R,
     alloc: Global,
@@ -171,7 +172,7 @@ fn obey_all<R: Wait, I: Read + Drop, W: Write>(
     Err(Ending::TooLong)
 }
 
-// Carries out the line that was read last; gives whether another one follows.
+// Carries out the line that was read last. Returns whether another line follows.
 fn obey<'a, R: Wait, I: Read + Drop, W: Write>(
     rt: &R,
     alloc: Global,
@@ -189,7 +190,7 @@ fn obey<'a, R: Wait, I: Read + Drop, W: Write>(
     Ok((next, goes_on))
 }
 
-// Writes the answer, and reads the next line; gives whether there is one.
+// Writes the answer to a line, and reads the next line. Returns whether there is one.
 fn report<I: Read + Drop, W: Write>(
     script: &mut Script<I>,
     writer: &mut W,
@@ -201,7 +202,7 @@ fn report<I: Read + Drop, W: Write>(
     script.next(writer, gathered)
 }
 
-// What is left after the node has run.
+// What the script leaves once the node has run.
 fn left_of<R: Wait>(rt: &R, mut running: Running<'_>) -> Left {
     let output = running.collect(rt);
     let disks = running.into_disks();

@@ -1,4 +1,4 @@
-//! The simulated node.
+//! The simulated node: a shared node with its flusher, in one thread, on two disks in memory.
 
 ghost use Rattle.std.specs.Prelude.{◌≡◌, None, IfOk};
 ghost use Rattle.header.specs.Checks.{fault_of, accepts_all};
@@ -24,21 +24,21 @@ use std::sync::Wait;
 use validator::Config;
 use wire::{Author, Digest, Output, Round};
 
-/// The byte that a group has in all its places when a stop comes before its sync.
+/// The byte that stands at all places of a group if a stop comes while the group is written.
 const TORN_BYTE: u8 = 0xee;
 
-/// The numbers of the syncs in a round: of the group's body, and of its gate.
+/// The two syncs of a round, by number: after the group was written, and after its gate was opened.
 const BODY_SYNC: u64 = 1;
 
 const GATE_SYNC: u64 = 2;
 
-/// The number of the sync of a checkpoint's first gate. It follows those of the closed gate, of the cut and of the groups.
+/// Which sync of a checkpoint makes its first gate durable: the fourth, after those of the closed gate, of the cut and of the groups.
 const CHECKPOINT_SYNC: u64 = 4;
 
 /// Both disks of a machine, in the order of their areas.
 pub type Disks = (MemDisk, MemDisk);
 
-/// A node of a configuration, on both disks of a machine.
+/// The simulated node, on both disks of a machine.
 #[derive(Drop)]
 pub struct Running<'a> {
     config: &'a Config<HashSign>,
@@ -46,7 +46,7 @@ pub struct Running<'a> {
     node: Node<'a, HashSign>,
     seat: Seat,
     flusher: Flusher<StoppingDisk<'a>>,
-    // Whether a round or a checkpoint took the node down.
+    // Whether the node is down since a round or a checkpoint failed.
     is_down: bool,
 }
 
@@ -63,7 +63,7 @@ impl<'a> Model for Running<'a> {
 }
 
 impl<'a> Running<'a> {
-    /// Opens the node of a configuration on what is on both disks of a machine.
+    /// Opens the node of this configuration on what is on both disks of a machine.
     pub fn open(
         alloc: Global,
         config: &'a Config<HashSign>,
@@ -77,7 +77,7 @@ impl<'a> Running<'a> {
         Ok(Running::new(config, machine, started))
     }
 
-    /// Starts the node of a configuration on both disks of a machine, which are empty. Its journal begins in this version.
+    /// Starts the node of this configuration on both disks of a machine, which are empty. Its journal begins in this version of the format.
     pub fn begin(
         alloc: Global,
         config: &'a Config<HashSign>,
@@ -97,7 +97,7 @@ impl<'a> Running<'a> {
         }
     }
 
-    // The simulated node around what was started for this configuration.
+    // The simulated node, made of the parts that were started for this configuration.
     fn new(
         config: &'a Config<HashSign>,
         machine: &'a Machine,
@@ -124,7 +124,7 @@ impl<'a> Running<'a> {
         self.config.committee()
     }
 
-    /// Submits an event that passed the checks under the node's committee.
+    /// Submits an event that passed the checks of the node's committee.
     pub fn submit<R: Wait>(&mut self, rt: &R, event: Checked) -> Answer
         requires { fault_of self.old.charter accepts_all event ≡ None }
     {
@@ -135,27 +135,27 @@ impl<'a> Running<'a> {
         }
     }
 
-    /// The next output that may leave.
+    /// Takes the next output that may leave, if there is one.
     pub fn collect<R: Wait>(&mut self, rt: &R) -> Option<Output> {
         self.node.collect(rt, &mut self.seat)
     }
 
-    /// The order after the settled records.
+    /// The order that the settled records lead to.
     pub fn order<R: Wait>(&mut self, rt: &R) -> Result<Vec<Digest>, Refusal> {
         self.node.order(rt, &mut self.seat, 0)
     }
 
-    /// The round after all accepted records.
+    /// The node's round after all accepted records.
     pub fn round<R: Wait>(&mut self, rt: &R) -> u64 {
         self.node.round_now(rt, &mut self.seat)
     }
 
-    /// The digest of the header that the node voted for in a slot.
+    /// The digest of the header that the node voted for in this round and author; None if it has not voted there.
     pub fn voted<R: Wait>(&mut self, rt: &R, author: Author, round: Round) -> Option<Digest> {
         self.node.peek_voted(rt, &mut self.seat, author, round)
     }
 
-    /// How many records were accepted.
+    /// How many records the node has accepted.
     pub fn accepted(&mut self) -> u64 {
         self.node.accepted(&mut self.seat)
     }
@@ -165,19 +165,19 @@ impl<'a> Running<'a> {
         self.node.synced(&mut self.seat)
     }
 
-    /// Sets a call of this kind to fail: the one with this number from now on.
+    /// Lets a call of this kind fail: the one that comes as the `count`-th of its kind from now on.
     pub fn fail(&self, call: CallKind, count: u64) -> Result<(), Ending> {
         self.machine.fail(call, count)
     }
 
-    /// One round of the flusher.
+    /// Makes one round of the flusher: takes a group, appends it, and settles it. Returns how many records were settled.
     pub fn flush<R: Wait>(&mut self, rt: &R) -> Result<u64, FlushError> {
         let flushed = self.flusher.round(rt, &self.node, &mut self.seat);
         self.note(&flushed);
         flushed
     }
 
-    /// Rewrites the journal to a checkpoint of all accepted events, and gives the checkpoint's generation.
+    /// Rewrites the journal to a checkpoint of all accepted events, and returns the checkpoint's generation.
     #[tactic(auto, using(crate::proofs::Keeping::pair_kept))]
     pub fn checkpoint<R: Wait>(&mut self, rt: &R) -> Result<u64, FlushError> {
         let rewritten = self.flusher.checkpoint(rt, &self.node, &mut self.seat);
@@ -185,7 +185,7 @@ impl<'a> Running<'a> {
         rewritten
     }
 
-    // Notes whether a round or a checkpoint took the node down.
+    // Notes whether this outcome of a round or a checkpoint means that the node is down.
     fn note(&mut self, outcome: &Result<u64, FlushError>)
         ensures { self.new ≡ self.old }
     {
@@ -194,13 +194,13 @@ impl<'a> Running<'a> {
         }
     }
 
-    /// Gives both disks of the journal back.
+    /// Ends the node, and returns both disks of its journal.
     pub fn into_disks(self) -> Disks {
         let (first, second) = self.flusher.into_journal().into_disks();
         (first.into_memory(), second.into_memory())
     }
 
-    /// Stops the machine and opens the node again; gives how many records of events were found.
+    /// Stops the machine and opens the node again. Returns how many records of events were found.
     pub fn stop<R: Wait>(
         self,
         rt: &R,
@@ -218,7 +218,7 @@ impl<'a> Running<'a> {
         Ok((running, events))
     }
 
-    // Both disks, set so that the next stop leaves what this kind of stop says.
+    // Both disks of the node, set so that the next stop leaves what this kind of stop says.
     fn stopping_disks<R: Wait>(
         self,
         rt: &R,
@@ -237,8 +237,8 @@ impl<'a> Running<'a> {
         }
     }
 
-    // Both disks in the middle of a round, right before this sync of it, or at an earlier call that failed. If there is nothing to write,
-    // they are unchanged.
+    // Both disks in the middle of a round: right before this sync of it, or at an earlier call that failed. If there is nothing to write,
+    // they are as before.
     fn interrupted_round<R: Wait>(
         mut self,
         rt: &R,
@@ -254,8 +254,8 @@ impl<'a> Running<'a> {
         self.torn(alloc, flushed, byte)
     }
 
-    // Both disks in the middle of a checkpoint, right before the sync of its first gate, or at an earlier call that failed. If the node is
-    // down, they are unchanged.
+    // Both disks in the middle of a checkpoint: right before the sync of its first gate, or at an earlier call that failed. If the node is
+    // down, they are as before.
     fn interrupted_checkpoint<R: Wait>(
         mut self,
         rt: &R,
@@ -270,8 +270,8 @@ impl<'a> Running<'a> {
         self.torn(alloc, rewritten, byte)
     }
 
-    // Both disks after a round or a checkpoint that the machine's stop has ended. The next stop leaves this byte at each place that was
-    // written since the sync before.
+    // Both disks after the machine's stop has ended a round or a checkpoint. The next stop leaves this byte at each place that was written
+    // since the last sync.
     fn torn(
         self,
         alloc: Global,
@@ -291,7 +291,7 @@ impl<'a> Running<'a> {
     }
 }
 
-// Both disks, as disks of a machine that can stop.
+// Both disks, as disks of a machine that may stop before a sync.
 fn disks_of(machine: &Machine, disks: Disks) -> (StoppingDisk<'_>, StoppingDisk<'_>) {
     let (first, second) = disks;
     (
@@ -300,7 +300,7 @@ fn disks_of(machine: &Machine, disks: Disks) -> (StoppingDisk<'_>, StoppingDisk<
     )
 }
 
-// How many records of events the area has that is read, and the disks.
+// How many records of events the area has that is read. Also returns the disks.
 fn count_events(alloc: Global, disks: Disks) -> Result<(u64, Disks), Ending> {
     let (first, second) = disks;
     match Journal::open_pair(alloc, first, second) {
@@ -312,7 +312,7 @@ fn count_events(alloc: Global, disks: Disks) -> Result<(u64, Disks), Ending> {
     }
 }
 
-// Whether a record is an event's.
+// Whether a record holds an event, by its first byte.
 fn is_event(record: &&Record) -> bool {
     record.bytes.as_slice().first() == Some(&EVENT)
 }

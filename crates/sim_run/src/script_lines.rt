@@ -6,7 +6,7 @@ use sim_script::{Command, parse};
 use std::alloc::Global;
 use std::io::{self, BufRead, BufReader, Read, Write};
 
-/// A script, and its line that was read last.
+/// A script, of which the line that was read last is kept.
 #[derive(Drop)]
 pub struct Script<I: Read + Drop> {
     reader: BufReader<I>,
@@ -15,7 +15,7 @@ pub struct Script<I: Read + Drop> {
 }
 
 impl<I: Read + Drop> Script<I> {
-    /// A script of which no line was read.
+    /// A script of which no line was read yet.
     pub fn new(alloc: Global, reader: I) -> io::Result<Script<I>> {
         Ok(Script {
             reader: BufReader::new(alloc, reader)?,
@@ -24,18 +24,18 @@ impl<I: Read + Drop> Script<I> {
         })
     }
 
-    /// The number of the line, from 1 on; 0 before the first.
+    /// The number of the line that was read last, from 1 on; 0 before the first.
     pub fn number(&self) -> u64 {
         self.number
     }
 
-    /// The command of the line, if it is one.
+    /// The command in the line that was read last; None if the line is no command.
     pub fn command(&self) -> Option<Command<'_>> {
         parse(&self.line)
     }
 
-    /// Reads the next line, without its newline; `false` at the end. Writes the collected lines first if reading may wait, or if they are
-    /// many.
+    /// Reads the next line, without its newline; returns `false` at the end of the script. Before reading might wait, or if there are many
+    /// lines, the collected answers are written.
     pub fn next<W: Write>(
         &mut self,
         writer: &mut W,

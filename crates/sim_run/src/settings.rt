@@ -1,5 +1,5 @@
-//! The settings of a script: the limits and the stakes of the committee of four of which the simulator is member 0, and the version of its
-//! first journal.
+//! The settings of a script: limits and stakes of the committee of four in which the simulated node is member 0, and the format's version
+//! in which its first journal is written.
 
 use committee::{Committee, CommitteeError};
 use journal::Version;
@@ -9,7 +9,7 @@ use sim_script::{BATCHES, DEPTH, OWN, Setting, committee_file, signer};
 use std::alloc::{AllocError, Global};
 use validator::Config;
 
-/// The settings.
+/// The settings of a script so far.
 #[derive(Clone, Copy)]
 pub struct Settings {
     depth: u64,
@@ -29,7 +29,7 @@ impl Settings {
         }
     }
 
-    /// The settings with one more; None where it is out of its range, or where the version can't express the stakes.
+    /// These settings with one more set. None if it is out of its range, or if the version of the journal can't express the stakes.
     pub fn with(&self, alloc: Global, setting: Setting) -> Result<Option<Settings>, AllocError> {
         let mut settings = *self;
         match setting {
@@ -44,7 +44,7 @@ impl Settings {
         }
     }
 
-    /// The node's configuration; there is one if the settings are in their ranges.
+    /// The node's configuration with these settings; None if a setting is out of its range.
     pub fn config(&self, alloc: Global) -> Result<Option<Config<HashSign>>, AllocError> {
         match self.committee(alloc)? {
             Some(committee) => Ok(Config::new(committee, OWN, signer(OWN))),
@@ -52,7 +52,7 @@ impl Settings {
         }
     }
 
-    // The committee, if all settings are in their ranges.
+    // The committee with these settings; None if a setting is out of its range.
     fn committee(&self, alloc: Global) -> Result<Option<Committee>, AllocError> {
         let mut file = committee_file(alloc, self.depth, self.batches)?;
         let [first, second, third, fourth] = self.stakes;
@@ -64,7 +64,7 @@ impl Settings {
         }
     }
 
-    /// The version in which the first journal is written.
+    /// The version of the format in which the first journal is written.
     pub fn version(&self) -> Version {
         self.version
     }

@@ -1,4 +1,4 @@
-//! The line of an answer.
+//! Writes the line of an answer.
 
 use crate::answer::Answer;
 use sim_script::Labels;
@@ -6,7 +6,7 @@ use std::alloc::AllocError;
 use std::fmt::Write as _;
 use wire::{Author, Certificate, Digest, Output, VoteEntry, batch_digest, header_digest};
 
-/// Adds the line of an answer, if it has one.
+/// Adds the line of an answer, if the answer has one.
 pub fn add_line(lines: &mut String, labels: &Labels, answer: &Answer) -> Result<(), AllocError> {
     match answer {
         Answer::Nothing => Ok(()),
@@ -68,7 +68,7 @@ fn add_certificate(
     add_voters(lines, certificate.votes.as_slice())
 }
 
-// Adds the voters after a space, separated by commas, and a newline.
+// Adds a space, the numbers of the voters separated by commas, and a newline.
 fn add_voters(lines: &mut String, votes: &[VoteEntry]) -> Result<(), AllocError> {
     let mut mark = ' ';
     for vote in votes {
@@ -87,7 +87,7 @@ fn add_order(lines: &mut String, labels: &Labels, digests: &[Digest]) -> Result<
     add_labels(lines, labels, digests)
 }
 
-// Adds the labels of certificates, each after a space, and a newline.
+// Adds the labels of these certificates, each after a space, and a newline.
 fn add_labels(lines: &mut String, labels: &Labels, digests: &[Digest]) -> Result<(), AllocError> {
     for digest in digests {
         lines.push(' ')?;
@@ -96,7 +96,7 @@ fn add_labels(lines: &mut String, labels: &Labels, digests: &[Digest]) -> Result
     lines.push('\n')
 }
 
-// A batch without a label is shown as a dash. Whatever a script submits has one.
+// The label of a batch. A batch without a label would be shown as a dash, but whatever a script submits has one.
 fn batch_label<'a>(labels: &'a Labels, digest: &Digest) -> &'a str {
     labels.batch_name(digest).unwrap_or("-")
 }

@@ -1,4 +1,4 @@
-//! Starting a simulated node on its two disks.
+//! Starts a simulated node on its two disks.
 
 ghost use Rattle.std.specs.Prelude.{◌≡◌, [], Ok, IfOk, IsSome};
 ghost use Rattle.journal.specs.Areas.{stands_in};
@@ -18,10 +18,10 @@ use sigface::Sign;
 use std::alloc::Global;
 use validator::{Config, Validator};
 
-/// A node with its seat, and its flusher.
+/// A started node: the node with the caller's seat, and its flusher.
 pub type Started<'a, S, D> = (Node<'a, S>, Seat, Flusher<D>);
 
-/// Starts the node of a configuration on what is on both disks.
+/// Starts the node of this configuration on what is on both disks.
 pub fn start<'a, S: Sign, D: Disk + Drop>(
     alloc: Global,
     config: &'a Config<S>,
@@ -36,8 +36,8 @@ pub fn start<'a, S: Sign, D: Disk + Drop>(
     }
 }
 
-/// Starts a node on two empty disks, where the journal gets its first group in the first version. An opening would write the second
-/// version, and rewrite a journal that is in the first one.
+/// Starts a node on two empty disks, with a journal whose first group is in version 1 of the format. (An opening would write version 2, and
+/// would rewrite a journal in version 1.)
 pub fn start_in_first_version<'a, S: Sign, D: Disk + Drop>(
     alloc: Global,
     config: &'a Config<S>,
@@ -58,7 +58,7 @@ pub fn start_in_first_version<'a, S: Sign, D: Disk + Drop>(
     }
 }
 
-// The node on an empty journal on two disks, which gets its first group in the first version.
+// Opens an empty journal on two disks, writes its first group in version 1, and makes the node.
 fn begin_in_first_version<'a, S: Sign, D: Disk + Drop>(
     alloc: Global,
     config: &'a Config<S>,
@@ -77,7 +77,7 @@ fn begin_in_first_version<'a, S: Sign, D: Disk + Drop>(
     begin(alloc, validator, journal)
 }
 
-// The node over a validator and a journal on two disks that are in the same state.
+// The node made of a validator and a journal on two disks that are in the same state.
 fn begin<'a, S: Sign, D: Disk + Drop>(
     alloc: Global,
     validator: Validator<'a, S>,

@@ -9,7 +9,7 @@ ghost use Rattle.sim_run.specs.Stopping.{memory_of, faults_in};
 use crate::machine::Machine;
 use diskmodel::{Disk, DiskFault, MemDisk};
 
-/// A disk in memory of a machine. The sync before which the machine stops isn't made, and isn't counted as a failure.
+/// A disk in memory that belongs to a machine. The sync before which the machine stops isn't made, and the disk counts no failure for it.
 #[derive(Drop)]
 pub struct StoppingDisk<'a> {
     disk: MemDisk,
@@ -19,7 +19,7 @@ pub struct StoppingDisk<'a> {
 }
 
 impl<'a> StoppingDisk<'a> {
-    /// This disk, of this machine.
+    /// This disk in memory as a disk of this machine.
     pub fn new(disk: MemDisk, machine: &'a Machine) -> StoppingDisk<'a>
         ensures { memory_of result ≡ disk }
     {
@@ -30,7 +30,7 @@ impl<'a> StoppingDisk<'a> {
         }
     }
 
-    /// The disk in memory.
+    /// Takes the disk in memory out.
     pub fn into_memory(self) -> MemDisk
         ensures { result ≡ memory_of self.entry }
     {

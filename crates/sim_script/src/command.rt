@@ -1,22 +1,22 @@
-//! The lines of a script.
+//! The lines of a script as commands.
 
 use crate::words::{hex_byte, label, member, number, worker};
 use std::str;
 use wire::Author;
 
-/// The version of the journal that a script may set.
+/// The one version of the journal's format that a script may set: version 1. Without the setting it is version 2.
 const FIRST_VERSION: u64 = 1;
 
-/// A setting, which precedes all other commands.
+/// A setting. In a script, settings stand before all other commands.
 #[derive(Clone, Copy)]
 pub enum Setting {
-    /// The committee's depth.
+    /// The committee's depth, in rounds.
     Depth(u64),
     /// How many batches the node holds at most.
     Batches(u64),
     /// The stakes of the four members, in the order of their numbers.
     Stakes([u64; 4]),
-    /// The first journal is written in the format's first version.
+    /// The first journal is written in version 1 of the format.
     FirstVersion,
 }
 
@@ -29,7 +29,7 @@ pub struct Pack<'a> {
     pub author: Author,
     /// The worker that gathered the batch.
     pub worker: u16,
-    /// Its transactions in hexadecimal, separated by one space, as the script has them.
+    /// The batch's transactions in hexadecimal, separated by one space, as the script has them.
     pub transactions: &'a str,
 }
 
@@ -42,85 +42,85 @@ pub struct Form<'a> {
     pub author: Author,
     /// The round of the header, which may be above the limit.
     pub round: u64,
-    /// The labels of its parents, separated by commas, as the script has them.
+    /// The labels of the header's parents, separated by commas, as the script has them.
     pub parents: &'a str,
-    /// The labels of its batches, separated by commas, as the script has them.
+    /// The labels of the header's batches, separated by commas, as the script has them.
     pub batches: &'a str,
 }
 
 /// A kind of device call.
 #[derive(Clone, Copy)]
 pub enum Call {
-    /// A read.
+    /// A read of the disk.
     Read,
-    /// A write.
+    /// A write to the disk.
     Write,
-    /// A cut.
+    /// A cut of the disk to a length.
     Cut,
-    /// A sync.
+    /// A sync of the disk.
     Sync,
 }
 
-/// How the machine stops.
+/// What a stop of the machine leaves of the disks.
 #[derive(Clone, Copy)]
 pub enum Stopping {
-    /// The stop leaves the bytes of the last sync.
+    /// The stop leaves the bytes of the last sync: what was written later is lost.
     Lose,
-    /// The stop leaves all that a read gives.
+    /// The stop leaves all that a read would give: nothing is lost.
     Keep,
-    /// The stop comes while a group is written, before the group's sync.
+    /// The stop comes while a group is written, before the group is synced.
     Body,
-    /// The stop comes while a group's gate is written; the gate has this byte.
+    /// The stop comes while the gate before a group is opened; it leaves this byte in the gate.
     Gate(u8),
-    /// The stop comes while the first gate of a checkpoint is written; the gate has this byte.
+    /// The stop comes while the first gate of a checkpoint is opened; it leaves this byte in the gate.
     Checkpoint(u8),
 }
 
-/// A command.
+/// A command of a script.
 #[derive(Clone, Copy)]
 pub enum Command<'a> {
-    /// Sets the configuration.
+    /// Sets a part of the configuration.
     Set(Setting),
-    /// Defines a batch.
+    /// Defines a batch, and gives it a label.
     Pack(Pack<'a>),
-    /// Defines a header.
+    /// Defines a header, and gives it a label.
     Form(Form<'a>),
-    /// Submits the batch with a label, as from its author.
+    /// Submits the batch with this label to the node, with its author as the sender.
     Batch(&'a str),
-    /// Submits the header with a label, as from its author.
+    /// Submits the header with this label to the node, with its author as the sender.
     Header(&'a str),
-    /// Submits a member's acknowledgement of the batch with a label.
+    /// Submits a member's acknowledgement of the batch with this label.
     Ack { batch: &'a str, sender: Author },
-    /// Submits a member's vote on the header with a label.
+    /// Submits a member's vote on the header with this label.
     Vote { header: &'a str, voter: Author },
-    /// Submits the certificate of the header with a label, with the votes of these members, separated by commas, as the script has them.
+    /// Submits the certificate of the header with this label. `voters` lists the members whose votes it has, separated by commas.
     Cert { header: &'a str, voters: &'a str },
-    /// Submits the coin of a wave, which may be out of its range.
+    /// Submits the coin of a wave. The wave's number may be out of range.
     Coin { wave: u64, value: u64 },
-    /// One round of the flusher.
+    /// Makes one round of the flusher: pending records are written as a group, and settled.
     Flush,
     /// Rewrites the journal to a checkpoint of all accepted events.
     Checkpoint,
-    /// Gives the next output that may leave.
+    /// Takes the next output that may leave.
     Collect,
-    /// Gives the order after the settled records.
+    /// Shows the order that the settled records lead to.
     Order,
-    /// Gives the round after the accepted records.
+    /// Shows the node's round after all accepted records.
     Round,
-    /// Gives the vote in a slot.
+    /// Shows the digest that the node voted for in a round and author.
     Peek { author: Author, round: u64 },
-    /// How many records were accepted.
+    /// Shows how many records were accepted.
     Accepted,
-    /// How many of the accepted records are settled.
+    /// Shows how many of the accepted records are settled.
     Synced,
-    /// Sets a call of this kind to fail: the one with this number, counted from now on.
+    /// Lets a device call of this kind fail: the one that comes as the `count`-th of its kind from now on.
     Fail { call: Call, count: u64 },
-    /// Stops the machine and opens the node again.
+    /// Stops the machine, and opens the node again on what the stop left.
     Stop(Stopping),
 }
 
-/// The command of a line without its newline; None where the line has no command's shape. The elements of lists, and the transactions of a
-/// batch, are read when the command is carried out.
+/// Reads a line without its newline as a command. None if it doesn't have the form of one. The elements of lists, and the transactions of a
+/// batch, are read only when the command is carried out.
 pub fn parse(line: &[u8]) -> Option<Command<'_>> {
     let text = str::from_utf8(line).ok()?;
     if let Some(words) = text.strip_prefix("pack ") {
@@ -194,7 +194,7 @@ fn with_two<'a>(word: &str, first: &'a str, second: &'a str) -> Option<Command<'
     }
 }
 
-// A stop inside the write of a gate, which has this byte then.
+// Reads a stop that comes while a gate is opened, and leaves this byte there.
 fn torn_stopping_of(word: &str, byte: &str) -> Option<Stopping> {
     match word {
         "gate" => Some(Stopping::Gate(hex_byte(byte)?)),
@@ -203,7 +203,7 @@ fn torn_stopping_of(word: &str, byte: &str) -> Option<Stopping> {
     }
 }
 
-// A command of two words that submits a message.
+// Reads a command of a name and two words that submits a message.
 fn event_of<'a>(word: &str, first: &'a str, second: &'a str) -> Option<Command<'a>> {
     match word {
         "ack" => Some(Command::Ack {
@@ -236,7 +236,7 @@ fn setting_of(name: &str, value: &str) -> Option<Setting> {
     }
 }
 
-// The stakes of four members, separated by commas.
+// Reads the stakes of four members, separated by commas.
 fn stakes_of(value: &str) -> Option<[u64; 4]> {
     let (first, rest) = value.split_once(',')?;
     let (second, rest) = rest.split_once(',')?;
@@ -279,7 +279,7 @@ fn form_of<'a>(
     }))
 }
 
-// The words after `pack`.
+// Reads the words that come after `pack`.
 fn pack_of(words: &str) -> Option<Command<'_>> {
     let (name, words) = words.split_once(' ')?;
     let (author, words) = words.split_once(' ')?;

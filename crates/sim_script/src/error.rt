@@ -6,9 +6,9 @@ use wire::WireError;
 /// Why the message of a command can't be made.
 #[derive(Clone, Copy)]
 pub enum FormError {
-    /// A word or a label isn't valid there, or the label is taken already.
+    /// A word or a label isn't valid where it stands, or the label that is to be defined is defined already.
     BadCommand,
-    /// The first fault that reading the message's bytes would find, never `Memory`.
+    /// The first fault that decoding the message's bytes would find. It is never `Memory`.
     Unread(WireError),
     /// An allocation failed.
     Memory,

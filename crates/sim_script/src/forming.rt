@@ -1,4 +1,4 @@
-//! Making headers and batches from the words of a script.
+//! Makes headers and batches from the words of a script.
 
 ghost use Rattle.std.specs.Prelude.{◌≤◌, length, vec_len};
 
@@ -13,8 +13,8 @@ use wire::{
     Author, Batch, BatchReference, MAX_TRANSACTION_BYTES, OpenBatch, ParentReference, Round,
 };
 
-/// Defines the header of a form, with its batches sorted by digest. A bad word or label is reported before the first fault that reading the
-/// header's bytes would find; after either nothing is defined.
+/// Makes the header that a script describes, with its batches sorted by digest, and gives it its label. A bad word or label is reported
+/// before the first fault that decoding the header's bytes would find. In both cases nothing is defined.
 pub fn define_header(alloc: Global, labels: &mut Labels, form: &Form<'_>) -> Result<(), FormError> {
     if labels.is_taken(form.label) {
         return Err(FormError::BadCommand);
@@ -28,7 +28,7 @@ pub fn define_header(alloc: Global, labels: &mut Labels, form: &Form<'_>) -> Res
     Ok(())
 }
 
-// The certificates that a list of labels names.
+// The references to the certificates whose labels stand in a list.
 fn certificates_of(
     alloc: Global,
     labels: &Labels,
@@ -47,7 +47,7 @@ fn certificates_of(
     Ok(certificates)
 }
 
-// The batches that a list of labels names, sorted by digest.
+// The references to the batches whose labels stand in a list, sorted by digest.
 fn batches_of(
     alloc: Global,
     labels: &Labels,
@@ -77,7 +77,7 @@ fn reference_to(labels: &Labels, name: &str) -> Option<BatchReference> {
     }
 }
 
-/// Defines a batch; only its label where its transactions exceed a limit.
+/// Makes a batch and gives it its label. If its transactions exceed a limit, only the label is defined.
 pub fn define_batch(alloc: Global, labels: &mut Labels, pack: &Pack<'_>) -> Result<(), FormError> {
     if labels.is_taken(pack.label) {
         return Err(FormError::BadCommand);
@@ -99,7 +99,7 @@ fn transactions_of(alloc: Global, text: &str) -> Result<Vec<Vec<u8>>, FormError>
     Ok(transactions)
 }
 
-// The batch of these transactions; None where one of them or all together are too long.
+// The batch of these transactions. None if one of them is too long, or all together are.
 fn gather(
     alloc: Global,
     author: Author,

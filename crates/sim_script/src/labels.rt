@@ -1,4 +1,4 @@
-//! The labels that a script has defined.
+//! The labels that a script has given to headers and batches.
 
 use std::alloc::{AllocError, Global};
 use std::collections::BTreeMap;
@@ -7,25 +7,25 @@ use wire::{
     genesis_digest, header_digest,
 };
 
-/// A header with a label.
+/// A header that has a label.
 #[derive(Drop)]
 pub struct Proposed {
     /// The header.
     pub header: Header,
     /// The header's digest.
     pub digest: Digest,
-    /// The digest of its certificate.
+    /// The digest of the header's certificate.
     pub certificate: Digest,
 }
 
-/// A batch with a label.
+/// A batch that has a label.
 #[derive(Drop)]
 pub struct Packed {
-    /// The batch with its digest; None where its transactions exceed a limit, so that reading its message gives `TooMany`.
+    /// The batch and its digest. None if its transactions exceed a limit, so that no such message can be decoded (`TooMany`).
     pub batch: Option<(Batch, Digest)>,
 }
 
-/// The headers and the batches by label, and the first label of each digest.
+/// All headers and batches by their labels; and for each digest the first label that was given to it.
 pub struct Labels {
     alloc: Global,
     headers: BTreeMap<String, Proposed>,
@@ -49,7 +49,7 @@ impl Drop for Labels {
 }
 
 impl Labels {
-    /// Only the labels of the genesis certificates.
+    /// No labels except those of the genesis certificates, g0 to g3.
     pub fn new(alloc: Global) -> Labels {
         Labels {
             alloc,
@@ -61,17 +61,17 @@ impl Labels {
         }
     }
 
-    /// The header of this label.
+    /// The header with this label, if there is one.
     pub fn header(&self, name: &str) -> Option<&Proposed> {
         self.headers.get(name)
     }
 
-    /// The batch of this label.
+    /// The batch with this label, if there is one.
     pub fn batch(&self, name: &str) -> Option<&Packed> {
         self.batches.get(name)
     }
 
-    /// The certificate with a label: a genesis certificate, or that of a header.
+    /// A reference to the certificate with this label: a genesis certificate, or that of the header with the label.
     pub fn parent(&self, name: &str) -> Option<ParentReference> {
         if let Some(author) = genesis_author(name) {
             return Some(ParentReference {
@@ -86,27 +86,27 @@ impl Labels {
         })
     }
 
-    /// The first label of the header with this digest.
+    /// The first label that was given to the header with this digest.
     pub fn header_name(&self, digest: &Digest) -> Option<&str> {
         Some(self.header_names.get(digest)?.as_str())
     }
 
-    /// The first label of the header whose certificate has this digest.
+    /// The first label that was given to the header whose certificate has this digest.
     pub fn certificate_name(&self, digest: &Digest) -> Option<&str> {
         Some(self.certificate_names.get(digest)?.as_str())
     }
 
-    /// The first label of the batch with this digest.
+    /// The first label that was given to the batch with this digest.
     pub fn batch_name(&self, digest: &Digest) -> Option<&str> {
         Some(self.batch_names.get(digest)?.as_str())
     }
 
-    // Whether a label is taken, possibly by a genesis certificate.
+    // Whether a label is defined already, or is that of a genesis certificate.
     pub(crate) fn is_taken(&self, name: &str) -> bool {
         genesis_author(name).is_some() || self.header(name).is_some() || self.batch(name).is_some()
     }
 
-    // Defines a label, which isn't taken, for a header.
+    // Gives a header this label, which isn't defined yet.
     pub(crate) fn define_header(&mut self, name: &str, header: Header) -> Result<(), AllocError> {
         let (digest, certificate) = digests_of(&header);
         add_first(self.alloc, &mut self.header_names, digest, name)?;
@@ -123,7 +123,7 @@ impl Labels {
         Ok(())
     }
 
-    // Defines a label, which isn't taken, for a batch, or for transactions that exceed a limit.
+    // Gives this label, which isn't defined yet, to a batch, or to transactions that exceed a limit.
     pub(crate) fn define_batch(
         &mut self,
         name: &str,
@@ -139,7 +139,7 @@ impl Labels {
     }
 }
 
-// Keeps the label of a digest that has none yet.
+// Keeps this label for a digest, unless the digest has one.
 fn add_first(
     alloc: Global,
     names: &mut BTreeMap<Digest, String>,
@@ -165,7 +165,7 @@ fn with_digest(batch: Batch) -> (Batch, Digest) {
     (batch, digest)
 }
 
-// The author of a genesis certificate's label: g0 to g3.
+// The author of the genesis certificate with this label: g0 to g3.
 fn genesis_author(name: &str) -> Option<Author> {
     match name.as_bytes() {
         [b'g', digit @ b'0'..=b'3'] => Some(Author(u16::from(*digit - b'0'))),

@@ -1,5 +1,5 @@
-//! The language of scripts: its commands, the labels that they define, the messages that the labels stand for, signed by the test pair, and
-//! the committee in which scripts play.
+//! The language of the simulator's scripts: its commands, the labels that they define, the messages that the labels stand for (signed with
+//! the keys of the tests), and the committee in which a script plays.
 #![tactic(auto)]
 
 mod command;

@@ -1,4 +1,4 @@
-//! The messages that commands submit, each with its sender.
+//! Makes the messages that commands submit, each with its sender.
 
 use crate::command::Command;
 use crate::error::FormError;
@@ -8,11 +8,11 @@ use crate::signing::{certificate, vote};
 use std::alloc::Global;
 use wire::{Author, BatchAck, Coin, Message, Wave, WireError};
 
-/// The member that sends certificates.
+/// The member that sends all certificates of a script.
 const CERTIFIER: Author = Author(1);
 
-/// The sender and the message of a command that submits one; an error for any other command. Coins are sent by `OWN`, certificates by
-/// member 1.
+/// The sender and the message of a command that submits one; an error for any other command. Coins come from the node's own member, and
+/// certificates from member 1.
 pub fn message_of(
     alloc: Global,
     labels: &Labels,
@@ -35,7 +35,7 @@ fn batch_of(labels: &Labels, label: &str) -> Result<(Author, Message), FormError
     };
     match &packed.batch {
         Some((batch, _)) => Ok((batch.author(), Message::Batch(batch.share()?))),
-        // The transactions of the batch exceed a limit.
+        // The batch has only a label, since its transactions exceed a limit.
         None => Err(FormError::Unread(WireError::TooMany)),
     }
 }

@@ -1,4 +1,4 @@
-//! What the members sign, with the test pair.
+//! Signs votes and certificates of a script's members, with the keys of the tests.
 
 ghost use Rattle.std.specs.Prelude.{◌≤◌, length, vec_len};
 
@@ -9,13 +9,13 @@ use sigface::{HashSign, Sign};
 use std::alloc::{AllocError, Global};
 use wire::{Author, Certificate, Key, MAX_VOTES, Vote, VoteEntries, VoteEntry, WireError};
 
-/// The signer of a member, or of any other number in a script: its key is the byte of that number plus 1, 32 times.
+/// The signer of a member: its key is one byte, the member's number plus 1, 32 times. Any other number in a script has a signer too.
 pub fn signer(author: Author) -> HashSign {
     let [_, low] = author.0.to_be_bytes();
     HashSign::new(Key([low.wrapping_add(1); 32]))
 }
 
-/// The vote of a member on a header.
+/// The vote of this member on a header, with its signature.
 pub fn vote(proposed: &Proposed, voter: Author) -> Vote {
     Vote {
         header: proposed.digest,
@@ -26,7 +26,7 @@ pub fn vote(proposed: &Proposed, voter: Author) -> Vote {
     }
 }
 
-/// The certificate of a header, with the votes of the members in a list of a script.
+/// The certificate of a header, with the votes of the members that a script lists.
 pub fn certificate(
     alloc: Global,
     proposed: &Proposed,
@@ -40,7 +40,7 @@ pub fn certificate(
     })
 }
 
-// The members in a list of a script.
+// Reads the members that a script lists, separated by commas.
 fn voters_of(alloc: Global, text: &str) -> Result<Vec<Author>, FormError> {
     let mut voters = Vec::new(alloc);
     if text == "-" {
@@ -55,7 +55,7 @@ fn voters_of(alloc: Global, text: &str) -> Result<Vec<Author>, FormError> {
     Ok(voters)
 }
 
-// The votes, which are few enough and in ascending order.
+// The votes of these members, who are few enough for a certificate and in ascending order.
 fn votes_of(
     alloc: Global,
     proposed: &Proposed,

@@ -18,25 +18,25 @@ use Rattle.header.specs.declared.admission.Admission.{Admission}
 use Rattle.header.specs.declared.admission.Admission.TheVariants.{Refused}
 use Rattle.header.specs.declared.refusal.Refusal.TheVariants.{MissingParents}
 
--- ---- what an event is for a slot, a batch or a header
+-- ---- what an event means for a slot (a round and an author), a batch or a header
 
--- the header in a message, if the message is a header of this slot
+-- the header in a message, if the message is a header of this round and author
 abbrev pub header_at : Message → ℕ → ℕ → Option Header
 header_at (message.Header header) round author = if is_of_slot round author header.body then Some header else None
 header_at _ round author = None
 
--- the vote that a new message adds on the own header of a round: the vote that it is, or, of an own header, the node's own vote
+-- the vote that a new message adds on the own header of this round: the vote that it is, or the node's own vote if it is the own header
 abbrev pub vote_at : Node → Message → ℕ → ℕ → Option Vote
 vote_at node (message.Vote vote) round voter = if (vote.round == round) && (vote.voter.0 == voter) then Some vote else None
 vote_at node (message.Header header) round voter =
     if is_of_slot round node.own.0 header.body && (voter == node.own.0) then Some (own_vote node header.body) else None
 vote_at node _ round voter = None
 
--- a message acknowledges the batch of a digest for a member
+-- the message is this member's acknowledgement of the batch with this digest
 abbrev pub acknowledges : Message → Digest → ℕ → Bool
 acknowledges message digest member = list_any (λ ack. same_digest ack.batch digest && (ack.author.0 == member)) (option_to_list (as_ack message))
 
--- a message is an own header that names the batch of a digest
+-- the message is an own header that names the batch with this digest
 abbrev pub names : Node → Message → Digest → Bool
 names node message digest =
     list_any (λ header. (header.body.author.0 == node.own.0) && list_any (λ named. same_digest named.digest digest) header.body.batches)
@@ -44,35 +44,35 @@ names node message digest =
 
 -- ---- the state after a new event
 
--- the votes that count after a new message
+-- the votes that count after a new message, by round and voter
 abbrev pub counted_with : Node → State → Message → ℕ → ℕ → Option Vote
 counted_with node state message round voter = option_or (state.counted round voter) (vote_at node message round voter)
 
--- the certificate that a new message adds: the one that it is, or the one that it completes as a vote
+-- the certificate that a new message adds: the one that it is, or the one that it completes because it is a vote; None if it adds none
 abbrev pub certificate_of : Node → State → Message → Option Certificate
 certificate_of node state (message.Certificate certificate) = Some certificate
 certificate_of node state (message.Vote vote) =
     option_and_then (certificate_by node (counted_with node state (message.Vote vote) vote.round)) (state.own_headers vote.round)
 certificate_of node state _ = None
 
--- the slots with one more certificate; a slot that is filled already stays as it is
+-- the certificate of each round and author after one more certificate came; where there is one already it stays
 abbrev pub slots_with : Slots → Option Certificate → Slots
 slots_with slots certificate round author = option_or (slots round author) (slots_of (option_to_list certificate) round author)
 
--- the greatest round of a certificate, with one certificate more
+-- the greatest round of a certificate after one more certificate came
 abbrev pub highest_with : ℕ → Option Certificate → ℕ
 highest_with highest certificate = option_map_or (λ c. max highest c.header.round) certificate highest
 
--- the last committed leader
+-- the last leader that is committed, if there is one
 abbrev pub last_leader : Ledger → Option Certificate
 last_leader ledger = option_and_then (leader ledger) (top ledger)
 
--- what the leaders order that are newer than the last one committed before
+-- the digests that the order gains between two ledgers: what the leaders order that are committed in the later one only
 abbrev pub newly_ordered : Ledger → Ledger → List Digest
 newly_ordered before later =
     map (λ c. certificate_digest c.header) (segments later (last_leader before) (newer later (last_wave before)))
 
--- a state with all that a new message adds
+-- a state with all that a new message adds; nothing is dropped yet
 abbrev pub grown : Node → State → Message → State
 grown node state message = record {
   batches = state.batches ++ option_to_list (as_batch message);
@@ -88,15 +88,15 @@ grown node state message = record {
       (ledger_of node (slots_with state.slots (certificate_of node state message)) (state.coins ++ option_to_list (as_coin message)));
 }
 
--- the state after a new event: all that the event adds, and then without what falls below the new floor
+-- the state after a new event: all that the event adds is there, and what is below the new floor is dropped
 abbrev pub after : Node → State → Event → State
 after node state event = collected node (grown node state event.message)
 
--- the answer to an event at a state
+-- the answer of a node to an event at this state
 abbrev pub answered : Node → State → Event → Admission
 answered node state event = answer node state (grown node state event.message) event
 
--- the state of a node that has taken no event: it holds the genesis certificates only
+-- the state of a node that has taken no event: it has the genesis certificates and nothing else
 abbrev pub fresh : Node → State
 fresh node = record {
   batches = [];
@@ -113,24 +113,24 @@ fresh node = record {
 
 -- ---- rounds and proposals
 
--- the greatest round up to a given one of which a quorum of authors has certificates, or 0
+-- the greatest round up to a given one that has certificates by a quorum of authors; 0 if there is none
 abbrev pub full_to : Node → Slots → ℕ → ℕ
 full_to node slots zero = 0
 full_to node slots (suc round) = if is_full node slots (suc round) then suc round else full_to node slots round
 
--- the node's round
+-- the round in which a node is
 abbrev pub round_in : Node → State → ℕ
 round_in node state = 1 + full_to node state.slots state.highest
 
--- the header that the node proposes
+-- the header that a node proposes at this state, if it proposes one
 abbrev pub proposed : Node → State → Option Header
 proposed node state = propose_of node state (round_in node state)
 
--- an answer says that parents are missing
+-- the answer says that parents are missing
 abbrev pub is_missing_parents : Admission → Bool
 is_missing_parents (Refused MissingParents) = true
 is_missing_parents _ = false
 
--- an event is ready to be taken: its answer isn't that parents are missing
+-- an event can be answered without waiting: the answer isn't that parents are missing
 abbrev pub is_ready : Node → State → Event → Bool
 is_ready node state event = not (is_missing_parents (answered node state event))

@@ -1,4 +1,4 @@
--- When a node can go on from a state, whoever wrote it down.
+-- Sound states: those from which a node can go on, whoever wrote them down.
 use Rattle.std.specs.Prelude.{◌≡◌, ◌≢◌, ◌<◌, ◌≤◌, ◌↔◌, ◌⊎◌, ◌^◌, ℕ, ◌==◌, ◌&&◌, not, Bool, true, false, [], length, All, AllPairs, Some, None, is_some, option_map}
 use Rattle.wire.specs.Fields.{IsDigest, IsRound, IsSignature}
 use Rattle.wire.specs.declared.message.Message.TheVariants as message
@@ -11,8 +11,8 @@ use Rattle.spec_model.specs.Slots.{same_digest, header_digest, is_of_slot}
 use Rattle.spec_model.specs.States.{State, has_own_batch, ledger_in, floor_in}
 use Rattle.spec_model.specs.Words.{Certificate, Digest, Header, Vote}
 
--- each batch passes the checks as one from its author, no digest occurs twice, and there are no more batches than the committee
--- allows; only own batches have acknowledgements, which are of other members, or are named
+-- The batches of a sound state. Each passes the checks as one from its author; no digest occurs twice; there are no more than the committee
+-- allows. Only own batches are named or have acknowledgements, which are of other members.
 pub record AreBatches (node : Node) (state : State) : Type 0 where
   pub passed : All (λ batch. IsTaken node (record { sender = batch.author; message = message.Batch batch })) state.batches
   pub distinct : AllPairs (λ one other. same_digest (batch_digest one) (batch_digest other) ≡ false) state.batches
@@ -21,7 +21,8 @@ pub record AreBatches (node : Node) (state : State) : Type 0 where
   pub by_members : (digest : Digest) (member : ℕ) → state.acked digest member ≡ true → (member < size_of node) × (member ≢ node.own.0)
   pub named : (digest : Digest) → state.named digest ≡ true → has_own_batch node state digest ≡ true
 
--- a header is the node's own of a round that isn't low: it passes the checks, its parents are held, and the node's vote on it counts
+-- A header of a sound state is the node's own, of a round that isn't low. It passes the checks, its parents are held, and the node's own
+-- vote on it counts
 pub record IsOwnHeader (node : Node) (state : State) (round : ℕ) (header : Header) : Type 0 where
   pub place : is_of_slot round node.own.0 header.body ≡ true
   pub passed : IsTaken node (record { sender = node.own; message = message.Header header })
@@ -29,7 +30,7 @@ pub record IsOwnHeader (node : Node) (state : State) (round : ℕ) (header : Hea
   pub held : all_held state.slots (floor_in node state) header.body ≡ true
   pub voted : state.counted round node.own.0 ≡ Some (own_vote node header.body)
 
--- a vote that counts is a member's on the own header of the round
+-- a vote that counts in a sound state is a member's vote on the own header of its round
 pub record IsCounted (node : Node) (state : State) (round voter : ℕ) (vote : Vote) : Type 0 where
   pub header : Header
   pub held : state.own_headers round ≡ Some header
@@ -37,12 +38,12 @@ pub record IsCounted (node : Node) (state : State) (round voter : ℕ) (vote : V
   pub member : voter < size_of node
   pub signature : IsSignature vote.signature
 
--- a member's vote counts
+-- this member has a vote that counts in this round
 abbrev pub counts : State → ℕ → ℕ → Bool
 counts state round voter = is_some (state.counted round voter)
 
--- the votes on a round's own header were completed by one of them: the round's own slot holds the header's certificate, and without
--- that vote they weigh less than a quorum
+-- One of the votes completed the certificate of an own header: the certificate is there, and without that vote the others weigh less than a
+-- quorum.
 pub record IsCompleted (node : Node) (state : State) (round : ℕ) (header : Header) : Type 0 where
   pub certificate : Certificate
   pub held : state.slots round node.own.0 ≡ Some certificate
@@ -52,8 +53,8 @@ pub record IsCompleted (node : Node) (state : State) (round : ℕ) (header : Hea
   pub counted : counts state round last ≡ true
   pub short : weight node.charter (λ voter. counts state round voter && not (voter == last)) < quorum node
 
--- votes are for members, in rounds that aren't low; the one for the node itself is for its own header. Own headers and the votes on
--- them are well formed, and these votes weigh a quorum only where one of them completed a certificate
+-- The votes of a sound state. The node's votes are for members, in rounds that aren't low; its vote for itself is for its own header. Own
+-- headers and the votes on them are well formed; and if these votes weigh a quorum, one of them has completed the certificate.
 pub record AreVotes (node : Node) (state : State) : Type 0 where
   pub high : (round author : ℕ) (digest : Digest) → state.votes round author ≡ Some digest → is_low (floor_in node state) round ≡ false
   pub for_members : (round author : ℕ) (digest : Digest) → state.votes round author ≡ Some digest → author < size_of node
@@ -65,14 +66,14 @@ pub record AreVotes (node : Node) (state : State) : Type 0 where
   pub complete : (round : ℕ) (header : Header) → state.own_headers round ≡ Some header
       → quorum node ≤ weight node.charter (counts state round) → IsCompleted node state round header
 
--- a certificate above the genesis passes the checks, and its parents are held
+-- a certificate of a round above 0 in a sound state passes the checks, and its parents are held
 pub record IsReceived (node : Node) (state : State) (certificate : Certificate) : Type 0 where
   pub above : 0 < certificate.header.round
   pub passed : IsTaken node (record { sender = node.own; message = message.Certificate certificate })
   pub held : all_held state.slots (floor_in node state) certificate.header ≡ true
 
--- each certificate is in its slot, at or above the floor; above the genesis it passes the checks. At floor 0 all genesis certificates
--- are there, and the greatest round is one of a certificate
+-- The certificates of a sound state. Each stands at its round and author, at or above the floor; those above round 0 pass the checks. At
+-- floor 0 all genesis certificates are there. The greatest round is that of some certificate
 pub record AreCertificates (node : Node) (state : State) : Type 0 where
   pub placed : (round author : ℕ) (c : Certificate) → state.slots round author ≡ Some c → is_of_slot round author c.header ≡ true
   pub above : (round author : ℕ) (c : Certificate) → state.slots round author ≡ Some c → floor_in node state ≤ round
@@ -82,7 +83,8 @@ pub record AreCertificates (node : Node) (state : State) : Type 0 where
   pub highest : (round author : ℕ) (c : Certificate) → state.slots round author ≡ Some c → round ≤ state.highest
   pub reached : (author : ℕ) × (c : Certificate) × (state.slots state.highest author ≡ Some c)
 
--- a sound state: all of the above; coins fit 64 bits, the order has digests only, and is empty exactly where no leader is committed
+-- a state is sound: batches, votes and certificates are as above; coins fit 64 bits; the order has digests, and has none if and only if no
+-- leader is committed
 pub record IsSound (node : Node) (state : State) : Type 0 where
   pub batches : AreBatches node state
   pub votes : AreVotes node state

@@ -23,36 +23,36 @@ use Rattle.header.specs.declared.admission.Admission.TheVariants.{New, Known, Re
 use Rattle.header.specs.declared.refusal.Refusal.TheVariants.{TooOld, MissingParents, MissingBatch, Equivocation, CertConflict, DigestClash}
 use Rattle.header.specs.declared.refusal.Refusal.TheVariants.{AlreadyProposed, NotOurs, CoinOutOfTurn, CoinEarly, CoinConflict, StoreFull}
 
--- an author is the node itself
+-- an author is the node's own member
 abbrev pub is_own : Node → Author → Bool
 is_own node author = author.0 == node.own.0
 
--- ---- what is given out
+-- ---- the outputs that an event makes
 
--- an own batch goes to all members; for another member's batch an acknowledgement goes to its author
+-- the output for a batch: an own batch goes to all members; for another member's batch, an acknowledgement goes to its author
 abbrev pub batch_outputs : Node → BatchView → List Output
 batch_outputs node batch =
     (if is_own node batch.author then output.Batch batch
     else output.Ack batch.author (record { author = node.own; batch = batch_digest batch })) ∷ []
 
--- an own header goes to all members; for another member's header the node's vote goes to its author
+-- the output for a header: an own header goes to all members; for another member's header, the node's vote goes to its author
 abbrev pub header_outputs : Node → Header → List Output
 header_outputs node header =
     (if is_own node header.body.author then output.Header header else output.Vote (own_vote node header.body)) ∷ []
 
--- the pieces of what the order has gained from one state to a later one
+-- the outputs that have, in pieces, what the order has gained between two states
 abbrev pub order_outputs : State → State → List Output
 order_outputs now later = pieces (length now.order) (drop (length now.order) later.order)
 
 -- ---- the answers
 
--- one case of a table: if the look-up finds something, that decides the answer; otherwise the cases after it do
+-- one case of a table of answers: if the look-up finds something, that decides the answer; otherwise the cases after it do
 infixr 5 when◌gives◌else◌
 abbrev pub when◌gives◌else◌ : {X : Type 0} → Option X → (X → Admission) → Admission → Admission
 when Some held gives answer else others = answer held
 when None gives answer else others = others
 
--- the answer to a batch where a batch of its digest is held already
+-- the answer to a batch if a batch with the same digest is held already
 abbrev pub held_batch_answer : Node → BatchView → BatchView → Admission
 held_batch_answer node held batch =
     if bytes_eq (batch_body held) (batch_body batch) then Known (batch_outputs node held) else Refused DigestClash
@@ -69,24 +69,24 @@ ack_answer node now ack =
     else if is_own node ack.author || now.acked ack.batch ack.author.0 then Known []
     else New []
 
--- a header may name a batch: it is held with that worker, and for an own header it is available
+-- a header may name this batch: it is held with that worker; and if the header is an own one, the batch is available to others
 abbrev pub may_name : Node → State → Header → BatchReference → Bool
 may_name node now header named =
     option_map_or (λ batch. batch.worker == named.worker) (batch_in now named.digest) false
     && (not (is_own node header.body.author) || is_available node now named.digest)
 
--- the answer to an own header where its round has an own header already
+-- the answer to an own header if the node already has an own header of its round
 abbrev pub held_header_answer : Node → Header → Header → Admission
 held_header_answer node held header =
     if same_digest (header_digest held.body) (header_digest header.body) then Known (header_outputs node held)
     else Refused AlreadyProposed
 
--- the answer to another member's header where the node has already voted in its slot, for this digest
+-- the answer to another member's header if the node has already voted for this digest in the header's round and author
 abbrev pub voted_answer : Node → Digest → Header → Admission
 voted_answer node voted header =
     if same_digest voted (header_digest header.body) then Known (header_outputs node header) else Refused Equivocation
 
--- the answer to a header whose slot has an own header or the node's vote already; None where it has neither
+-- the answer to a header if the node has an own header or a vote for its round and author already; None if it has neither
 abbrev pub known_header_answer : Node → State → Header → Option Admission
 known_header_answer node now header =
     if is_own node header.body.author then option_map (λ held. held_header_answer node held header) (now.own_headers header.body.round)
@@ -100,17 +100,17 @@ header_answer node now header =
     else if not (list_all (may_name node now header) header.body.batches) then Refused MissingBatch
     else New (header_outputs node header)
 
--- the outputs of a new vote on the own header of a round: the certificate that it completes, if any, and what that adds to the order
+-- the outputs of a new vote on the own header of a round: the certificate if the vote completes it, and what that adds to the order
 abbrev pub vote_outputs : Node → State → State → ℕ → List Output
 vote_outputs node now later round =
     map output.Certificate (option_to_list (completed_at node later round)) ++ order_outputs now later
 
--- the answer to a vote where an own certificate of its round is held
+-- the answer to a vote if the certificate of an own header of its round is held
 abbrev pub held_answer : Certificate → Vote → Admission
 held_answer held vote =
     if same_digest (header_digest held.header) vote.header then Known (output.Certificate held ∷ []) else Refused CertConflict
 
--- the answer to a vote where there is an own header of its round
+-- the answer to a vote if there is an own header of its round
 abbrev pub own_header_answer : Node → State → State → Header → Vote → Admission
 own_header_answer node now later header vote =
     if not (same_digest (header_digest header.body) vote.header) then Refused NotOurs
@@ -125,11 +125,11 @@ vote_answer node now later vote =
     else when now.own_headers vote.round gives (λ header. own_header_answer node now later header vote)
     else Refused NotOurs
 
--- two references name the same batch and worker
+-- two references to batches name the same batch and worker
 abbrev pub same_batch : BatchReference → BatchReference → Bool
 same_batch one other = same_digest one.digest other.digest && (one.worker == other.worker)
 
--- two references name the same certificate
+-- two references to parents name the same certificate
 abbrev pub same_parent : ParentReference → ParentReference → Bool
 same_parent one other = (one.author.0 == other.author.0) && same_digest one.certificate other.certificate
 
@@ -138,7 +138,7 @@ same_header one other =
     ((one.author.0 == other.author.0) && (one.round == other.round))
     && (pointwise same_batch one.batches other.batches && pointwise same_parent one.parents other.parents)
 
--- the answer to a certificate where its slot holds one already
+-- the answer to a certificate if one of its round and author is held already
 abbrev pub held_certificate_answer : Certificate → Certificate → Admission
 held_certificate_answer held certificate =
     if not (same_digest (certificate_digest held.header) (certificate_digest certificate.header)) then Refused CertConflict
@@ -160,7 +160,7 @@ coin_answer node now later sender coin =
     else if not (is_full node now.slots (2 * coin.wave + 1)) then Refused CoinEarly
     else New (order_outputs now later)
 
--- the answer to an event, from the state before it and the state with it
+-- the answer to an event, given the state before the event and the state with it
 abbrev pub answer : Node → State → State → Event → Admission
 answer node now later event = on event.message
   where
@@ -172,17 +172,17 @@ answer node now later event = on event.message
     on (message.Certificate certificate) = certificate_answer node now later certificate
     on (message.Coin coin) = coin_answer node now later event.sender coin
 
--- the answer to an event that comes after this history
+-- the answer to an event that comes right after this history
 abbrev pub admit : Node → History → Event → Admission
 admit node history event = answer node (whole node history) (whole node (history ++ event ∷ [])) event
 
 -- ---- runs
 
--- the history after an event: a new event is appended, any other changes nothing
+-- the history after an event: a new event is appended; any other one changes nothing
 abbrev pub history_after : Node → History → Event → History
 history_after node history event = if is_new (admit node history event) then history ++ event ∷ [] else history
 
--- the answers to events that come one after the other
+-- the answers to these events, which come one after the other after this history
 abbrev pub answers : Node → History → List Event → List Admission
 answers node history [] = []
 answers node history (event ∷ events) = admit node history event ∷ answers node (history_after node history event) events
@@ -192,12 +192,12 @@ abbrev pub each_new : Node → History → List Event → Bool
 each_new node history [] = true
 each_new node history (event ∷ events) = is_new (admit node history event) && each_new node (history ++ event ∷ []) events
 
--- an event that a node can take: a message within all limits that passes the checks, whatever its signatures
+-- an event that a node can take: its message is within all limits, and passes the checks without those of signatures
 pub record IsTaken (node : Node) (event : Event) : Type 0 where
   pub message : IsMessage event.message
   pub passed : fault_of node.charter accepts_all event ≡ None
 
--- a history is legal: each event could be taken, and was new after the events before it
+-- a history is legal: each of its events can be taken, and is new after the events before it
 pub record IsLegal (node : Node) (history : History) : Type 0 where
   pub sound : IsNode node
   pub taken : All (IsTaken node) history

@@ -1,4 +1,4 @@
--- A history: the events of a node, the oldest first, and what it has of each kind.
+-- A history: the events that a node accepted, the oldest first; and what it has of each kind of message.
 use Rattle.std.specs.Prelude.{ℕ, List, filter_map, Option, Some, None}
 use Rattle.wire.specs.declared.message.Message.TheVariants as message
 use Rattle.spec_model.specs.Words.{BatchAck, Certificate, BatchView, Event, Header, Message, Vote}
@@ -6,7 +6,7 @@ use Rattle.spec_model.specs.Words.{BatchAck, Certificate, BatchView, Event, Head
 abbrev pub History : Type 0
 History = List Event
 
--- the message as a value of this kind, or None where it is of another kind
+-- the message as a value of the kind that the name says; None if it is of another kind
 abbrev pub as_batch : Message → Option BatchView
 as_batch (message.Batch batch) = Some batch
 as_batch _ = None
@@ -34,22 +34,22 @@ as_coin _ = None
 abbrev pub batches : History → List BatchView
 batches history = filter_map (λ event. as_batch event.message) history
 
--- the acknowledgements of batches
+-- the acknowledgements of batches in a history
 abbrev pub acks : History → List BatchAck
 acks history = filter_map (λ event. as_ack event.message) history
 
--- the headers, own ones too: each is a vote for its author and round
+-- the headers in a history, own ones too. Each stands for the node's vote for its round and author
 abbrev pub headers : History → List Header
 headers history = filter_map (λ event. as_header event.message) history
 
--- the votes that came in, which in a legal history are on own headers
+-- the votes that came in; in a legal history these are votes on own headers
 abbrev pub votes : History → List Vote
 votes history = filter_map (λ event. as_vote event.message) history
 
--- the certificates that came in
+-- the certificates that came in, as messages
 abbrev pub received : History → List Certificate
 received history = filter_map (λ event. as_certificate event.message) history
 
--- the values of the coins, that of wave 1 first
+-- the values of the coins that came in; in a legal history the first one is that of wave 1
 abbrev pub coins : History → List ℕ
 coins history = filter_map (λ event. as_coin event.message) history

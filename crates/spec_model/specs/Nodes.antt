@@ -1,4 +1,4 @@
--- The node whose history it is, and what its committee fixes.
+-- The node that a history belongs to: who it is, and what its committee fixes.
 use Rattle.std.specs.Prelude.{◌≡◌, ℕ, ◌<◌, length, Some, slice_get}
 use Rattle.committee.specs.Charter.{Charter, IsCharter, quorum_of}
 use Rattle.sigface.specs.Tied.{AreAccepted}
@@ -9,14 +9,14 @@ use Rattle.spec_model.specs.Words.{Author, Digest, Signature}
 use Rattle.header.specs.declared.node.Node as declared
 use Rattle.sigface.specs.Scheme.{Scheme}
 
--- a node: its own number, its committee, its signer's key, and the signature that it gives to a digest
+-- a node: its own number, its committee, its signer's public key, and the signature that it gives to each digest
 pub record Node : Type 0 where
   pub own : Author
   pub charter : Charter
   pub key : Key
   pub sign : Digest → Signature
 
--- what holds of every node: it is a member of its committee, which has its signer's key, and its signatures have the required length
+-- what holds of every node: it is a member of its committee with its signer's key, and its signatures have 64 bytes
 pub record IsNode (node : Node) : Type 0 where
   pub charter : IsCharter node.charter
   pub member : node.own.0 < length node.charter.keys
@@ -31,7 +31,7 @@ size_of node = length node.charter.keys
 abbrev pub quorum : Node → ℕ
 quorum node = quorum_of node.charter
 
--- what contracts see of a value of the type `Node`, together with its signer's key and signatures
+-- what contracts see of a `Node` of the running code, with its signer's key and signatures
 abbrev pub node_view : {S : Type 0} → Scheme S → declared.Node S → Node
 node_view scheme node = record {
   own = node.own;
@@ -40,6 +40,6 @@ node_view scheme node = record {
   sign = scheme.signature_of node.signer;
 }
 
--- a signer and a verifier belong together: the verifier accepts what the node signs, for the node's key
+-- a node's signer and a verifier belong together: the verifier accepts what the node signs, with the node's key
 abbrev pub AreTied : Node → Accepts → Type 0
 AreTied node accepts = AreAccepted accepts node.key node.sign

@@ -1,4 +1,4 @@
--- The state of a node: everything in a history, or what the node keeps of it.
+-- The state of a node: all that is in a history, or what a node keeps of that.
 use Rattle.std.specs.Prelude.{ℕ, ◌==◌, ◌&&◌, ◌||◌, nat_le, max, Bool, false, List, map, fold, find, Option, option_and_then}
 use Rattle.std.specs.Option.{option_map_or}
 use Rattle.committee.specs.Charter.{weight}
@@ -10,25 +10,25 @@ use Rattle.spec_model.specs.Slots.{Slots, same_digest}
 use Rattle.spec_model.specs.Words.{Certificate, BatchView, Digest, Header, Vote}
 
 pub record State : Type 0 where
-  -- the batches in the order of acceptance, who acknowledged them, and which of them own headers named
+  -- the batches in the order in which they were accepted, which members acknowledged each, and which of them an own header has named
   pub batches : List BatchView
   pub acked : Digest → ℕ → Bool
   pub named : Digest → Bool
-  -- the digest voted for in each slot, the own headers by round, and the counted votes on them by round and voter
+  -- for each round and author the digest that the node voted for; the own header of each round; and the votes on it that count, by voter
   pub votes : ℕ → ℕ → Option Digest
   pub own_headers : ℕ → Option Header
   pub counted : ℕ → ℕ → Option Vote
-  -- the certificates by slot, and the greatest round of any certificate so far
+  -- the certificate of each round and author, and the greatest round of any certificate so far
   pub slots : Slots
   pub highest : ℕ
   pub coins : List ℕ
   pub order : List Digest
 
--- the greatest round of some certificates, or 0
+-- the greatest round of these certificates; 0 if there is none
 abbrev pub highest_of : List Certificate → ℕ
 highest_of certificates = fold max 0 (map (λ c. c.header.round) certificates)
 
--- the state that has everything in a history
+-- the state with all that is in a history; nothing is dropped
 abbrev pub whole : Node → History → State
 whole node history = record {
   batches = batches history;
@@ -45,26 +45,26 @@ whole node history = record {
 
 -- ---- batches
 
--- the batch of a digest, if it is held
+-- the batch with this digest, if it is held
 abbrev pub batch_in : State → Digest → Option BatchView
 batch_in state digest = find (λ batch. same_digest (batch_digest batch) digest) state.batches
 
--- the node has an own batch of this digest
+-- there is a batch with this digest whose author is the node
 abbrev pub has_own_batch : Node → State → Digest → Bool
 has_own_batch node state digest = option_map_or (λ batch. batch.author.0 == node.own.0) (batch_in state digest) false
 
--- a member holds an own batch: the node itself does, and so does whoever acknowledged it
+-- a member is known to hold an own batch: it is the node itself, or has acknowledged the batch
 abbrev pub holds : Node → State → Digest → ℕ → Bool
 holds node state digest member = (member == node.own.0) || state.acked digest member
 
--- an own batch is available: the members who hold it weigh a quorum
+-- an own batch is available to other members: those who are known to hold it weigh a quorum
 abbrev pub is_available : Node → State → Digest → Bool
 is_available node state digest =
     has_own_batch node state digest && nat_le (quorum node) (weight node.charter (holds node state digest))
 
 -- ---- certificates and the order
 
--- the certificate of a round's own header, if the counted votes on it weigh a quorum
+-- the certificate of the own header of a round; None if the votes that count on it weigh less than a quorum
 abbrev pub completed_at : Node → State → ℕ → Option Certificate
 completed_at node state round = option_and_then (certificate_by node (state.counted round)) (state.own_headers round)
 

@@ -1,4 +1,4 @@
--- The values of the wire that these definitions use.
+-- Re-exports the types of messages that these definitions use.
 pub use Rattle.wire.specs.Batches.{BatchView}
 pub use Rattle.wire.specs.Events.{Event}
 pub use Rattle.wire.specs.declared.header.Certificate.{Certificate}
