@@ -1,4 +1,4 @@
-//! Admission: the answer to an event, from what a node holds.
+//! Admission: the answer of a node to an event, by what the node has.
 
 ghost use Rattle.std.specs.Prelude.{◌≡◌, IfOk};
 ghost use Rattle.std.specs.Str.{bytes_eq};
@@ -26,7 +26,7 @@ fn same_body(one: &Batch, other: &Batch) -> bool
     one.body() == other.body()
 }
 
-/// The answer to a batch where a batch of its digest is held already.
+/// The answer to a batch if a batch with the same digest is held already.
 fn held_batch_answer<S: Sign>(
     alloc: Global,
     node: &Node<S>,
@@ -77,7 +77,7 @@ pub fn ack_answer<S: Sign, H: Held>(
     Admission::New(Outputs::new(alloc))
 }
 
-/// Whether a header may name a batch.
+/// Whether a header may name this batch: it is held with that worker, and if the header is an own one, it is available to others.
 pub fn may_name<S: Sign, H: Held>(
     node: &Node<S>,
     now: &H,
@@ -105,7 +105,7 @@ fn may_name_all<S: Sign, H: Held>(
     named.iter().all(|named| may_name(node, now, header, named))
 }
 
-/// The answer to an own header where its round has an own header already.
+/// The answer to an own header if the node already has an own header of its round.
 fn held_header_answer<S: Sign>(
     alloc: Global,
     node: &Node<S>,
@@ -120,7 +120,7 @@ fn held_header_answer<S: Sign>(
     Ok(Admission::Refused(Refusal::AlreadyProposed))
 }
 
-/// The answer to another member's header where the node has already voted in its slot, for this digest.
+/// The answer to another member's header if the node has already voted for this digest in the header's round and author.
 fn voted_answer<S: Sign>(
     alloc: Global,
     node: &Node<S>,
@@ -135,7 +135,7 @@ fn voted_answer<S: Sign>(
     Ok(Admission::Refused(Refusal::Equivocation))
 }
 
-/// The answer to a header whose slot has an own header or the node's vote already; None where it has neither.
+/// The answer to a header if the node has an own header or a vote for its round and author already; None if it has neither.
 fn known_header_answer<S: Sign, H: Held>(
     alloc: Global,
     node: &Node<S>,
@@ -184,7 +184,7 @@ pub fn header_answer<S: Sign, H: Held>(
     Ok(Admission::New(header_outputs(alloc, node, header)?))
 }
 
-/// The pieces of what the order has gained.
+/// The outputs that have, in pieces, what the order has gained.
 fn order_outputs<H: Held>(alloc: Global, now: &H, later: &H) -> Result<Outputs, AllocError>
     ensures { IfOk result (λ outputs. outputs ≡ admitting.order_outputs (H.state now.now) (H.state later.now)) }
 {
@@ -193,7 +193,7 @@ fn order_outputs<H: Held>(alloc: Global, now: &H, later: &H) -> Result<Outputs, 
     Ok(outputs)
 }
 
-/// The outputs of a new vote on the own header of a round: the certificate that it completes, if any, and what that adds to the order.
+/// The outputs of a new vote on the own header of a round: the certificate if the vote completes it, and what that adds to the order.
 fn vote_outputs<S: Sign, H: Held>(
     alloc: Global,
     node: &Node<S>,
@@ -211,7 +211,7 @@ fn vote_outputs<S: Sign, H: Held>(
     Ok(outputs)
 }
 
-/// The answer to a vote where an own certificate of its round is held.
+/// The answer to a vote if the certificate of an own header of its round is held.
 fn held_answer(alloc: Global, held: &Certificate, vote: &Vote) -> Result<Admission, AllocError>
     ensures { IfOk result (λ answer. answer ≡ admitting.held_answer held.now vote.now) }
 {
@@ -223,7 +223,7 @@ fn held_answer(alloc: Global, held: &Certificate, vote: &Vote) -> Result<Admissi
     Ok(Admission::Known(outputs))
 }
 
-/// The answer to a vote where there is an own header of its round.
+/// The answer to a vote if there is an own header of its round.
 fn own_header_answer<S: Sign, H: Held>(
     alloc: Global,
     node: &Node<S>,
@@ -280,7 +280,7 @@ fn same_header(one: &HeaderBody, other: &HeaderBody) -> bool
             && one.parents.as_slice() == other.parents.as_slice())
 }
 
-/// The answer to a certificate whose slot holds one already.
+/// The answer to a certificate if one of its round and author is held already.
 fn held_certificate_answer(
     alloc: Global,
     held: &Certificate,
@@ -353,7 +353,7 @@ pub fn coin_answer<S: Sign, H: Held>(
     Ok(Admission::New(order_outputs(alloc, now, later)?))
 }
 
-/// The answer to an event, from what a node holds before it and what it holds with it.
+/// The answer to an event, given what the node has before the event and what it has with it.
 ///
 /// # Errors
 /// An allocation failed.

@@ -1,17 +1,17 @@
-//! An event that comes after a history.
+//! A history, and an event that comes after it.
 
 ghost use Rattle.std.specs.Prelude.{◌≡◌, ◌++◌, ◌∷◌, []};
 
 use header::Event;
 
-/// A history and the event that comes after it.
+/// A history, and an event that comes after it.
 #[derive(Clone, Copy)]
 pub struct Arrival<'a> {
-    /// The history.
+    /// The history before the event.
     pub history: &'a [Event],
-    /// The event.
+    /// The event that comes.
     pub event: &'a Event,
-    /// The history with the event after it.
+    /// The history with the event at its end.
     pub events: &'a [Event],
     ghost joined: { events.now ≡ history.now ++ event.now ∷ [] },
 }

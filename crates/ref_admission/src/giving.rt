@@ -1,4 +1,4 @@
-//! What may be given out at a history, except the order.
+//! What a node may give out after a history, except pieces of the order.
 
 ghost use Rattle.std.specs.Prelude.{◌≡◌, IfOk, filter, flat_map, map};
 ghost use Rattle.spec_model.specs.Admitting as admitting;
@@ -17,7 +17,7 @@ use sigface::Sign;
 use std::alloc::{AllocError, Global};
 use wire::{Certificate, Output, header_digest};
 
-/// Whether a certificate is an own one, of the header that the node voted for.
+/// Whether a certificate may be given out: it is of an own header, and the node has voted for that header.
 pub fn is_given<S: Sign>(node: &Node<S>, history: &[Event], certificate: &Certificate) -> bool
     ensures { result ≡ giving.is_given (node_view S.scheme node.now) history.now certificate.now }
 {
@@ -30,7 +30,7 @@ pub fn is_given<S: Sign>(node: &Node<S>, history: &[Event], certificate: &Certif
     }
 }
 
-/// The outputs of the batches.
+/// The outputs for all batches in a history.
 fn of_batches<S: Sign>(
     alloc: Global,
     node: &Node<S>,
@@ -46,7 +46,7 @@ fn of_batches<S: Sign>(
     Ok(found)
 }
 
-/// The outputs of the headers.
+/// The outputs for all headers in a history.
 fn of_headers<S: Sign>(
     alloc: Global,
     node: &Node<S>,
@@ -62,7 +62,7 @@ fn of_headers<S: Sign>(
     Ok(found)
 }
 
-/// The own certificates.
+/// The certificates of own headers that the node has voted for.
 fn own_certificates<S: Sign>(
     alloc: Global,
     node: &Node<S>,
@@ -80,7 +80,7 @@ fn own_certificates<S: Sign>(
     Ok(found)
 }
 
-/// The outputs of all batches and headers, and the own certificates.
+/// All that may be given out except pieces of the order: the outputs for all batches and headers, and the own certificates.
 pub fn given<S: Sign>(
     alloc: Global,
     node: &Node<S>,

@@ -13,7 +13,7 @@ use sigface::Sign;
 use std::alloc::{AllocError, Global};
 use wire::{Certificate, Digest, Header, Vote};
 
-/// Whether a round is low at a history.
+/// Whether a round is low after a history: it is 0, or at or below a floor above 0.
 fn is_low_at<S: Sign>(
     alloc: Global,
     node: &Node<S>,
@@ -25,7 +25,7 @@ fn is_low_at<S: Sign>(
     Ok(is_low(floor(alloc, node, history)?, round))
 }
 
-/// The digest that the node voted for in a slot, if the round isn't low.
+/// The digest of the header of this round and author that the node voted for; None if the round is low.
 pub fn kept_vote<S: Sign>(
     alloc: Global,
     node: &Node<S>,
@@ -41,7 +41,7 @@ pub fn kept_vote<S: Sign>(
     Ok(voted_digest(history, round, author))
 }
 
-/// The own header of a round, if the round isn't low.
+/// The own header of a round; None if the round is low.
 pub fn kept_header<'a, S: Sign>(
     alloc: Global,
     node: &Node<S>,
@@ -56,7 +56,7 @@ pub fn kept_header<'a, S: Sign>(
     Ok(voted_header(history, round, node.own.0))
 }
 
-/// A member's counted vote on the own header of a round, if the round isn't low.
+/// The vote of a member that counts on the own header of this round; None if the round is low.
 pub fn kept_counted<S: Sign>(
     alloc: Global,
     node: &Node<S>,
@@ -72,7 +72,7 @@ pub fn kept_counted<S: Sign>(
     Ok(counted_at(node, history, round, voter))
 }
 
-/// The certificate of a slot, if it is at or above the floor.
+/// The certificate of this round and author; None if the round is below the floor.
 pub fn kept_slot<S: Sign>(
     alloc: Global,
     node: &Node<S>,

@@ -1,4 +1,4 @@
-//! A reference implementation, plain and slow, of what a node answers, puts out, proposes and keeps. It uses that of what a history holds.
+//! A reference implementation, plain and slow, of what a node answers, puts out, proposes and keeps. It stands on `ref_order`.
 #![tactic(auto)]
 
 pub mod admitting;

@@ -1,4 +1,4 @@
-//! The outputs that admission makes.
+//! The outputs that events make.
 
 ghost use Rattle.std.specs.Prelude.{◌≡◌, ◌+◌, ◌<◌, ◌≤◌, ◌^◌, ◌++◌, ◌∷◌, [], IfOk, OnOk, drop, length, take};
 ghost use Rattle.spec_model.specs.Admitting as admitting;
@@ -11,7 +11,7 @@ use sigface::Sign;
 use std::alloc::{AllocError, Global};
 use wire::{Batch, BatchAck, Digest, Header, Output, batch_digest};
 
-/// The outputs of a batch.
+/// The output for a batch: an own batch for all members, or an acknowledgement for its author.
 pub fn batch_outputs<S: Sign>(
     alloc: Global,
     node: &Node<S>,
@@ -33,7 +33,7 @@ pub fn batch_outputs<S: Sign>(
     Ok(outputs)
 }
 
-/// The outputs of a header.
+/// The output for a header: an own header for all members, or the node's vote for its author.
 pub fn header_outputs<S: Sign>(
     alloc: Global,
     node: &Node<S>,
@@ -50,7 +50,7 @@ pub fn header_outputs<S: Sign>(
     Ok(outputs)
 }
 
-/// The part of a list that follows as many elements as another one has.
+/// The elements of the list `after` past the length of the list `before`.
 fn following<'a>(before: &[Digest], after: &'a [Digest]) -> &'a [Digest]
     ensures value { result.now ≡ drop (length before.now) after.now }
     ensures small { length before.now + length result.now < 2 ^ 63 }
@@ -61,7 +61,7 @@ fn following<'a>(before: &[Digest], after: &'a [Digest]) -> &'a [Digest]
     &after[before.len()..]
 }
 
-/// Adds what an order has gained, in pieces.
+/// Adds outputs that have, in pieces, the digests by which an order has grown.
 fn push_grown(
     alloc: Global,
     outputs: &mut Outputs,
@@ -73,7 +73,7 @@ fn push_grown(
     outputs.push_order(alloc, before.len() as u64, following(before, after))
 }
 
-/// Adds what the order has gained.
+/// Adds outputs that have, in pieces, what the order has gained between two states of the node.
 pub fn push_order<H: Held>(
     alloc: Global,
     outputs: &mut Outputs,

@@ -1,4 +1,4 @@
-//! Parts of lists.
+//! The front of a list.
 
 ghost use Rattle.std.specs.Prelude.{◌≡◌, ◌≤◌, length, take};
 

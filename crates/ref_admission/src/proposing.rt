@@ -1,4 +1,4 @@
-//! What a node proposes.
+//! Which header a node proposes.
 
 ghost use Rattle.std.specs.Prelude.{◌≡◌, ◌≤◌, ◌&&◌, not, IfOk, IfSome, IsTrue, is_some, length, map, option_map, take};
 ghost use Rattle.std.specs.List.{list_any};
@@ -31,7 +31,7 @@ fn digest_of_batch(batch: &Batch) -> Digest
     batch_digest(batch)
 }
 
-/// Whether an own batch is available, and no own header has named it yet.
+/// Whether an own batch is available to other members, and no own header has named it yet.
 fn is_waiting<S: Sign, H: Held>(node: &Node<S>, held: &H, digest: &Digest) -> bool
     ensures { result ≡ is_available (node_view S.scheme node.now) (H.state held.now) digest.now && not ((H.state held.now).named digest.now) }
 {
@@ -45,7 +45,7 @@ fn is_nameable<S: Sign, H: Held>(node: &Node<S>, held: &H, batch: &Batch) -> boo
     node.is_own(batch.author()) && is_waiting(node, held, &digest_of_batch(batch))
 }
 
-/// The reference by which a header names this batch, if it may be named.
+/// The reference by which a header names this batch; None if no header may name it.
 pub fn to_name<S: Sign, H: Held>(node: &Node<S>, held: &H, batch: &Batch) -> Option<BatchReference>
     ensures { result ≡ proposing.to_name (node_view S.scheme node.now) (H.state held.now) batch.now }
 {
@@ -58,14 +58,14 @@ pub fn to_name<S: Sign, H: Held>(node: &Node<S>, held: &H, batch: &Batch) -> Opt
     })
 }
 
-/// Whether one digest comes before another.
+/// Whether one digest is below another.
 fn is_before(one: &Digest, other: &Digest) -> bool
     ensures { result ≡ digest_before one.now other.now }
 {
     one.cmp(other).is_lt()
 }
 
-/// A batch, inserted once at its place in a list sorted by digest.
+/// A list of batches that is sorted by digest, with one more at its place; a batch that is there already isn't added.
 pub fn placed(
     alloc: Global,
     batches: &[BatchReference],
@@ -110,7 +110,7 @@ pub fn nameable<S: Sign, H: Held>(
     Ok(found)
 }
 
-/// References sorted by digest, as a header has them.
+/// References that are sorted by digest, as the list that a header has.
 fn named(alloc: Global, batches: &[BatchReference]) -> Result<BatchReferences, AllocError>
     requires few { length batches.now ≤ MAX_BATCHES }
     requires order { IsTrue (batches_rise batches.now) }
@@ -123,7 +123,7 @@ fn named(alloc: Global, batches: &[BatchReference]) -> Result<BatchReferences, A
     Ok(found)
 }
 
-/// The batches that the node's header names.
+/// The batches that the node's next header names: the first ones, by digest, that may be named.
 fn named_batches<S: Sign, H: Held>(
     alloc: Global,
     node: &Node<S>,
@@ -145,7 +145,7 @@ fn as_parent(certificate: &Certificate) -> ParentReference
     }
 }
 
-/// The parent reference to the certificate of a slot, if there is one.
+/// The reference by which a header names the certificate of this round and author; None if there is none.
 fn parent_at(certificates: &[Certificate], round: u64, author: u16) -> Option<ParentReference>
     ensures value { result ≡ option_map proposing.as_parent (slots_of certificates.now round author) }
     ensures author { IfSome result (λ parent. parent.author.0 ≡ author) }
@@ -156,7 +156,7 @@ fn parent_at(certificates: &[Certificate], round: u64, author: u16) -> Option<Pa
     }
 }
 
-/// The parent references to all certificates of a round.
+/// The references by which a header names all certificates of a round as parents.
 fn parents_of(
     alloc: Global,
     size: u16,
@@ -182,7 +182,7 @@ fn digest_of_header(header: &HeaderBody) -> Digest
     header_digest(header)
 }
 
-/// The own header of a round, without its signature.
+/// The body of the header that the node proposes for this round.
 pub fn proposal_of<S: Sign, H: Held>(
     alloc: Global,
     node: &Node<S>,
@@ -211,14 +211,14 @@ fn signed<S: Sign>(node: &Node<S>, body: HeaderBody) -> Header
     Header { body, signature }
 }
 
-/// Whether a round has an own header.
+/// Whether the node has an own header of this round.
 fn has_header<H: Held>(held: &H, round: u64) -> bool
     ensures { result ≡ is_some ((H.state held.now).own_headers round) }
 {
     held.own_header(round).is_some()
 }
 
-/// The header that the node proposes in its round; None where the round has one already.
+/// The header that the node proposes for this round; None if it already has an own header of it.
 ///
 /// # Errors
 /// An allocation failed.

@@ -1,4 +1,4 @@
-//! Admission over histories.
+//! The answers to events, given the history before them.
 
 ghost use Rattle.std.specs.Prelude.{◌≡◌, ◌<◌, ◌++◌, ◌∷◌, [], IfOk, List, length};
 ghost use Rattle.spec_model.specs.Admitting as admitting;
@@ -31,7 +31,7 @@ pub fn admit<S: Sign>(
     answer(alloc, node, &now, &later, arrival.event)
 }
 
-/// The answer to the last of these events, after the ones before it.
+/// The answer to the last of these events, given those before it as the history.
 pub fn admit_last<S: Sign>(
     alloc: Global,
     node: &Node<S>,
@@ -54,7 +54,7 @@ pub fn admit_last<S: Sign>(
     }
 }
 
-/// The answers to events one after the other, from an empty history on.
+/// The answers to these events, one after the other, from the empty history on.
 pub fn answers<S: Sign>(
     alloc: Global,
     node: &Node<S>,
@@ -75,7 +75,7 @@ pub fn answers<S: Sign>(
     Ok(found)
 }
 
-/// Whether each of these events is new after the ones before it.
+/// Whether each of these events is new after the events before it.
 pub fn each_new<S: Sign>(
     alloc: Global,
     node: &Node<S>,

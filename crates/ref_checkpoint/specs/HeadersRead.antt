@@ -1,9 +1,9 @@
--- Parts of records, as the program reads them.
+-- A part of a record, as the reference implementation reads it.
 use Rattle.std.specs.Prelude.{ℕ, List, Ok}
 use Rattle.wire.specs.Reading.{◌>>=◌, Read, header_at, votes_at}
 use Rattle.spec_checkpoint.specs.Data.{KeptHeader}
 
--- a header with its signature, and votes, whichever they are
+-- reads a header with its signature, and then votes, whoever they are of
 unfoldable pub header_with_votes_at : List ℕ → Read KeptHeader
 header_with_votes_at bytes = do
   header ← header_at bytes

@@ -1,4 +1,4 @@
-//! The record of a node's configuration, as it is written in each version.
+//! Writes the record of a node's configuration, in each version of the format.
 
 ghost use Rattle.std.specs.Prelude.{◌≡◌, ◌==◌, ◌++◌, flat_map, IfOk, OnOk};
 ghost use Rattle.std.specs.Int.{w32, to_be_bytes};
@@ -74,7 +74,7 @@ fn put_stakes(bytes: &mut Vec<u8>, stakes: &[u64]) -> Result<(), AllocError>
     Ok(())
 }
 
-/// Adds the stakes of a committee's members to the bytes, if the version has them.
+/// Adds the stakes of a committee's members to the bytes, if the version has stakes.
 fn put_stakes_of(
     alloc: Global,
     bytes: &mut Vec<u8>,
@@ -89,8 +89,8 @@ fn put_stakes_of(
     }
 }
 
-/// The record of a node's configuration in a version: kind, version, own number, depth, workers of a member, batches of a member, number of
-/// members, their keys, and their stakes if the version has them.
+/// The record of a node's configuration in this version: kind, version, own number, depth, number of workers, greatest number of batches,
+/// number of members, their keys, and in version 2 their stakes.
 fn configuration(
     alloc: Global,
     version: Version,
@@ -118,8 +118,7 @@ fn are_ones(stakes: &[u64]) -> bool
     stakes.iter().all(|stake| *stake == 1)
 }
 
-/// Whether a record is the node's configuration, in a version that can express it: the second one always can, the first where each stake is
-/// 1.
+/// Whether a record is the node's own configuration, in a version that can express it: version 2 always can, version 1 if each stake is 1.
 pub fn is_configuration<S: Sign>(
     alloc: Global,
     node: &Node<S>,

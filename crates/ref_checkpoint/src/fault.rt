@@ -1,10 +1,10 @@
-//! Which records are at fault.
+//! Which of a checkpoint's records are at fault.
 
-/// Which records are at fault, by their places in the list, counted from 0.
+/// Which of a checkpoint's records are at fault, by their places in the list, counted from 0.
 #[derive(Clone, Copy, Debug, PartialEq, Eq)]
 pub enum LoadFault {
     /// The record at this place is the first one at fault.
     AtRecord(u64),
-    /// Each record is sound by itself, and the whole isn't.
+    /// Each record is in order by itself, but together they are no state that a node could have.
     OfWhole,
 }

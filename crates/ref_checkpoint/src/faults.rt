@@ -1,4 +1,4 @@
-//! The tests of a checkpoint's records, by kind, and the test of the whole.
+//! The tests of a checkpoint's records, for each kind of record, and the test of the whole.
 
 ghost use Rattle.std.specs.Prelude.{◌≡◌, ◌==◌, ◌&&◌, false, ℕ, [], length, not, nat_lt, is_some, IfOk};
 ghost use Rattle.std.specs.List.{list_any, list_all};
@@ -28,7 +28,7 @@ use wire::{
     encode,
 };
 
-/// Whether a message from its sender passes the checks, whatever its signatures.
+/// Whether a message from this sender passes the checks, without those of signatures.
 fn passes<S: Sign>(node: &Node<S>, sender: Author, message: Message) -> bool
     ensures { result ≡ faults.passes (node_view S.scheme node.now) sender message }
 {
@@ -54,7 +54,7 @@ fn has_digest(before: &[KeptBatch], digest: &Digest) -> bool
         .any(|other| digest_of(&other.batch) == *digest)
 }
 
-/// Whether each of these numbers is a member's.
+/// Whether each of these numbers is that of a member.
 fn are_members(size: u16, members: &[u16]) -> bool
     ensures { result ≡ list_all (λ member. nat_lt member size) members.now }
 {
@@ -62,7 +62,7 @@ fn are_members(size: u16, members: &[u16]) -> bool
 }
 
 /// Whether a batch is sound: it passes the checks as one from its author, no earlier batch has its digest, and there is room for it; those
-/// who acknowledged it are members, and only an own batch has acknowledgements or is named.
+/// who acknowledged it are members; and if it has acknowledgements or is named, it is an own batch.
 pub fn is_batch_sound<S: Sign>(
     node: &Node<S>,
     before: &[KeptBatch],
@@ -81,7 +81,7 @@ pub fn is_batch_sound<S: Sign>(
     )
 }
 
-/// Whether a vote is for another member's header, in a round that isn't low.
+/// Whether a vote is sound: it is for another member's header, in a round that isn't low.
 pub fn is_vote_sound<S: Sign>(node: &Node<S>, checkpoint: &Checkpoint, vote: &KeptVote) -> bool
     ensures { result ≡ faults.is_vote_sound (node_view S.scheme node.now) checkpoint.now vote.now }
 {
@@ -89,7 +89,7 @@ pub fn is_vote_sound<S: Sign>(node: &Node<S>, checkpoint: &Checkpoint, vote: &Ke
     !is_low(floor, vote.round.number()) && vote.author < node.size() && vote.author != node.own.0
 }
 
-/// Whether a member has a vote on an own header; the node itself always has.
+/// Whether a member has a vote on this own header. The node itself always has one.
 fn has_kept<S: Sign>(node: &Node<S>, kept: &KeptHeader, voter: u16) -> bool
     ensures { result ≡ faults.has_kept (node_view S.scheme node.now) kept.now voter }
 {
@@ -118,14 +118,14 @@ fn weight_of_voters<S: Sign>(node: &Node<S>, kept: &KeptHeader) -> u64
     node.committee.weight(&voters(node, kept))
 }
 
-/// Whether a member has a vote on an own header, and isn't the one left out.
+/// Whether this voter has a vote on an own header, and isn't the member `left_out`.
 fn has_kept_of_others<S: Sign>(node: &Node<S>, kept: &KeptHeader, left_out: u16, voter: u16) -> bool
     ensures { result ≡ (faults.has_kept (node_view S.scheme node.now) kept.now voter && not (voter == left_out)) }
 {
     has_kept(node, kept, voter) && voter != left_out
 }
 
-/// The members, this one left out, who have a vote on an own header.
+/// The members who have a vote on an own header, without the member `left_out`.
 #[tactic(auto, using(ref_order::proofs::Sets::in_more, ref_order::proofs::Sets::out_more))]
 fn other_voters<S: Sign>(node: &Node<S>, kept: &KeptHeader, left_out: u16) -> MemberSet
     ensures { (member : ℕ) → has result member ≡ (nat_lt member (length node.now.committee.keys) && (faults.has_kept (node_view S.scheme node.now) kept.now member && not (member == left_out))) }
@@ -140,28 +140,28 @@ fn other_voters<S: Sign>(node: &Node<S>, kept: &KeptHeader, left_out: u16) -> Me
     found
 }
 
-/// The weight of the members, this one left out, who have a vote on an own header.
+/// The weight of the members who have a vote on an own header, without the member `left_out`.
 fn weight_of_others<S: Sign>(node: &Node<S>, kept: &KeptHeader, left_out: u16) -> u64
     ensures { result ≡ weight node.now.committee (λ voter. faults.has_kept (node_view S.scheme node.now) kept.now voter && not (voter == left_out)) }
 {
     node.committee.weight(&other_voters(node, kept, left_out))
 }
 
-/// Whether without this vote those on an own header weigh less than a quorum.
+/// Whether the votes on an own header would weigh less than a quorum without this one.
 fn is_needed<S: Sign>(node: &Node<S>, kept: &KeptHeader, entry: &VoteEntry) -> bool
     ensures { let seen = node_view S.scheme node.now in result ≡ nat_lt (weight seen.charter (λ voter. faults.has_kept seen kept.now voter && not (voter == entry.now.voter.0))) (quorum seen) }
 {
     weight_of_others(node, kept, entry.voter.0) < node.quorum()
 }
 
-/// Whether without one of these votes those on an own header weigh less than a quorum.
+/// Whether for one of these votes, those on an own header would weigh less than a quorum without it.
 fn is_one_needed<S: Sign>(node: &Node<S>, kept: &KeptHeader, votes: &[VoteEntry]) -> bool
     ensures { let seen = node_view S.scheme node.now in result ≡ list_any (λ entry. nat_lt (weight seen.charter (λ voter. faults.has_kept seen kept.now voter && not (voter == entry.voter.0))) (quorum seen)) votes.now }
 {
     votes.iter().any(|entry| is_needed(node, kept, entry))
 }
 
-/// The bytes of a certificate with this header and no votes.
+/// The bytes of a certificate of this header, without votes.
 fn certificate_bytes(alloc: Global, header: &HeaderBody) -> Result<Vec<u8>, AllocError>
     ensures { IfOk result (λ bytes. bytes.items ≡ encoding (message.Certificate (record { header = header.now; votes = [] }))) }
 {
@@ -170,7 +170,7 @@ fn certificate_bytes(alloc: Global, header: &HeaderBody) -> Result<Vec<u8>, Allo
     encode(alloc, &Message::Certificate(Certificate { header, votes }))
 }
 
-/// Whether two header bodies are equal, by comparing the bytes of certificates of both.
+/// Whether two header bodies are equal, by comparing the bytes of certificates that have them.
 #[tactic(auto, using(crate::proofs::SameBodies::same_with_votes))]
 fn same_body(alloc: Global, one: &HeaderBody, other: &HeaderBody) -> Result<bool, AllocError>
     ensures { IfOk result (λ same. same ≡ faults.same_body one.now other.now) }
@@ -178,7 +178,7 @@ fn same_body(alloc: Global, one: &HeaderBody, other: &HeaderBody) -> Result<bool
     Ok(certificate_bytes(alloc, one)? == certificate_bytes(alloc, other)?)
 }
 
-/// Whether the slot of an own header holds its certificate.
+/// Whether the checkpoint has the certificate of this own header.
 fn has_certificate<S: Sign>(
     alloc: Global,
     node: &Node<S>,
@@ -194,8 +194,8 @@ fn has_certificate<S: Sign>(
     }
 }
 
-/// Whether the votes on an own header weigh less than a quorum; or the header's slot holds its certificate, and without some other member's
-/// vote they would.
+/// Either the votes on an own header weigh less than a quorum, or the checkpoint has its certificate, and without some other member's vote
+/// they would weigh less.
 fn is_completed_well<S: Sign>(
     alloc: Global,
     node: &Node<S>,
@@ -213,7 +213,7 @@ fn is_completed_well<S: Sign>(
     Ok(is_one_needed(node, kept, kept.votes.as_slice()))
 }
 
-/// Whether all voters are members.
+/// Whether the voters of all these votes are members.
 fn are_voters(size: u16, votes: &[VoteEntry]) -> bool
     ensures { result ≡ list_all (λ entry. nat_lt entry.voter.0 size) votes.now }
 {
@@ -233,8 +233,8 @@ fn are_parents_held<S: Sign>(
     Ok(all_held(&held, listed_floor(node, checkpoint), header))
 }
 
-/// Whether an own header is sound: its round isn't low, it passes the checks as the node's, its parents are held, and the voters on it are
-/// members.
+/// Whether an own header is sound: its round isn't low, it passes the checks as one from the node, its parents are held, and the voters on
+/// it are members.
 pub fn is_header_sound<S: Sign>(
     alloc: Global,
     node: &Node<S>,
@@ -259,7 +259,7 @@ pub fn is_header_sound<S: Sign>(
     is_completed_well(alloc, node, checkpoint, kept)
 }
 
-/// Whether a certificate is sound: it isn't below the floor, passes the checks, and its parents are held.
+/// Whether a certificate is sound: its round isn't below the floor, it passes the checks, and its parents are held.
 pub fn is_certificate_sound<S: Sign>(
     alloc: Global,
     node: &Node<S>,
@@ -281,14 +281,14 @@ pub fn is_certificate_sound<S: Sign>(
     are_parents_held(alloc, node, checkpoint, &certificate.header)
 }
 
-/// Whether a leader is committed.
+/// Whether any leader is committed by a checkpoint's certificates and coins.
 fn is_committed<S: Sign>(node: &Node<S>, checkpoint: &Checkpoint) -> bool
     ensures { result ≡ is_some (ordering.top (holdings.ledger_of (node_view S.scheme node.now) (meaning.listed checkpoint.now) checkpoint.now.coins)) }
 {
     listed_top(node, checkpoint).is_some()
 }
 
-/// Whether the order is empty exactly where no leader is committed.
+/// The test of the whole checkpoint: the order is empty if and only if no leader is committed.
 pub fn is_whole_sound<S: Sign>(node: &Node<S>, checkpoint: &Checkpoint) -> bool
     ensures { result ≡ faults.is_whole_sound (node_view S.scheme node.now) checkpoint.now }
 {

@@ -1,4 +1,4 @@
-//! The floor and the certificates of a checkpoint's state.
+//! The floor and the certificates of the state that a checkpoint stands for.
 
 ghost use Rattle.std.specs.Prelude.{◌≡◌, ◌<◌, ◌≤◌, ◌==◌, [], length, not, filter, map, IfOk, IfSome, if◌then◌else◌};
 ghost use Rattle.committee.specs.Charter.{numbers};
@@ -17,8 +17,8 @@ use sigface::Sign;
 use std::alloc::{AllocError, Global};
 use wire::{Author, Certificate};
 
-/// The greatest wave that is directly committed. It is a loop, since a checkpoint may have so many coins that a recursion over them would
-/// exhaust the stack.
+/// The greatest wave whose leader has support. This is a loop: a checkpoint may have so many coins that a recursion over them would exhaust
+/// the stack.
 fn top_of(ledger: &Ledger) -> Option<u64>
     ensures value { result ≡ ordering.top (ledger_view ledger.now) }
     ensures within { IfSome result (λ wave. (0 < wave) × (wave ≤ length ledger.now.coins.now)) }
@@ -32,7 +32,7 @@ fn top_of(ledger: &Ledger) -> Option<u64>
     found
 }
 
-/// The floor of a ledger.
+/// The floor (the garbage-collection round) by a ledger's certificates and coins.
 fn floor_of(ledger: &Ledger) -> u64
     ensures { result ≡ ordering.floor_by (ledger_view ledger.now) }
 {
@@ -42,7 +42,7 @@ fn floor_of(ledger: &Ledger) -> u64
     }
 }
 
-/// The ledger of a checkpoint: its certificates and coins, with the committee.
+/// The ledger of a checkpoint, which is all that the order depends on: its certificates and coins, with the committee.
 fn ledger_of<'a, S: Sign>(node: &'a Node<S>, checkpoint: &'a Checkpoint) -> Ledger<'a>
     ensures { ledger_view result ≡ holdings.ledger_of (node_view S.scheme node.now) (meaning.listed checkpoint.now) checkpoint.now.coins }
 {
@@ -53,14 +53,14 @@ fn ledger_of<'a, S: Sign>(node: &'a Node<S>, checkpoint: &'a Checkpoint) -> Ledg
     }
 }
 
-/// The greatest wave that a checkpoint's certificates and coins commit directly.
+/// The greatest wave whose leader has support, by a checkpoint's certificates and coins.
 pub fn listed_top<S: Sign>(node: &Node<S>, checkpoint: &Checkpoint) -> Option<u64>
     ensures { result ≡ ordering.top (holdings.ledger_of (node_view S.scheme node.now) (meaning.listed checkpoint.now) checkpoint.now.coins) }
 {
     top_of(&ledger_of(node, checkpoint))
 }
 
-/// The floor that a checkpoint's certificates and coins determine.
+/// The floor by a checkpoint's certificates and coins.
 pub fn listed_floor<S: Sign>(node: &Node<S>, checkpoint: &Checkpoint) -> u64
     ensures { result ≡ meaning.listed_floor (node_view S.scheme node.now) checkpoint.now }
 {
@@ -85,7 +85,7 @@ fn first(alloc: Global, size: u16) -> Result<Vec<Certificate>, AllocError>
     Ok(found)
 }
 
-/// The genesis certificates where the floor is 0, and otherwise none.
+/// The genesis certificates if the floor is 0, and otherwise none.
 fn first_held<S: Sign>(
     alloc: Global,
     node: &Node<S>,
@@ -99,7 +99,7 @@ fn first_held<S: Sign>(
     Ok(Vec::new(alloc))
 }
 
-/// Those of these certificates that are above the genesis.
+/// Those of these certificates whose round is above 0.
 fn above_genesis(
     alloc: Global,
     certificates: &[Certificate],
@@ -115,7 +115,7 @@ fn above_genesis(
     Ok(found)
 }
 
-/// The certificates that the state of a checkpoint holds.
+/// The certificates of the state that a checkpoint stands for.
 pub fn certificates_held<S: Sign>(
     alloc: Global,
     node: &Node<S>,

@@ -1,4 +1,4 @@
-//! One test for each record of a checkpoint, in the order of the records, and the first that fails.
+//! Tests each record of a checkpoint, in the order of the records, and finds the first that is at fault.
 
 ghost use Rattle.std.specs.Prelude.{◌≡◌, ◌++◌, [], map, not, IfOk, OnOk};
 ghost use Rattle.std.specs.List.{position_from};
@@ -14,7 +14,7 @@ use sigface::Sign;
 use std::alloc::{AllocError, Global};
 use wire::{Certificate, Digest};
 
-/// Adds a test for each piece of the order; it always passes, since a piece can't be unsound by itself.
+/// Adds the test of each piece of the order, which always passes: a piece can't be unsound by itself.
 fn put_order_tests(tests: &mut Vec<bool>, digests: &[Digest]) -> Result<(), AllocError>
     ensures { OnOk result (tests.new.items ≡ tests.old.items ++ faults.piece_tests (cut ORDER_PIECE digests.now)) }
 {
@@ -25,7 +25,7 @@ fn put_order_tests(tests: &mut Vec<bool>, digests: &[Digest]) -> Result<(), Allo
     Ok(())
 }
 
-/// Adds the tests of batches.
+/// Adds the test of each batch.
 fn put_batch_tests<S: Sign>(
     tests: &mut Vec<bool>,
     node: &Node<S>,
@@ -39,7 +39,7 @@ fn put_batch_tests<S: Sign>(
     Ok(())
 }
 
-/// Adds the tests of votes.
+/// Adds the test of each vote.
 fn put_vote_tests<S: Sign>(
     tests: &mut Vec<bool>,
     node: &Node<S>,
@@ -54,7 +54,7 @@ fn put_vote_tests<S: Sign>(
     Ok(())
 }
 
-/// Adds the tests of own headers.
+/// Adds the test of each own header.
 fn put_header_tests<S: Sign>(
     alloc: Global,
     tests: &mut Vec<bool>,
@@ -70,7 +70,7 @@ fn put_header_tests<S: Sign>(
     Ok(())
 }
 
-/// Adds the tests of certificates.
+/// Adds the test of each certificate.
 fn put_certificate_tests<S: Sign>(
     alloc: Global,
     tests: &mut Vec<bool>,
@@ -86,7 +86,7 @@ fn put_certificate_tests<S: Sign>(
     Ok(())
 }
 
-/// Adds a test for each piece of the coins; it always passes, since a piece can't be unsound by itself.
+/// Adds the test of each piece of the coins, which always passes: a piece can't be unsound by itself.
 fn put_coin_tests(tests: &mut Vec<bool>, coins: &[u64]) -> Result<(), AllocError>
     ensures { OnOk result (tests.new.items ≡ tests.old.items ++ faults.piece_tests (cut COINS_PIECE coins.now)) }
 {
@@ -97,7 +97,7 @@ fn put_coin_tests(tests: &mut Vec<bool>, coins: &[u64]) -> Result<(), AllocError
     Ok(())
 }
 
-/// One test for each record of a state, in the order of the records.
+/// The results of the tests of all records of a checkpoint's state, in the order of the records.
 fn record_tests<S: Sign>(
     alloc: Global,
     node: &Node<S>,
@@ -121,7 +121,7 @@ fn record_tests<S: Sign>(
     Ok(tests)
 }
 
-/// The place of the first test that fails, counted from 1.
+/// The place of the first test that failed, counted from 1; None if all passed.
 fn first_failing(tests: &[bool]) -> Option<u64>
     ensures { result ≡ position_from not 1 tests.now }
 {
@@ -135,7 +135,7 @@ fn first_failing(tests: &[bool]) -> Option<u64>
     None
 }
 
-/// The place of the first record of a state that is at fault, counted from 1.
+/// The place of the first unsound record of a checkpoint's state, counted from 1; None if all are sound.
 pub fn first_unsound<S: Sign>(
     alloc: Global,
     node: &Node<S>,

@@ -1,16 +1,16 @@
-//! What a checkpoint holds.
+//! A checkpoint as plain data, for the reference implementation.
 
 use std::marker::Model;
 use wire::{Batch, Certificate, Digest, Header, Round, VoteEntries};
 
-/// A batch that is held.
+/// A batch that the node holds.
 #[derive(Drop)]
 pub struct KeptBatch {
     /// Whether an own header names the batch.
     pub named: bool,
-    /// The other members who acknowledged the batch, sorted by number.
+    /// The other members that acknowledged the batch, sorted by number.
     pub members: Vec<u16>,
-    /// The batch.
+    /// The batch itself.
     pub batch: Batch,
 }
 
@@ -25,11 +25,11 @@ impl Model for KeptBatch {
 /// The node's vote for another author's header in a round.
 #[derive(Drop)]
 pub struct KeptVote {
-    /// The author.
+    /// The author of the header.
     pub author: u16,
-    /// The round.
+    /// The round of the header.
     pub round: Round,
-    /// The digest of the header that was voted for.
+    /// The digest of the header that the node voted for.
     pub header: Digest,
 }
 
@@ -41,12 +41,12 @@ impl Model for KeptVote {
     ghost view = { λ kept. record { author = kept.author; round = kept.round; header = kept.header } };
 }
 
-/// An own header, with the counted votes of others on it.
+/// An own header, and the votes of other members on it that count.
 #[derive(Drop)]
 pub struct KeptHeader {
     /// The header.
     pub header: Header,
-    /// The votes of others, sorted by number.
+    /// The votes of other members that count, sorted by voter.
     pub votes: VoteEntries,
 }
 
@@ -61,15 +61,15 @@ impl Model for KeptHeader {
 /// The state of a node as plain data.
 #[derive(Drop)]
 pub struct Checkpoint {
-    /// The order.
+    /// The order: the digests of the ordered certificates.
     pub order: Vec<Digest>,
-    /// The batches, in the order of acceptance.
+    /// The batches, in the order in which they were accepted.
     pub batches: Vec<KeptBatch>,
-    /// The votes for others, by round and then by author.
+    /// The votes for headers of other members, sorted by round and then by author.
     pub votes: Vec<KeptVote>,
-    /// The own headers, by round.
+    /// The own headers, sorted by round.
     pub headers: Vec<KeptHeader>,
-    /// The certificates above the genesis, by round and then by author.
+    /// The certificates of rounds above 0, sorted by round and then by author.
     pub certificates: Vec<Certificate>,
     /// The values of the coins, that of wave 1 first.
     pub coins: Vec<u64>,

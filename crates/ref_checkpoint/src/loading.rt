@@ -1,4 +1,4 @@
-//! Whether the first records of a journal can be loaded.
+//! Finds the first fault of the records that a checkpoint is loaded from.
 
 ghost use Rattle.std.specs.Prelude.{◌≡◌, IfOk, option_map};
 ghost use Rattle.spec_checkpoint.specs.Loading as loading;
@@ -17,7 +17,7 @@ use header::Node;
 use sigface::Sign;
 use std::alloc::{AllocError, Global};
 
-/// The first fault of a checkpoint whose records follow the configuration at place 0: the first record at fault, or else the whole.
+/// The first fault of a checkpoint whose records come after the configuration: the first record that is unsound, or else the whole.
 fn unsound<S: Sign>(
     alloc: Global,
     node: &Node<S>,
@@ -34,7 +34,7 @@ fn unsound<S: Sign>(
     Ok(Some(LoadFault::OfWhole))
 }
 
-/// The fault of a state's records: the first one that doesn't follow the format, or else the fault of the checkpoint that they are read as.
+/// The first fault of a state's records: the first one that breaks the format, or else the fault of the checkpoint that they are read as.
 fn state_fault<S: Sign>(
     alloc: Global,
     node: &Node<S>,
@@ -48,8 +48,8 @@ fn state_fault<S: Sign>(
     }
 }
 
-/// Which records are at fault: the first has to be the node's configuration, and the others those of a sound state. A record that doesn't
-/// follow the format is reported before one that isn't sound.
+/// The first fault of these records: the first one has to be the node's configuration, and the others those of a sound state. A record that
+/// breaks the format is reported before one that is unsound.
 ///
 /// # Errors
 /// An allocation failed.

@@ -1,4 +1,4 @@
-//! Reading what follows the kind in each kind of record.
+//! Reads what comes after the kind in each kind of record.
 
 ghost use Rattle.std.specs.Prelude.{◌≡◌, ◌&&◌, ◌==◌, not, nat_lt, IfOk};
 ghost use Rattle.std.specs.List.{list_any};
@@ -17,7 +17,7 @@ use std::alloc::Global;
 use wire::{Certificate, HeaderBody, VoteEntry, WireError};
 use wire_read::{Reader, batch_of, certificate_of, header_of, votes_of};
 
-/// Whether an own header names a batch: the byte 1 or 0.
+/// Reads whether an own header names a batch: a byte 1 or 0.
 #[tactic(auto, unfolding(spec_checkpoint::specs::Reading::mark_at))]
 fn mark_of(reader: &mut Reader) -> Result<bool, WireError>
     ensures { Gives (λ x. (x, reader.new)) result (mark_at reader.old) }
@@ -29,7 +29,7 @@ fn mark_of(reader: &mut Reader) -> Result<bool, WireError>
     }
 }
 
-/// Whether a number is greater than all of those before it.
+/// Whether this number is greater than all those before it.
 fn member_may_follow(before: &[u16], member: u16) -> bool
     ensures { result ≡ follows (λ one. nat_lt one member) before.now }
 {
@@ -51,7 +51,7 @@ fn member_of<S: Sign>(node: &Node<S>, before: &[u16], reader: &mut Reader) -> Re
     Ok(member)
 }
 
-/// Reads other members' numbers after their count.
+/// Reads the numbers of other members, with their count before them.
 fn members_of<S: Sign>(
     alloc: Global,
     node: &Node<S>,
@@ -68,7 +68,7 @@ fn members_of<S: Sign>(
     Ok(members)
 }
 
-/// Reads whether an own header names the batch, who acknowledged it, and the batch.
+/// Reads a batch: whether an own header names it, who acknowledged it, and the batch itself.
 #[tactic(auto, unfolding(spec_checkpoint::specs::Reading::kept_batch_at))]
 pub fn kept_batch_of<S: Sign>(
     alloc: Global,
@@ -87,14 +87,14 @@ pub fn kept_batch_of<S: Sign>(
     })
 }
 
-/// Whether the first of two slots comes before the second, by round and then author.
+/// Whether one place in a list that is sorted by round and then by author comes before the other place.
 fn place_before(round: u64, author: u16, other_round: u64, other_author: u16) -> bool
     ensures { result ≡ place_before round author other_round other_author }
 {
     round < other_round || (round == other_round && author < other_author)
 }
 
-/// Whether a vote in this slot may follow these.
+/// Whether a vote for a header of this round and author may come after these votes.
 fn vote_may_follow(before: &[KeptVote], round: u64, author: u16) -> bool
     ensures { result ≡ vote_may_follow before.now round author }
 {
@@ -104,7 +104,7 @@ fn vote_may_follow(before: &[KeptVote], round: u64, author: u16) -> bool
     }
 }
 
-/// Reads author, round and header digest.
+/// Reads a vote: author, round and header digest.
 #[tactic(auto, unfolding(spec_checkpoint::specs::Reading::kept_vote_at))]
 pub fn kept_vote_of(before: &[KeptVote], reader: &mut Reader) -> Result<KeptVote, WireError>
     ensures { Gives (λ x. (x, reader.new)) result (kept_vote_at before.now reader.old) }
@@ -122,7 +122,7 @@ pub fn kept_vote_of(before: &[KeptVote], reader: &mut Reader) -> Result<KeptVote
     })
 }
 
-/// Whether an own header of this round may follow these.
+/// Whether an own header of this round may come after these headers.
 fn header_may_follow(before: &[KeptHeader], round: u64) -> bool
     ensures { result ≡ header_may_follow before.now round }
 {
@@ -132,21 +132,21 @@ fn header_may_follow(before: &[KeptHeader], round: u64) -> bool
     }
 }
 
-/// Whether one of these votes is by this member.
+/// Whether one of these votes is of this member.
 pub fn has_vote_of(votes: &[VoteEntry], voter: u16) -> bool
     ensures { result ≡ list_any (λ entry. entry.voter.0 == voter) votes.now }
 {
     votes.iter().any(|entry| entry.voter.0 == voter)
 }
 
-/// Whether none of the votes is the node's own.
+/// Whether none of these votes is the node's own.
 fn are_of_others<S: Sign>(node: &Node<S>, votes: &[VoteEntry]) -> bool
     ensures { result ≡ are_of_others (node_view S.scheme node.now) votes.now }
 {
     !has_vote_of(votes, node.own.0)
 }
 
-/// Reads a header with its signature, and any votes.
+/// Reads a header with its signature, and then votes, whoever they are of.
 #[tactic(auto, unfolding(crate::specs::HeadersRead::header_with_votes_at))]
 fn header_with_votes_of(alloc: Global, reader: &mut Reader) -> Result<KeptHeader, WireError>
     ensures { Gives (λ x. (x, reader.new)) result (header_with_votes_at reader.old) }
@@ -156,7 +156,7 @@ fn header_with_votes_of(alloc: Global, reader: &mut Reader) -> Result<KeptHeader
     Ok(KeptHeader { header, votes })
 }
 
-/// Whether an own header may follow these, and none of its votes is the node's own.
+/// Whether an own header may come after these headers, and none of the votes on it is the node's own.
 fn is_header_kept<S: Sign>(node: &Node<S>, before: &[KeptHeader], kept: &KeptHeader) -> bool
     ensures { result ≡ (header_may_follow before.now kept.now.header.body.round && are_of_others (node_view S.scheme node.now) kept.now.votes) }
 {
@@ -181,7 +181,7 @@ pub fn kept_header_of<S: Sign>(
     Ok(kept)
 }
 
-/// Whether a certificate with this header may follow these.
+/// Whether a certificate of this header may come after these certificates.
 fn certificate_may_follow(before: &[Certificate], header: &HeaderBody) -> bool
     ensures { result ≡ certificate_may_follow before.now header.now }
 {
@@ -196,14 +196,14 @@ fn certificate_may_follow(before: &[Certificate], header: &HeaderBody) -> bool
     }
 }
 
-/// Whether a certificate with this header is above the genesis and may follow these.
+/// Whether a certificate of this header is of a round above 0, and may come after these certificates.
 fn is_certificate_kept(before: &[Certificate], header: &HeaderBody) -> bool
     ensures { result ≡ (certificate_may_follow before.now header.now && nat_lt 0 header.now.round) }
 {
     certificate_may_follow(before, header) && 0 < header.round.number()
 }
 
-/// Reads a certificate above the genesis.
+/// Reads a certificate of a round above 0.
 #[tactic(auto, unfolding(spec_checkpoint::specs::Reading::kept_certificate_at))]
 pub fn kept_certificate_of(
     alloc: Global,

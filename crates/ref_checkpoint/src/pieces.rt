@@ -1,4 +1,4 @@
-//! Reading pieces of the order and of the coins.
+//! Reads pieces of the order and of the coins.
 
 ghost use Rattle.std.specs.Prelude.{◌≡◌};
 ghost use Rattle.std.specs.Int.{w32, w64};
@@ -9,13 +9,13 @@ use std::alloc::Global;
 use wire::{Digest, WireError};
 use wire_read::Reader;
 
-/// How many digests a piece of the order has, except the last one.
+/// How many digests each piece of the order has; the last one may have fewer.
 pub const ORDER_PIECE: u32 = 65_536;
 
-/// How many values a piece of the coins has, except the last one.
+/// How many values each piece of the coins has; the last one may have fewer.
 pub const COINS_PIECE: u32 = 131_072;
 
-/// Reads digests after their count.
+/// Reads digests, with their number before them.
 fn some_digests_of(alloc: Global, reader: &mut Reader) -> Result<Vec<Digest>, WireError>
     ensures { Gives (λ x. (x.items, reader.new)) result (counted_at w32 ORDER_PIECE (λ before. digest_at) reader.old) }
 {
@@ -40,7 +40,7 @@ pub fn digests_of(alloc: Global, reader: &mut Reader) -> Result<Vec<Digest>, Wir
     Ok(digests)
 }
 
-/// Reads values of coins after their count.
+/// Reads values of coins, with their number before them.
 fn some_coins_of(alloc: Global, reader: &mut Reader) -> Result<Vec<u64>, WireError>
     ensures { Gives (λ x. (x.items, reader.new)) result (counted_at w32 COINS_PIECE (λ before. number_at w64) reader.old) }
 {
@@ -53,7 +53,7 @@ fn some_coins_of(alloc: Global, reader: &mut Reader) -> Result<Vec<u64>, WireErr
     Ok(coins)
 }
 
-/// Reads the values of one piece of coins, at least one.
+/// Reads the values of one piece of the coins, at least one.
 #[tactic(auto, unfolding(spec_checkpoint::specs::Reading::coins_at))]
 pub fn coins_of(alloc: Global, reader: &mut Reader) -> Result<Vec<u64>, WireError>
     ensures { Gives (λ x. (x.items, reader.new)) result (coins_at reader.old) }

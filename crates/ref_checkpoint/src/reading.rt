@@ -1,4 +1,4 @@
-//! What records decode to, one after the other.
+//! Reads the records of a checkpoint's state, one after the other.
 
 ghost use Rattle.std.specs.Prelude.{◌≡◌, ◌<◌, ◌++◌, [], ◌∷◌, List, ℕ, length, not, IfOk, IfErr, option_map};
 ghost use Rattle.spec_checkpoint.specs.Data.{blank};
@@ -17,7 +17,7 @@ use std::alloc::{AllocError, Global};
 use wire::WireError;
 use wire_read::Reader;
 
-/// The value that was read, if the bytes follow the format and none is left.
+/// The value of a reading, if it succeeded and no byte is left; None otherwise.
 fn whole<T: Drop>(read: Result<T, WireError>, reader: &Reader) -> Result<Option<T>, AllocError>
     ensures { (text : Read T) → Gives (λ x. (x, reader.now)) read text → IfOk result (λ found. found ≡ reading.whole text) }
 {
@@ -33,7 +33,7 @@ fn whole<T: Drop>(read: Result<T, WireError>, reader: &Reader) -> Result<Option<
     }
 }
 
-/// The list that was read, if the bytes follow the format and none is left.
+/// The list of a reading, if it succeeded and no byte is left; None otherwise.
 fn whole_list<T: Drop>(
     read: Result<Vec<T>, WireError>,
     reader: &Reader,
@@ -66,7 +66,7 @@ fn blank(alloc: Global) -> Checkpoint
     }
 }
 
-/// The kind of the last record of a state, 0 where it has none.
+/// The kind of the last record of a checkpoint's state; 0 if there is none.
 #[tactic(auto, using(crate::proofs::LastKinds::kinds))]
 fn last_kind(checkpoint: &Checkpoint) -> u8
     ensures { result ≡ reading.last_kind checkpoint.now }
@@ -88,7 +88,7 @@ fn last_kind(checkpoint: &Checkpoint) -> u8
     }
 }
 
-/// The checkpoint so far with a piece of the order.
+/// The checkpoint so far with one more piece of the order; None if these bytes are none.
 fn with_order(
     alloc: Global,
     mut so_far: Checkpoint,
@@ -107,7 +107,7 @@ fn with_order(
     }
 }
 
-/// The checkpoint so far with a batch.
+/// The checkpoint so far with one more batch; None if these bytes are none.
 fn with_batch<S: Sign>(
     alloc: Global,
     node: &Node<S>,
@@ -127,7 +127,7 @@ fn with_batch<S: Sign>(
     }
 }
 
-/// The checkpoint so far with a vote.
+/// The checkpoint so far with one more vote; None if these bytes are none.
 fn with_vote(mut so_far: Checkpoint, bytes: &[u8]) -> Result<Option<Checkpoint>, AllocError>
     ensures { IfOk result (λ found. found ≡ option_map (λ kept. record so_far { votes = so_far.votes ++ kept ∷ [] }) (reading.whole (kept_vote_at so_far.votes bytes.now))) }
 {
@@ -142,7 +142,7 @@ fn with_vote(mut so_far: Checkpoint, bytes: &[u8]) -> Result<Option<Checkpoint>,
     }
 }
 
-/// The checkpoint so far with an own header.
+/// The checkpoint so far with one more own header; None if these bytes are none.
 fn with_header<S: Sign>(
     alloc: Global,
     node: &Node<S>,
@@ -162,7 +162,7 @@ fn with_header<S: Sign>(
     }
 }
 
-/// The checkpoint so far with a certificate.
+/// The checkpoint so far with one more certificate; None if these bytes are none.
 fn with_certificate(
     alloc: Global,
     mut so_far: Checkpoint,
@@ -181,7 +181,7 @@ fn with_certificate(
     }
 }
 
-/// The checkpoint so far with a piece of the coins.
+/// The checkpoint so far with one more piece of the coins; None if these bytes are none.
 fn with_coins(
     alloc: Global,
     mut so_far: Checkpoint,
@@ -200,7 +200,7 @@ fn with_coins(
     }
 }
 
-/// The checkpoint so far with one more record, if that follows the format.
+/// The checkpoint so far with one more record; None if the record breaks the format.
 #[tactic(auto, unfolding(spec_checkpoint::specs::Reading::with_record))]
 fn with_record<S: Sign>(
     alloc: Global,
@@ -227,7 +227,7 @@ fn with_record<S: Sign>(
     }
 }
 
-/// The kind of a record: its first byte.
+/// The kind of a record, which is its first byte.
 fn kind_of(record: &[u8]) -> u8
     ensures { result ≡ reading.kind_of record.now }
 {
@@ -237,7 +237,7 @@ fn kind_of(record: &[u8]) -> u8
     }
 }
 
-/// Whether the last record is a piece that isn't full, and a record of this kind would be one more piece.
+/// Whether the last record is a piece that isn't full, so that one more piece of this kind would make it a fault.
 fn is_cut_short(checkpoint: &Checkpoint, kind: u8) -> bool
     ensures { result ≡ reading.is_cut_short checkpoint.now kind }
 {
@@ -251,7 +251,7 @@ fn is_cut_short(checkpoint: &Checkpoint, kind: u8) -> bool
     }
 }
 
-/// The checkpoint that these records decode to, or the place of the first record that doesn't follow the format.
+/// The checkpoint that these records decode to, or the place of the first record that breaks the format.
 ///
 /// # Errors
 /// An allocation failed.

@@ -1,4 +1,4 @@
-//! The result of loading records, as text.
+//! Writes the result of loading records as text.
 
 ghost use Rattle.std.specs.Prelude.{◌≡◌, IfOk, string_bytes};
 ghost use Rattle.spec_checkpoint.specs.Loading.{load_fault};
@@ -12,7 +12,8 @@ use header::Node;
 use sigface::Sign;
 use std::alloc::{AllocError, Global};
 
-/// The result of loading records, as the files of cases have it: `Ok`, or the number and the name of the fault, with the place of a record.
+/// The result of loading records, as files of test cases have it: `Ok`, or number and name of the fault, with the place of the record at
+/// fault.
 ///
 /// # Errors
 /// An allocation failed.

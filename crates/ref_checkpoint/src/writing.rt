@@ -1,4 +1,4 @@
-//! Writing the records of a checkpoint's state.
+//! Writes the records of a checkpoint's state.
 
 ghost use Rattle.std.specs.Prelude.{◌≡◌, ◌<◌, ◌≤◌, ◌*◌, ◌++◌, ◌∷◌, List, ℕ, length, map, take, drop, IfOk, OnOk, flat_map, if◌then◌else◌};
 ghost use Rattle.std.specs.Int.{w16, w64, to_be_bytes};
@@ -12,7 +12,7 @@ use std::alloc::{AllocError, Global};
 use wire::numbers::two_bytes;
 use wire::{Certificate, Digest, Message, VoteEntry, encode};
 
-/// One piece of a list that is cut into pieces of this size.
+/// One piece of a list that is cut into pieces of this size; pieces are counted from 0.
 fn piece_at<T>(list: &[T], size: usize, piece: usize) -> &[T]
     requires { size * piece < length list.now }
     ensures value { result.now ≡ take size (drop (size * piece) list.now) }
@@ -22,7 +22,7 @@ fn piece_at<T>(list: &[T], size: usize, piece: usize) -> &[T]
     &rest[..size.min(rest.len())]
 }
 
-/// The two lower bytes of a count.
+/// The two lower bytes of a number.
 #[tactic(auto, using(crate::proofs::Counts::lower_bytes))]
 fn count_bytes(count: usize) -> [u8; 2]
     ensures { result ≡ to_be_bytes w16 count }
@@ -40,7 +40,7 @@ fn put_digests(bytes: &mut Vec<u8>, digests: &[Digest]) -> Result<(), AllocError
     Ok(())
 }
 
-/// A piece of the order: its kind, the number of digests, the digests.
+/// The record of a piece of the order: its kind, the number of digests, the digests.
 fn order_record(alloc: Global, digests: &[Digest]) -> Result<Vec<u8>, AllocError>
     requires { length digests.now ≤ ORDER_PIECE }
     ensures { IfOk result (λ bytes. bytes.items ≡ records.order_record digests.now) }
@@ -52,7 +52,7 @@ fn order_record(alloc: Global, digests: &[Digest]) -> Result<Vec<u8>, AllocError
     Ok(bytes)
 }
 
-/// Adds numbers of two bytes to the bytes.
+/// Adds members' numbers to the bytes, two bytes each.
 fn put_members(bytes: &mut Vec<u8>, members: &[u16]) -> Result<(), AllocError>
     ensures { OnOk result (bytes.new.items ≡ bytes.old.items ++ flat_map (to_be_bytes w16) members.now) }
 {
@@ -69,7 +69,8 @@ fn mark_byte(named: bool) -> u8
     if named { 1 } else { 0 }
 }
 
-/// A batch: its kind, whether an own header names it, the number of other members who acknowledged it, these members, and its body.
+/// The record of a batch: its kind, whether an own header names it, the number of other members who acknowledged it, these members, and its
+/// body.
 fn batch_record(alloc: Global, kept: &KeptBatch) -> Result<Vec<u8>, AllocError>
     ensures { IfOk result (λ bytes. bytes.items ≡ records.batch_record kept.now) }
 {
@@ -82,7 +83,7 @@ fn batch_record(alloc: Global, kept: &KeptBatch) -> Result<Vec<u8>, AllocError>
     Ok(bytes)
 }
 
-/// A vote for another author's header: its kind, author, round, header digest.
+/// The record of a vote for another author's header: its kind, author, round, header digest.
 fn vote_record(alloc: Global, vote: &KeptVote) -> Result<Vec<u8>, AllocError>
     ensures { IfOk result (λ bytes. bytes.items ≡ records.vote_record vote.now) }
 {
@@ -113,7 +114,7 @@ fn put_entries(bytes: &mut Vec<u8>, votes: &[VoteEntry]) -> Result<(), AllocErro
     Ok(())
 }
 
-/// An own header: its kind, the header's body, its signature, the number of others' votes on it, and these votes.
+/// The record of an own header: its kind, the header's body, its signature, the number of others' votes on it, and these votes.
 fn header_record(alloc: Global, kept: &KeptHeader) -> Result<Vec<u8>, AllocError>
     ensures { IfOk result (λ bytes. bytes.items ≡ records.header_record kept.now) }
 {
@@ -123,7 +124,7 @@ fn header_record(alloc: Global, kept: &KeptHeader) -> Result<Vec<u8>, AllocError
     Ok(bytes)
 }
 
-/// The bytes of a message, with a record's kind in the place of the message's tag.
+/// The bytes of a message in which a record's kind takes the place of the message's tag.
 fn of_kind(alloc: Global, kind: u8, message: &Message) -> Result<Vec<u8>, AllocError>
     ensures { IfOk result (λ bytes. bytes.items ≡ kind ∷ drop 1 (encoding message.now)) }
 {
@@ -136,7 +137,7 @@ fn of_kind(alloc: Global, kind: u8, message: &Message) -> Result<Vec<u8>, AllocE
     Ok(bytes)
 }
 
-/// A certificate: its kind, the header's body, the number of votes, and the votes.
+/// The record of a certificate: its kind, the header's body, the number of votes, and the votes.
 fn certificate_record(alloc: Global, certificate: &Certificate) -> Result<Vec<u8>, AllocError>
     ensures { IfOk result (λ bytes. bytes.items ≡ records.certificate_record certificate.now) }
 {
@@ -153,7 +154,7 @@ fn put_values(bytes: &mut Vec<u8>, coins: &[u64]) -> Result<(), AllocError>
     Ok(())
 }
 
-/// A piece of the coins: its kind, the number of values, the values.
+/// The record of a piece of the coins: its kind, the number of values, the values.
 fn coins_record(alloc: Global, coins: &[u64]) -> Result<Vec<u8>, AllocError>
     requires { length coins.now ≤ COINS_PIECE }
     ensures { IfOk result (λ bytes. bytes.items ≡ records.coins_record coins.now) }
@@ -245,7 +246,7 @@ fn put_coins(alloc: Global, rows: &mut Vec<Vec<u8>>, coins: &[u64]) -> Result<()
     Ok(())
 }
 
-/// The records of a state, kind after kind.
+/// The records of a checkpoint's state, kind after kind.
 ///
 /// # Errors
 /// An allocation failed.

@@ -1,4 +1,4 @@
--- The state that tables of plain lists stand for: of each list the first entry that fits.
+-- The state that tables of plain lists stand for. If several entries of a list fit a look-up, the first one counts.
 use Rattle.std.specs.Prelude.{ℕ, ◌==◌, ◌&&◌, Bool, List, find, Option, Some, None, option_map, option_and_then, if◌then◌else◌}
 use Rattle.std.specs.List.{list_any}
 use Rattle.std.specs.Option.{option_or}
@@ -10,61 +10,61 @@ use Rattle.spec_model.specs.Words.{BatchAck, Certificate, Digest, Header, Vote}
 use Rattle.ref_machine.specs.declared.tables.SlotVote.{SlotVote}
 use Rattle.ref_machine.specs.declared.tables.Tables as declared
 
--- ---- what fits a look-up
+-- ---- whether an entry fits a look-up
 
--- an acknowledgement is of the batch of a digest, by a member
+-- this acknowledgement is of the batch with this digest, and by this member
 abbrev pub acks_it : Digest → ℕ → BatchAck → Bool
 acks_it digest member ack = same_digest ack.batch digest && (ack.author.0 == member)
 
--- a vote is for an author and round
+-- this entry is the node's vote for a header of this round and author
 abbrev pub votes_for : ℕ → ℕ → SlotVote → Bool
 votes_for round author vote = (vote.round == round) && (vote.author.0 == author)
 
--- a header is of a round
+-- this header is of this round
 abbrev pub of_round : ℕ → Header → Bool
 of_round round header = header.body.round == round
 
--- a vote is one by this member on the own header of a round
+-- this vote is by this member, and on the own header of this round
 abbrev pub counts_for : ℕ → ℕ → Vote → Bool
 counts_for round voter vote = (vote.round == round) && (vote.voter.0 == voter)
 
 -- ---- the look-ups
 
--- a member has acknowledged the batch of a digest
+-- this member has acknowledged the batch with this digest
 abbrev pub acked_in : List BatchAck → Digest → ℕ → Bool
 acked_in acks digest member = list_any (acks_it digest member) acks
 
--- a digest is among those that own headers named
+-- an own header has named the batch with this digest
 abbrev pub named_in : List Digest → Digest → Bool
 named_in digests digest = list_any (λ named. same_digest named digest) digests
 
--- the digest that the node voted for in a slot
+-- the digest of the header of this round and author that the node voted for
 abbrev pub votes_in : List SlotVote → ℕ → ℕ → Option Digest
 votes_in votes round author = option_map (λ vote. vote.digest) (find (votes_for round author) votes)
 
--- the own header of a round
+-- the own header of this round
 abbrev pub headers_in : List Header → ℕ → Option Header
 headers_in headers round = find (of_round round) headers
 
--- the counted vote of a member on the own header of a round
+-- the vote of this member on the own header of this round that counts
 abbrev pub counted_in : List Vote → ℕ → ℕ → Option Vote
 counted_in votes round voter = find (counts_for round voter) votes
 
--- this vote, where it is by this member on the own header of a round, and otherwise none
+-- this vote if it is by this member on the own header of this round; otherwise none
 abbrev pub vote_if : Vote → ℕ → ℕ → Option Vote
 vote_if vote round voter = if counts_for round voter vote then Some vote else None
 
--- the counted votes on the own header of a vote's round, with that vote
+-- the votes that count on the own header of a vote's round, once this vote has come
 abbrev pub counted_and : State → Vote → ℕ → Option Vote
 counted_and state vote voter = option_or (state.counted vote.round voter) (vote_if vote vote.round voter)
 
--- the certificate of the own header of a vote's round, if the counted votes with that one weigh a quorum
+-- the certificate of the own header of a vote's round; None if the votes that count, with this one, weigh less than a quorum
 abbrev pub completed_by : Node → State → Vote → Option Certificate
 completed_by node state vote = option_and_then (certificate_by node (counted_and state vote)) (state.own_headers vote.round)
 
 -- ---- the state
 
--- the state that the tables hold
+-- the state that these tables stand for
 abbrev pub state_of : declared.Tables → State
 state_of tables = record {
   batches = tables.batches.items;

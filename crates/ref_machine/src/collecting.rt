@@ -1,4 +1,4 @@
-//! What is kept of tables.
+//! Drops from the tables what a node doesn't keep.
 
 ghost use Rattle.std.specs.Prelude.{◌≡◌, ℕ, IfOk, None, nat_lt, if◌then◌else◌};
 ghost use Rattle.spec_model.specs.Giving as giving;
@@ -15,7 +15,7 @@ use sigface::Sign;
 use std::alloc::{AllocError, Global};
 use wire::{Certificate, Header, Vote};
 
-/// Keeps the votes in slots whose rounds aren't low.
+/// Keeps the node's votes of rounds that aren't low.
 fn keep_votes(votes: &mut Vec<SlotVote>, floor: u64)
     ensures { (round author : ℕ) → votes_in votes.new.items round author ≡ unless_low floor round (votes_in votes.old.items round author) }
 {
@@ -36,15 +36,15 @@ fn keep_counted(counted: &mut Vec<Vote>, floor: u64)
     counted.retain(|vote| !is_low(floor, vote.round.number()));
 }
 
-/// Keeps the certificates at or above the floor.
+/// Keeps the certificates of rounds from the floor on.
 fn keep_certificates(certificates: &mut Vec<Certificate>, floor: u64)
     ensures { (round author : ℕ) → slots_of certificates.new.items round author ≡ (if nat_lt round floor then None else slots_of certificates.old.items round author) }
 {
     certificates.retain(|certificate| certificate.header.round.number() >= floor);
 }
 
-/// What is kept of tables: votes, own headers and the votes on them only of rounds that aren't low, and certificates only from the floor
-/// up.
+/// The tables with what a node keeps: votes, own headers and the votes on them of rounds that aren't low, certificates of rounds from the
+/// floor on, and all the rest.
 ///
 /// # Errors
 /// An allocation failed.

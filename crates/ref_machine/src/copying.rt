@@ -1,4 +1,4 @@
-//! Copies of lists.
+//! Copies the lists of the tables.
 
 ghost use Rattle.std.specs.Prelude.{◌≡◌, IfOk};
 
@@ -6,7 +6,7 @@ use crate::tables::SlotVote;
 use std::alloc::{AllocError, Global};
 use wire::{Batch, BatchAck, Certificate, Digest, Header, Vote};
 
-/// A copy of a list of batches, which share their bytes.
+/// A copy of a list of batches. The batches' bytes are shared, not copied.
 pub fn batches_again(alloc: Global, batches: &[Batch]) -> Result<Vec<Batch>, AllocError>
     ensures { IfOk result (λ found. found.items ≡ batches.now) }
 {
@@ -35,7 +35,7 @@ pub fn digests_again(alloc: Global, digests: &[Digest]) -> Result<Vec<Digest>, A
     Ok(found)
 }
 
-/// A copy of a list of votes in slots.
+/// A copy of a list of the node's votes.
 pub fn slot_votes_again(alloc: Global, votes: &[SlotVote]) -> Result<Vec<SlotVote>, AllocError>
     ensures { IfOk result (λ found. found.items ≡ votes.now) }
 {

@@ -1,4 +1,4 @@
-//! What a new message adds to each table.
+//! Adds to each table what a new message brings.
 
 ghost use Rattle.std.specs.Prelude.{◌≡◌, ℕ, ◌++◌, ◌||◌, IfOk, option_copied, option_map};
 ghost use Rattle.std.specs.List.{list_any};
@@ -20,7 +20,7 @@ use sigface::Sign;
 use std::alloc::{AllocError, Global};
 use wire::{Batch, BatchAck, BatchReference, Certificate, Digest, Header, Message, Round, Vote};
 
-/// The batches, with the message if it is a batch.
+/// The batches, with this message added if it is a batch.
 fn with_batch(mut batches: Vec<Batch>, message: &Message) -> Result<Vec<Batch>, AllocError>
     ensures { IfOk result (λ found. found.items ≡ batches.items ++ option_to_list (as_batch message.now)) }
 {
@@ -30,7 +30,7 @@ fn with_batch(mut batches: Vec<Batch>, message: &Message) -> Result<Vec<Batch>, 
     Ok(batches)
 }
 
-/// The acknowledgements, with the message if it is one.
+/// The acknowledgements, with this message added if it is one.
 fn with_ack(mut acks: Vec<BatchAck>, message: &Message) -> Result<Vec<BatchAck>, AllocError>
     ensures { IfOk result (λ found. (digest : Digest) (member : ℕ) → acked_in found.items digest member ≡ (acked_in acks.items digest member || acknowledges message.now digest member)) }
 {
@@ -40,7 +40,7 @@ fn with_ack(mut acks: Vec<BatchAck>, message: &Message) -> Result<Vec<BatchAck>,
     Ok(acks)
 }
 
-/// The digests, with those of these batches.
+/// These digests, with those of some batches added.
 fn with_digests(
     mut named: Vec<Digest>,
     batches: &[BatchReference],
@@ -53,7 +53,7 @@ fn with_digests(
     Ok(named)
 }
 
-/// The digests that own headers named, with those of the message if it is an own header.
+/// The digests of named batches, with those that this message names added if it is an own header.
 fn with_named<S: Sign>(
     node: &Node<S>,
     named: Vec<Digest>,
@@ -69,7 +69,7 @@ fn with_named<S: Sign>(
     }
 }
 
-/// The vote that the node gives for the header in a message, if the message is a header.
+/// The vote that the node gives for the header in a message; None if the message is no header.
 fn slot_vote(message: &Message) -> Option<SlotVote>
     ensures { (round author : ℕ) → votes_in (option_to_list result) round author ≡ option_map (λ header. header_digest header.body) (header_at message.now round author) }
 {
@@ -83,7 +83,7 @@ fn slot_vote(message: &Message) -> Option<SlotVote>
     }
 }
 
-/// The votes in slots, with the vote for the message if it is a header.
+/// The node's votes, with the one for this message added if it is a header.
 fn with_vote(mut votes: Vec<SlotVote>, message: &Message) -> Result<Vec<SlotVote>, AllocError>
     ensures { IfOk result (λ found. (round author : ℕ) → votes_in found.items round author ≡ option_or (votes_in votes.items round author) (option_map (λ header. header_digest header.body) (header_at message.now round author))) }
 {
@@ -93,7 +93,7 @@ fn with_vote(mut votes: Vec<SlotVote>, message: &Message) -> Result<Vec<SlotVote
     Ok(votes)
 }
 
-/// The own header in a message, if the message is one.
+/// The own header in a message; None if the message is no own header.
 fn own_header<'a, S: Sign>(node: &Node<S>, message: &'a Message) -> Option<&'a Header>
     ensures { (round : ℕ) → headers_in (option_to_list (option_copied result)) round ≡ header_at message.now round node.now.own.0 }
 {
@@ -103,7 +103,7 @@ fn own_header<'a, S: Sign>(node: &Node<S>, message: &'a Message) -> Option<&'a H
     }
 }
 
-/// The own headers, with the message if it is one.
+/// The own headers, with this message added if it is one.
 fn with_own_header<S: Sign>(
     node: &Node<S>,
     mut headers: Vec<Header>,
@@ -117,7 +117,7 @@ fn with_own_header<S: Sign>(
     Ok(headers)
 }
 
-/// The vote that a message adds on an own header: the vote that it is, or, of an own header, the node's own vote.
+/// The vote that a message brings on an own header: the vote that it is, or the node's own vote if it is an own header.
 fn new_vote<S: Sign>(node: &Node<S>, message: &Message) -> Option<Vote>
     ensures { (round voter : ℕ) → counted_in (option_to_list result) round voter ≡ vote_at (node_view S.scheme node.now) message.now round voter }
 {
@@ -130,7 +130,7 @@ fn new_vote<S: Sign>(node: &Node<S>, message: &Message) -> Option<Vote>
     }
 }
 
-/// The counted votes on own headers, with the one that the message adds.
+/// The votes that count on own headers, with the one that this message brings added.
 fn with_counted<S: Sign>(
     node: &Node<S>,
     mut counted: Vec<Vote>,
@@ -144,7 +144,7 @@ fn with_counted<S: Sign>(
     Ok(counted)
 }
 
-/// The certificates with one more.
+/// The certificates, with one more added.
 fn with_certificate(
     mut certificates: Vec<Certificate>,
     certificate: Option<&Certificate>,
@@ -157,7 +157,7 @@ fn with_certificate(
     Ok(certificates)
 }
 
-/// The greatest round of a certificate, with one certificate more.
+/// The greatest round of a certificate, once one more certificate was added.
 fn highest_with(highest: Round, certificate: Option<&Certificate>) -> Round
     ensures { result ≡ machine.highest_with highest (option_copied certificate.entry) }
 {
@@ -169,7 +169,7 @@ fn highest_with(highest: Round, certificate: Option<&Certificate>) -> Round
     }
 }
 
-/// The values of the coins, with that of the message if it is a coin.
+/// The values of the coins, with that of this message added if it is a coin.
 fn with_coin(mut coins: Vec<u64>, message: &Message) -> Result<Vec<u64>, AllocError>
     ensures { IfOk result (λ found. found.items ≡ coins.items ++ option_to_list (as_coin message.now)) }
 {
@@ -179,7 +179,7 @@ fn with_coin(mut coins: Vec<u64>, message: &Message) -> Result<Vec<u64>, AllocEr
     Ok(coins)
 }
 
-/// The tables with all that a new message adds.
+/// The tables with all that a new message brings; nothing is dropped.
 ///
 /// # Errors
 /// An allocation failed.

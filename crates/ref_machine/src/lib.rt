@@ -1,5 +1,5 @@
-//! A reference implementation, plain and slow, of what a node keeps: tables as lists, of which the first entry that fits counts. It is no
-//! part of a node: the code of the node is compared with it.
+//! A reference implementation, plain and slow, of what a node keeps: tables as lists, in which the first entry that fits a look-up counts.
+//! It is no part of a node: the code of the node is compared with it.
 #![tactic(auto)]
 
 mod collecting;

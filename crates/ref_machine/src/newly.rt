@@ -1,4 +1,4 @@
-//! The certificate that a new message adds, and what it adds to the order.
+//! The certificate that a new message adds, and what that adds to the order.
 
 ghost use Rattle.std.specs.Prelude.{◌≡◌, ◌++◌, IfOk, IfSome, option_copied};
 ghost use Rattle.spec_machine.specs.Machine as machine;
@@ -24,7 +24,7 @@ use sigface::Sign;
 use std::alloc::{AllocError, Global};
 use wire::{Certificate, Digest, Message, Vote};
 
-/// What a node holds with one more vote, for the counted votes on its own header of that vote's round.
+/// What a node has, with one more vote, to look up the votes on its own header of that vote's round.
 struct WithVote<'a, H: Held> {
     held: &'a H,
     vote: &'a Vote,
@@ -38,7 +38,7 @@ impl<'a, H: Held> Clone for WithVote<'a, H> {
 
 impl<'a, H: Held> Copy for WithVote<'a, H> {}
 
-/// A vote, if it is by this member on the own header of this round.
+/// This vote, if it is by this member on the own header of this round; otherwise None.
 fn only_of(vote: &Vote, round: u64, voter: u16) -> Option<Vote>
     ensures value { result ≡ vote_if vote.now round voter }
     ensures voter { IfSome result (λ vote. vote.voter.0 ≡ voter) }
@@ -61,7 +61,7 @@ impl<'a, H: Held> Counted for WithVote<'a, H> {
     }
 }
 
-/// The certificate of an own header that a vote completes, if it does.
+/// The certificate of an own header that this vote completes; None if it completes none.
 fn completed_with<S: Sign, H: Held>(
     alloc: Global,
     node: &Node<S>,
@@ -76,7 +76,7 @@ fn completed_with<S: Sign, H: Held>(
     }
 }
 
-/// The certificate that a new message adds: the one that it is, or the one that it completes as a vote.
+/// The certificate that a new message adds: the one that it is, or the one that it completes because it is a vote; None if it adds none.
 pub fn certificate_of<S: Sign, H: Held>(
     alloc: Global,
     node: &Node<S>,
@@ -92,7 +92,7 @@ pub fn certificate_of<S: Sign, H: Held>(
     }
 }
 
-/// The last committed leader.
+/// The last leader that is committed, if there is one.
 fn last_leader<'a>(ledger: &Ledger<'a>) -> Option<&'a Certificate>
     ensures { option_copied result ≡ machine.last_leader (ledger_view ledger.now) }
 {
@@ -102,7 +102,7 @@ fn last_leader<'a>(ledger: &Ledger<'a>) -> Option<&'a Certificate>
     }
 }
 
-/// What leaders order one after the other, given the leader before the first.
+/// The certificates that several leaders order, one leader after the other, given the committed leader before them.
 fn segments_after<'a>(
     alloc: Global,
     ledger: &Ledger,
@@ -121,7 +121,7 @@ fn segments_after<'a>(
     Ok(found)
 }
 
-/// What the leaders order that are newer than the last one committed before.
+/// The digests that the order gains between two ledgers: what the leaders order that are committed in the later one only.
 fn newly_ordered(alloc: Global, before: &Ledger, later: &Ledger) -> Result<Vec<Digest>, AllocError>
     ensures { IfOk result (λ found. found.items ≡ machine.newly_ordered (ledger_view before.now) (ledger_view later.now)) }
 {
@@ -130,7 +130,7 @@ fn newly_ordered(alloc: Global, before: &Ledger, later: &Ledger) -> Result<Vec<D
     ordered.iter().map(|c| digest_of(&c.header)).collect(alloc)
 }
 
-/// The order of the tables, with what these certificates and coins add to it.
+/// The order in the tables, with what these certificates and coins add to it.
 pub fn ordered_with<S: Sign>(
     alloc: Global,
     node: &Node<S>,

@@ -1,4 +1,4 @@
-//! The node's round.
+//! The round of a node, by its tables.
 
 ghost use Rattle.std.specs.Prelude.{◌≡◌, ◌≤◌};
 ghost use Rattle.spec_machine.specs.Machine as machine;
@@ -12,7 +12,7 @@ use ref_order::holdings::is_full;
 use sigface::Sign;
 use wire::Certificate;
 
-/// The greatest round up to this one in which a quorum of authors has certificates, or 0.
+/// The greatest round up to this one that has certificates by a quorum of authors; 0 if there is none.
 fn full_to<S: Sign>(node: &Node<S>, certificates: &[Certificate], round: u64) -> u64
     ensures value { result ≡ machine.full_to (node_view S.scheme node.now) (slots_of certificates.now) round }
     ensures limit { result ≤ round }
@@ -26,7 +26,7 @@ fn full_to<S: Sign>(node: &Node<S>, certificates: &[Certificate], round: u64) ->
     full_to(node, certificates, round - 1)
 }
 
-/// The node's round.
+/// The round of the node.
 pub fn round_in<S: Sign>(node: &Node<S>, tables: &Tables) -> u64
     ensures { result ≡ machine.round_in (node_view S.scheme node.now) (state_of tables.now) }
 {

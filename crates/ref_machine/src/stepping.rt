@@ -1,4 +1,4 @@
-//! What a node answers to an event from its tables, its tables after an event, and what it proposes.
+//! The answers of a node to events by its tables, its tables after an event, and the header that it proposes.
 
 ghost use Rattle.std.specs.Prelude.{◌≡◌, IfOk};
 ghost use Rattle.spec_machine.specs.Machine as machine;
@@ -38,7 +38,7 @@ pub fn fresh<S: Sign>(alloc: Global, node: &Node<S>) -> Result<Tables, AllocErro
     })
 }
 
-/// The tables after a new event: with all that it adds, and then without what falls below the new floor.
+/// The tables after a new event: all that it brings is added, and then what is below the new floor is dropped.
 ///
 /// # Errors
 /// An allocation failed.
@@ -53,7 +53,7 @@ pub fn after<S: Sign>(
     collected(alloc, node, grown(alloc, node, tables, &event.message)?)
 }
 
-/// The answer to an event.
+/// The answer of a node with these tables to an event.
 ///
 /// # Errors
 /// An allocation failed.
@@ -69,7 +69,7 @@ pub fn answered<S: Sign>(
     answer(alloc, node, tables, &later, event)
 }
 
-/// The header that the node proposes; None where its round has one already.
+/// The header that the node proposes; None if its round already has an own header.
 ///
 /// # Errors
 /// An allocation failed.
@@ -83,14 +83,14 @@ pub fn proposed<S: Sign>(
     propose_of(alloc, node, tables, round_in(node, tables))
 }
 
-/// Whether an answer says that parents are missing.
+/// Whether this answer says that parents are missing.
 fn is_missing_parents(answer: &Admission) -> bool
     ensures { result ≡ machine.is_missing_parents answer.now }
 {
     matches!(answer, Admission::Refused(Refusal::MissingParents))
 }
 
-/// Whether an event is ready: its answer isn't that parents are missing.
+/// Whether an event can be answered without waiting: the answer isn't that parents are missing.
 ///
 /// # Errors
 /// An allocation failed.

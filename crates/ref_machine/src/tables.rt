@@ -1,4 +1,4 @@
-//! What a node keeps, in lists.
+//! What a node keeps, as plain lists.
 
 ghost use Rattle.std.specs.Prelude.{◌≡◌, IfOk};
 ghost use Rattle.ref_machine.specs.Tables.{state_of};
@@ -12,31 +12,31 @@ use ref_order::held::Held;
 use std::alloc::{AllocError, Global};
 use wire::{Author, Batch, BatchAck, Certificate, Digest, Header, Round, Vote};
 
-/// The digest that the node voted for in a slot.
+/// A vote of the node: the digest of the header of this round and author that it voted for.
 #[derive(Clone, Copy, PartialEq, Eq)]
 pub struct SlotVote {
-    /// The round.
+    /// The round of the header.
     pub round: Round,
-    /// The author.
+    /// The author of the header.
     pub author: Author,
-    /// The header's digest.
+    /// The digest of the header.
     pub digest: Digest,
 }
 
-/// The tables of a node, as lists. Where several entries of a list fit, the first one counts.
+/// The tables of a node, as lists. If several entries of a list fit a look-up, the first one counts.
 #[derive(Drop)]
 pub struct Tables {
-    /// The batches, in the order of acceptance.
+    /// The batches, in the order in which they were accepted.
     pub batches: Vec<Batch>,
-    /// Who acknowledged which batch.
+    /// The acknowledgements: who holds which own batch.
     pub acks: Vec<BatchAck>,
-    /// The digests of the batches that own headers named.
+    /// The digests of the batches that own headers have named.
     pub named: Vec<Digest>,
-    /// The digests that the node voted for.
+    /// The votes of the node, those for own headers included.
     pub votes: Vec<SlotVote>,
     /// The own headers.
     pub own_headers: Vec<Header>,
-    /// The counted votes on the own headers.
+    /// The votes on own headers that count.
     pub counted: Vec<Vote>,
     /// The certificates.
     pub certificates: Vec<Certificate>,
@@ -44,7 +44,7 @@ pub struct Tables {
     pub highest: Round,
     /// The values of the coins, that of wave 1 first.
     pub coins: Vec<u64>,
-    /// The order.
+    /// The order: the digests of the ordered certificates.
     pub order: Vec<Digest>,
 }
 

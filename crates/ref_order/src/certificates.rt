@@ -1,4 +1,4 @@
-//! The certificates of a history, and its round.
+//! The certificates, the order, the floor and the round of a node, computed from its history.
 
 ghost use Rattle.std.specs.Prelude.{◌≡◌, IfOk, filter_map, map};
 ghost use Rattle.spec_model.specs.Histories.{headers};
@@ -17,7 +17,7 @@ use sigface::Sign;
 use std::alloc::{AllocError, Global};
 use wire::{Author, Certificate, Digest, Header, HeaderBody, Vote, VoteEntries};
 
-/// An own header in a node's history, for the counted votes on it.
+/// An own header in a node's history, to look up the votes on it that count.
 struct OnHeader<'a, S: Sign> {
     node: &'a Node<S>,
     history: &'a [Event],
@@ -40,7 +40,7 @@ impl<'a, S: Sign> Counted for OnHeader<'a, S> {
     }
 }
 
-/// The counted votes on an own header, sorted by voter.
+/// The votes on an own header that count, as a certificate has them, sorted by voter.
 pub fn votes_on<S: Sign>(
     alloc: Global,
     node: &Node<S>,
@@ -57,7 +57,7 @@ pub fn votes_on<S: Sign>(
     votes_by(alloc, node, &counted)
 }
 
-/// The certificate of an own header, if the votes on it weigh a quorum.
+/// The certificate of an own header; None if the votes on it weigh less than a quorum.
 pub fn completed<S: Sign>(
     alloc: Global,
     node: &Node<S>,
@@ -92,7 +92,7 @@ fn first(alloc: Global, size: u16) -> Result<Vec<Certificate>, AllocError>
     Ok(found)
 }
 
-/// The own certificates.
+/// The certificates of own headers for which the votes in a history weigh a quorum.
 fn own<S: Sign>(
     alloc: Global,
     node: &Node<S>,
@@ -110,7 +110,7 @@ fn own<S: Sign>(
     Ok(found)
 }
 
-/// All certificates.
+/// All certificates after a history: those of the genesis, those that came in, and those of own headers.
 pub fn certificates<S: Sign>(
     alloc: Global,
     node: &Node<S>,
@@ -124,7 +124,7 @@ pub fn certificates<S: Sign>(
     Ok(found)
 }
 
-/// The order.
+/// The order after a history: the digests of the ordered certificates.
 pub fn order<S: Sign>(
     alloc: Global,
     node: &Node<S>,
@@ -142,7 +142,7 @@ pub fn order<S: Sign>(
     order_by(alloc, &ledger)
 }
 
-/// The floor.
+/// The floor (the garbage-collection round) after a history.
 pub fn floor<S: Sign>(alloc: Global, node: &Node<S>, history: &[Event]) -> Result<u64, AllocError>
     ensures { IfOk result (λ floor. floor ≡ holdings.floor (node_view S.scheme node.now) history.now) }
 {
@@ -156,7 +156,7 @@ pub fn floor<S: Sign>(alloc: Global, node: &Node<S>, history: &[Event]) -> Resul
     Ok(floor_by(&ledger))
 }
 
-/// The greatest round of some certificates, or 0.
+/// The greatest round of these certificates; 0 if there is none.
 pub fn highest_of(certificates: &[Certificate]) -> u64
     ensures { result ≡ states.highest_of certificates.now }
 {
@@ -167,7 +167,7 @@ pub fn highest_of(certificates: &[Certificate]) -> u64
     highest
 }
 
-/// 1 plus the greatest round in which a quorum of authors has certificates.
+/// The round of a node with these certificates: 1 plus the greatest round that has certificates by a quorum of authors.
 pub fn round_by<S: Sign>(node: &Node<S>, certificates: &[Certificate]) -> u64
     ensures { result ≡ holdings.round_by (node_view S.scheme node.now) certificates.now }
 {
@@ -181,7 +181,7 @@ pub fn round_by<S: Sign>(node: &Node<S>, certificates: &[Certificate]) -> u64
     1 + greatest
 }
 
-/// The node's round.
+/// The round of the node after a history.
 pub fn round<S: Sign>(alloc: Global, node: &Node<S>, history: &[Event]) -> Result<u64, AllocError>
     ensures { IfOk result (λ round. round ≡ holdings.round (node_view S.scheme node.now) history.now) }
 {

@@ -1,4 +1,4 @@
-//! What a node holds: a history, or tables.
+//! What a node has, as the reference implementation looks it up: in a history, or in tables.
 
 ghost use Rattle.std.specs.Prelude.{◌≡◌, ℕ, List, Option, ◌&&◌, nat_lt, length, IfOk, IfSome, option_copied};
 ghost use Rattle.committee.specs.Charter.{weight};
@@ -20,16 +20,16 @@ use sigface::Sign;
 use std::alloc::{AllocError, Global};
 use wire::{Author, Batch, Certificate, Digest, Header, Vote};
 
-/// What a node holds, as a history or as tables, so that code that reads it is written only once.
+/// What a node has, as a history or as tables, so that code which looks something up there is written only once.
 pub trait Held {
-    /// What is held.
+    /// The state of the node, by what it has.
     ghost state: { Self → State };
 
-    /// The batch with this digest.
+    /// The batch with this digest, if the node has it.
     fn batch(&self, digest: &Digest) -> Option<&Batch>
         ensures { option_copied result ≡ states.batch_in (state self.now) digest.now };
 
-    /// The batches, in the order of acceptance.
+    /// The batches, in the order in which they were accepted.
     ///
     /// # Errors
     /// An allocation failed.
@@ -44,20 +44,20 @@ pub trait Held {
     fn was_named(&self, digest: &Digest) -> bool
         ensures { result ≡ (state self.now).named digest.now };
 
-    /// The digest that the node voted for in a slot.
+    /// The digest of the header of this round and author that the node voted for.
     fn voted_digest(&self, round: u64, author: u16) -> Option<Digest>
         ensures { result ≡ (state self.now).votes round author };
 
-    /// The own header of a round.
+    /// The own header of this round, if there is one.
     fn own_header(&self, round: u64) -> Option<&Header>
         ensures { option_copied result ≡ (state self.now).own_headers round };
 
-    /// A member's counted vote on the own header of a round.
+    /// The vote of a member on the own header of this round that counts.
     fn counted(&self, round: u64, voter: u16) -> Option<Vote>
         ensures value { result ≡ (state self.now).counted round voter }
         ensures voter { IfSome result (λ vote. vote.voter.0 ≡ voter) };
 
-    /// The certificates; the first one in each slot counts.
+    /// The certificates. If there are several of one round and author, the first one counts.
     ///
     /// # Errors
     /// An allocation failed.
@@ -78,7 +78,7 @@ pub trait Held {
     fn coins(&self, alloc: Global) -> Result<Vec<u64>, AllocError>
         ensures { IfOk result (λ found. found.items ≡ (state self.now).coins) };
 
-    /// The order.
+    /// The order: the digests of the ordered certificates.
     ///
     /// # Errors
     /// An allocation failed.
@@ -96,7 +96,7 @@ pub fn has_own_batch<S: Sign, H: Held>(node: &Node<S>, held: &H, digest: &Digest
     }
 }
 
-/// The members who hold an own batch: the node itself, and those who acknowledged it.
+/// The members who are known to hold an own batch: the node itself, and those who acknowledged it.
 #[tactic(auto, using(crate::proofs::Sets::in_more, crate::proofs::Sets::out_more))]
 fn holders<S: Sign, H: Held>(node: &Node<S>, held: &H, digest: &Digest) -> MemberSet
     ensures { (member : ℕ) → has result member ≡ (nat_lt member (length node.now.committee.keys) && states.holds (node_view S.scheme node.now) (H.state held.now) digest.now member) }
@@ -111,21 +111,21 @@ fn holders<S: Sign, H: Held>(node: &Node<S>, held: &H, digest: &Digest) -> Membe
     found
 }
 
-/// The weight of the members who hold an own batch.
+/// The weight of the members who are known to hold an own batch.
 fn weight_of_holders<S: Sign, H: Held>(node: &Node<S>, held: &H, digest: &Digest) -> u64
     ensures { result ≡ weight node.now.committee (states.holds (node_view S.scheme node.now) (H.state held.now) digest.now) }
 {
     node.committee.weight(&holders(node, held, digest))
 }
 
-/// Whether an own batch is available.
+/// Whether an own batch is available to other members: those who are known to hold it weigh a quorum.
 pub fn is_available<S: Sign, H: Held>(node: &Node<S>, held: &H, digest: &Digest) -> bool
     ensures { result ≡ states.is_available (node_view S.scheme node.now) (H.state held.now) digest.now }
 {
     has_own_batch(node, held, digest) && node.quorum() <= weight_of_holders(node, held, digest)
 }
 
-/// One round of what a node holds, for the counted votes on its own header of that round.
+/// One round of what a node has, to look up the votes on its own header of that round.
 struct OfRound<'a, H: Held> {
     held: &'a H,
     round: u64,
@@ -147,7 +147,7 @@ impl<'a, H: Held> Counted for OfRound<'a, H> {
     }
 }
 
-/// The certificate of the own header of a round, if the counted votes on it weigh a quorum.
+/// The certificate of the own header of this round; None if the votes on it weigh less than a quorum.
 ///
 /// # Errors
 /// An allocation failed.
@@ -165,7 +165,7 @@ pub fn completed_at<S: Sign, H: Held>(
     }
 }
 
-/// The floor.
+/// The floor (the garbage-collection round).
 ///
 /// # Errors
 /// An allocation failed.
@@ -186,7 +186,7 @@ pub fn floor_in<S: Sign, H: Held>(
     Ok(floor_by(&ledger))
 }
 
-/// Whether the authors who have certificates of a round weigh a quorum.
+/// Whether the authors of the certificates of this round weigh a quorum.
 ///
 /// # Errors
 /// An allocation failed.

@@ -1,4 +1,4 @@
-//! What a history has of each kind.
+//! The messages of each kind in a history.
 
 ghost use Rattle.std.specs.Prelude.{◌≡◌, IfOk};
 ghost use Rattle.spec_model.specs.Histories.{batches, acks, headers, votes, received, coins};
@@ -7,7 +7,7 @@ use header::Event;
 use std::alloc::{AllocError, Global};
 use wire::{Batch, BatchAck, Certificate, Header, Message, Vote};
 
-/// The batches.
+/// The batches in a history, the oldest first.
 pub fn batches(alloc: Global, history: &[Event]) -> Result<Vec<Batch>, AllocError>
     ensures { IfOk result (λ found. found.items ≡ batches history.now) }
 {
@@ -20,7 +20,7 @@ pub fn batches(alloc: Global, history: &[Event]) -> Result<Vec<Batch>, AllocErro
     Ok(found)
 }
 
-/// The acknowledgements of batches.
+/// The acknowledgements of batches in a history, the oldest first.
 pub fn acks(alloc: Global, history: &[Event]) -> Result<Vec<BatchAck>, AllocError>
     ensures { IfOk result (λ found. found.items ≡ acks history.now) }
 {
@@ -33,7 +33,7 @@ pub fn acks(alloc: Global, history: &[Event]) -> Result<Vec<BatchAck>, AllocErro
     Ok(found)
 }
 
-/// The headers, own ones too.
+/// The headers in a history, own ones too, the oldest first.
 pub fn headers(alloc: Global, history: &[Event]) -> Result<Vec<Header>, AllocError>
     ensures { IfOk result (λ found. found.items ≡ headers history.now) }
 {
@@ -46,7 +46,7 @@ pub fn headers(alloc: Global, history: &[Event]) -> Result<Vec<Header>, AllocErr
     Ok(found)
 }
 
-/// The votes on own headers.
+/// The votes that came in, the oldest first.
 pub fn votes(alloc: Global, history: &[Event]) -> Result<Vec<Vote>, AllocError>
     ensures { IfOk result (λ found. found.items ≡ votes history.now) }
 {
@@ -59,7 +59,7 @@ pub fn votes(alloc: Global, history: &[Event]) -> Result<Vec<Vote>, AllocError>
     Ok(found)
 }
 
-/// The certificates that came in.
+/// The certificates that came in, the oldest first.
 pub fn received(alloc: Global, history: &[Event]) -> Result<Vec<Certificate>, AllocError>
     ensures { IfOk result (λ found. found.items ≡ received history.now) }
 {

@@ -1,4 +1,4 @@
-//! What a history holds: batches, votes, certificates, and rounds.
+//! What a node has after a history: batches, votes, certificates, and rounds.
 
 ghost use Rattle.std.specs.Prelude.{◌≡◌, ℕ, ◌&&◌, nat_lt, is_some, IfSome, find, length, option_copied};
 ghost use Rattle.std.specs.List.{list_any};
@@ -18,7 +18,7 @@ use wire::{
     ParentReference, Vote, batch_digest, header_digest,
 };
 
-/// The batch with this digest, if it is held.
+/// The batch with this digest, if the history has it.
 pub fn batch_at<'a>(history: &'a [Event], digest: &Digest) -> Option<&'a Batch>
     ensures { option_copied result ≡ holdings.batch_at history.now digest.now }
 {
@@ -67,7 +67,7 @@ pub fn was_named<S: Sign>(node: &Node<S>, history: &[Event], digest: &Digest) ->
     false
 }
 
-/// The header that the node voted for in a slot.
+/// The header of this round and author that the node voted for.
 pub fn voted_header(history: &[Event], round: u64, author: u16) -> Option<&Header>
     ensures { option_copied result ≡ holdings.voted_header history.now round author }
 {
@@ -81,7 +81,7 @@ pub fn voted_header(history: &[Event], round: u64, author: u16) -> Option<&Heade
     None
 }
 
-/// The digest that the node voted for in a slot.
+/// The digest of the header of this round and author that the node voted for.
 pub fn voted_digest(history: &[Event], round: u64, author: u16) -> Option<Digest>
     ensures { result ≡ holdings.voted_digest history.now round author }
 {
@@ -91,7 +91,7 @@ pub fn voted_digest(history: &[Event], round: u64, author: u16) -> Option<Digest
     }
 }
 
-/// Whether a vote is one on this header, by this member.
+/// Whether a vote is for this header and by this member.
 pub fn is_vote_on(header: &HeaderBody, voter: u16, vote: &Vote) -> bool
     ensures { result ≡ holdings.is_vote_on header.now voter vote.now }
 {
@@ -100,7 +100,7 @@ pub fn is_vote_on(header: &HeaderBody, voter: u16, vote: &Vote) -> bool
         && vote.header == header_digest(header)
 }
 
-/// The node's own vote for a header.
+/// The node's own vote for a header, with its signature.
 pub fn own_vote<S: Sign>(node: &Node<S>, header: &HeaderBody) -> Vote
     ensures { result ≡ holdings.own_vote (node_view S.scheme node.now) header.now }
 {
@@ -113,7 +113,7 @@ pub fn own_vote<S: Sign>(node: &Node<S>, header: &HeaderBody) -> Vote
     }
 }
 
-/// Another member's vote on an own header.
+/// The first vote of another member on an own header that came in.
 fn vote_by(history: &[Event], header: &HeaderBody, voter: u16) -> Option<Vote>
     ensures value { result ≡ find (holdings.is_vote_on header.now voter) (votes history.now) }
     ensures voter { IfSome result (λ vote. vote.voter.0 ≡ voter) }
@@ -128,7 +128,7 @@ fn vote_by(history: &[Event], header: &HeaderBody, voter: u16) -> Option<Vote>
     None
 }
 
-/// A member's counted vote on an own header.
+/// The vote of a member on an own header that counts: the first that came in, or the node's own.
 pub fn counted_vote<S: Sign>(
     node: &Node<S>,
     history: &[Event],
@@ -144,7 +144,7 @@ pub fn counted_vote<S: Sign>(
     vote_by(history, header, voter)
 }
 
-/// A member's counted vote on the own header of a round.
+/// The vote of a member that counts on the own header of this round.
 pub fn counted_at<S: Sign>(
     node: &Node<S>,
     history: &[Event],
@@ -160,14 +160,14 @@ pub fn counted_at<S: Sign>(
     }
 }
 
-/// Whether a round is low.
+/// Whether a round is low: it is 0, or at or below a floor above 0.
 pub fn is_low(floor: u64, round: u64) -> bool
     ensures { result ≡ holdings.is_low floor round }
 {
     round == 0 || (floor > 0 && round <= floor)
 }
 
-/// The members who have certificates of a round.
+/// The members of whom there is a certificate of this round.
 #[tactic(auto, using(crate::proofs::Sets::in_more, crate::proofs::Sets::out_more))]
 fn authors_of(committee: &Committee, certificates: &[Certificate], round: u64) -> MemberSet
     ensures { (member : ℕ) → has result member ≡ (nat_lt member (length committee.now.keys) && is_some (slots_of certificates.now round member)) }
@@ -182,21 +182,21 @@ fn authors_of(committee: &Committee, certificates: &[Certificate], round: u64) -
     held
 }
 
-/// The weight of the members who have certificates of a round.
+/// The weight of the members of whom there is a certificate of this round.
 fn weight_of_authors(committee: &Committee, certificates: &[Certificate], round: u64) -> u64
     ensures { result ≡ weight committee.now (λ author. is_some (slots_of certificates.now round author)) }
 {
     committee.weight(&authors_of(committee, certificates, round))
 }
 
-/// Whether the authors who have certificates of a round weigh a quorum.
+/// Whether the authors of the certificates of this round weigh a quorum.
 pub fn is_full<S: Sign>(node: &Node<S>, certificates: &[Certificate], round: u64) -> bool
     ensures { result ≡ holdings.is_full (node_view S.scheme node.now) (slots_of certificates.now) round }
 {
     node.quorum() <= weight_of_authors(&node.committee, certificates, round)
 }
 
-/// Whether a parent of a header of a round is held.
+/// Whether a parent of a header of this round is held: its certificate is there, or its round is at or below a floor above 0.
 pub fn is_held(
     certificates: &[Certificate],
     floor: u64,

@@ -1,5 +1,5 @@
-//! A reference implementation, plain and slow, of what a history holds: one function for each definition of the model that computes. It is
-//! no part of a node: the code of the node is compared with it.
+//! A reference implementation, plain and slow, of what a node has after a history: one function for each definition of the model that
+//! computes. It is no part of a node: the code of the node is compared with it.
 #![tactic(auto)]
 
 pub mod certificates;

@@ -1,4 +1,4 @@
-//! The committed leaders that are newer than a wave.
+//! The committed leaders of the waves above a given one.
 
 ghost use Rattle.std.specs.Prelude.{◌≡◌, [], ◌∷◌, IfOk};
 ghost use Rattle.spec_model.specs.Ordering.{newer_to, newer_at, newer, last_wave};
@@ -9,7 +9,7 @@ use crate::ordering::{leader, top};
 use std::alloc::{AllocError, Global};
 use wire::Certificate;
 
-/// A list of one leader.
+/// A list with only this leader.
 fn alone(alloc: Global, last: &Certificate) -> Result<Vec<Certificate>, AllocError>
     ensures { IfOk result (λ found. found.items ≡ last.now ∷ []) }
 {
@@ -18,7 +18,8 @@ fn alone(alloc: Global, last: &Certificate) -> Result<Vec<Certificate>, AllocErr
     Ok(found)
 }
 
-/// The leaders that are committed together with `last`, of the waves above `base` up to a given wave, oldest first, and then `last`.
+/// The leaders that are committed together with the leader `last`, oldest first, and then `last`: those of waves above `base`, up to the
+/// given wave.
 pub fn newer_to(
     alloc: Global,
     ledger: &Ledger,
@@ -44,7 +45,7 @@ pub fn newer_to(
     newer_to(alloc, ledger, base, wave - 1, last)
 }
 
-/// The leaders of the waves above `base` that are committed when this wave's leader is, oldest first.
+/// The leaders of waves above `base` that are committed when the leader of `wave` is, oldest first.
 pub fn newer_at(
     alloc: Global,
     ledger: &Ledger,
@@ -62,7 +63,7 @@ pub fn newer_at(
     }
 }
 
-/// The committed leaders of the waves above `base`.
+/// All committed leaders of waves above `base`, oldest first.
 pub fn newer(alloc: Global, ledger: &Ledger, base: u64) -> Result<Vec<Certificate>, AllocError>
     ensures { IfOk result (λ found. found.items ≡ newer (ledger_view ledger.now) base) }
 {
@@ -72,7 +73,7 @@ pub fn newer(alloc: Global, ledger: &Ledger, base: u64) -> Result<Vec<Certificat
     }
 }
 
-/// The greatest wave that is directly committed, or 0.
+/// The greatest wave whose leader has support; 0 if there is none.
 pub fn last_wave(ledger: &Ledger) -> u64
     ensures { result ≡ last_wave (ledger_view ledger.now) }
 {

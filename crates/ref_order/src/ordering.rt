@@ -1,4 +1,4 @@
-//! Leaders, which of them are committed, and the order.
+//! Which certificates are leaders, which leaders are committed, and the order that follows.
 
 ghost use Rattle.std.specs.Prelude.{◌≡◌, ◌<◌, ◌≤◌, ℕ, ◌&&◌, nat_lt, IfOk, IfSome, None, length, option_copied};
 ghost use Rattle.committee.specs.Charter.{weight};
@@ -13,7 +13,7 @@ use committee::MemberSet;
 use std::alloc::{AllocError, Global};
 use wire::{Author, Certificate, Digest};
 
-/// The leader of a wave.
+/// The leader of a wave: the certificate of the wave's first round whose author the coin chooses.
 pub fn leader<'a>(ledger: &Ledger<'a>, wave: u64) -> Option<&'a Certificate>
     ensures { option_copied result ≡ leader (ledger_view ledger.now) wave }
 {
@@ -66,7 +66,7 @@ fn weight_of_supporters(ledger: &Ledger, certificate: &Certificate) -> u64
     ledger.committee.weight(&supporters(ledger, certificate))
 }
 
-/// Whether a certificate has support.
+/// Whether a certificate has support: the members who support it weigh enough.
 pub fn has_support(ledger: &Ledger, certificate: &Certificate) -> bool
     ensures { result ≡ has_support (ledger_view ledger.now) certificate.now }
 {
@@ -83,7 +83,7 @@ pub fn is_directly_committed(ledger: &Ledger, wave: u64) -> bool
     }
 }
 
-/// The greatest wave up to this one that is directly committed.
+/// The greatest wave up to this one whose leader has support.
 pub fn top_to(ledger: &Ledger, wave: u64) -> Option<u64>
     ensures value { result ≡ top_to (ledger_view ledger.now) wave }
     ensures within { IfSome result (λ top. (0 < top) × (top ≤ wave)) }
@@ -97,7 +97,7 @@ pub fn top_to(ledger: &Ledger, wave: u64) -> Option<u64>
     top_to(ledger, wave - 1)
 }
 
-/// The greatest wave that is directly committed.
+/// The greatest wave whose leader has support.
 pub fn top(ledger: &Ledger) -> Option<u64>
     ensures value { result ≡ top (ledger_view ledger.now) }
     ensures within { IfSome result (λ top. (0 < top) × (top ≤ length ledger.now.coins.now)) }
@@ -105,14 +105,14 @@ pub fn top(ledger: &Ledger) -> Option<u64>
     top_to(ledger, ledger.coins.len() as u64)
 }
 
-/// The leaders that are committed when this wave's leader is.
+/// All leaders that are committed when the leader of this wave is, oldest first.
 pub fn chain(alloc: Global, ledger: &Ledger, wave: u64) -> Result<Vec<Certificate>, AllocError>
     ensures { IfOk result (λ found. found.items ≡ chain (ledger_view ledger.now) wave) }
 {
     newer_at(alloc, ledger, 0, wave)
 }
 
-/// Whether the previous committed leader reaches this certificate, and so has ordered it already.
+/// Whether the committed leader before reaches this certificate, so that it has ordered the certificate already.
 fn is_past(
     alloc: Global,
     ledger: &Ledger,
@@ -127,7 +127,7 @@ fn is_past(
     }
 }
 
-/// The certificates of rounds 1 to this round, by round and then author.
+/// The certificates of the rounds from 1 to this one, sorted by round and then by author.
 #[tactic(auto, using(crate::proofs::Ranges::round_more))]
 pub fn rounds_to(alloc: Global, ledger: &Ledger, round: u64) -> Result<Vec<Certificate>, AllocError>
     ensures { IfOk result (λ found. found.items ≡ rounds_to (ledger_view ledger.now) round) }
@@ -140,7 +140,7 @@ pub fn rounds_to(alloc: Global, ledger: &Ledger, round: u64) -> Result<Vec<Certi
     Ok(found)
 }
 
-/// Whether a leader orders a certificate, given the previous leader.
+/// Whether a leader orders a certificate, given the committed leader before it.
 fn is_ordered_by(
     alloc: Global,
     ledger: &Ledger,
@@ -159,7 +159,7 @@ fn is_ordered_by(
     Ok(!is_past(alloc, ledger, previous, certificate)?)
 }
 
-/// What a leader orders, given the previous leader.
+/// The certificates that a leader orders, given the committed leader before it.
 pub fn segment(
     alloc: Global,
     ledger: &Ledger,
@@ -178,7 +178,7 @@ pub fn segment(
     Ok(found)
 }
 
-/// What several leaders order, one after the other.
+/// The certificates that several leaders order, one leader after the other.
 pub fn segments(
     alloc: Global,
     ledger: &Ledger,
@@ -196,14 +196,14 @@ pub fn segments(
     Ok(found)
 }
 
-/// The leaders that are committed.
+/// All committed leaders, oldest first.
 pub fn committed(alloc: Global, ledger: &Ledger) -> Result<Vec<Certificate>, AllocError>
     ensures { IfOk result (λ found. found.items ≡ committed (ledger_view ledger.now)) }
 {
     newer(alloc, ledger, 0)
 }
 
-/// The order: the certificates' digests.
+/// The order: the digests of the certificates that all committed leaders order.
 pub fn order_by(alloc: Global, ledger: &Ledger) -> Result<Vec<Digest>, AllocError>
     ensures { IfOk result (λ found. found.items ≡ order_by (ledger_view ledger.now)) }
 {
@@ -212,7 +212,7 @@ pub fn order_by(alloc: Global, ledger: &Ledger) -> Result<Vec<Digest>, AllocErro
     ordered.iter().map(|c| digest_of(&c.header)).collect(alloc)
 }
 
-/// The floor.
+/// The floor (the garbage-collection round): the round of the last committed leader minus the depth, or 0.
 pub fn floor_by(ledger: &Ledger) -> u64
     ensures { result ≡ floor_by (ledger_view ledger.now) }
 {

@@ -1,4 +1,4 @@
-//! A history as what a node holds.
+//! Looks up in a history what a node has.
 
 ghost use Rattle.spec_model.specs.Nodes.{node_view};
 ghost use Rattle.spec_model.specs.States.{whole};
@@ -12,7 +12,7 @@ use sigface::Sign;
 use std::alloc::{AllocError, Global};
 use wire::{Batch, Certificate, Digest, Header, Vote};
 
-/// A node and its history.
+/// A node and its history, in which can be looked up what the node has.
 pub struct Past<'a, S: Sign> {
     /// The node.
     pub node: &'a Node<S>,

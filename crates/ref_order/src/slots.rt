@@ -1,4 +1,4 @@
-//! Certificates by slot, and the paths between them.
+//! Certificates by round and author, and the paths of parents between them.
 
 ghost use Rattle.std.specs.Prelude.{◌≡◌, ◌+◌, IfOk, option_copied};
 ghost use Rattle.std.specs.List.{list_any};
@@ -7,21 +7,21 @@ ghost use Rattle.spec_model.specs.Slots.{slots_of, is_of_slot, is_named, is_pare
 use std::alloc::{AllocError, Global};
 use wire::{Certificate, Digest, HeaderBody, ParentReference, certificate_digest, header_digest};
 
-/// Whether a header is of this slot.
+/// Whether a header is of this round and by this author.
 pub fn is_of_slot(round: u64, author: u16, header: &HeaderBody) -> bool
     ensures { result ≡ is_of_slot round author header.now }
 {
     header.round.number() == round && header.author.0 == author
 }
 
-/// The digest of a header's certificate.
+/// The digest of a header's certificate; it doesn't depend on the votes.
 pub fn digest_of(header: &HeaderBody) -> Digest
     ensures { result ≡ Rattle.spec_model.specs.Slots.certificate_digest header.now }
 {
     certificate_digest(&header_digest(header), header.round, header.author)
 }
 
-/// What a slot holds.
+/// The first of these certificates that is of this round and author.
 pub fn slot(certificates: &[Certificate], round: u64, author: u16) -> Option<&Certificate>
     ensures { option_copied result ≡ slots_of certificates.now round author }
 {
@@ -30,7 +30,7 @@ pub fn slot(certificates: &[Certificate], round: u64, author: u16) -> Option<&Ce
         .find(|c| is_of_slot(round, author, &c.header))
 }
 
-/// Whether a parent reference names this certificate.
+/// Whether a reference to a parent names this certificate.
 pub fn is_named(certificate: &Certificate, parent: &ParentReference) -> bool
     ensures { result ≡ is_named certificate.now parent.now }
 {
@@ -38,14 +38,14 @@ pub fn is_named(certificate: &Certificate, parent: &ParentReference) -> bool
         && parent.certificate == digest_of(&certificate.header)
 }
 
-/// Whether one of a header's parent references names this certificate.
+/// Whether one of these references to parents names this certificate.
 fn is_named_in(certificate: &Certificate, parents: &[ParentReference]) -> bool
     ensures { result ≡ list_any (is_named certificate.now) parents.now }
 {
     parents.iter().any(|p| is_named(certificate, p))
 }
 
-/// Whether a certificate is a parent of another one.
+/// Whether one certificate is a parent of another: it is of the round below, and the other names it.
 pub fn is_parent(parent: &Certificate, child: &Certificate) -> bool
     ensures { result ≡ is_parent parent.now child.now }
 {
@@ -53,7 +53,7 @@ pub fn is_parent(parent: &Certificate, child: &Certificate) -> bool
         && is_named_in(parent, child.header.parents.as_slice())
 }
 
-/// The certificates of a round, by author.
+/// The certificates of a round, sorted by author.
 #[tactic(auto, using(crate::proofs::Ranges::one_more, crate::proofs::Ranges::none_more))]
 pub fn round_of(
     alloc: Global,
@@ -72,7 +72,7 @@ pub fn round_of(
     Ok(found)
 }
 
-/// Whether a path of this many steps leads from one certificate to another.
+/// Whether a path of so many steps leads from one certificate to another, each step to a parent.
 pub fn has_path(
     alloc: Global,
     size: u16,
@@ -99,7 +99,7 @@ pub fn has_path(
     Ok(false)
 }
 
-/// Whether one certificate reaches another.
+/// Whether a path of parents leads from one certificate to another.
 pub fn reaches(
     alloc: Global,
     size: u16,

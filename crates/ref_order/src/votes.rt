@@ -1,4 +1,4 @@
-//! The counted votes on an own header, and the certificate that they make.
+//! The votes on an own header that count, and the certificate that they make.
 
 ghost use Rattle.std.specs.Prelude.{◌≡◌, ◌≤◌, ℕ, ◌&&◌, nat_lt, length, IfOk, IfSome, Option, filter_map, is_some, option_map};
 ghost use Rattle.spec_model.specs.Holdings as holdings;
@@ -14,18 +14,18 @@ use sigface::Sign;
 use std::alloc::{AllocError, Global};
 use wire::{Author, Certificate, Header, Vote, VoteEntries, VoteEntry};
 
-/// The counted votes on an own header.
+/// A source of the votes on an own header that count.
 pub trait Counted {
-    /// Each member's vote.
+    /// The vote of each member that counts, if there is one.
     ghost vote_of: { Self → ℕ → Option Vote };
 
-    /// A member's vote.
+    /// The vote of this member that counts, if there is one.
     fn vote(&self, voter: u16) -> Option<Vote>
         ensures value { result ≡ vote_of self.now voter }
         ensures voter { IfSome result (λ vote. vote.voter.0 ≡ voter) };
 }
 
-/// A member's vote, as an entry of a certificate.
+/// The vote of this member that counts, as it stands in a certificate.
 fn entry<C: Counted>(counted: &C, voter: u16) -> Option<VoteEntry>
     ensures value { result ≡ option_map holdings.entry_of (C.vote_of counted.now voter) }
     ensures voter { IfSome result (λ entry. entry.voter.0 ≡ voter) }
@@ -39,7 +39,7 @@ fn entry<C: Counted>(counted: &C, voter: u16) -> Option<VoteEntry>
     }
 }
 
-/// The votes of the first members, sorted by voter.
+/// The votes of the first `size` members that count, sorted by voter.
 #[tactic(auto, using(crate::proofs::Ranges::one_more, crate::proofs::Ranges::none_more, crate::proofs::Voters::follows_more, crate::proofs::Voters::follows_next))]
 fn votes_of<C: Counted>(alloc: Global, counted: &C, size: u16) -> Result<VoteEntries, AllocError>
     requires { size ≤ MAX_VOTES }
@@ -54,7 +54,7 @@ fn votes_of<C: Counted>(alloc: Global, counted: &C, size: u16) -> Result<VoteEnt
     Ok(found)
 }
 
-/// The votes of all members, sorted by voter.
+/// The votes of all members that count, sorted by voter.
 pub fn votes_by<S: Sign, C: Counted>(
     alloc: Global,
     node: &Node<S>,
@@ -65,7 +65,7 @@ pub fn votes_by<S: Sign, C: Counted>(
     votes_of(alloc, counted, node.size())
 }
 
-/// The members who have a counted vote.
+/// The members who have a vote that counts.
 #[tactic(auto, using(crate::proofs::Sets::in_more, crate::proofs::Sets::out_more))]
 fn voters<S: Sign, C: Counted>(node: &Node<S>, counted: &C) -> MemberSet
     ensures { (member : ℕ) → has result member ≡ (nat_lt member (length node.now.committee.keys) && is_some (C.vote_of counted.now member)) }
@@ -80,14 +80,14 @@ fn voters<S: Sign, C: Counted>(node: &Node<S>, counted: &C) -> MemberSet
     voted
 }
 
-/// The weight of the members who have a counted vote.
+/// The weight of the members who have a vote that counts.
 fn weight_of_voters<S: Sign, C: Counted>(node: &Node<S>, counted: &C) -> u64
     ensures { result ≡ weight node.now.committee (λ voter. is_some (C.vote_of counted.now voter)) }
 {
     node.committee.weight(&voters(node, counted))
 }
 
-/// The certificate of an own header with these votes, if they weigh a quorum.
+/// The certificate of an own header with the votes that count; None if they weigh less than a quorum.
 pub fn certificate_by<S: Sign, C: Counted>(
     alloc: Global,
     node: &Node<S>,

@@ -14,32 +14,32 @@ use Rattle.tusk.specs.Chain.{slot_of}
 use Rattle.flatten.specs.Lengthening.{LengtheningView, FitsTo}
 use Rattle.sequencer.specs.Sequence.{SequencerView, IsCommitted}
 
--- a certificate and its digest
+-- a certificate together with its digest
 abbrev pub Digested : Type 0
 Digested = Certificate × Digest
 
--- the slots of a list of certificates
+-- the certificate of each round and author, by a list of certificates
 abbrev pub listed : List Digested → Slots
 listed held = slots_of (map (λ (one : Digested). one.0) held)
 
--- a certificate comes before another one: its round is lower, or the rounds are the same and its author is lower
+-- one certificate comes before another in a sorted list: its round is lower, or it is equal and its author is lower
 abbrev pub is_before : Digested → Digested → Bool
 is_before one other =
     nat_lt one.0.header.round other.0.header.round
     || ((one.0.header.round == other.0.header.round) && nat_lt one.0.header.author.0 other.0.header.author.0)
 
--- certificates above the genesis, sorted by round and then author, each with its digest
+-- certificates of rounds above 0 with their digests, sorted by round and then by author
 pub record AreListed (held : List Digested) : Type 0 where
   pub rising : AllPairs (λ one other. is_before one other ≡ true) held
   pub positive : All (λ one. 0 < one.0.header.round) held
   pub digested : All (λ one. one.1 ≡ certificate_digest one.0.header) held
 
--- above the genesis, slots hold just what is in the list
+-- in rounds above 0, a table of certificates has just those of this list
 abbrev pub HoldsListed : Slots → List Digested → Type 0
 HoldsListed slots held = (round author : ℕ) → 0 < round → slots round author ≡ listed held round author
 
--- the parts from which a sequencer is restored: the committee, the floor, the slot of the last committed leader, the certificates above the
--- genesis, the coins and the order
+-- The parts from which a sequencer is restored: the committee, the floor, the round and author of the last committed leader, the
+-- certificates of rounds above 0, the coins, and the order.
 pub record Parts : Type 0 where
   pub charter : Charter
   pub floor : ℕ
@@ -48,7 +48,7 @@ pub record Parts : Type 0 where
   pub coins : List ℕ
   pub order : List Digest
 
--- these are the parts of a sound state of a node
+-- these parts are those of a sound state of this node
 pub record ArePartsOf (node : Node) (state : State) (parts : Parts) : Type 0 where
   pub node_is : IsNode node
   pub sound : IsSound node state
@@ -60,13 +60,13 @@ pub record ArePartsOf (node : Node) (state : State) (parts : Parts) : Type 0 whe
   pub coins : parts.coins ≡ state.coins
   pub order : parts.order ≡ state.order
 
--- these are the parts of some sound state of some node
+-- these parts are those of some sound state of some node
 abbrev pub AreParts : Parts → Type 0
 AreParts parts = (node : Node) × (state : State) × ArePartsOf node state parts
 
--- ---- filling a DAG
+-- ---- a DAG is filled with certificates
 
--- a DAG with this floor that holds only the genesis, at floor 0, and otherwise nothing
+-- a DAG with this floor has no certificates except, at floor 0, those of the genesis
 pub record IsEmpty (members : Charter) (low : ℕ) (graph : DagView) : Type 0 where
   pub charter : graph.charter ≡ members
   pub floor : graph.floor ≡ low
@@ -75,12 +75,12 @@ pub record IsEmpty (members : Charter) (low : ℕ) (graph : DagView) : Type 0 wh
   pub marked : (round author : ℕ) → marked_in graph round author ≡ false
   pub end : end_in graph ≡ max low 1
 
--- the slots of a DAG with the listed certificates added
+-- the certificate of each round and author in a DAG, after those of a list were added
 abbrev pub with_listed : DagView → List Digested → Slots
 with_listed graph held round author = option_or (slots_in graph round author) (listed held round author)
 
--- the listed certificates can be added to a DAG one by one: the DAG has no row of their rounds yet, and the parents of each are in the DAG
--- or in the list
+-- The certificates of a list can be added to a DAG one after the other: it has none of their rounds yet, and the parents of each are in the
+-- DAG or in the list.
 pub record CanEnter (graph : DagView) (held : List Digested) : Type 0 where
   pub listed : AreListed held
   pub members : All (λ one. one.0.header.author.0 < size_in graph) held
@@ -89,7 +89,7 @@ pub record CanEnter (graph : DagView) (held : List Digested) : Type 0 where
   pub later : All (λ one. end_in graph ≤ one.0.header.round) held
   pub parents : All (λ one. all_held (with_listed graph held) graph.floor one.0.header ≡ true) held
 
--- the listed certificates were added, without marks
+-- the certificates of a list were added to the DAG; none of them is marked
 pub record HaveEntered (before after : DagView) (held : List Digested) : Type 0 where
   pub charter : after.charter ≡ before.charter
   pub floor : after.floor ≡ before.floor
@@ -97,14 +97,14 @@ pub record HaveEntered (before after : DagView) (held : List Digested) : Type 0 
   pub slots : (round author : ℕ) → slots_in after round author ≡ with_listed before held round author
   pub marked : (round author : ℕ) → marked_in after round author ≡ marked_in before round author
 
--- ---- the marks
+-- ---- which certificates are marked: those that the last committed leader reaches
 
--- a sequencer without a last leader, in which nothing is marked
+-- the sequencer has no last committed leader, and none of its certificates is marked
 pub record HasNoMarks (sequence : SequencerView) : Type 0 where
   pub last : sequence.last ≡ None
   pub marked : (round author : ℕ) → marked_in sequence.graph round author ≡ false
 
--- this leader was committed as the first one: what it reaches is marked now, and the coins and the order are unchanged
+-- this leader was committed as the first one: the certificates that it reaches are marked now; coins and order are unchanged
 pub record IsMarkedBy (before after : SequencerView) (leader : ℕ × Author) : Type 0 where
   pub made : LengtheningView
   pub of : made.last ≡ leader
@@ -114,7 +114,7 @@ pub record IsMarkedBy (before after : SequencerView) (leader : ℕ × Author) : 
   pub coins : after.coins ≡ before.coins
   pub order : after.order ≡ before.order
 
--- the last leader, if there is one, was committed so; otherwise nothing has changed
+-- the last committed leader, if there is one, was committed like this; without one nothing has changed
 abbrev pub IsMarkedTo : SequencerView → SequencerView → Option (ℕ × Author) → Type 0
 IsMarkedTo before after None = after ≡ before
 IsMarkedTo before after (Some leader) = IsMarkedBy before after leader

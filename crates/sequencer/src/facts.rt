@@ -1,32 +1,32 @@
-//! Laws. Each is what a function without a body ensures.
+//! Laws of a sequencer. Each is the contract of an empty function.
 
 ghost use Rattle.sequencer.specs.ByHistory.{ChainsByHistory, OrdersByHistory};
 ghost use Rattle.sequencer.specs.Listing.{ListedIsEnough};
 ghost use Rattle.sequencer.specs.Laws.{SequenceStays, CertificatesAreNew, IsLedgerOf, DagIsEnough, AreKnown};
 
-/// An event that adds neither a certificate nor a coin leaves a sequencer that agrees with the state after it.
+/// After an event that adds neither a certificate nor a coin, the unchanged sequencer agrees with the state after the event.
 pub fn sequence_stays()
     ensures { SequenceStays }
 {}
 
-/// The certificate that a new event adds is new to the DAG, is of a member, and names at least one parent.
+/// The certificate that a new event adds is new to the DAG, its author is a member, and it names at least one parent.
 pub fn certificates_are_new()
     ensures { CertificatesAreNew }
 {}
 
-/// A DAG with its coins is a ledger of a node.
+/// A DAG with the values of coins is a ledger of the node: all that the order depends on.
 pub fn is_ledger_of()
     ensures { IsLedgerOf }
 {}
 
-/// Take a DAG with what a legal history holds from a round on, which is not above the floor of a prefix of it. Leaders, support, the last
-/// committed wave, the floor and the segments are the same over the DAG as over the history.
+/// If a DAG has the certificates of a legal history from a round on that is not above the floor of a prefix of it, then leaders, support,
+/// the last committed wave, the floor, and what the leaders order are the same by the DAG as by the history.
 pub fn dag_is_enough()
     ensures { DagIsEnough }
 {}
 
-/// If the base of such a DAG is the round of the last leader that the prefix commits, then with the whole history's coins the DAG has the
-/// history's leaders, last committed wave and slots of newer leaders.
+/// If also the base of the DAG is the round of the last leader that the prefix commits, then with the whole history's coins the DAG has the
+/// history's leaders, last committed wave, and chain of newer leaders.
 pub fn chains_by_history()
     ensures { ChainsByHistory }
 {}
@@ -38,12 +38,12 @@ pub fn orders_by_history()
     flatten::each_follows();
 }
 
-/// A list of certificates has the same last committed wave as slots that hold just these in the rounds above 0.
+/// A list of certificates has the same last committed wave as a table that has just these in the rounds above 0.
 pub fn listed_is_enough()
     ensures { ListedIsEnough }
 {}
 
-// The laws of the machine about the state after an event.
+// The laws of the state machine about the state after an event, as this crate needs them.
 pub(crate) fn states_go_on()
     ensures { AreKnown }
 {

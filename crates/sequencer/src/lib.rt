@@ -1,5 +1,5 @@
-//! The certificates, the coins and the order of one validator. What a certificate or a coin commits is prepared first, with all memory that
-//! it needs, and then applied without fail.
+//! The sequencer: the certificates, the coins and the order of one validator. What a certificate or a coin commits is prepared first, with
+//! all memory that it needs; then it is applied, which can't fail.
 #![tactic(auto)]
 
 mod facts;

@@ -1,4 +1,4 @@
-//! The last committed wave of certificates in a list, before a DAG holds them.
+//! Finds the last committed wave of a list of certificates, before a DAG has them.
 
 ghost use Rattle.std.specs.Prelude.{◌≡◌, ℕ, ◌<◌, ◌≤◌, ◌*◌, ◌==◌, ◌&&◌, nat_lt, true, false, length, List, option_map, option_copied, IfSome};
 ghost use Rattle.std.specs.List.{list_any};
@@ -14,7 +14,7 @@ use committee::{Committee, MemberSet};
 use tusk::Coins;
 use wire::{Author, Certificate, Digest, ParentReference};
 
-// Whether a certificate comes before a slot.
+// Whether a certificate comes before the place of this round and author in a sorted list.
 fn comes_before(one: &(Certificate, Digest), round: u64, author: u16) -> bool
     ensures { result ≡ comes_before round author one.now }
 {
@@ -22,7 +22,7 @@ fn comes_before(one: &(Certificate, Digest), round: u64, author: u16) -> bool
     header.round.number() < round || (header.round.number() == round && header.author.0 < author)
 }
 
-// How many certificates come before a slot.
+// How many certificates of a sorted list come before the place of this round and author.
 fn place_of(list: &[(Certificate, Digest)], round: u64, author: u16) -> usize
     requires { AreListed list.now }
     ensures { IsPartitionPoint (λ one. comes_before round author one ≡ true) (λ one. comes_before round author one ≡ false) list.now result }
@@ -30,7 +30,7 @@ fn place_of(list: &[(Certificate, Digest)], round: u64, author: u16) -> usize
     list.partition_point(|one| comes_before(one, round, author))
 }
 
-// Whether a certificate is that of a slot.
+// Whether a certificate is of this round and author.
 fn is_of(one: &(Certificate, Digest), round: u64, author: u16) -> bool
     ensures { result ≡ is_of_slot round author one.now.0.header }
 {
@@ -38,7 +38,7 @@ fn is_of(one: &(Certificate, Digest), round: u64, author: u16) -> bool
     header.round.number() == round && header.author.0 == author
 }
 
-// The certificate of a slot in the list, with its digest, by binary search.
+// The certificate of this round and author in the list, with its digest. It is found by binary search.
 fn entry_of(
     list: &[(Certificate, Digest)],
     round: u64,
@@ -55,14 +55,14 @@ fn entry_of(
     None
 }
 
-// Whether a parent with this author and digest is named.
+// Whether one of these parents has this author and digest.
 fn is_among(parents: &[ParentReference], author: Author, digest: &Digest) -> bool
     ensures { result ≡ list_any (λ parent. (parent.author.0 == author.0) && same_digest parent.certificate digest.now) parents.now }
 {
     parents.iter().any(|parent| parent.author == author && parent.certificate == *digest)
 }
 
-// Whether a member supports a leader.
+// Whether a member supports a leader: its certificate of the next round names the leader as a parent.
 fn supports(list: &[(Certificate, Digest)], leader: &(Certificate, Digest), member: u16) -> bool
     requires listed { AreListed list.now }
     requires digested { leader.now.1 ≡ certificate_digest leader.now.0.header }
@@ -76,7 +76,7 @@ fn supports(list: &[(Certificate, Digest)], leader: &(Certificate, Digest), memb
     }
 }
 
-// Whether a leader has support.
+// Whether the members who support a leader weigh enough.
 fn is_supported(
     committee: &Committee,
     list: &[(Certificate, Digest)],
@@ -95,7 +95,7 @@ fn is_supported(
     committee.support() <= committee.weight(&supporters)
 }
 
-// Whether a wave is directly committed.
+// Whether a wave is directly committed: its leader has support.
 fn is_committed(
     committee: &Committee,
     coins: &Coins,
@@ -117,9 +117,9 @@ fn is_committed(
     }
 }
 
-/// The greatest wave that these certificates above the genesis and these coins directly commit. The certificates are sorted by round and
-/// then author, each with its digest. The waves are tried downwards from the last one whose leader can have support; each try takes time in
-/// proportion to the members and to the logarithm of the list.
+/// The greatest wave whose leader has support, by these certificates of rounds above 0 and these coins. The certificates are sorted by
+/// round and then by author, each with its digest. Waves are tried from the last one whose leader can have support downwards. A try takes
+/// time in proportion to the number of members, times the logarithm of the list's length.
 pub fn listed_top(
     committee: &Committee,
     coins: &Coins,

@@ -1,4 +1,4 @@
-//! What a certificate or a coin will add to the order.
+//! What a certificate or a coin will add to the order, prepared before it is added.
 
 ghost use Rattle.std.specs.Prelude.{◌≡◌, ℕ, ◌<◌, length, Option, IfOk};
 ghost use Rattle.spec_model.specs.Words.{Author};
@@ -9,9 +9,9 @@ use flatten::Lengthening;
 use std::alloc::{AllocError, Global};
 use wire::{Author, Digest, Round};
 
-/// What a certificate or a coin will add to the order, and mark. All memory for it is allocated already.
+/// What a certificate or a coin will add to the order, and what it will mark. All memory for that is allocated already.
 pub struct Prepared {
-    // What the committed leaders order; None where no leader is committed.
+    // What the newly committed leaders order; None if no leader is committed.
     pub(crate) committed: Option<Lengthening>,
 }
 
@@ -22,8 +22,8 @@ impl Drop for Prepared {
 }
 
 impl Prepared {
-    // What leaders of these slots, oldest first, add to the order after the leader that was committed last. On `AllocError` an allocation
-    // failed.
+    // What the leaders of these rounds and authors, oldest first, will add to the order after the last committed leader. On `AllocError` an
+    // allocation failed.
     pub(crate) fn new(
         alloc: Global,
         dag: &Dag,
@@ -40,7 +40,7 @@ impl Prepared {
         })
     }
 
-    /// The digests that are added to the order.
+    /// The digests that will be added to the order.
     pub fn digests(&self) -> &[Digest]
         ensures { result.now ≡ prepared_digests self.now }
     {

@@ -1,4 +1,4 @@
-//! Filling the DAG of a sequencer that is restored.
+//! Fills the DAG of a sequencer that is restored from parts.
 
 ghost use Rattle.std.specs.Prelude.{◌≡◌, ℕ, ◌+◌, ◌<◌, ◌≤◌, false, length, IfOk, OnOk};
 ghost use Rattle.dag.specs.Graph.{slots_in, marked_in, end_in};
@@ -11,7 +11,7 @@ use dag::Dag;
 use std::alloc::{AllocError, Global};
 use wire::{Certificate, Digest, Round};
 
-// A DAG with this floor: with the genesis certificates at floor 0, and otherwise empty.
+// A DAG with this floor that is empty; at floor 0 it has the genesis certificates.
 pub(crate) fn empty_dag<'a>(
     alloc: Global,
     committee: &'a Committee,
@@ -26,7 +26,7 @@ pub(crate) fn empty_dag<'a>(
     Ok(Dag::above(alloc, committee, floor))
 }
 
-// Adds certificates to a DAG one by one. On `AllocError` an allocation failed, and some of them may have been added.
+// Adds these certificates to a DAG, one after the other. On `AllocError` an allocation failed, and some of them may have been added.
 pub(crate) fn fill(
     dag: &mut Dag,
     certificates: Vec<(Certificate, Digest)>,

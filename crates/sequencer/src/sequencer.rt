@@ -1,4 +1,4 @@
-//! The certificates, the coins and the order.
+//! The sequencer: the certificates, the coins and the order of one validator.
 
 ghost use Rattle.std.specs.Prelude.{◌≡◌, ℕ, ◌+◌, ◌-◌, ◌<◌, ◌≤◌, ◌++◌, length, Ok, Some, true, is_some, IfSome, IfOk, OnOk, OnErr, vec_len, vec_capacity};
 ghost use Rattle.committee.specs.Charter.{Charter};
@@ -28,8 +28,8 @@ use std::marker::Model;
 use tusk::Coins;
 use wire::{Author, Certificate, Digest, Round};
 
-/// The certificates, the coins and the order of one validator. Contracts see the DAG, the coins, the slot of the last
-/// committed leader, and the order.
+/// The certificates, the coins and the order of one validator. Contracts see the DAG, the coins, the round and author of the last committed
+/// leader, and the order.
 pub struct Sequencer<'a> {
     dag: Dag<'a>,
     coins: Coins,
@@ -66,14 +66,14 @@ fn round_of(number: u64) -> Round
     }
 }
 
-// The round that is the depth below another one, or round 0.
+// The round that is the committee's depth below this one; round 0 if there is none.
 fn below(committee: &Committee, round: Round) -> Round
     ensures { result ≡ round - committee.now.depth }
 {
     round_of(round.number().saturating_sub(committee.depth()))
 }
 
-// The wave of a leader's slot.
+// The wave of a leader, given the leader's round and author.
 fn wave_of(last: Option<(Round, Author)>) -> Option<u64>
     ensures { result ≡ wave_in last }
 {
@@ -94,7 +94,7 @@ fn add_all(digests: &mut Vec<Digest>, more: &[Digest])
 }
 
 impl<'a> Sequencer<'a> {
-    /// The sequencer of a validator that has taken no event: it holds the genesis certificates. On `AllocError` an allocation failed.
+    /// The sequencer of a validator that has taken no event: it has the genesis certificates. On `AllocError` an allocation failed.
     pub fn new(alloc: Global, committee: &'a Committee) -> Result<Sequencer<'a>, AllocError>
         ensures { IfOk result (λ made. (node : Node) → node.charter ≡ committee.now → IsAt node (fresh node) made) }
     {
@@ -106,9 +106,9 @@ impl<'a> Sequencer<'a> {
         })
     }
 
-    /// The sequencer of a validator in a sound state that has this floor, slot of the last committed leader, certificates above the
-    /// genesis, coins and order. The certificates are sorted by round and then author, each with its digest. To mark what the last leader
-    /// reaches it walks over no more rounds than the depth. On `AllocError` an allocation failed.
+    /// The sequencer of a validator in a sound state, made from the state's floor, round and author of the last committed leader,
+    /// certificates of rounds above 0 (sorted by round and then by author, each with its digest), coins and order. To mark what the last
+    /// leader reaches it walks over as many rounds as the depth, at most. On `AllocError` an allocation failed.
     pub fn restore(
         alloc: Global,
         committee: &'a Committee,
@@ -135,8 +135,8 @@ impl<'a> Sequencer<'a> {
         Ok(restored)
     }
 
-    // Marks what the last committed leader reaches, where nothing is marked yet. What the leader orders is in the order already. On
-    // `AllocError` an allocation failed, and nothing has changed.
+    // Marks the certificates that the last committed leader reaches; none is marked before. What that leader orders is in the order
+    // already. On `AllocError` an allocation failed, and nothing has changed.
     fn mark(&mut self, alloc: Global, last: Option<(Round, Author)>) -> Result<(), AllocError>
         requires unmarked { HasNoMarks self.old }
         requires held { IfSome last (λ slot. is_some (slots_in self.old.graph slot.0 slot.1.0) ≡ true) }
@@ -151,29 +151,29 @@ impl<'a> Sequencer<'a> {
         Ok(())
     }
 
-    /// The DAG.
+    /// The certificates, as a DAG.
     pub fn dag(&self) -> &Dag<'a>
         ensures { result.now ≡ self.now.graph }
     {
         &self.dag
     }
 
-    /// The coins.
+    /// The coins that came in so far.
     pub fn coins(&self) -> &Coins
         ensures { result.now ≡ self.now.coins }
     {
         &self.coins
     }
 
-    /// The digests of the ordered certificates.
+    /// The order: the digests of the ordered certificates.
     pub fn order(&self) -> &[Digest]
         ensures { result.now ≡ self.now.order }
     {
         &self.order
     }
 
-    /// 1 plus the greatest round in which a quorum of authors has certificates. The rounds are tried from the last one that is held down to
-    /// the floor.
+    /// The round of the node: 1 plus the greatest round that has certificates by a quorum of authors. Rounds are tried from the greatest
+    /// one of any certificate down to the floor.
     pub fn round(&self) -> u64
         ensures value { (node : Node) (state : State) → IsSound node state → IsAt node state self.now → result ≡ round_in node state }
         ensures limit { result ≤ MAX + 1 }
@@ -190,7 +190,7 @@ impl<'a> Sequencer<'a> {
         1
     }
 
-    /// What a new certificate will add to the order once it is added. On `AllocError` an allocation failed.
+    /// Prepares what a new certificate will add to the order, before it is added. On `AllocError` an allocation failed.
     pub fn prepare(&self, alloc: Global, certificate: &Certificate) -> Result<Prepared, AllocError>
         requires member { certificate.now.header.author.0 < length self.now.graph.charter.keys }
         ensures { IfOk result (λ prepared. (node : Node) (state : State) (event : Event) → ComesTo node state event self.now
@@ -204,7 +204,7 @@ impl<'a> Sequencer<'a> {
         Prepared::new(alloc, &self.dag, &chain)
     }
 
-    /// What the coin of the next wave will add to the order. On `AllocError` an allocation failed.
+    /// Prepares what the coin of the next wave will add to the order, before it is added. On `AllocError` an allocation failed.
     pub fn prepare_coin(&self, alloc: Global, value: u64) -> Result<Prepared, AllocError>
         ensures { IfOk result (λ prepared. (node : Node) (state : State) (event : Event) → ComesTo node state event self.now
             → as_coin event.message ≡ Some value → IsPrepared node state event self.now prepared) }
@@ -215,8 +215,8 @@ impl<'a> Sequencer<'a> {
         Prepared::new(alloc, &self.dag, &chain)
     }
 
-    /// Adds a new certificate with this digest, and orders what was prepared for it. On `AllocError` an allocation failed, and nothing has
-    /// changed.
+    /// Adds a new certificate, which has this digest, and orders what was prepared for it. On `AllocError` an allocation failed, and
+    /// nothing has changed.
     pub fn hold(
         &mut self,
         certificate: Certificate,
@@ -265,7 +265,7 @@ impl<'a> Sequencer<'a> {
         Ok(())
     }
 
-    // Marks what was prepared, and drops what is below the new floor. The call allocates no memory.
+    // Sets the marks that were prepared, and drops the certificates below the new floor. The call allocates no memory.
     fn commit(&mut self, prepared: &Prepared)
         ensures graph { CommitsTo self.old.graph self.old.last prepared.now.committed self.new.graph self.new.last }
         ensures charter { self.new.graph.charter ≡ self.old.graph.charter }

@@ -11,33 +11,34 @@ use Rattle.spec_model.specs.States.{State, highest_of}
 use Rattle.spec_model.specs.Words.{Digest, Header, Vote, VoteEntry}
 use Rattle.spec_checkpoint.specs.Data.{KeptBatch, KeptHeader, Checkpoint}
 
--- the batch of a digest, and the own header of a round, if they are there
+-- the batch with this digest in a checkpoint, and (kept_header) the own header of this round, if they are there
 abbrev pub kept_batch : Checkpoint → Digest → Option KeptBatch
 kept_batch checkpoint digest = find (λ kept. same_digest (batch_digest kept.batch) digest) checkpoint.batches
 
 abbrev pub kept_header : Checkpoint → ℕ → Option KeptHeader
 kept_header checkpoint round = find (λ kept. kept.header.body.round == round) checkpoint.headers
 
--- a vote on a header, with the signature of an entry
+-- the vote on a header that an entry of a checkpoint or certificate stands for
 abbrev pub vote_of : Header → VoteEntry → Vote
 vote_of header entry =
     record { header = header_digest header.body; round = header.body.round; author = header.body.author; voter = entry.voter; signature = entry.signature }
 
--- a member's vote on an own header: the node's own, which isn't stored but signed again, or the one of the member's entry
+-- a member's vote on an own header in a checkpoint: the node's own vote isn't stored but signed again; the others have entries
 abbrev pub kept_vote : Node → KeptHeader → ℕ → Option Vote
 kept_vote node kept voter =
     if voter == node.own.0 then Some (own_vote node kept.header.body)
     else option_map (vote_of kept.header) (find (λ entry. entry.voter.0 == voter) kept.votes)
 
--- the slots of its certificates, and the floor that these and its coins determine. Leaders and their supporters are never of the
--- genesis, so the floor is the same with the genesis certificates
+-- The certificate of each round and author in a checkpoint; and (listed_floor) the floor that these and the coins lead to. Leaders and
+-- supporters are never of round 0, so the missing genesis certificates don't change the floor.
 abbrev pub listed : Checkpoint → Slots
 listed checkpoint = slots_of checkpoint.certificates
 
 abbrev pub listed_floor : Node → Checkpoint → ℕ
 listed_floor node checkpoint = floor_by (ledger_of node (listed checkpoint) checkpoint.coins)
 
--- The state: the votes for the node itself come from its own headers, and the genesis certificates are there where the floor is 0.
+-- The state that a checkpoint stands for. The node's votes for itself come from its own headers; at floor 0 the genesis certificates are
+-- added.
 abbrev pub state_in : Node → Checkpoint → State
 state_in node checkpoint = record {
   batches = map (λ kept. kept.batch) checkpoint.batches;

@@ -44,10 +44,10 @@ fn header_body_of(alloc: Global, reader: &mut Reader) -> Result<HeaderBody, Wire
     })
 }
 
-/// A header: its body, and its signature.
+/// Reads a header: its body, and its signature.
 ///
 /// # Errors
-/// The first fault from left to right; `Memory` where an allocation failed.
+/// The first fault from left to right; `Memory` if an allocation failed.
 #[tactic(auto, unfolding(wire::specs::Reading::header_at))]
 pub fn header_of(alloc: Global, reader: &mut Reader) -> Result<Header, WireError>
     ensures { Gives (λ x. (x, reader.new)) result (header_at reader.old) }
@@ -75,10 +75,10 @@ fn vote_of(reader: &mut Reader) -> Result<Vote, WireError>
     })
 }
 
-/// A certificate: its header's body, and the votes after their count.
+/// Reads a certificate: the body of its header, and its votes with their number before them.
 ///
 /// # Errors
-/// The first fault from left to right; `Memory` where an allocation failed.
+/// The first fault from left to right; `Memory` if an allocation failed.
 #[tactic(auto, unfolding(wire::specs::Reading::certificate_at))]
 pub fn certificate_of(alloc: Global, reader: &mut Reader) -> Result<Certificate, WireError>
     ensures { Gives (λ x. (x, reader.new)) result (certificate_at reader.old) }
@@ -120,47 +120,47 @@ fn message_in(alloc: Global, bytes: &[u8]) -> Result<Message, WireError>
     Ok(message)
 }
 
-/// The message that all of these bytes are. The error is the first fault from left to right, or `Memory`.
+/// The message whose encoding these bytes are. The error is the first fault from left to right, or `Memory`.
 pub fn decode(alloc: Global, bytes: &[u8]) -> Result<Message, WireError>
-    // A result is a message, and the bytes are its encoding.
+    // After success these bytes are the encoding of the message.
     ensures found { IfOk result (λ message. Spells message bytes.now) }
-    // The bytes of a message are always decoded to it, unless an allocation fails.
+    // If these bytes are the encoding of a message, that message is the result, unless an allocation fails.
     ensures only { (message : Message) → Spells message bytes.now → Gives (λ found. found) result (Ok message) }
-    // Otherwise this is the fault.
+    // Otherwise the result is this fault.
     ensures fault { Gives (λ message. message) result (message_of bytes.now) }
 {
     message_in(alloc, bytes)
 }
 
-/// No encoding of a message is a prefix of another one: if two messages, each followed by bytes, are the same bytes, the messages are equal
-/// and so are the bytes that follow.
+/// A law: no encoding of a message is a prefix of another one's. If two messages, each followed by some bytes, are the same bytes, both
+/// messages are equal, and so are the bytes after them.
 pub fn one_encoding()
     ensures { (m n : Message) (x y : List ℕ) → IsMessage m → IsMessage n → encoding m ++ x ≡ encoding n ++ y → (m ≡ n) × (x ≡ y) }
 {}
 
-/// No two header bodies within their limits have the same encoding.
+/// A law: no two different header bodies within their limits have the same encoding.
 pub fn one_body()
     ensures { OneBody }
 {}
 
-/// A message followed by any bytes is refused as `Trailing`.
+/// A law: the bytes of a message with any further bytes after them are refused as `Trailing`.
 pub fn what_follows_is_trailing()
     ensures { (m : Message) (rest : List ℕ) → IsMessage m → 0 < length rest → message_of (encoding m ++ rest) ≡ Err Trailing }
 {}
 
-/// Each proper prefix of a message's encoding is refused as `Short`.
+/// A law: each proper prefix of a message's encoding is refused as `Short`.
 pub fn beginnings_are_short()
     ensures { (m : Message) (bytes more : List ℕ) → IsMessage m → encoding m ≡ bytes ++ more → 0 < length more → message_of bytes ≡ Err Short }
 {}
 
-/// Any refusal but `Short` stays the same, whatever bytes follow: it is for the first fault from the left.
+/// A law: every refusal but `Short` stays the same whatever bytes follow, since it is for the first fault from the left.
 pub fn faults_stay()
     ensures { (bytes more : List ℕ) (fault : WireError) → message_of bytes ≡ Err fault → fault ≢ Short → message_of (bytes ++ more) ≡ Err fault }
 {}
 
-/// Decoding agrees with the table of fields, whatever the bytes. By the table, the fault is that of the first field that breaks a limit, an
-/// order or a range, and every field before it passes. If no field does, the bytes end within a field, or go on after the last one, or are
-/// a message.
+/// A law: decoding agrees with the table of fields, whatever the bytes. By the table, the fault is that of the first field that breaks a
+/// limit, an order or a range, while every field before it passes. If no field breaks one, the bytes end within a field, go on after the
+/// last one, or are a message.
 pub fn faults_by_the_table()
     ensures fault { (bytes : List ℕ) (fault : WireError) → (message_of bytes ≡ Err fault) ↔ HasFault bytes fault }
     ensures none { (bytes : List ℕ) → IsOk (message_of bytes) ↔ HasNone bytes }

@@ -1,4 +1,4 @@
-//! Cutting a stream that comes in pieces into frames.
+//! Cuts a stream that comes in pieces into frames.
 
 ghost use Rattle.std.specs.Prelude.{◌≡◌, ◌+◌, ◌≤◌, ◌++◌, [], List, ℕ, length, take, drop, IsTrue, ◌↔◌, ◌⊎◌, IfOk, IfErr, OnErr};
 ghost use Rattle.std.specs.Option.{MatchOption};
@@ -8,15 +8,15 @@ use std::alloc::{AllocError, Global};
 use std::marker::Model;
 use wire::{MAX_FRAME_BYTES, WireError};
 
-/// Bytes of a frame's length field.
+/// The length of a frame's length field, in bytes.
 const LENGTH_BYTES: usize = 4;
 
-/// Cuts a stream into the bodies of its frames. A frame is a length in four bytes, big-endian, and that many bytes, at most
+/// Cuts a stream into the bodies of its frames. A frame is a length in four big-endian bytes, and that many bytes, at most
 /// `MAX_FRAME_BYTES`.
 #[derive(Debug, Drop)]
 pub struct FrameReader {
     alloc: Global,
-    // The bytes so far of the next frame.
+    // The bytes of the next frame that have come so far.
     held: Vec<u8>,
 }
 
@@ -32,7 +32,7 @@ impl Model for FrameReader {
 }
 
 impl FrameReader {
-    /// A reader that has got no bytes.
+    /// A reader that has got no bytes yet.
     pub fn new(alloc: Global) -> FrameReader
         ensures { result ≡ [] }
     {
@@ -42,19 +42,19 @@ impl FrameReader {
         }
     }
 
-    /// Whether the reader has no bytes of the next frame.
+    /// Whether the reader holds no bytes of the next frame.
     pub fn is_empty(&self) -> bool
         ensures { IsTrue result ↔ (self.now ≡ []) }
     {
         self.held.is_empty()
     }
 
-    /// Takes the next piece of the stream and gives the bodies of the frames that are now whole, in their order. `TooMany` where a length
-    /// above the limit is in a frame's place, `Memory` where an allocation failed. A refusal leaves the reader as it was before the piece,
-    /// and gives none of the piece's frames.
+    /// Takes the next piece of the stream, and returns the bodies of the frames that are whole now, in their order. `TooMany` if there is a
+    /// length above the limit where a frame has to start; `Memory` if an allocation failed. After an error the reader is as before the
+    /// piece, and none of the piece's frames is returned.
     pub fn feed(&mut self, piece: &[u8]) -> Result<Vec<Vec<u8>>, WireError>
-        // If the stream so far is frames of some bodies and then the held bytes, then with the piece it is frames of these and the new
-        // bodies, and then the bytes held now.
+        // If the stream before was frames of some bodies and then the held bytes, then with the piece it is frames of those bodies and the
+        // new ones, and then the bytes that are held now.
         ensures ok { IfOk result (λ bodies. (stream : List ℕ) (before : List (List ℕ)) → Splits stream before self.old → Splits (stream ++ piece.now) (before ++ bodies_bytes bodies.items) self.new) }
         ensures too_many { IfErr result (λ e. (e ≡ WireError.Memory) ⊎ ((e ≡ WireError.TooMany) × ((stream : List ℕ) (before : List (List ℕ)) → Splits stream before self.old → Breaks (stream ++ piece.now)))) }
         ensures never { IfOk result (λ _. Breaks (self.old ++ piece.now) → ⊥) }
@@ -71,8 +71,8 @@ impl FrameReader {
     }
 }
 
-// Adds a piece to the held bytes, and gives the bodies of the frames that are whole then. After the frame that is begun, bodies are cut out
-// of the piece itself, and what is left of it is held. A refusal leaves the held bytes at the front.
+// Adds a piece to the held bytes, and returns the bodies of the frames that are whole now. The frame that had begun is completed first; the
+// other bodies are cut out of the piece itself, and what is left of it is held. After an error the held bytes are the same.
 fn feed_held(alloc: Global, held: &mut Vec<u8>, piece: &[u8]) -> Result<Vec<Vec<u8>>, WireError>
     ensures splits { IfOk result (λ bodies. Splits (held.old.items ++ piece.now) (bodies_bytes bodies.items) held.new.items) }
     ensures breaks { IfErr result (λ e. (e ≡ WireError.Memory) ⊎ ((e ≡ WireError.TooMany) × Breaks (held.old.items ++ piece.now))) }
@@ -91,7 +91,7 @@ fn feed_held(alloc: Global, held: &mut Vec<u8>, piece: &[u8]) -> Result<Vec<Vec<
     Ok(bodies)
 }
 
-// Cuts the whole frames off the held bytes.
+// Cuts the whole frames off the front of the held bytes.
 fn cut_held(alloc: Global, held: &mut Vec<u8>) -> Result<Vec<Vec<u8>>, WireError>
     ensures splits { IfOk result (λ bodies. Splits held.old.items (bodies_bytes bodies.items) held.new.items) }
     ensures breaks { IfErr result (λ e. (e ≡ WireError.Memory) ⊎ ((e ≡ WireError.TooMany) × Breaks held.old.items)) }
@@ -102,7 +102,7 @@ fn cut_held(alloc: Global, held: &mut Vec<u8>) -> Result<Vec<Vec<u8>>, WireError
     Ok(bodies)
 }
 
-// How many bytes of a piece belong to the frame that is begun.
+// How many bytes of a piece belong to the frame that has begun.
 fn begun_len(held: &[u8], piece: &[u8]) -> usize
     ensures { result ≤ length piece.now }
 {
@@ -132,7 +132,7 @@ fn remove_front(bytes: &mut Vec<u8>, count: usize)
     bytes.drain(..count);
 }
 
-// The bodies of the whole frames at the front, and the length of these frames.
+// The bodies of the whole frames at the front of these bytes, and the length of these frames together.
 fn bodies_of(alloc: Global, stream: &[u8]) -> Result<(Vec<Vec<u8>>, usize), WireError>
     ensures within { IfOk result (λ found. found.1 ≤ length stream.now) }
     ensures splits { IfOk result (λ found. Splits stream.now (bodies_bytes found.0.items) (drop found.1 stream.now)) }
@@ -147,7 +147,7 @@ fn bodies_of(alloc: Global, stream: &[u8]) -> Result<(Vec<Vec<u8>>, usize), Wire
     Ok((bodies, taken))
 }
 
-// The body of the frame at the front; `None` where the frame isn't whole.
+// The body of the frame at the front of these bytes; `None` if the frame isn't whole.
 fn body_at(bytes: &[u8]) -> Result<Option<&[u8]>, WireError>
     ensures whole { IfOk result (λ found. MatchOption found (IsPartial bytes.now) (λ body. IsFrameBody body.now × (bytes.now ≡ frame body.now ++ drop (4 + length body.now) bytes.now))) }
     ensures err { IfErr result (λ e. (e ≡ WireError.TooMany) × IsTooLong bytes.now) }
@@ -165,8 +165,8 @@ fn body_at(bytes: &[u8]) -> Result<Option<&[u8]>, WireError>
     Ok(Some(&rest[..len]))
 }
 
-/// A stream can be cut into frames in only one way, and is never both frames and broken. So what a reader gives doesn't depend on how the
-/// stream came in pieces.
+/// A law: a stream can be cut into frames in only one way, and never both consists of frames and breaks the limit. So the result of a
+/// reader doesn't depend on the pieces in which the stream came.
 pub fn one_split()
     ensures same { (stream : List ℕ) (a b : List (List ℕ)) (x y : List ℕ) → Splits stream a x → Splits stream b y → (a ≡ b) × (x ≡ y) }
     ensures either { (stream : List ℕ) (a : List (List ℕ)) (x : List ℕ) → Splits stream a x → Breaks stream → ⊥ }

@@ -1,5 +1,5 @@
-//! Bytes as messages: `decode` reads from left to right and reports the first fault, and a `FrameReader` cuts a stream into the bodies of
-//! its frames. A `Reader` reads fields, and parts of messages, for formats that contain them.
+//! Reads bytes as messages: `decode` reads from left to right and reports the first fault, and a `FrameReader` cuts a stream into the
+//! bodies of its frames. A `Reader` reads fields and parts of messages, for formats that contain them.
 #![tactic(auto)]
 
 mod decoding;

@@ -1,4 +1,4 @@
-//! The lists of headers and certificates. The order is tested as soon as an entry's key is read.
+//! Reads the lists in headers and certificates. The order is tested as soon as the key of an entry is read.
 
 ghost use Rattle.std.specs.Prelude.{◌≡◌, ◌<◌, ◌≤◌, ◌*◌, length, IfOk, IsTrue};
 ghost use Rattle.wire.specs.References.{batch_follows, parent_follows, vote_follows};
@@ -11,14 +11,14 @@ use wire::{
     ParentReferences, VoteEntries, VoteEntry, WireError,
 };
 
-/// Bytes of a reference to a batch or to a parent.
+/// The length of a reference to a batch or to a parent, in bytes.
 const REFERENCE_BYTES: usize = 34;
 
-/// Bytes of a vote.
+/// The length of a vote in a certificate, in bytes.
 const VOTE_BYTES: usize = 66;
 
-// How many entries of this length to make room for: as many as were counted, but no more than the bytes that are left can hold, so that a
-// count alone takes no memory.
+// For how many entries to allocate: for as many as the message says there are, but for no more than the bytes that are left can hold. So a
+// number alone can't cause a large allocation.
 #[tactic(auto, using(crate::proofs::Rooms::has_room))]
 fn room_for(reader: &Reader, count: u16, entry_bytes: usize) -> usize
     requires { 0 < entry_bytes }
@@ -96,10 +96,11 @@ fn vote_of(reader: &mut Reader, before: &VoteEntries) -> Result<VoteEntry, WireE
     Ok(VoteEntry { voter, signature })
 }
 
-/// Votes after their count of two bytes: each is a voter, greater than the one before, and a signature.
+/// Reads the votes of a certificate with their number, in two bytes, before them. Each is a voter, greater than the one before, and a
+/// signature.
 ///
 /// # Errors
-/// The first fault from left to right; `Memory` where an allocation failed.
+/// The first fault from left to right; `Memory` if an allocation failed.
 #[tactic(auto, unfolding(wire::specs::Reading::votes_at))]
 pub fn votes_of(alloc: Global, reader: &mut Reader) -> Result<VoteEntries, WireError>
     ensures { Gives (λ x. (x, reader.new)) result (votes_at reader.old) }

@@ -1,4 +1,4 @@
-//! Reading batches. A body is tested where it stands, before memory is allocated for it, and is copied once.
+//! Reads batches. A body is tested where it stands, before memory is allocated for it, and is copied once.
 
 ghost use Rattle.std.specs.Prelude.{◌≡◌, ◌≤◌, ◌+◌, length, nat_le, IfOk, MatchResult};
 ghost use Rattle.wire.specs.declared.limits.TheConstants.{MAX_BATCH_BYTES};
@@ -9,13 +9,13 @@ use crate::reader::Reader;
 use std::alloc::Global;
 use wire::{Author, Batch, MAX_BATCH_BYTES, MAX_TRANSACTION_BYTES, MAX_TRANSACTIONS, WireError};
 
-/// Bytes of a body before its transactions: author, worker and count.
+/// How many bytes of a batch's body come before its transactions: author, worker and number of transactions.
 const HEAD_BYTES: usize = 8;
 
-/// Bytes of a transaction's length.
+/// The length of a transaction's length field, in bytes.
 const LENGTH_BYTES: usize = 4;
 
-// What the body of a batch says before its transactions, and how many bytes it has.
+// What the body of a batch says before its transactions, and how many bytes the body has.
 #[derive(Clone, Copy, Debug)]
 struct Body {
     author: Author,
@@ -24,7 +24,7 @@ struct Body {
     len: usize,
 }
 
-// Whether a body of so many bytes has room for one more transaction of this length.
+// Whether a body that has so many bytes has room for one more transaction of this length.
 fn has_room(so_far: usize, len: usize) -> bool
     requires { so_far ≤ MAX_BATCH_BYTES }
     ensures { result ≡ nat_le (so_far + (4 + len)) MAX_BATCH_BYTES }
@@ -33,7 +33,7 @@ fn has_room(so_far: usize, len: usize) -> bool
     len <= room && room - len >= LENGTH_BYTES
 }
 
-// The transaction that follows in a body of so many bytes so far.
+// Reads the next transaction of a body that has `so_far` bytes before it.
 #[tactic(auto, unfolding(crate::specs::Bodies::transaction_after))]
 fn transaction_of<'a>(reader: &mut Reader<'a>, so_far: usize) -> Result<&'a [u8], WireError>
     requires { so_far ≤ MAX_BATCH_BYTES }
@@ -47,7 +47,7 @@ fn transaction_of<'a>(reader: &mut Reader<'a>, so_far: usize) -> Result<&'a [u8]
     reader.slice(len)
 }
 
-// Passes over the transactions of a body, and gives their count, which precedes them, and the length of the body with them.
+// Reads past the transactions of a body. Returns their number, which stands before them, and the length of the body with them.
 #[tactic(auto, unfolding(wire::specs::Reading::transactions_at))]
 fn transactions_of(reader: &mut Reader) -> Result<(u32, usize), WireError>
     ensures { MatchResult result (λ found. HasTransactions found.0 found.1 reader.old reader.new) (λ e. Faults e (transactions_at reader.old)) }
@@ -61,7 +61,7 @@ fn transactions_of(reader: &mut Reader) -> Result<(u32, usize), WireError>
     Ok((count, len))
 }
 
-// The body of a batch at the front of these bytes, which is tested where it stands.
+// Tests the body of a batch at the front of these bytes, where it stands.
 #[tactic(auto, unfolding(wire::specs::Reading::batch_at))]
 fn body_at(bytes: &[u8]) -> Result<Body, WireError>
     ensures { MatchResult result (λ body. HasBody body.author body.worker body.count body.len bytes.now) (λ e. Faults e (batch_at bytes.now)) }
@@ -78,10 +78,10 @@ fn body_at(bytes: &[u8]) -> Result<Body, WireError>
     })
 }
 
-/// A batch: its author and worker, and its transactions after their count, each after its length.
+/// Reads a batch: its author and worker, and its transactions with their number before them, each after its length.
 ///
 /// # Errors
-/// The first fault from left to right; `Memory` where an allocation failed.
+/// The first fault from left to right; `Memory` if an allocation failed.
 pub fn batch_of(alloc: Global, reader: &mut Reader) -> Result<Batch, WireError>
     ensures { Gives (λ x. (x, reader.new)) result (batch_at reader.old) }
 {
