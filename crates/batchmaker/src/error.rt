@@ -1,4 +1,4 @@
-//! Why a transaction is refused.
+//! Why a batch maker refuses a transaction.
 
 ghost use Rattle.std.specs.Prelude.{◌≡◌};
 ghost use Rattle.batchmaker.specs.declared.error.MakeError.TheVariants.{Memory};
@@ -6,7 +6,7 @@ ghost use Rattle.batchmaker.specs.declared.error.MakeError.TheVariants.{Memory};
 use std::alloc::AllocError;
 use thiserror::Error;
 
-/// Why a transaction is refused. Printed as its number and its name.
+/// Why a batch maker refuses a transaction. Printed as its number and its name.
 #[derive(Clone, Copy, Debug, PartialEq, Eq, Error)]
 pub enum MakeError {
     /// An allocation failed.

@@ -1,4 +1,4 @@
-//! The open batch of one worker: transactions are added to it until the next one would exceed a batch's limit, or the batch is sealed.
+//! The open batch of one worker: transactions are added to it until the next one would exceed a limit of batches, or the batch is closed.
 #![tactic(auto)]
 
 mod error;

@@ -1,4 +1,4 @@
-//! The batch maker of one worker.
+//! The batch maker of one worker: it gathers transactions into batches.
 
 ghost use Rattle.std.specs.Prelude.{◌≡◌, ◌≢◌, ◌<◌, ◌++◌, [], ◌∷◌, length, IsTrue, IsNone, ◌↔◌, IfOk, IfSome, OnOk, OnErr, IsErrOf};
 ghost use Rattle.wire.specs.declared.limits.TheConstants.{MAX_TRANSACTION_BYTES};
@@ -55,8 +55,8 @@ impl BatchMaker {
         })
     }
 
-    /// Adds a transaction to the open batch. If the batch has no room for it, the batch is given, and the transaction begins the next one.
-    /// `TooBig` for a transaction of more than `MAX_TRANSACTION_BYTES`.
+    /// Adds a transaction to the open batch. If that has no room for it, the batch is closed and returned, and the transaction begins the
+    /// next one. `TooBig` if the transaction has more than `MAX_TRANSACTION_BYTES`.
     pub fn push(&mut self, transaction: &[u8]) -> Result<Option<Batch>, MakeError>
         ensures too_big { IsErrOf result MakeError.TooBig ↔ (MAX_TRANSACTION_BYTES < length transaction.now) }
         ensures kept { IfOk result (λ full. IsNone full ↔ IsTrue (has_room self.old.transactions (length transaction.now))) }
@@ -79,7 +79,7 @@ impl BatchMaker {
         Ok(Some(self.exchange(next)?))
     }
 
-    /// Closes the open batch and gives it; None where it has no transaction. On `AllocError` an allocation failed.
+    /// Closes the open batch and returns it; None if it has no transaction. On `AllocError` an allocation failed.
     pub fn seal(&mut self) -> Result<Option<Batch>, AllocError>
         ensures none { IfOk result (λ sealed. IsNone sealed ↔ (self.old.transactions ≡ [])) }
         ensures whole { IfOk result (λ sealed. IfSome sealed (λ batch. batch ≡ self.old)) }
@@ -94,7 +94,7 @@ impl BatchMaker {
         Ok(Some(self.exchange(next)?))
     }
 
-    // Closes the open batch, and continues with this one of the same author and worker.
+    // Closes the open batch and returns it; goes on with this batch of the same author and worker.
     fn exchange(&mut self, next: OpenBatch) -> Result<Batch, AllocError>
         requires author { next.author ≡ self.old.author }
         requires worker { next.worker ≡ self.old.worker }

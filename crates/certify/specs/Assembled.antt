@@ -1,4 +1,4 @@
--- The votes on one header, and what they weigh.
+-- An assembly: the votes on one header that count, and what they weigh.
 use Rattle.std.specs.Prelude.{◌≡◌, ℕ, ◌==◌, ◌&&◌, ◌<◌, ◌≤◌, Bool, true, false, List, length, replicate, Option, Some, None, is_some, option_map, slice_index_or, slice_set, nat_le, fold}
 use Rattle.std.specs.List.{filter_map}
 use Rattle.std.specs.Str.{bytes_eq}
@@ -13,54 +13,54 @@ use Rattle.committee.specs.Charter.{Charter, IsCharter, numbers, weight, quorum_
 use Rattle.committee.specs.Sets.{has}
 use Rattle.committee.specs.declared.sets.MemberSet.{MemberSet}
 
--- for each member the signature of its vote, if that is counted
+-- a place for each member: the signature of the member's vote, if that counts
 abbrev pub Places : Type 0
 Places = List (Option Signature)
 
--- an assembly: the committee, the header, the counted votes, and whether they are a certificate already
+-- an assembly: the committee, the header, the votes that count, and whether they make a certificate already
 pub record AssemblyView : Type 0 where
   pub charter : Charter
   pub header : Header
   pub places : Places
   pub complete : Bool
 
--- a vote is on a header: its header digest, round and author are the header's
+-- a vote is on this header: it names the header's digest, round and author
 abbrev pub is_on : HeaderBody → Vote → Bool
 is_on body vote =
     bytes_eq vote.header.0 (header_digest_of body) && ((vote.round == body.round) && (vote.author.0 == body.author.0))
 
--- ---- the votes
+-- ---- the votes that count
 
--- the vote of a member is counted
+-- the vote of this member counts
 abbrev pub has_voted : Places → ℕ → Bool
 has_voted places member = is_some (slice_index_or places member None)
 
--- the places after one more vote
+-- the places after this vote counts too
 abbrev pub with_vote : Places → Vote → Places
 with_vote places vote = slice_set places vote.voter.0 (Some vote.signature)
 
--- the places after one more vote, and after several, each given as the entry of a certificate
+-- the places after one more vote, given as the entry of a certificate, counts; with_entries: after several do
 abbrev pub with_entry : Places → VoteEntry → Places
 with_entry places entry = slice_set places entry.voter.0 (Some entry.signature)
 
 abbrev pub with_entries : Places → List VoteEntry → Places
 with_entries places votes = fold with_entry places votes
 
--- the vote of a member, if it is counted
+-- the vote of this member as the entry of a certificate, if it counts
 abbrev pub entry_of : Places → ℕ → Option VoteEntry
 entry_of places member = option_map (λ signature. record { voter = record { 0 = member }; signature = signature }) (slice_index_or places member None)
 
--- the counted votes, sorted by voter
+-- the votes that count, as a certificate has them: sorted by voter
 abbrev pub votes_in : Places → List VoteEntry
 votes_in places = filter_map (entry_of places) (numbers (length places))
 
--- the weight of the members whose votes are counted
+-- the weight of the members whose votes count
 abbrev pub votes_weight : Charter → Places → ℕ
 votes_weight charter places = weight charter (has_voted places)
 
 -- ---- assemblies
 
--- an assembly that has only the validator's own vote
+-- an assembly in which only the validator's own vote counts
 abbrev pub started : Charter → Header → Vote → AssemblyView
 started charter header own = record {
   charter = charter;
@@ -69,21 +69,21 @@ started charter header own = record {
   complete = false;
 }
 
--- an assembly with the validator's own vote and these votes; it is complete where they weigh a quorum
+-- an assembly in which the validator's own vote and these votes count; it is complete if they weigh a quorum
 abbrev pub restored : Charter → Header → Vote → List VoteEntry → AssemblyView
 restored charter header own votes =
     let places = with_entries (started charter header own).places votes in
     record { charter = charter; header = header; places = places; complete = nat_le (quorum_of charter) (votes_weight charter places) }
 
--- the invariant of every assembly: its committee is sound, there is a place for each member, and it is complete exactly where the votes
--- weigh a quorum
+-- What holds of every assembly: its committee is sound, there is a place for each member, and it is complete if and only if the votes that
+-- count weigh a quorum.
 pub record IsAssembled (assembled : AssemblyView) : Type 0 where
   pub committee : IsCharter assembled.charter
   pub size : length assembled.places ≡ length assembled.charter.keys
   pub below : assembled.complete ≡ false → votes_weight assembled.charter assembled.places < quorum_of assembled.charter
   pub enough : assembled.complete ≡ true → quorum_of assembled.charter ≤ votes_weight assembled.charter assembled.places
 
--- what is kept with an assembly: its header's digest, and the set of the members whose votes are counted
+-- what is kept beside an assembly so that it isn't computed again: the header's digest, and the set of the members whose votes count
 pub record IsKept (assembled : AssemblyView) (digest : Digest) (voters : MemberSet) : Type 0 where
   pub assembly : IsAssembled assembled
   pub digested : digest.0 ≡ header_digest_of assembled.header.body

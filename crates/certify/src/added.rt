@@ -1,25 +1,25 @@
-//! What comes of a vote.
+//! The answer of an assembly to a vote.
 
 ghost use Rattle.std.specs.Prelude.{◌≡◌};
 ghost use Rattle.certify.specs.Answer.{completion_of};
 
 use wire::Certificate;
 
-/// What an assembly answers a vote that it is given.
+/// The answer of an assembly (the votes on one header, until they make a certificate) to a vote.
 #[derive(Debug, Drop)]
 pub enum Added {
-    /// The vote is counted, and the votes don't weigh a quorum yet.
+    /// The vote counts now; the votes that count weigh less than a quorum.
     Counted,
-    /// The vote is counted, and with it the votes weigh a quorum: they make this certificate.
+    /// The vote counts now; with it the votes weigh a quorum, and make this certificate.
     Complete(Certificate),
-    /// The vote is on the header, but its voter's vote is counted already, or the certificate is made.
+    /// The vote is on the header, but its voter's vote counts already, or the certificate is complete.
     Again,
-    /// The vote is on another header, or its voter is no member.
+    /// The vote is on another header, or its voter is not a member.
     NotOurs,
 }
 
 impl Added {
-    /// Whether the votes make the certificate with the vote, if that is counted.
+    /// If the vote counts: whether it completes the certificate. None if it doesn't count.
     pub fn completion(&self) -> Option<bool>
         ensures { result ≡ completion_of self.now }
     {

@@ -1,4 +1,4 @@
-//! The votes on one header.
+//! The votes on one header, until they make a certificate.
 
 ghost use Rattle.std.specs.Prelude.{◌≡◌, ℕ, ◌<◌, ◌≤◌, ◌||◌, ◌==◌, All, length, slice_get, Some, IsTrue, IfOk, OnErr};
 ghost use Rattle.certify.specs.Assembled.{IsAssembled, is_on, has_voted, started, restored, votes_in, with_entries, with_entry};
@@ -14,9 +14,9 @@ use std::alloc::{AllocError, Global};
 use std::marker::Model;
 use wire::{Author, Digest, Header, HeaderBody, Signature, Vote, VoteEntry};
 
-/// The votes on one header, the own one among them, until they weigh a quorum of the committee. Contracts see the
-/// committee, the header, of each member the signature of its vote if that is counted, and whether they make a
-/// certificate.
+/// The votes on one of the validator's own headers, its own vote among them, until they weigh a quorum of the committee and make a
+/// certificate. Contracts see the committee, the header, for each member the signature of its vote if that counts, and whether the
+/// certificate is complete.
 pub struct Assembly<'a> {
     alloc: Global,
     committee: &'a Committee,
@@ -83,7 +83,7 @@ fn put_votes(places: &mut Vec<Option<Signature>>, voters: &mut MemberSet, votes:
 }
 
 impl<'a> Assembly<'a> {
-    /// An assembly of the header, with the own vote on it counted. `AllocError` where an allocation failed.
+    /// An assembly of the header in which only the validator's own vote counts. On `AllocError` an allocation failed.
     pub fn start(
         alloc: Global,
         committee: &'a Committee,
@@ -110,8 +110,8 @@ impl<'a> Assembly<'a> {
         })
     }
 
-    /// An assembly of the header with the own vote and these votes of members on it, which is complete where they weigh a
-    /// quorum. `AllocError` where an allocation failed.
+    /// An assembly of the header in which the validator's own vote and these votes of members count. It is complete if they weigh a quorum.
+    /// On `AllocError` an allocation failed.
     pub fn restore(
         alloc: Global,
         committee: &'a Committee,
@@ -142,8 +142,8 @@ impl<'a> Assembly<'a> {
         })
     }
 
-    /// Counts a vote, if it is a member's and on the header and the votes don't make a certificate yet. Where an allocation
-    /// fails nothing changes.
+    /// Counts a vote if its voter is a member, it is on the header, and the certificate isn't complete yet. If an allocation fails, nothing
+    /// changes.
     pub fn add(&mut self, vote: Vote) -> Result<Added, AllocError>
         ensures answer { IfOk result (λ added. added ≡ answer self.old vote) }
         ensures after { IfOk result (λ added. self.new ≡ after added self.old vote) }
@@ -156,7 +156,7 @@ impl<'a> Assembly<'a> {
         Ok(added)
     }
 
-    /// What comes of a vote. `AllocError` where an allocation for the certificate failed.
+    /// What `add` would answer to a vote. On `AllocError` an allocation for the certificate failed.
     pub fn answer(&self, vote: &Vote) -> Result<Added, AllocError>
         ensures { IfOk result (λ added. added ≡ answer self.now vote.now) }
     {
@@ -175,16 +175,16 @@ impl<'a> Assembly<'a> {
         Ok(Added::Complete(certificate))
     }
 
-    // Whether a vote is a member's, and on the header.
+    // Whether the voter of a vote is a member, and the vote is on the header.
     fn is_ours(&self, vote: &Vote) -> bool
         ensures { result ≡ is_ours self.now vote.now }
     {
         vote.voter.0 < self.committee.size() && is_on(&self.header.body, &self.digest, vote)
     }
 
-    /// Counts a vote whose answer counts it. It takes no memory.
+    /// Counts a vote for which `answer` said so. The call allocates no memory.
     pub fn count(&mut self, vote: Vote, complete: bool)
-        // The votes make the certificate with it, or they don't yet.
+        // `complete` says whether the vote completes the certificate.
         requires { completion_of (answer self.old vote) ≡ Some complete }
         ensures { self.new ≡ after (answer self.old vote) self.old vote }
     {
@@ -193,28 +193,28 @@ impl<'a> Assembly<'a> {
         self.complete = complete;
     }
 
-    /// The header.
+    /// The header that the votes are on.
     pub fn header(&self) -> &Header
         ensures { result.now ≡ self.now.header }
     {
         &self.header
     }
 
-    /// The header's digest.
+    /// The digest of the header that the votes are on.
     pub fn digest(&self) -> &Digest
         ensures { result.now.0 ≡ header_digest_of self.now.header.body }
     {
         &self.digest
     }
 
-    /// Whether this member's vote is counted.
+    /// Whether the vote of this member counts.
     pub fn voted(&self, voter: Author) -> bool
         ensures { result ≡ has_voted self.now.places voter.0 }
     {
         self.voters.contains(voter)
     }
 
-    /// The counted vote at a place, from 0 on, in the order of the voters. None from the number of counted votes on.
+    /// Of the votes that count, sorted by voter, the one at this place, from 0 on. None if there are fewer.
     pub fn nth(&self, place: usize) -> Option<VoteEntry>
         ensures { result ≡ slice_get (votes_in self.now.places) place }
     {
@@ -222,15 +222,15 @@ impl<'a> Assembly<'a> {
         nth_vote(self.places.as_slice(), place)
     }
 
-    /// Whether the votes weigh a quorum: they have made a certificate.
+    /// Whether the votes that count weigh a quorum, so that they have made a certificate.
     pub fn is_complete(&self) -> bool
         ensures { result ≡ self.now.complete }
     {
         self.complete
     }
 
-    /// What holds of each assembly: its committee is one, with a place for each member, and it is complete exactly
-    /// where the votes weigh a quorum. The call does nothing.
+    /// A law of each assembly: its committee is sound, there is a place for each member, and it is complete if and only if the votes that
+    /// count weigh a quorum. The call does nothing.
     pub fn limits_hold(&self)
         ensures { IsAssembled self.now }
     {

@@ -1,4 +1,4 @@
-//! The certificate that the counted votes make with one vote more.
+//! Makes the certificate of the votes that count and one vote more.
 
 ghost use Rattle.std.specs.Prelude.{◌≡◌, ◌<◌, ◌≤◌, length, replicate, IfOk, None, slice_get, slice_index_or};
 ghost use Rattle.certify.specs.Answer.{certificate_of};
@@ -8,7 +8,7 @@ ghost use Rattle.committee.specs.declared.members.TheConstants.{MAX_MEMBERS};
 use std::alloc::{AllocError, Global};
 use wire::{Author, Certificate, HeaderBody, Signature, Vote, VoteEntries, VoteEntry};
 
-/// So many places, none with a vote.
+/// So many places, none of which has a vote.
 pub(crate) fn no_votes(alloc: Global, size: usize) -> Result<Vec<Option<Signature>>, AllocError>
     ensures { IfOk result (λ places. places.items ≡ replicate size None) }
 {
@@ -27,7 +27,7 @@ fn signature_with(places: &[Option<Signature>], vote: &Vote, member: usize) -> O
     }
 }
 
-/// The vote at a place, from 0 on, in the order of the voters.
+/// Of the votes at these places, sorted by voter, the one with this number, from 0 on.
 pub(crate) fn nth_vote(places: &[Option<Signature>], place: usize) -> Option<VoteEntry>
     requires { length places.now ≤ MAX_MEMBERS }
     ensures { result ≡ slice_get (votes_in places.now) place }
@@ -68,7 +68,7 @@ fn votes_with(
     Ok(votes)
 }
 
-/// The certificate of a header that the votes in these places make with one vote more.
+/// The certificate of a header with the votes at these places and one vote more.
 pub(crate) fn certificate_with(
     alloc: Global,
     body: &HeaderBody,

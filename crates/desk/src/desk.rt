@@ -1,4 +1,4 @@
-//! A desk: a book, and the journal of its one owner.
+//! A desk: a node of one owner, which needs no lock.
 
 ghost use Rattle.desk.specs.Disks.{HaveStopped};
 
@@ -14,7 +14,7 @@ use std::marker::Model;
 use validator::{Config, Refusal, Validator};
 use wire::{Digest, Header, Output};
 
-/// A node with one owner: a book, and the journal to which its records go. Its calls return at once and never wait for another thread.
+/// A node of one owner: a book, and the journal to which its records go. No call waits for another thread.
 pub struct Desk<'a, S: Sign, D: Disk> {
     book: OwnBook<'a, S>,
     journal: Journal<D>,
@@ -70,10 +70,10 @@ impl<'a, S: Sign, D: Disk> Desk<'a, S, D> {
     ghost use Rattle.desk.specs.Desk.{IsOpened, IsNotOpened};
     ghost use Rattle.desk.specs.AtWorld.{IsBeside, IsAt, LeadsTo, CheckpointsAt};
 
-    /// Opens a node on a disk, with a book that has accepted nothing.
+    /// Opens a node on one disk. Its book has accepted nothing in this run.
     ///
     /// # Errors
-    /// As `reopen` answers them. The disk is handed back.
+    /// Those of `reopen`. The disk is handed back.
     pub fn open(
         alloc: Global,
         config: &'a Config<S>,
@@ -83,7 +83,7 @@ impl<'a, S: Sign, D: Disk> Desk<'a, S, D> {
         ensures ok { IfOk result (λ desk. IsOpened (node_of S.scheme config.now) D.device (alone (D.device.content disk)) desk) }
         ensures err { IfErr result (λ failed. IsNotOpened (node_of S.scheme config.now) failed.error (D.device.content disk) (D.device.outcome disk) (D.device.outcome failed.disk)) }
         // Take any world in which a run has just begun with some history. If the disk decodes to the state kept of that history, the desk
-        // is at this world. Each legal history begins some run.
+        // stands at that world. Each legal history begins some run.
         ensures world { let node = node_of S.scheme config.now in IfOk result (λ desk. (world : World) (history : History) → HasJustBegun node world history
             → decoded node (D.device.content disk) ≡ Ok (kept node history) → IsAt node D.device world desk) }
         // What the errors say, and what a stop at any moment of the opening may leave.
@@ -95,10 +95,10 @@ impl<'a, S: Sign, D: Disk> Desk<'a, S, D> {
         }
     }
 
-    /// Opens a node on one disk or on two, with a book that has accepted nothing.
+    /// Opens a node on one disk or on two. Its book has accepted nothing in this run.
     ///
     /// # Errors
-    /// As `reopen_store` reports them. The disks are handed back.
+    /// Those of `reopen_store`. The disks are handed back.
     pub fn open_store(
         alloc: Global,
         config: &'a Config<S>,
@@ -106,11 +106,12 @@ impl<'a, S: Sign, D: Disk> Desk<'a, S, D> {
     ) -> Result<Desk<'a, S, D>, Failed<JournalError, Store<D>>>
         ensures setting { IfOk result (λ desk. desk.book.validator.setting ≡ config.now) }
         ensures ok { IfOk result (λ desk. IsOpened (node_of S.scheme config.now) D.device (areas_in D.device store) desk) }
-        // Of two disks, the first group of the one that is read names the generation.
+        // Of two disks the one with the greater generation is read; but if that journal was in version 1 it was rewritten, so the other one
+        // is read.
         ensures read { IfOk result (λ desk. IsReadIn (node_of S.scheme config.now) D.device store desk.journal) }
         // Take any world in which a run has just begun with some history, on disks of which the same one is read, with the same generation.
-        // If the disks that were opened decode to the state kept of that history, the desk is at this world. Each legal history begins such
-        // a run.
+        // If the disks that were opened decode to the state kept of that history, the desk stands at that world. Each legal history begins
+        // such a run.
         ensures world { let node = node_of S.scheme config.now in IfOk result (λ desk. (world : World) (history : History) → HasJustBegun node world history
             → (IsSome (spare_of desk.journal) → IsBeside world desk.journal) → decoded_in node (areas_in D.device store) ≡ Ok (kept node history) → IsAt node D.device world desk) }
         // What the errors say, and what a stop at any moment of the opening may leave.
@@ -125,7 +126,7 @@ impl<'a, S: Sign, D: Disk> Desk<'a, S, D> {
     /// Opens a node on two disks, given in the order of their areas.
     ///
     /// # Errors
-    /// As `reopen_pair` answers them. Both disks are handed back.
+    /// Those of `reopen_pair`. Both disks are handed back.
     pub fn open_pair(
         alloc: Global,
         config: &'a Config<S>,
@@ -151,7 +152,7 @@ impl<'a, S: Sign, D: Disk> Desk<'a, S, D> {
         }
     }
 
-    // A desk with a new book, from the validator and the journal that an opening gave.
+    // A desk with a new book, made of the validator and the journal that an opening returned.
     fn over(alloc: Global, validator: Validator<'a, S>, journal: Journal<D>) -> Desk<'a, S, D>
         requires alive { IsAlive D.device journal }
         requires begun { HasBegun D.device journal }
@@ -166,16 +167,16 @@ impl<'a, S: Sign, D: Disk> Desk<'a, S, D> {
     {
         let generation = journal.generation();
         let book = OwnBook::new(alloc, validator);
-        // A book that is up has no rewriting in flight.
+        // While a book is up, no rewriting is in flight.
         let down = book.is_down();
         prove!(!down);
         Desk { book, journal }
     }
 
-    /// Accepts an event, which passed the checks under the node's committee.
+    /// Accepts an event that passed the checks of the node's committee.
     ///
     /// # Errors
-    /// The refusals of admission; `Down` exactly where the desk is down. A refusal changes nothing.
+    /// The refusals of admission; `Down` if and only if the desk is down. A refusal changes nothing.
     pub fn accept(&mut self, event: Checked) -> Result<Receipt, Refusal>
         requires passed { fault_of self.old.book.validator.setting.charter accepts_all event ≡ None }
         ensures down { IsErrOf result Refusal.Down ↔ IsTrue self.old.book.down }
@@ -188,7 +189,7 @@ impl<'a, S: Sign, D: Disk> Desk<'a, S, D> {
         ensures err { OnErr result (self.new ≡ self.old) }
         ensures same { self.new.journal ≡ self.old.journal }
         ensures setting { self.new.book.validator.setting ≡ self.old.book.validator.setting }
-        // In the desk's world this is an accept.
+        // In the desk's world this is the move `accept`.
         ensures step { let node = node_of S.scheme self.old.book.validator.setting in OnOk result ((world : World) → IsAt node D.device world self.old
             → LeadsTo node D.device world (accept_event event ∷ []) self.new) }
     {
@@ -196,12 +197,12 @@ impl<'a, S: Sign, D: Disk> Desk<'a, S, D> {
         self.book.accept(event)
     }
 
-    /// One round: takes the longest prefix of the pending records that fits a group, appends it to the journal and settles it. Gives the
-    /// number of its records; 0 where nothing is pending.
+    /// Makes one round: takes the longest prefix of the pending records that fits a group, appends it to the journal and settles it.
+    /// Returns the number of its records, which is 0 if nothing is pending.
     ///
     /// # Errors
-    /// `Down` exactly where the desk is down already, and `Memory`: nothing was changed. `Full` where the journal has no room, and `Device`
-    /// where the disk fails: the group stays in flight, and the desk is down.
+    /// `Down` if and only if the desk is down already, or `Memory`: nothing was changed. `Full` if the journal has no room, or `Device` if
+    /// the disk fails: the group stays in flight, and the desk is down.
     pub fn flush(&mut self) -> Result<u64, FlushError>
         ensures idle { OnOk result (self.old.book.pending ≡ [] → (result ≡ Ok 0) × (self.new ≡ self.old)) }
         ensures flushed { IfOk result (λ count. self.old.book.pending ≢ [] → Flushes (node_of S.scheme self.old.book.validator.setting) self.old.book self.new.book (D.device.content (disk_of self.old.journal)) (D.device.content (disk_of self.new.journal)) count) }
@@ -210,19 +211,19 @@ impl<'a, S: Sign, D: Disk> Desk<'a, S, D> {
         ensures full { IsErrOf result FlushError.Full → FindsNoRoom (node_of S.scheme self.old.book.validator.setting) self.old.book self.new.book (D.device.content (disk_of self.old.journal)) }
         ensures full_same { IsErrOf result FlushError.Full → self.new.journal ≡ self.old.journal }
         ensures fails { IsErrOf result FlushError.Device → FailsWithRoom (node_of S.scheme self.old.book.validator.setting) self.old.book self.new.book (D.device.content (disk_of self.old.journal)) }
-        // What a stop at any moment leaves is read as the earlier records, with the whole group or without it.
+        // What a stop at any moment leaves is read as the earlier records, with all of the group after them or without it.
         ensures any_moment { self.old.book.down ≡ false → AtEachMoment D.device (disk_of self.old.journal) (disk_of self.new.journal) (IsWithOrWithout self.old.book.pending (D.device.content (disk_of self.old.journal))) }
         ensures alive { OnOk result (IsAlive D.device self.new.journal) }
         // The spare disk, if there is one, is untouched.
         ensures spare { spare_of self.new.journal ≡ spare_of self.old.journal }
         ensures accepted { self.new.book.accepted ≡ self.old.book.accepted }
-        // The error is Device exactly where the disk has failed.
+        // The error is Device if and only if the disk has counted a failed call.
         ensures cause { ReportsFault FlushError.Device (D.device.faults (disk_of self.old.journal)) (D.device.faults (disk_of self.new.journal)) result }
         ensures setting { self.new.book.validator.setting ≡ self.old.book.validator.setting }
-        // In the desk's world this many events are taken, the four device calls are made, and the events are settled.
+        // In the desk's world so many events are taken, the four device calls of an append are made, and the events are settled.
         ensures steps { let node = node_of S.scheme self.old.book.validator.setting in IfOk result (λ count. self.old.book.pending ≢ [] → (world : World) → IsAt node D.device world self.old
             → LeadsTo node D.device world (take_to (length world.settled + count) ∷ device_call ∷ device_call ∷ device_call ∷ device_call ∷ settle ∷ []) self.new) }
-        // Where the desk goes down, the events are taken in its world.
+        // If the desk goes down, its world has made the move that takes the events.
         ensures fails_step { let node = node_of S.scheme self.old.book.validator.setting in IfErr result (λ error. (error ≡ FlushError.Full) ⊎ (error ≡ FlushError.Device) → (world : World) → IsAt node D.device world self.old
             → (count : ℕ) × LeadsTo node D.device world (take_to count ∷ []) self.new) }
     {
@@ -234,13 +235,13 @@ impl<'a, S: Sign, D: Disk> Desk<'a, S, D> {
         self.book.flush(&mut self.journal)
     }
 
-    /// Makes a checkpoint, on two disks: takes all accepted records, rewrites the spare disk to the state after them, and settles them. The
-    /// rewritten disk is read from then on. Gives the journal's new generation.
+    /// Makes a checkpoint, on two disks: takes all accepted records, rewrites the spare disk to the state after them, and settles them.
+    /// From then on the rewritten disk is read. Returns the journal's new generation.
     ///
     /// # Errors
-    /// `Down` exactly where the desk is down already, and `Memory`: nothing was changed. `Full` where the checkpoint is too long for a
-    /// journal or the generation is the last one, and `Device` where the disk fails: all was taken, the rewriting stays in flight, and the
-    /// desk is down.
+    /// `Down` if and only if the desk is down already, or `Memory`: nothing was changed. `Full` if the checkpoint is too long for a journal
+    /// or the generation is the last one, or `Device` if the disk fails: all was taken, the rewriting stays in flight, and the desk is
+    /// down.
     pub fn checkpoint(&mut self) -> Result<u64, FlushError>
         requires pair { IsSome (spare_of self.old.journal) }
         // All accepted events are settled, and the journal is a checkpoint of the state after them.
@@ -253,19 +254,19 @@ impl<'a, S: Sign, D: Disk> Desk<'a, S, D> {
         ensures fails { IsErrOf result FlushError.Device → FailsToRewrite (node_of S.scheme self.old.book.validator.setting) self.old.book self.new.book self.old.journal }
         // What a stop at any moment leaves is read as the earlier records, or as a checkpoint of all accepted events.
         ensures any_moment { self.old.book.down ≡ false → AtEachMoment D.device (spare_disk self.old.journal) (rewritten_disk result self.new.journal) (StandsAsOrForAll (node_of S.scheme self.old.book.validator.setting) D.device self.old.book self.old.journal) }
-        // The disk that was read before is untouched, whatever the result; after an error it is still the one that is read.
+        // The disk that was read before is untouched, whatever the result. After an error it is still the one that is read.
         ensures untouched { untouched_disk result self.new.journal ≡ disk_of self.old.journal }
         ensures keeps { OnErr result (HaveKeptPlaces self.old.journal self.new.journal) }
         ensures alive { OnOk result (IsAlive D.device self.new.journal) }
         ensures accepted { self.new.book.accepted ≡ self.old.book.accepted }
-        // The error is Device exactly where the disk that is written has failed.
+        // The error is Device if and only if the disk that is written has counted a failed call.
         ensures cause { ReportsFault FlushError.Device (D.device.faults (spare_disk self.old.journal)) (D.device.faults (rewritten_disk result self.new.journal)) result }
         ensures setting { self.new.book.validator.setting ≡ self.old.book.validator.setting }
-        // In the desk's world, if the node's keys have 32 bytes each, all is taken, the eight device calls of a rewriting are made, and all
-        // is settled.
+        // If the node's keys have 32 bytes each: in the desk's world all accepted events are taken, the eight device calls of a rewriting
+        // are made, and all is settled.
         ensures steps { let node = node_of S.scheme self.old.book.validator.setting in OnOk result (AreKeys node → (world : World) → IsAt node D.device world self.old
             → CheckpointsAt node D.device world self.new) }
-        // Where the desk goes down, all is taken in its world, unless the generation was the last one.
+        // If the desk goes down, its world has made the move that takes all accepted events, unless the generation was the last one.
         ensures fails_step { let node = node_of S.scheme self.old.book.validator.setting in IfErr result (λ error. (error ≡ FlushError.Full) ⊎ (error ≡ FlushError.Device)
             → AreKeys node → generation_in self.old.journal + 1 < 2 ^ 64 → (world : World) → IsAt node D.device world self.old
             → (bytes : List ℕ) × LeadsTo node D.device world (take_all bytes ∷ []) self.new) }
@@ -279,7 +280,7 @@ impl<'a, S: Sign, D: Disk> Desk<'a, S, D> {
         self.book.checkpoint(&mut self.journal)
     }
 
-    /// The next output that may leave; None where the desk is down.
+    /// Takes the next output that may leave; None if there is none, or if the desk is down.
     pub fn release(&mut self) -> Option<Output>
         ensures output { result ≡ releasable self.old.book }
         ensures queue { self.new.book ≡ (if is_some result then record self.old.book { queue = drop 1 self.old.book.queue } else self.old.book) }
@@ -288,7 +289,7 @@ impl<'a, S: Sign, D: Disk> Desk<'a, S, D> {
             → GoesOutSettled node run output) }
         ensures same { self.new.journal ≡ self.old.journal }
         ensures setting { self.new.book.validator.setting ≡ self.old.book.validator.setting }
-        // In the desk's world the output goes out.
+        // In the desk's world this is the move `release`.
         ensures step { let node = node_of S.scheme self.old.book.validator.setting in IfSome result (λ output. (world : World) → IsAt node D.device world self.old
             → (ticket : ℕ) × LeadsTo node D.device world (release_output (record { ticket = ticket; output = output }) ∷ []) self.new) }
     {
@@ -296,16 +297,16 @@ impl<'a, S: Sign, D: Disk> Desk<'a, S, D> {
         self.book.release()
     }
 
-    /// The order after the settled records, from this place on. The list is empty where the place is past the order's end.
+    /// The order that the settled records lead to, from this place on. The list is empty if the place is past the order's end.
     ///
     /// # Errors
-    /// `Down` exactly where the desk is down, `Memory` where an allocation failed.
+    /// `Down` if and only if the desk is down; `Memory` if an allocation failed.
     pub fn order(&self, from: u64) -> Result<Vec<Digest>, Refusal>
         ensures order { let node = node_of S.scheme self.now.book.validator.setting in IfOk result (λ digests. (run : Run) → Stands node run self.now.book
             → digests.items ≡ drop from (settled_in node run).order) }
         ensures down { IsErrOf result Refusal.Down ↔ IsTrue self.now.book.down }
         ensures errors { IfErr result (λ refusal. (refusal ≡ Refusal.Down) ⊎ (refusal ≡ Refusal.Memory)) }
-        // In the desk's world the settled order may be read.
+        // In the desk's world this is the move `read_order`.
         ensures step { let node = node_of S.scheme self.now.book.validator.setting in OnOk result ((world : World) → IsAt node D.device world self.now
             → LeadsTo node D.device world (read_order ∷ []) self.now) }
     {
@@ -320,7 +321,7 @@ impl<'a, S: Sign, D: Disk> Desk<'a, S, D> {
         self.book.round_now()
     }
 
-    /// Whether an event that passed the checks is ready: its answer isn't that a parent is missing.
+    /// Whether an event that passed the checks can be answered without waiting: the answer isn't that a parent is missing.
     pub fn ready(&self, event: &Checked) -> bool
         requires passed { fault_of self.now.book.validator.setting.charter accepts_all event.now ≡ None }
         ensures { let node = node_of S.scheme self.now.book.validator.setting in (run : Run) → Stands node run self.now.book
@@ -329,8 +330,8 @@ impl<'a, S: Sign, D: Disk> Desk<'a, S, D> {
         self.book.validator().ready(event)
     }
 
-    /// The header that the node proposes after all accepted events. None where the node has an own header of its round, or the round is
-    /// past `Round::MAX`. On `AllocError` an allocation failed.
+    /// The header that the node proposes after all accepted events. None if it has an own header of its round, or the round is above
+    /// `Round::MAX`. On `AllocError` an allocation failed.
     pub fn propose(&self) -> Result<Option<Header>, AllocError>
         ensures { let node = node_of S.scheme self.now.book.validator.setting in IfOk result (λ found. (run : Run) → Stands node run self.now.book
             → found ≡ proposed node (state_in node run)) }
@@ -338,21 +339,21 @@ impl<'a, S: Sign, D: Disk> Desk<'a, S, D> {
         self.book.validator().propose()
     }
 
-    /// Whether a round or a checkpoint took the desk down.
+    /// Whether the desk is down, since a round or a checkpoint failed.
     pub fn is_down(&self) -> bool
         ensures { result ≡ self.now.book.down }
     {
         self.book.is_down()
     }
 
-    /// The committee of its node.
+    /// The committee of the desk's node.
     pub fn committee(&self) -> &Committee
         ensures { result.now ≡ self.now.book.validator.setting.charter }
     {
         self.book.committee()
     }
 
-    /// Gives the disk of a desk on one disk back. What wasn't settled is lost.
+    /// Ends a desk on one disk, and returns the disk. What wasn't settled is lost.
     pub fn into_disk(self) -> D
         requires { spare_of self.journal ≡ None }
         ensures { result ≡ disk_of self.entry.journal }
@@ -361,7 +362,7 @@ impl<'a, S: Sign, D: Disk> Desk<'a, S, D> {
         journal.into_disk()
     }
 
-    /// Gives both disks of a desk on two disks back, in the order of their areas. What wasn't settled is lost.
+    /// Ends a desk on two disks, and returns both in the order of their areas. What wasn't settled is lost.
     pub fn into_disks(self) -> (D, D)
         requires { IsSome (spare_of self.journal) }
         ensures { result ≡ by_area (side_in self.entry.journal) (disk_of self.entry.journal) (spare_disk self.entry.journal) }
@@ -370,7 +371,7 @@ impl<'a, S: Sign, D: Disk> Desk<'a, S, D> {
         journal.into_disks()
     }
 
-    /// Gives the disks of a desk back, one or two. What wasn't settled is lost.
+    /// Ends a desk, and returns its disks, one or two. What wasn't settled is lost.
     pub fn into_store(self) -> Store<D>
         ensures { result ≡ store_of self.entry.journal }
     {
@@ -404,7 +405,7 @@ impl<'a, S: Sign, D: StopDisk> Desk<'a, S, D> {
     /// Stops the machine of a node on one disk, and opens the node again on what the stop left.
     ///
     /// # Errors
-    /// As `reopen` answers them. The disk is handed back.
+    /// Those of `reopen`. The disk is handed back.
     pub fn stop(
         self,
         alloc: Global,
@@ -414,7 +415,7 @@ impl<'a, S: Sign, D: StopDisk> Desk<'a, S, D> {
         ensures setting { IfOk result (λ next. next.book.validator.setting ≡ config.now) }
         ensures ok { IfOk result (λ next. (found : List ℕ) × D.device.outcome (disk_of self.entry.journal) found × IsOpened (node_of S.scheme config.now) D.device (alone found) next) }
         ensures err { IfErr result (λ failed. (found : List ℕ) × D.device.outcome (disk_of self.entry.journal) found × IsNotOpened (node_of S.scheme config.now) failed.error found (D.device.outcome (disk_of self.entry.journal)) (D.device.outcome failed.disk)) }
-        // In the desk's world the machine stops, and what that left is opened.
+        // In the desk's world these are the moves of a stop: the machine stops, and what that left is opened.
         ensures steps { let node = node_of S.scheme config.now in IfOk result (λ next. (world : World) → IsAt node D.device world self.entry
             → (moves : List Move) × IsStop world moves × LeadsTo node D.device world moves next) }
         ensures cause { ReportsFaultBack D.device (λ next. disk_of next.journal) JournalError.Device (disk_of self.entry.journal) result }
@@ -427,7 +428,7 @@ impl<'a, S: Sign, D: StopDisk> Desk<'a, S, D> {
     /// Stops the machine of a node on one disk or on two, and opens the node again on what the stop left.
     ///
     /// # Errors
-    /// As `reopen_store` reports them. The disks are handed back.
+    /// Those of `reopen_store`. The disks are handed back.
     pub fn stop_store(
         self,
         alloc: Global,
@@ -436,9 +437,9 @@ impl<'a, S: Sign, D: StopDisk> Desk<'a, S, D> {
         ensures setting { IfOk result (λ next. next.book.validator.setting ≡ config.now) }
         ensures ok { IfOk result (λ next. (found : Areas) × MayLeave D.device self.entry.journal found × IsOpened (node_of S.scheme config.now) D.device found next) }
         ensures err { IfErr result (λ failed. (stopped : Store D) × HaveStopped D.device (store_of self.entry.journal) stopped × IsOpeningOn (node_of S.scheme config.now) D.device (λ next. store_of next.journal) stopped result) }
-        // What a stop leaves of a run's desk can be opened, unless an allocation or a disk fails.
+        // What a stop leaves of a desk that belongs to a run can be opened, unless an allocation or a disk fails.
         ensures never_refused { IfErr result (λ failed. (run : Run) → IsOf (node_of S.scheme config.now) D.device run self.entry → IsNoRefusal failed.error) }
-        // In the desk's world the machine stops, and what that left is opened.
+        // In the desk's world these are the moves of a stop: the machine stops, and what that left is opened.
         ensures steps { let node = node_of S.scheme config.now in IfOk result (λ next. (world : World) → IsAt node D.device world self.entry
             → (moves : List Move) × IsStop world moves × LeadsTo node D.device world moves next) }
         ensures cause { ReportsFaultsBack (faults_in D.device) (λ next. store_of next.journal) JournalError.Device (store_of self.entry.journal) result }
@@ -449,7 +450,7 @@ impl<'a, S: Sign, D: StopDisk> Desk<'a, S, D> {
     }
 }
 
-// The same disks after a stop of their machine.
+// Stops the machine of these disks, and returns them as the stop left them.
 fn stopped<D: StopDisk>(store: Store<D>) -> Store<D>
     ensures { HaveStopped D.device store result }
 {

@@ -1,4 +1,4 @@
-//! A node with one owner: its book, the journal to which its records go, and where both are in the world of the node's runs.
+//! A desk: a node of one owner, with its book and the journal to which its records go; and where it stands in the world of the node's runs.
 #![tactic(auto)]
 
 mod desk;

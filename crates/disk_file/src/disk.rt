@@ -1,4 +1,4 @@
-//! The disk.
+//! A disk over a file.
 
 ghost use Rattle.std.specs.Prelude.{◌≡◌, ◌+◌, ◌^◌, ◌<◌, ◌≤◌, ◌∷◌, ◌++◌, [], ℕ, true, false, length, min, take, drop, IfOk, IfSome, OnOk, OnErr, Ok, IsOk};
 ghost use Rattle.diskmodel.specs.Disk.{written, IsTorn, IsCut, ComesBy, NoneNew, LeavesOnly, HasCause, Makes};
@@ -17,18 +17,19 @@ use std::io;
 use std::os::unix::fs::FileExt;
 use std::rt::Files;
 
-/// How many bytes are read at a time of the part of a file that isn't kept in memory.
+/// How many bytes are read at once of the part of a file that isn't kept in memory.
 const WINDOW_BYTES: usize = 1 << 16;
 
-/// A disk over a regular file, which it locks: nobody else can open the file as a disk until this one is dropped.
+/// A disk over a regular file, which it locks: nobody else can open the file as a disk until this disk is dropped.
 ///
-/// Once a call has failed, all later ones fail too: open the file again. The length is kept, so the system is never asked for it. The bytes
-/// are read when the file is opened, and reads are served from them, or from as many of the first ones as were kept. The first write, and
-/// `end_reading`, free this memory: after that a read of one byte or more fails. So memory doesn't grow with what is written.
+/// Once a call has failed, all later ones fail too, and the file has to be opened again. The length is remembered, so the system is never
+/// asked for it. The bytes are read when the file is opened and kept in memory, all of them or only the first ones; reads are served from
+/// there. The first write, and `end_reading`, free this memory, and from then on a read of one byte or more fails. So memory doesn't grow
+/// with what is written.
 ///
-/// The contracts are about a record that is in no memory: the bytes that were read at the opening, and the calls since. What a read gives
-/// and what a stop may leave is what the model of a disk says for that record. That the real file behaves so is a premise, which nothing
-/// here proves:
+/// The contracts are about a record that is in no memory: the bytes that were read at the opening, and the calls since then. What a read
+/// gives and what a stop may leave is what the model of a disk says for this record. That the real file behaves so is assumed; nothing here
+/// proves it:
 /// - Each method makes the system call that it records, which has to be checked by reading the code, and that call does what its name says:
 ///   a successful write has put these bytes at this place, a successful cut has set the length, and a failed call has had any part of its
 ///   effect.
@@ -67,8 +68,8 @@ impl FileDisk {
     /// file is read, so that it survives a power cut and everything read is durable.
     ///
     /// # Errors
-    /// `NotAFile` where there is something other than a regular file, such as a folder or a link; `InUse` where another process, or another
-    /// disk of this one, has the file as a disk; `Memory` where an allocation for its bytes or the record failed; otherwise `Device`.
+    /// `NotAFile` if there is something other than a regular file, such as a folder or a link; `InUse` if another process, or another disk
+    /// of this process, has the file open as a disk; `Memory` if an allocation for its bytes or its record failed; otherwise `Device`.
     pub fn open<R: Files<File = File>>(
         rt: &R,
         alloc: Global,
@@ -86,8 +87,8 @@ impl FileDisk {
         Ok(FileDisk::begin(alloc, file, bytes)?)
     }
 
-    /// As `open`, but of the bytes that are read only the first `keep` are kept in memory, and a read past them fails. This is for a file
-    /// of which only the front is needed, such as the older one of a journal's two, so that the rest takes no memory.
+    /// Like `open`, but only the first `keep` of the bytes that are read are kept in memory; a read past them fails. It is for a file of
+    /// which only the front is needed, such as the older one of a journal's two files.
     ///
     /// # Errors
     /// Those of `open`.
@@ -118,7 +119,7 @@ impl FileDisk {
         })
     }
 
-    /// The disk over a synced file with these bytes.
+    /// The disk over a file that has been synced and has these bytes.
     fn begin(alloc: Global, file: File, bytes: Vec<u8>) -> Result<FileDisk, AllocError>
         ensures story { IfOk result (λ disk. story_of disk ≡ begun bytes.items) }
         ensures up { IfOk result (λ disk. is_down disk ≡ false) }
@@ -133,7 +134,7 @@ impl FileDisk {
         })
     }
 
-    /// Counts a failure.
+    /// Counts a failed call, and returns its error.
     fn fault(&mut self) -> DiskFault
         ensures story { story_of self.new ≡ failing (story_of self.old) }
         ensures calls { SameCalls (story_of self.old) (story_of self.new) }
@@ -145,7 +146,7 @@ impl FileDisk {
         DiskFault
     }
 
-    /// Fails if a call has failed before.
+    /// Fails if an earlier call has failed.
     fn fail_if_down(&mut self) -> Result<(), DiskFault>
         ensures ok { OnOk result ((self.new ≡ self.old) × (is_down self.old ≡ false)) }
         ensures err { OnErr result (story_of self.new ≡ failing (story_of self.old)) }
@@ -160,7 +161,7 @@ impl FileDisk {
         Ok(())
     }
 
-    /// Counts a failure of the system.
+    /// Turns a failure of the system into a failed call, and counts that.
     fn counted(&mut self, outcome: io::Result<()>) -> Result<(), DiskFault>
         ensures ok { OnOk result (self.new ≡ self.old) }
         ensures err { OnErr result ((is_down self.new ≡ true) × (story_of self.new ≡ failing (story_of self.old))) }
@@ -202,7 +203,7 @@ impl Disk for FileDisk {
         ensures cause { HasCause (story_of self.old).faults (story_of self.new).faults result }
         ensures calls { (story_of self.new).calls ≡ (story_of self.old).calls }
 
-        // The call fails only after an earlier failure.
+        // Asking for the length fails only after an earlier failure.
         ensures down { StaysDown self.old self.new result }
         ensures succeeds { is_down self.old ≡ false → result ≡ Ok (length (content_of self.old)) }
         ensures unchanged { OnOk result (self.new ≡ self.old) }
@@ -220,7 +221,7 @@ impl Disk for FileDisk {
         ensures cause { HasCause (story_of self.old).faults (story_of self.new).faults result }
         ensures calls { (story_of self.new).calls ≡ (story_of self.old).calls }
 
-        // The read fails only after an earlier failure, or if a byte was written, reading has ended, or not all of these bytes were kept.
+        // A read fails only after an earlier failure, after a write or the end of reading, or if not all of its bytes were kept.
         ensures down { StaysDown self.old self.new result }
         ensures succeeds { is_down self.old ≡ false → IsReadable self.old → IsOk result }
         ensures front { is_down self.old ≡ false → at + length buffer.old ≤ readable_in self.old → IsOk result }
@@ -294,7 +295,7 @@ impl Disk for FileDisk {
         ensures calls { Makes Synced result (story_of self.old).calls (story_of self.new).calls }
         ensures recorded { OnOk result (Adds Synced (story_of self.old) (story_of self.new)) }
 
-        // A sync that fails makes nothing durable.
+        // A sync that fails is not recorded: it makes nothing durable.
         ensures err { OnErr result (SameCalls (story_of self.old) (story_of self.new)) }
         ensures down { StaysDown self.old self.new result }
         ensures readable { IsReadable self.old → IsReadable self.new }
@@ -314,7 +315,7 @@ impl Disk for FileDisk {
     }
 }
 
-// Drops the kept bytes from this length on.
+// Drops from this length on the bytes that are kept in memory.
 fn cut_kept(kept: &mut Option<Vec<u8>>, len: u64)
     ensures { option_map (λ bytes. bytes.items) kept.new ≡ option_map (take len) (option_map (λ bytes. bytes.items) kept.old) }
 {

@@ -10,13 +10,13 @@ pub enum OpenError {
     /// An allocation failed.
     #[error("out of memory")]
     Memory,
-    /// There is something at the path that is no regular file.
+    /// There is something at the path that isn't a regular file.
     #[error("no regular file")]
     NotAFile,
-    /// Another process, or another disk of this one, has the file.
+    /// Another process, or another disk of this process, has the file open as a disk.
     #[error("the file is in use")]
     InUse,
-    /// Any other fault of the system.
+    /// Any other failure of the system.
     #[error("the file can't be opened")]
     Device,
 }

@@ -1,4 +1,4 @@
-//! Opening a file.
+//! Opens and reads the file of a disk.
 
 ghost use Rattle.std.specs.Prelude.{◌≡◌, ◌-◌, ◌<◌, ◌≤◌, ◌⊎◌, length, IfOk, OnOk};
 ghost use Rattle.disk_file.specs.Stories.{GoesOnFor};
@@ -13,10 +13,10 @@ use std::os::unix::fs::FileExt;
 use std::path::Path;
 use std::rt::Files;
 
-/// The greatest descriptor of a standard stream.
+/// The greatest file descriptor that a standard stream has.
 const LAST_STREAM: i32 = 2;
 
-/// The regular file at the path, which is created if it isn't there, and locked.
+/// The regular file at this path, locked. It is created if it isn't there.
 pub(crate) fn open_alone<R: Files<File = File>>(rt: &R, path: &str) -> Result<File, OpenError> {
     let file = apart(open_or_make(rt, path)?)?;
     check_is_file(&file.metadata()?)?;
@@ -48,7 +48,8 @@ fn check_is_file(found: &Metadata) -> Result<(), OpenError> {
     }
 }
 
-// If a standard stream was closed, the file may have got its descriptor, and output would be printed into the file.
+// If a standard stream was closed, the file may have got that stream's descriptor, and output would go into the file. Then it gets another
+// one.
 fn apart(file: File) -> io::Result<File> {
     if file.as_raw_fd() > LAST_STREAM {
         Ok(file)
@@ -57,7 +58,7 @@ fn apart(file: File) -> io::Result<File> {
     }
 }
 
-/// Syncs the folder of a file.
+/// Syncs the folder that a file is in.
 pub(crate) fn sync_folder<R: Files<File = File>>(rt: &R, path: &str) -> io::Result<()> {
     let parent = Path::new(path).parent();
     let folder = match parent {
@@ -67,7 +68,7 @@ pub(crate) fn sync_folder<R: Files<File = File>>(rt: &R, path: &str) -> io::Resu
     File::open(rt, folder)?.sync_all()
 }
 
-/// All the bytes of a file.
+/// Reads all bytes of a file.
 pub(crate) fn read_all(alloc: Global, file: &File) -> Result<Vec<u8>, OpenError> {
     let len = file.metadata()?.len() as usize;
     let mut bytes = vec![in alloc; 0; len]?;
@@ -75,7 +76,7 @@ pub(crate) fn read_all(alloc: Global, file: &File) -> Result<Vec<u8>, OpenError>
     Ok(bytes)
 }
 
-/// The first bytes of a file, at most `keep` of them, and the file's length.
+/// Reads the first bytes of a file, at most `keep` of them. Also returns the file's length.
 pub(crate) fn read_front(alloc: Global, file: &File, keep: u64) -> Result<(Vec<u8>, u64), OpenError>
     ensures front { IfOk result (λ read. length read.0.items ≤ read.1) }
     ensures kept { IfOk result (λ read. length read.0.items ≤ keep) }
@@ -87,7 +88,8 @@ pub(crate) fn read_front(alloc: Global, file: &File, keep: u64) -> Result<(Vec<u
     Ok((bytes, len))
 }
 
-/// Reads the rest of a file, from this place to its length, for the record only, one window at a time.
+/// Reads the rest of a file from this place to its length, one window at a time. The bytes are not kept: only the record, in contracts,
+/// needs them.
 pub(crate) fn read_on(
     file: &File,
     tape: &mut Tape,
@@ -108,7 +110,7 @@ pub(crate) fn read_on(
     Ok(())
 }
 
-// Reads this many bytes from a place on.
+// Reads so many bytes from this place on.
 fn read_piece(
     file: &File,
     tape: &mut Tape,

@@ -1,4 +1,4 @@
-//! The record of the calls on a file, which only contracts read: it is the view of the one seat of a table, and takes no memory.
+//! The record of the calls on a file. Only contracts read it: it is what the one seat of a table knows, and takes no memory.
 
 ghost use Rattle.std.specs.Prelude.{◌≡◌, ℕ, ◌+◌, List, [], ◌∷◌, ◌++◌, length, IfOk};
 ghost use Rattle.diskmodel.specs.Outcomes.{AreBytes};
@@ -10,10 +10,10 @@ use atomic_table::{Play, Seat, Table, TableRule};
 use std::alloc::{AllocError, Global};
 use std::marker::{Brand, Model, PhantomData};
 
-// The table's one word, which no step changes.
+// The one word of the table, which no step changes.
 const WORD: usize = 0;
 
-/// What the record says after a step. Each call of `Tape::turn` chooses it.
+/// What the record says after a step. The proof of each call of `Tape::turn` chooses it.
 pub trait Turn {
     ghost use Rattle.disk_file.specs.declared.story.TapeView.{TapeView};
 
@@ -38,7 +38,7 @@ impl<N: Turn> Play<(), TapeView> for Turned<N> {
     ghost then = { λ step before found later. later ≡ (N.next, before.1) };
 }
 
-/// The table's rule allows any step, as there is only one seat.
+/// The rule of the table, which allows any step, since there is only one seat.
 pub struct AnyStory;
 
 impl TableRule<(), TapeView, ()> for AnyStory {
@@ -50,7 +50,7 @@ impl TableRule<(), TapeView, ()> for AnyStory {
     ghost first = { λ key. begun [] };
 }
 
-/// The record. Contracts see it as a story.
+/// The record of the calls on a file, as contracts see it.
 pub struct Tape {
     table: Table<(), TapeView, (), AnyStory, Global>,
     seat: Seat<(), TapeView>,
@@ -85,42 +85,42 @@ impl Tape {
         Ok(tape)
     }
 
-    /// Notes that before any call the file was found to continue with these bytes.
+    /// Records that, before any call, the file was found to have these further bytes at its end.
     pub fn found(&mut self, bytes: &[u8])
         ensures { GoesOnFor (length bytes.now) self.old self.new }
     {
         self.turn::<Brand, &[u8]>(bytes);
     }
 
-    /// Notes that these bytes were written at this place.
+    /// Records that these bytes were written at this place.
     pub fn wrote(&mut self, at: u64, bytes: &[u8])
         ensures { Adds (Wrote at bytes.now) self.old self.new }
     {
         self.turn::<Brand, (u64, &[u8])>((at, bytes));
     }
 
-    /// Notes that the file was cut to this length.
+    /// Records that the file was cut to this length.
     pub fn cut(&mut self, len: u64)
         ensures { Adds (Cut len) self.old self.new }
     {
         self.turn::<Brand, u64>(len);
     }
 
-    /// Notes that the file was synced.
+    /// Records that the file was synced.
     pub fn synced(&mut self)
         ensures { Adds Synced self.old self.new }
     {
         self.turn::<Brand, ()>(());
     }
 
-    /// Notes that a call has failed.
+    /// Records that a call has failed.
     pub fn failed(&mut self)
         ensures { self.new ≡ failing self.old }
     {
         self.turn::<Brand, ()>(());
     }
 
-    // From now on the record says what the proof of this call chooses (`N.next`), which may depend on the argument.
+    // Changes the record to what the proof of this call chooses (`N.next`), which may depend on the argument.
     fn turn<N: Turn, T: Copy>(&mut self, _given: T)
         ensures { self.new ≡ N.next }
     {

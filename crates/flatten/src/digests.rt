@@ -1,4 +1,4 @@
-//! The digests of what a leader orders.
+//! Collects the digests of the certificates that a leader orders.
 
 ghost use Rattle.std.specs.Prelude.{◌≡◌, ℕ, ◌+◌, ◌-◌, ◌≤◌, ◌++◌, length, max, flat_map, OnOk};
 ghost use Rattle.std.specs.List.{range_with_len};
@@ -11,7 +11,7 @@ use dag::Dag;
 use std::alloc::AllocError;
 use wire::{Author, Digest, Round};
 
-// Adds the digests of the certificates that these authors have in a round.
+// Adds the digests of the certificates of a round that these authors have.
 fn put_round(
     dag: &Dag,
     round: Round,
@@ -30,8 +30,8 @@ fn put_round(
     Ok(())
 }
 
-/// Adds the digests of what a leader orders, by round and then author. The sets are of the leader's round and of the rounds below it,
-/// downwards. Genesis certificates aren't ordered.
+/// Adds the digests of the certificates that a leader orders, by round and then by author. The first of the sets has the authors of the
+/// leader's round, the next those of the round below, and so on. Genesis certificates aren't ordered.
 pub(crate) fn put_digests(
     dag: &Dag,
     round: Round,

@@ -1,14 +1,14 @@
-//! Laws. Each is what a function without a body ensures.
+//! Laws of what leaders order. Each is the contract of an empty function.
 
 ghost use Rattle.flatten.specs.Laws.{MadeStays, EachFollows};
 
-/// What was made of a DAG is still right after a certificate is added, of a round above the last leader's.
+/// What was prepared for leaders in a DAG is still right after a certificate of a round above the last of them was added.
 pub fn made_stays()
     ensures { MadeStays }
 {}
 
-/// In a chain of leaders, each of which reaches the one before, `segment` gives for each the segment of the definition, if exactly the
-/// history of the leader before the first is marked.
+/// In a chain of leaders each of which reaches the one before, `segment` computes for each what the definition says that it orders, if
+/// exactly what the leader before the first one reaches is marked.
 pub fn each_follows()
     ensures { EachFollows }
 {}

@@ -1,4 +1,4 @@
-//! What committing several leaders does to the order and the marks.
+//! Prepares what a commit of several leaders will add to the order and mark.
 
 ghost use Rattle.std.specs.Prelude.{◌≡◌, ℕ, ◌-◌, ◌<◌, ◌≤◌, ◌^◌, ◌||◌, ◌&&◌, min, nat_le, true, length, List, Option, Some, IfOk, slice_get};
 ghost use Rattle.spec_model.specs.Ordering.{segments};
@@ -16,12 +16,12 @@ use std::alloc::{AllocError, Global};
 use std::marker::Model;
 use wire::{Author, Digest, Round};
 
-/// What committing several leaders will do to the order and the marks. All memory for it is allocated already. Contracts see the digests,
-/// the last leader, the sets and the count.
+/// What a commit of several leaders will add to the order, and what it will mark. All memory for that is allocated already. Contracts see
+/// the digests, the last leader, the sets of authors and the number of references read.
 pub struct Lengthening {
     digests: Vec<Digest>,
     last: (Round, Author),
-    // The authors whose certificates are ordered, a set for each round from the last leader's downwards.
+    // The authors whose certificates are ordered: a set for each round, from the last leader's downwards.
     ordered: Vec<MemberSet>,
     // How many references to parents were read.
     reads: u64,
@@ -47,11 +47,11 @@ impl Model for Lengthening {
 }
 
 impl Lengthening {
-    /// What committing these leaders will do. They are given oldest first, and each reaches the one before. The first one reaches the last
-    /// leader that was committed, and that reaches everything marked.
+    /// Prepares a commit of these leaders, oldest first; each reaches the one before. The first one reaches the leader that was committed
+    /// last, and that one reaches all that is marked.
     ///
     /// # Errors
-    /// `AllocError` where an allocation failed.
+    /// `AllocError` if an allocation failed.
     pub fn new(
         alloc: Global,
         dag: &Dag,
@@ -91,14 +91,14 @@ impl Lengthening {
         &self.digests
     }
 
-    /// The last of the leaders.
+    /// The round and author of the last of the leaders.
     pub fn last(&self) -> (Round, Author)
         ensures { result ≡ self.now.last }
     {
         self.last
     }
 
-    /// How many references to parents were read for it: those of the certificates that a leader orders, each once, except in the lowest
+    /// How many references to parents were read for this: those in the certificates that a leader orders, each once, except in the lowest
     /// round of which the leader orders any. The number fits a `u64`.
     pub fn reads(&self) -> u64
         ensures { result ≡ self.now.reads }
@@ -107,8 +107,8 @@ impl Lengthening {
     }
 }
 
-/// Marks what the leaders order, in the DAG of which this was made. After that, among the certificates at most the depth below the last
-/// leader, exactly those that it reaches are marked. The call allocates no memory.
+/// Marks the certificates that the leaders order, in the DAG for which this was prepared. Then, of the certificates at most the depth below
+/// the last leader, exactly those that it reaches are marked. The call allocates no memory.
 pub fn mark(dag: &mut Dag, made: &Lengthening)
     ensures charter { dag.new.charter ≡ dag.old.charter }
     ensures floor { dag.new.floor ≡ dag.old.floor }

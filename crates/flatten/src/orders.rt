@@ -1,4 +1,4 @@
-//! Which certificates a leader orders.
+//! Finds the certificates that a leader orders.
 
 ghost use Rattle.std.specs.Prelude.{◌≡◌, ℕ, ◌+◌, ◌-◌, ◌*◌, ◌<◌, ◌≤◌, ◌^◌, ◌&&◌, true, length, sum_by, is_some, IfOk, OnOk};
 ghost use Rattle.std.specs.List.{range_with_len};
@@ -14,7 +14,7 @@ use dag::{Dag, Reads};
 use std::alloc::{AllocError, Global};
 use wire::{Author, Round};
 
-// The parents of these certificates, in the round below, that are neither marked nor among those taken already.
+// The authors, in the round below, of the parents of these certificates that are neither marked nor taken already.
 fn next_set(
     dag: &Dag,
     below: u64,
@@ -34,8 +34,9 @@ fn next_set(
     set
 }
 
-/// The certificates that a leader orders, in at most this many rounds from the leader's downwards: those that it reaches and that are free.
-/// It ends where none is left. All references of the ordered certificates are read, except in the last of the rounds.
+/// The certificates that a leader orders, in at most so many rounds from its own downwards: those that it reaches and that are free
+/// (neither marked nor taken). The walk ends in the first round that has none. The parents of all ordered certificates are read, except in
+/// the last of the rounds.
 pub(crate) fn ordered(
     alloc: Global,
     dag: &Dag,

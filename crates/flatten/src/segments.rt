@@ -1,4 +1,4 @@
-//! What a leader orders.
+//! Computes what a leader orders, and adds that to what earlier leaders order.
 
 ghost use Rattle.std.specs.Prelude.{◌≡◌, ℕ, ◌+◌, ◌-◌, ◌<◌, ◌≤◌, ◌++◌, ◌&&◌, List, [], sum_by, not, is_some, true, Some, None, Option, IfSome, IfOk, OnOk};
 ghost use Rattle.std.specs.List.{range_with_len};
@@ -18,7 +18,7 @@ use dag::Dag;
 use std::alloc::{AllocError, Global};
 use wire::{Author, Digest, Round};
 
-/// The lowest round of which a leader orders certificates: `depth` below its own, or the floor.
+/// The lowest round of which a leader orders certificates: `depth` below its own round, or the floor if that is higher.
 pub(crate) fn lowest(dag: &Dag, round: Round) -> u64
     ensures { result ≡ lowest_in dag.now round }
 {
@@ -28,8 +28,9 @@ pub(crate) fn lowest(dag: &Dag, round: Round) -> u64
         .max(round.number().saturating_sub(depth))
 }
 
-/// Adds the digests of what a leader orders, and adds the leader's sets to those of what was ordered so far, which go down from the round
-/// `top`. Gives how many references to parents were read. A leader that isn't held, or is above `top`, orders nothing.
+/// Adds the digests of the certificates that a leader orders, and adds their authors to the sets of those that are taken; the first of
+/// these sets is that of the round `top`. Returns how many references to parents were read. A leader that isn't in the DAG, or is above
+/// `top`, orders nothing.
 pub(crate) fn order(
     alloc: Global,
     dag: &Dag,
@@ -59,8 +60,8 @@ pub(crate) fn order(
     Ok(reads)
 }
 
-// Adds to the sets of what was ordered so far, which go down from a round, what the leader before reaches, down to a lowest round. Gives
-// how many references to parents were read. A leader that is above the sets adds nothing.
+// Adds to the sets of what is taken the certificates that the leader before reaches, down to a lowest round. Returns how many references to
+// parents were read. A leader above the round of the first set adds nothing.
 fn take_past(
     alloc: Global,
     dag: &Dag,
@@ -91,17 +92,17 @@ fn take_past(
     Ok(reads)
 }
 
-/// What a leader orders after the leader of another slot, or as the first one: the digests of the certificates that it reaches and the
-/// leader before doesn't, at most the depth below it, by round and then author. Gives also how many references to parents were read for it.
-/// A leader that isn't held orders nothing.
+/// What a leader orders after the leader before it, or as the first one: the digests of the certificates that it reaches and the leader
+/// before doesn't, at most the depth below it, by round and then by author. Also returns how many references to parents were read for it. A
+/// leader that isn't in the DAG orders nothing.
 ///
-/// Everything marked is reached by the leader before. Where that one reaches more, as in a chain of leaders after the last committed one,
-/// this is looked up too; `each_follows` says that the condition on the marks holds for each leader of such a chain. Each walk ends at the
-/// first round in which it reaches nothing that isn't marked. To know a certificate's parents all its references are read: this is done for
-/// each ordered certificate, except in the lowest round of which a leader orders any.
+/// The leader before reaches all that is marked. If it reaches more, as in a chain of leaders after the last committed one, that is looked
+/// up too; `each_follows` says that this condition on the marks holds for each leader of such a chain. A walk ends at the first round in
+/// which it reaches only marked certificates. To know the parents of a certificate all its references are read; this is done for each
+/// ordered certificate, except in the lowest round of which a leader orders any.
 ///
 /// # Errors
-/// `AllocError` where an allocation failed.
+/// `AllocError` if an allocation failed.
 pub fn segment_counted(
     alloc: Global,
     dag: &Dag,
@@ -138,10 +139,10 @@ pub fn segment_counted(
     Ok((digests, past + reads))
 }
 
-/// What a leader orders, without the count that `segment_counted` gives too.
+/// What a leader orders, without the number that `segment_counted` also returns.
 ///
 /// # Errors
-/// `AllocError` where an allocation failed.
+/// `AllocError` if an allocation failed.
 pub fn segment(
     alloc: Global,
     dag: &Dag,

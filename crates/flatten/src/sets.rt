@@ -1,4 +1,4 @@
-//! Sets of authors, one for each round.
+//! Sets of authors, one for each round from some round downwards.
 
 ghost use Rattle.std.specs.Prelude.{◌≡◌, ℕ, ◌+◌, ◌-◌, ◌<◌, ◌≤◌, ◌^◌, ◌&&◌, ◌||◌, nat_le, length, vec_len, OnOk};
 ghost use Rattle.committee.specs.Sets.{has};
@@ -9,7 +9,7 @@ use dag::Dag;
 use std::alloc::AllocError;
 use wire::Round;
 
-/// The round of a number.
+/// The round with this number.
 pub(crate) fn round_of(number: u64) -> Round
     requires { number ≤ Round.MAX }
     ensures { result ≡ number }
@@ -20,7 +20,7 @@ pub(crate) fn round_of(number: u64) -> Round
     }
 }
 
-/// The set at a place, or the empty set.
+/// The set at this place; the empty set if there is none.
 pub(crate) fn set_at(sets: &[MemberSet], place: usize) -> MemberSet
     ensures { (author : ℕ) → has result author ≡ is_in sets.now place author }
 {
@@ -30,8 +30,8 @@ pub(crate) fn set_at(sets: &[MemberSet], place: usize) -> MemberSet
     }
 }
 
-/// The authors whose certificates of a round are free: not marked, and not in the sets of what was ordered so far, which go down from
-/// `top`.
+/// The authors whose certificates of a round are free: neither marked nor taken. The first of the sets of what is taken is that of the
+/// round `top`.
 pub(crate) fn free_at(dag: &Dag, top: u64, taken: &[MemberSet], round: u64) -> MemberSet
     requires { round ≤ Round.MAX }
     ensures { (author : ℕ) → has result author ≡ is_free dag.now top taken.now round author }
@@ -41,7 +41,7 @@ pub(crate) fn free_at(dag: &Dag, top: u64, taken: &[MemberSet], round: u64) -> M
     free
 }
 
-// Adds empty sets until there are this many.
+// Adds empty sets until there are `count` sets.
 fn extend(sets: &mut Vec<MemberSet>, count: usize) -> Result<(), AllocError>
     ensures same { OnOk result ((place author : ℕ) → is_in sets.new.items place author ≡ is_in sets.old.items place author) }
     ensures long { OnOk result (count ≤ vec_len sets.new) }
@@ -52,7 +52,7 @@ fn extend(sets: &mut Vec<MemberSet>, count: usize) -> Result<(), AllocError>
     Ok(())
 }
 
-// Unites sets with those from a place on.
+// Adds the members of these sets to those sets that stand from a place on.
 fn unite(sets: &mut [MemberSet], first: usize, more: &[MemberSet])
     requires { first + length more.now ≤ length sets.old }
     ensures { (place author : ℕ) → is_in sets.new place author ≡ (is_in sets.old place author || (nat_le first place && is_in more.now (place - first) author)) }
@@ -62,7 +62,7 @@ fn unite(sets: &mut [MemberSet], first: usize, more: &[MemberSet])
     }
 }
 
-/// Unites sets with those from a place on; sets that are missing are added first.
+/// Adds the members of these sets to those sets that stand from a place on. Sets that are missing are made first.
 pub(crate) fn put(
     sets: &mut Vec<MemberSet>,
     first: usize,

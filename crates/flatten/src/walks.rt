@@ -1,4 +1,4 @@
-//! Walks down from a leader.
+//! Walks down the DAG from a leader, along parents.
 
 ghost use Rattle.std.specs.Prelude.{◌≡◌, ℕ, ◌+◌, ◌-◌, ◌<◌, ◌≤◌, ◌&&◌, true, not, length, sum_by, is_some, IfOk, OnOk};
 ghost use Rattle.std.specs.List.{range_with_len};
@@ -13,12 +13,12 @@ use std::alloc::{AllocError, Global};
 use wire::{Author, Round};
 
 /// The greatest number of references to parents that are read for one leader: those of the rounds above the lowest of which it orders
-/// certificates, which is at most `MAX_DEPTH` below the leader.
+/// certificates. There are at most `MAX_DEPTH` of these rounds.
 pub(crate) const MAX_WALK_REFERENCES: u64 = MAX_DEPTH * MAX_ROUND_REFERENCES;
 
-/// The certificates that a leader reaches among those that are free, as sets from its round downwards to a lowest round at most. They are
-/// added to the sets of what was ordered so far, which go down from a round no lower than the leader's. Gives also how many references to
-/// parents were read: those of the reached certificates above the lowest round.
+/// Finds the free certificates that a leader reaches, as sets of authors from its round down to a lowest round. They are added to the sets
+/// of what is taken, of which the first is that of a round no lower than the leader's. Also returns how many references to parents were
+/// read: those of the certificates that were reached above the lowest round.
 pub(crate) fn walk(
     alloc: Global,
     dag: &Dag,

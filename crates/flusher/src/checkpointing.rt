@@ -1,4 +1,4 @@
-//! A flusher that rewrites the journal to a checkpoint.
+//! How a flusher rewrites the journal to a checkpoint.
 
 ghost use Rattle.std.specs.Prelude.{◌≡◌, ◌⊎◌, ◌↔◌, ◌∷◌, true, false, IfOk, IfErr, IsErrOf, IsSome, OnOk, OnErr};
 ghost use Rattle.book.specs.Checkpoints.{HasNoRoomFor};
@@ -23,13 +23,14 @@ use sigface::Sign;
 use std::sync::Wait;
 
 impl<D: Disk> Flusher<D> {
-    /// Takes all that the node accepted for a checkpoint, rewrites the journal to it, and settles it. The journal's spare disk is written,
-    /// and is read from then on. The lock is held for the take and for the settle only, so threads can submit events while the disk is
-    /// written; these wait for the next round. What the seat had seen is among what is taken. After the checkpoint the seat knows what is
-    /// settled, and that the node is down if the checkpoint took it down. Gives the journal's new generation.
+    /// Takes all events that the node has accepted, rewrites the journal to a checkpoint of the state after them, and settles them. The
+    /// journal's spare disk is written, and is read from then on. The lock is held for the take and for the settle only, so threads can
+    /// submit events while the disk is written; these events wait for the next round. All events that the seat had seen are among those
+    /// taken. After the call the seat knows what is settled, and, if the checkpoint took the node down, that too. Returns the journal's new
+    /// generation.
     ///
     /// # Errors
-    /// Each of `FlushError`, as described there. An error after the take, `Full` or `Device`, takes the node down.
+    /// Each of `FlushError`, as described there. After `Full` or `Device`, which come after the take, the node is down.
     pub fn checkpoint<'a, S: Sign, R: Wait>(
         &mut self,
         rt: &R,
@@ -45,20 +46,21 @@ impl<D: Disk> Flusher<D> {
         ensures reported { IsReportedOf seat.old seat.new result }
         ensures settles { TakesAllAndSettles seat.old seat.new self.old self.new result }
         ensures answer { IfOk result (λ generation. generation ≡ generation_in (journal_of self.new)) }
-        // What it took is all that the area which is read then has.
+        // After success the area that is read has what the checkpoint took, and nothing else.
         ensures writes { OnOk result (IsAtCheckpoint S.scheme D.device node.now self.new) }
-        // The disks have changed places exactly where the checkpoint succeeded.
+        // The disks have changed places if and only if the checkpoint succeeded.
         ensures swapped { OnOk result (HaveChangedPlaces (journal_of self.old) (journal_of self.new)) }
         ensures keeps { OnErr result (HaveKeptPlaces (journal_of self.old) (journal_of self.new)) }
         ensures room { IsErrOf result FlushError.Down ⊎ IsErrOf result FlushError.Memory ⊎ ReportsRoomToRewrite S.scheme node.now self.old self.new result }
-        // The error is Device exactly where the disk that is written has failed. The other disk is untouched, whatever the result.
+        // The error is Device if and only if the disk that is written has counted a failed call. The other disk is untouched, whatever the
+        // result.
         ensures cause { ReportsFault FlushError.Device (D.device.faults (spare_disk (journal_of self.old))) (D.device.faults (rewritten_disk result (journal_of self.new))) result }
         ensures untouched { untouched_disk result (journal_of self.new) ≡ disk_of (journal_of self.old) }
 
-        // A stop at any moment may leave the spare area half written. With that area the journal has what was settled, or all that the
-        // checkpoint took.
+        // A stop at any moment may leave the spare area half written. Both areas together then have what was settled before, or all that
+        // the checkpoint took.
         ensures any_moment { IsErrOf result FlushError.Down ⊎ AtEachMoment D.device (spare_disk (journal_of self.old)) (rewritten_disk result (journal_of self.new)) (λ left. HoldsEither S.scheme node.now (settled_in self.old) (taken_in self.new) (areas_of D.device (journal_of self.old)) (areas_with D.device (journal_of self.old) left)) }
-        // If the journal had, from some state on, what was settled before the call, then it has from the same state on what is settled now.
+        // If from some state on the journal had what was settled before the call, then from the same state on it has what is settled now.
         ensures earlier { OnOk result (KeepsEarlier S.scheme node.now (settled_in self.old) (settled_in self.new) (areas_of D.device (journal_of self.old)) (areas_of D.device (journal_of self.new))) }
     {
         if self.down {
@@ -73,7 +75,7 @@ impl<D: Disk> Flusher<D> {
         Ok(generation)
     }
 
-    // Rewrites the journal to the checkpoint that was taken, and settles it. If that fails, the node goes down, which the seat then knows.
+    // Rewrites the journal to the checkpoint that was taken, and settles it. If that fails the node goes down, which the seat then knows.
     fn rewrite<'a, S: Sign, R: Wait>(
         &mut self,
         rt: &R,

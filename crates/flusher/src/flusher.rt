@@ -1,4 +1,4 @@
-//! The flusher.
+//! The flusher, which writes groups of accepted events to the disk and settles them.
 
 ghost use Rattle.std.specs.Prelude.{◌≡◌, ◌⊎◌, ◌↔◌, ◌+◌, ◌<◌, true, false, length, IfOk, IfErr, IfSome, IsErrOf, IsNone, IsTrue, OnOk, OnErr};
 ghost use Rattle.diskmodel.specs.Disk.{AtEachMoment, ReportsFault};
@@ -21,11 +21,11 @@ use node_shared::{FlushSeat, Node, Seat};
 use sigface::Sign;
 use std::sync::Wait;
 
-/// The journal on a node's disks, and the seat with which groups are taken for it and settled.
+/// The journal on a node's disks, and the seat by which the flusher takes events for it and settles them.
 pub struct Flusher<D: Disk> {
     pub(crate) journal: Journal<D>,
     pub(crate) seat: FlushSeat,
-    // Whether a round or a checkpoint took the node down.
+    // Whether the node is down since a round or a checkpoint of this flusher failed.
     pub(crate) down: bool,
 }
 
@@ -40,7 +40,7 @@ impl<D: Disk + Drop> Drop for Flusher<D> {
 }
 
 impl<D: Disk> Flusher<D> {
-    /// A flusher from the node's flush seat and a live journal, which has the records with which the node began.
+    /// A flusher made of the node's flush seat and of a journal that can be appended to and has the state with which the node began.
     pub fn new(journal: Journal<D>, seat: FlushSeat) -> Flusher<D>
         ensures journal { journal_of result ≡ journal }
         ensures seat { seat_of result ≡ seat }
@@ -53,7 +53,7 @@ impl<D: Disk> Flusher<D> {
         }
     }
 
-    /// Gives the journal back.
+    /// Ends the flusher, and returns its journal.
     pub fn into_journal(self) -> Journal<D>
         ensures { result ≡ journal_of self }
     {
@@ -65,7 +65,7 @@ impl<D: Disk> Flusher<D> {
         journal
     }
 
-    /// The length of the area of the journal that is read, in bytes. None where a round or a checkpoint took the node down.
+    /// The length of the journal's area that is read, in bytes. None if the node is down since a round or a checkpoint failed.
     pub fn len<'a, S: Sign>(&self, node: &Node<'a, S>) -> Option<u64>
         requires flusher { IsFlusherOf S.scheme D.device node.now self.now }
         ensures down { IsNone result ↔ IsTrue (is_down self.now) }
@@ -77,10 +77,10 @@ impl<D: Disk> Flusher<D> {
         }
     }
 
-    /// Takes a group of what the node accepted, appends it to the journal and settles it. The lock is held for the take and for the settle
-    /// only, not while the disk is written. What the seat had seen is among what can be taken. After the round the seat knows what is
-    /// settled, and that the node is down if the round took it down. Gives the number of the group's records; 0 where all were settled
-    /// already.
+    /// Makes one round: takes a group of accepted events, appends it to the journal, and settles it. The lock is held for the take and for
+    /// the settle only, not while the disk is written. All events that the seat had seen are among those that can be taken. After the round
+    /// the seat knows what is settled, and, if the round took the node down, that too. Returns the number of the group's records, which is
+    /// 0 if all were settled already.
     ///
     /// # Errors
     /// Each of `FlushError`, as described there.
@@ -99,16 +99,17 @@ impl<D: Disk> Flusher<D> {
         ensures settles { TakesAndSettles seat.old seat.new self.old self.new result }
         ensures room { ReportsRoom D.device self.old self.new result }
         ensures cause { ReportsFault FlushError.Device (D.device.faults (disk_of (journal_of self.old))) (D.device.faults (disk_of (journal_of self.new))) result }
-        // A round with nothing to take leaves the journal unchanged.
+        // A round that has nothing to take leaves the journal unchanged.
         ensures nothing { IfOk result (λ count. count ≡ 0 → journal_of self.new ≡ journal_of self.old) }
-        // Else it adds one group to the area that is read: the records of what it settled.
+        // Otherwise it adds one group to the area that is read: the records of what it settled.
         ensures adds { IfOk result (λ count. 0 < count → AddsSettled D.device self.old self.new) }
         // The spare disk, if there is one, is untouched.
         ensures spare { spare_of (journal_of self.new) ≡ spare_of (journal_of self.old) }
 
-        // What a stop at any moment leaves has what was settled, with or without the group. Once the group is settled, it always has it.
+        // What a stop at any moment leaves has what was settled before, with the group or without it; once the group is settled, always
+        // with it.
         ensures any_moment { IsErrOf result FlushError.Down ⊎ AtEachMoment D.device (disk_of (journal_of self.old)) (disk_of (journal_of self.new)) (λ left. HoldsEither S.scheme node.now (settled_in self.old) (taken_in self.new) (areas_of D.device (journal_of self.old)) (areas_at D.device (journal_of self.old) left)) }
-        // If the journal had, from some state on, what was settled before the call, then it has from the same state on what is settled now.
+        // If from some state on the journal had what was settled before the call, then from the same state on it has what is settled now.
         ensures earlier { OnOk result (KeepsEarlier S.scheme node.now (settled_in self.old) (settled_in self.new) (areas_of D.device (journal_of self.old)) (areas_of D.device (journal_of self.new))) }
     {
         if self.down {
@@ -126,7 +127,7 @@ impl<D: Disk> Flusher<D> {
         Ok(count)
     }
 
-    /// After this call the flusher's own seat knows as settled all that the given seat knows as settled. Nothing is written.
+    /// Lets the flusher's own seat know as settled all that the given seat knows as settled. Nothing is written.
     pub fn cover<'a, S: Sign, R: Wait>(&mut self, rt: &R, node: &Node<'a, S>, seat: &mut Seat)
         requires flusher { IsFlusherOf S.scheme D.device node.now self.old }
         requires of { IsOf node.now seat.old }
@@ -138,7 +139,7 @@ impl<D: Disk> Flusher<D> {
         node.cover(rt, &mut self.seat, seat);
     }
 
-    // Appends the group that was taken to the journal, and settles it. If that fails, the node goes down, which the seat then knows.
+    // Appends the group that was taken to the journal, and settles it. If that fails the node goes down, which the seat then knows.
     fn add<'a, S: Sign, R: Wait>(
         &mut self,
         rt: &R,

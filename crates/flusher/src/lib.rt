@@ -1,4 +1,4 @@
-//! The flusher, which writes what a node accepted to its disk while other threads use the node.
+//! The flusher, which writes what a node has accepted to its disk while other threads use the node.
 #![tactic(auto)]
 
 mod checkpointing;

@@ -1,4 +1,4 @@
-//! Why a play ends early.
+//! Why the example of a committee in one process ends early.
 
 use cluster::ClusterError;
 use std::alloc::{AllocError, AllocFailed};
@@ -6,19 +6,19 @@ use std::io;
 use thiserror::Error;
 use wire::WireError;
 
-/// Why a play ended early.
+/// Why the play ended early.
 #[derive(Clone, Copy, Debug, Error)]
 pub enum Ending {
     /// An allocation failed.
     #[error("memory was refused")]
     Memory,
-    /// A line couldn't be written.
+    /// A line couldn't be written to standard output.
     #[error("the output can't be written")]
     Output,
-    /// A move failed.
+    /// A move of the cluster failed.
     #[error("a move failed")]
     Move,
-    /// A call gave an answer that can't occur here.
+    /// A call gave an answer that the play can't get.
     #[error("this should not come")]
     Unexpected,
 }

@@ -1,4 +1,4 @@
-//! A committee of four in one process: it plays some waves, during which one member stops, and shows the order of each member.
+//! An example: a committee of four in one process plays some waves, during which one member stops. It shows the order of each member.
 #![tactic(auto)]
 
 mod ending;
@@ -12,7 +12,7 @@ use sim_members::Settings;
 use sim_script::{BATCHES, DEPTH};
 use std::process::ExitCode;
 
-/// The number of waves that are played.
+/// How many waves are played.
 const WAVES: u64 = 3;
 
 /// The round in which the last member stops.
@@ -29,7 +29,7 @@ fn main(rt: HostRuntime) -> ExitCode {
     }
 }
 
-/// Plays all waves, and gives whether the orders agree after them.
+/// Plays all waves. Returns whether the members' orders agree afterwards.
 fn run<R: AllocGlobal + Print>(rt: &R) -> Result<bool, Ending> {
     let settings = Settings::new(rt.alloc(), DEPTH, BATCHES)?;
     let mut play = Play::new(rt.alloc(), &settings)?;
@@ -38,7 +38,7 @@ fn run<R: AllocGlobal + Print>(rt: &R) -> Result<bool, Ending> {
     report_end(rt, &play)
 }
 
-/// Plays the rounds of all waves, and the one that shows the last wave's coin.
+/// Plays the rounds of all waves, and the round after them, in which the last wave's coin is shown.
 fn play_all(rt: &impl Print, play: &mut Play<'_>) -> Result<(), Ending> {
     for round in 1..=2 * WAVES + 1 {
         play_round(rt, play, round)?;
@@ -49,7 +49,7 @@ fn play_all(rt: &impl Print, play: &mut Play<'_>) -> Result<(), Ending> {
     Ok(())
 }
 
-/// Each member proposes, and all outputs reach all other members.
+/// Plays a round: each member proposes a header, and all outputs reach all other members.
 fn play_round(rt: &impl Print, play: &mut Play<'_>, round: u64) -> Result<(), Ending> {
     play.propose()?;
     if round == STOPPING {
@@ -61,7 +61,7 @@ fn play_round(rt: &impl Print, play: &mut Play<'_>, round: u64) -> Result<(), En
     report_growth(rt, play)
 }
 
-/// The coin of a wave is given to each member.
+/// Gives the coin of a wave to each member.
 fn play_coin(rt: &impl Print, play: &mut Play<'_>, wave: u64) -> Result<(), Ending> {
     let taken = play.toss(wave)?;
     report_coin(rt, wave, taken)?;

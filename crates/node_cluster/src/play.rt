@@ -1,4 +1,4 @@
-//! The members, and the steps of a play.
+//! The members of the committee, and the steps of a play.
 
 ghost use Rattle.std.specs.Prelude.{◌≡◌, [], All, IfOk};
 
@@ -10,15 +10,15 @@ use sim_members::{MEMBERS, Settings};
 use std::alloc::{AllocError, Global};
 use wire::{Author, Coin, Digest, HeaderBody, Message, Wave};
 
-/// The member whose certificates are shown.
+/// The member of whose round the certificates are shown: those that its next header names.
 const FIRST: Author = Author(0);
 
-/// The member that stops.
+/// The member that stops during the play.
 pub const LAST: Author = Author(MEMBERS - 1);
 
 type Nodes<'a> = Cluster<'a, HashSign, MemDisk, HashVerify>;
 
-/// A certificate that a header named.
+/// A certificate that some header named as a parent.
 #[derive(Clone, Copy)]
 pub struct Named {
     pub round: u64,
@@ -26,17 +26,17 @@ pub struct Named {
     pub digest: Digest,
 }
 
-/// How far the outputs and the order of a member were handled.
+/// How far the outputs and the order of a member have been handled.
 #[derive(Clone, Copy)]
 struct Followed {
     node: Author,
-    /// How many of the member's outputs were delivered.
+    /// How many of the member's outputs have been delivered to the others.
     outputs: u64,
-    /// How many certificates of the member's order were shown.
+    /// How many certificates of the member's order have been shown.
     order: usize,
 }
 
-/// A committee of which each member is a node in this process.
+/// A committee, each of whose members is a node in this process.
 pub struct Play<'a> {
     nodes: Nodes<'a>,
     followed: Vec<Followed>,
@@ -54,7 +54,7 @@ impl<'a> Drop for Play<'a> {
 }
 
 impl<'a> Play<'a> {
-    /// Opens a node for each member.
+    /// Opens a node for each member, on an empty disk.
     pub fn new(alloc: Global, settings: &'a Settings) -> Result<Play<'a>, Ending> {
         let (configs, disks) = (settings.all(), empty_disks(alloc)?);
         if disks.len() != configs.len() {
@@ -67,7 +67,7 @@ impl<'a> Play<'a> {
         })
     }
 
-    /// Each member proposes its header and takes it in, and writes it.
+    /// Lets each member propose a header, take it, and write it to its disk.
     pub fn propose(&mut self) -> Result<(), Ending> {
         for node in 0..MEMBERS {
             propose(&mut self.nodes, Author(node))?;
@@ -75,7 +75,7 @@ impl<'a> Play<'a> {
         Ok(())
     }
 
-    /// Delivers outputs to all other members, and lets all members write, until no new output is put out.
+    /// Delivers outputs to all other members and lets all members write, again and again until no new output is put out.
     pub fn deliver(&mut self) -> Result<(), Ending> {
         for _ in 0..u64::MAX {
             if !self.sweep()? {
@@ -85,7 +85,7 @@ impl<'a> Play<'a> {
         Ok(())
     }
 
-    // Delivers the outputs so far, and lets all members write. Gives whether there was any.
+    // Delivers the outputs that there are, and lets all members write. Returns whether there was any output.
     fn sweep(&mut self) -> Result<bool, Ending> {
         let mut any = false;
         for followed in self.followed.iter_mut() {
@@ -95,8 +95,8 @@ impl<'a> Play<'a> {
         Ok(any)
     }
 
-    /// Delivers new outputs to the last member only, and stops it before it writes them. Gives how many events it lost, and on how many it
-    /// was opened again.
+    /// Delivers new outputs to the last member alone, and stops it before it has written them. Returns how many events it lost, and how
+    /// many it found again when it was opened.
     pub fn stop_last(&mut self) -> Result<(u64, u64), Ending> {
         let mut lost: u64 = 0;
         for followed in &self.followed {
@@ -108,7 +108,7 @@ impl<'a> Play<'a> {
         }
     }
 
-    /// Gives the coin of a wave to each member, and counts how many accepted it.
+    /// Gives the coin of a wave to each member. Returns how many accepted it.
     pub fn toss(&mut self, wave: u64) -> Result<u64, Ending> {
         let coin = Coin {
             wave: Wave::new(wave)?,
@@ -124,24 +124,24 @@ impl<'a> Play<'a> {
         Ok(taken)
     }
 
-    /// The certificates of a round that the first member's next header names.
+    /// The certificates of this round that the first member's next header names.
     pub fn certified(&mut self, round: u64) -> Result<&[Named], Ending> {
         let from = self.named.len();
         name_certified(&self.nodes, &mut self.named, round)?;
         Ok(self.named.get(from..).unwrap_or(&[]))
     }
 
-    /// The certificate with this digest, if a header was seen to name it.
+    /// The certificate with this digest, if a header has been seen that names it.
     pub fn name(&self, digest: &Digest) -> Option<&Named> {
         self.named.iter().find(|named| named.digest == *digest)
     }
 
-    /// The order that a member gave out.
+    /// The order that a member has given out.
     pub fn order(&self, node: Author) -> &[Digest] {
         self.nodes.given_order(node).unwrap_or(&[])
     }
 
-    /// What a member's order has grown by since the last call.
+    /// What has been added to a member's order since the last call for this member.
     pub fn growth(&mut self, node: Author) -> &[Digest] {
         let order = self.nodes.given_order(node).unwrap_or(&[]);
         let mut from = 0;
@@ -164,7 +164,7 @@ fn empty_disks(alloc: Global) -> Result<Vec<MemDisk>, AllocError>
     Ok(disks)
 }
 
-// Adds the certificates of a round that the first member's next header names.
+// Adds the certificates of this round that the first member's next header names.
 fn name_certified(nodes: &Nodes<'_>, named: &mut Vec<Named>, round: u64) -> Result<(), Ending> {
     match nodes.propose(FIRST)? {
         Some(header) => name_parents(named, round, &header.body),
@@ -186,7 +186,7 @@ fn name_parents(named: &mut Vec<Named>, round: u64, body: &HeaderBody) -> Result
     Ok(())
 }
 
-// All members, with nothing delivered or shown yet.
+// The state of all members before anything was delivered or shown.
 fn all_followed(alloc: Global) -> Result<Vec<Followed>, AllocError> {
     let mut followed = Vec::new(alloc);
     for node in 0..MEMBERS {
@@ -219,7 +219,7 @@ fn flush(nodes: &mut Nodes<'_>) -> Result<(), Ending> {
     Ok(())
 }
 
-// Delivers the new outputs of a member. Gives whether there was any.
+// Delivers the new outputs of a member to all others. Returns whether there was any.
 fn deliver_from(nodes: &mut Nodes<'_>, followed: &mut Followed) -> Result<bool, Ending> {
     let end = nodes.outputs(followed.node).unwrap_or(0);
     for to in 0..MEMBERS {
@@ -230,7 +230,7 @@ fn deliver_from(nodes: &mut Nodes<'_>, followed: &mut Followed) -> Result<bool, 
     Ok(any)
 }
 
-// Delivers the new outputs of a member to another one. Gives how many of the messages were new there.
+// Delivers the new outputs of one member to another. Returns how many of the messages were new there.
 fn deliver_to(nodes: &mut Nodes<'_>, from: Followed, to: Author) -> Result<u64, Ending> {
     let mut new: u64 = 0;
     if from.node == to {
@@ -244,7 +244,7 @@ fn deliver_to(nodes: &mut Nodes<'_>, from: Followed, to: Author) -> Result<u64, 
     Ok(new)
 }
 
-// Delivers an output; a piece of the order is for no member. Gives whether the message was new.
+// Delivers one output. A piece of the order is for no member. Returns whether the message was new.
 fn deliver(nodes: &mut Nodes<'_>, node: Author, output: u64, to: Author) -> Result<bool, Ending> {
     match nodes.apply(Move::Deliver { node, output, to }) {
         Ok(applied) => Ok(is_new(applied)),

@@ -1,11 +1,11 @@
-//! What is printed, line by line.
+//! Prints what the example shows, line by line.
 
 use crate::ending::Ending;
 use crate::play::{LAST, Named, Play};
 use sim_members::MEMBERS;
 use wire::{Author, Digest};
 
-/// Prints the certificates of a round, each after its author.
+/// Prints the certificates of a round, each with its author.
 pub fn report_round(rt: &impl Print, play: &mut Play<'_>, round: u64) -> Result<(), Ending> {
     print!(rt; "round {round}, certified:")?;
     for named in play.certified(round)? {
@@ -21,7 +21,7 @@ fn report_named(rt: &impl Print, named: &Named) -> Result<(), Ending> {
     Ok(())
 }
 
-/// Prints a line for a stop.
+/// Prints that the last member stopped, how many events it lost, and how many it found again.
 pub fn report_stop(rt: &impl Print, lost: u64, found: u64) -> Result<(), Ending> {
     let last = LAST.0;
     println!(rt;
@@ -30,13 +30,13 @@ pub fn report_stop(rt: &impl Print, lost: u64, found: u64) -> Result<(), Ending>
     Ok(())
 }
 
-/// Prints a coin, and how many members accepted it.
+/// Prints the value of a coin, and how many members accepted it.
 pub fn report_coin(rt: &impl Print, wave: u64, taken: u64) -> Result<(), Ending> {
     println!(rt; "the coin of wave {wave} is {wave}, and {taken} members take it")?;
     Ok(())
 }
 
-/// Prints what each member's order has grown by.
+/// Prints what has been added to each member's order.
 pub fn report_growth(rt: &impl Print, play: &mut Play<'_>) -> Result<(), Ending> {
     for node in 0..MEMBERS {
         report_grown(rt, node, play.growth(Author(node)))?;
@@ -56,7 +56,7 @@ fn report_grown(rt: &impl Print, node: u16, grown: &[Digest]) -> Result<(), Endi
     Ok(())
 }
 
-/// Prints each member's order, and whether they are equal. Gives whether the play succeeded: something was ordered, and of any two orders
+/// Prints each member's order, and whether all are equal. Returns whether the play succeeded: something was ordered, and of any two orders
 /// one is a prefix of the other.
 pub fn report_end(rt: &impl Print, play: &Play<'_>) -> Result<bool, Ending> {
     for node in 0..MEMBERS {
@@ -98,7 +98,7 @@ fn report_digest(rt: &impl Print, play: &Play<'_>, digest: &Digest) -> Result<()
     Ok(())
 }
 
-// The first bytes of a digest.
+// The first four bytes of a digest, as a number.
 fn short(digest: &Digest) -> u32 {
     let [first, second, third, fourth, ..] = digest.0;
     u32::from_be_bytes([first, second, third, fourth])

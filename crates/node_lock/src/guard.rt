@@ -1,4 +1,4 @@
-//! The lock.
+//! A lock around a value, for many threads.
 
 ghost use Rattle.std.specs.Prelude.{◌≡◌, [], IfOk, IsTrue, IsFalse};
 ghost use Rattle.node_lock.specs.Home.{Holds, Takes};
@@ -11,7 +11,7 @@ use std::hint;
 use std::marker::{Brand, Model};
 use std::sync::Wait;
 
-// The places of the lock's one word, and of its one slot.
+// The places of the lock's only word, and of its only slot, which holds the value.
 const WORD: usize = 0;
 
 const SLOT: usize = 0;
@@ -20,11 +20,11 @@ const FREE: u64 = 0;
 
 const TAKEN: u64 = 1;
 
-// Some thread has the value, and another may be sleeping until it is back.
+// A value of the word: some thread has the lock's value, and another thread may be sleeping until it is back.
 const WANTED: u64 = 2;
 
-// How often a thread tries for the value before it sleeps, with twice as many pauses before each next try: some tens of microseconds in
-// all, which is what a sleep and the wake-up cost.
+// How often a thread tries to get the value before it sleeps. It pauses twice as long before each next try. All tries together take some
+// tens of microseconds, which is what a sleep and the wake-up cost.
 const TRIES: u32 = 10;
 
 fn pause(times: u32) {
@@ -33,7 +33,7 @@ fn pause(times: u32) {
     }
 }
 
-/// A lock around a value. Contracts see which lock it is, and its key.
+/// A lock around a value. Contracts see which lock it is, and the key with which it was made.
 pub struct Lock<T, K, F: Fits<T, K>> {
     table: Table<Option<T>, (), K, Home<F>, Global>,
 }
@@ -83,7 +83,7 @@ impl<T, K, F: Fits<T, K>> Lock<T, K, F> {
             return self.open(seat);
         }
         for _ in rt.forever() {
-            // The word stays `WANTED` while this thread has the value, since others may still sleep.
+            // The word stays `WANTED` while this thread has the value, since other threads may still sleep.
             if self.take_wanted::<Brand>(&mut seat) == FREE {
                 return self.open(seat);
             }
@@ -92,14 +92,14 @@ impl<T, K, F: Fits<T, K>> Lock<T, K, F> {
         unreachable!()
     }
 
-    /// Gives the value back.
+    /// Gives the value back to the lock.
     pub fn release(&self, turn: Turn<T>, value: T)
         requires of { turn ≡ self.now.id }
         requires fits { F.fits self.now.key value }
     {
         let Turn { mut seat } = turn;
         let shared = &self.table.shared;
-        // The value is put back before the word says so.
+        // The value has to be back before the word says so.
         let emptied = shared.exchange(&mut seat, SLOT, Some(value));
         let None = emptied else { unreachable!() };
         let found = shared.swap::<Give>(&mut seat, WORD, FREE);
@@ -108,9 +108,9 @@ impl<T, K, F: Fits<T, K>> Lock<T, K, F> {
         }
     }
 
-    // Tries for a while, less and less often: the thread that has the value mostly takes it again soon, and has it in its cache. Each try
-    // looks at the word first, since a try takes the word's cache line away from the thread that will release. Gives whether the value was
-    // taken.
+    // Tries for a while, less and less often, to get the value: the thread that has it mostly wants it again soon, and has it in its cache.
+    // Each try looks at the word first, since a try takes the word's cache line away from the thread that will give the value back. Returns
+    // whether this thread has got the value.
     fn take_soon(&self, seat: &mut Seat<Option<T>, ()>) -> bool
         requires of { seat.old.table_id ≡ self.now.id }
         requires empty { seat.old.me.1 ≡ [] }
@@ -127,7 +127,7 @@ impl<T, K, F: Fits<T, K>> Lock<T, K, F> {
         false
     }
 
-    // This and the next method give the word as it was before.
+    // This method and the next one return the word as it was before.
     fn take_free<W: Known<T>>(&self, seat: &mut Seat<Option<T>, ()>) -> u64
         requires of { seat.old.table_id ≡ self.now.id }
         requires empty { seat.old.me.1 ≡ [] }
@@ -150,7 +150,7 @@ impl<T, K, F: Fits<T, K>> Lock<T, K, F> {
         self.table.shared.swap::<Take<W>>(seat, WORD, WANTED)
     }
 
-    // Moves the value out of the slot, which the seat has taken.
+    // Moves the value out of the slot, once this thread has the right to it.
     fn open(&self, mut seat: Seat<Option<T>, ()>) -> (Turn<T>, T)
         requires of { seat.table_id ≡ self.now.id }
         requires held { Holds (F.fits self.now.key) seat.me }

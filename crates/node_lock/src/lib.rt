@@ -1,4 +1,4 @@
-//! A lock for many threads. Its value fits the key with which the lock was made.
+//! A lock for many threads. A contract ties the value in it to the key with which the lock was made.
 #![tactic(auto)]
 
 mod guard;

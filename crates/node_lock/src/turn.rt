@@ -1,9 +1,10 @@
-//! What a thread has as long as it has the value.
+//! What a thread has to keep as long as it has the value of a lock.
 
 use atomic_table::Seat;
 use std::marker::Model;
 
-/// The duty to give a value back to its lock. It takes no bytes, and can't be dropped. Contracts see which lock it is.
+/// The duty to give a value back to its lock. It takes no memory, and has no `Drop`, so that it can't be forgotten. Contracts see which
+/// lock it is.
 pub struct Turn<T> {
     pub(crate) seat: Seat<Option<T>, ()>,
 }

@@ -8,11 +8,11 @@ use Rattle.node_seats.specs.Sights.{SeatView}
 use Rattle.node_seats.specs.declared.view.Marked.{Marked}
 use Rattle.node_seats.specs.declared.view.View.{View}
 
--- an event that the seat of this number brought
+-- an event together with the number of the seat that brought it
 abbrev pub mark : ℕ → Event → Marked
 mark number event = record { by = number; event = event }
 
--- the events, oldest first
+-- these events without the numbers of their seats, oldest first
 abbrev pub events : List Marked → History
 events marked = map (λ one. one.event) marked
 
@@ -20,11 +20,11 @@ events marked = map (λ one. one.event) marked
 abbrev pub events_by : ℕ → List Marked → History
 events_by number marked = map (λ one. one.event) (filter (λ one. one.by == number) marked)
 
--- a seat's own events are those that it has seen with its number
+-- a seat's own events are just those that it has seen and that have its number
 abbrev pub HasOwn : View → Type 0
 HasOwn view = events_by view.number view.seen ≡ view.mine
 
--- the word that says whether the node is down
+-- the word that says whether the node is down: 1 if it is, and otherwise 0
 abbrev pub flag : Bool → ℕ
 flag down = if down then 1 else 0
 
@@ -43,7 +43,7 @@ first_view = record {
   heard_durable = [];
 }
 
--- a seat made from this one: it knows what this one does, has brought no event, can't take the node down, and has no number yet
+-- a new seat made from this one: it knows what this one does, has brought no event, may not take the node down, and has no number yet
 abbrev pub newcomer : View → View
 newcomer view = record {
   live = view.live;
@@ -58,11 +58,11 @@ newcomer view = record {
   heard_durable = [];
 }
 
--- what a seat knows once another one has shared what it knows
+-- what a seat knows after another seat has shared its knowledge with it
 abbrev pub informed : View → View → View
 informed view other = record view { down = view.down || other.down; heard = other.seen; heard_durable = other.durable }
 
--- a seat that was merged into another one
+-- what is left of a seat that was merged into another one
 abbrev pub spent : View
 spent = record {
   live = false;
@@ -77,14 +77,14 @@ spent = record {
   heard_durable = [];
 }
 
--- any event, as a default value
+-- some event, which is used where any will do
 abbrev pub no_event : Event
 no_event = record { sender = record { 0 = 0 }; message = message.Coin (record { wave = 0; value = 0 }) }
 
--- ---- what a step leaves of a seat
+-- ---- what every step leaves of a seat
 
--- The seat is the same one, at the same words, with the same own events. If it knew that the node is down it still does, and it has kept
--- its right to take the node down, or has none as before.
+-- The seat is the same: it belongs to the same words and has the same own events. If it knew that the node is down it still does. It has
+-- kept its right to take the node down, or had none and has none.
 pub record IsSame (before later : SeatView) : Type 0 where
   pub table : later.table ≡ before.table
   pub id : later.id ≡ before.id

@@ -1,5 +1,6 @@
-//! What each thread at a node knows of the events that are accepted and settled, and of whether the node is down. There are words that
-//! count this, and a seat for each thread; a rule ties the words to lists of events, and these to what the seats know.
+//! What each thread at a node knows of the accepted and settled events, and of whether the node is down. Three shared words count these,
+//! and each thread has a seat, its knowledge. A rule ties the words to lists of events that are in no memory, and these lists to what the
+//! seats know.
 #![tactic(auto)]
 
 mod plays;

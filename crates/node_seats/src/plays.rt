@@ -1,24 +1,24 @@
-//! The kinds of step on the words, and what the seat that makes a step knows after it.
+//! The kinds of step on the words, and what the seat that makes the step knows afterwards.
 
 use crate::view::View;
 use atomic_table::{Join, Play, Split};
 use std::marker::{Brand, PhantomData};
 
-/// The event that a step accepts. Each call of `Words::accept` chooses it.
+/// The event that a step accepts. The proof of each call of `Words::accept` chooses it.
 pub trait Call {
     ghost use Rattle.spec_model.specs.Words.{Event};
 
     ghost event: { Event };
 }
 
-/// What is known of each legal list of events. Each call that looks or reads chooses it.
+/// A property of legal lists of events. The proof of each call that looks or reads chooses it, and learns that what the seat sees has it.
 pub trait Judge {
     ghost use Rattle.spec_model.specs.Histories.{History};
 
     ghost judged: { History → Type 0 };
 }
 
-/// A seat learns its number.
+/// The step by which a seat learns its number.
 pub struct Numbers;
 
 impl Play<(), View> for Numbers {
@@ -28,7 +28,7 @@ impl Play<(), View> for Numbers {
     ghost then = { λ step before found later. (later ≡ (record before.0 { numbered = true; number = later.0.number }, before.1)) × HasOwn later.0 };
 }
 
-/// A seat sees all accepted events.
+/// The step by which a seat sees all accepted events.
 pub struct Looked<J> {
     judge: PhantomData<J>,
 }
@@ -40,7 +40,7 @@ impl<J: Judge> Play<(), View> for Looked<J> {
     ghost then = { λ step before found later. Looks J.judged before.0 found later.0 × (later.1 ≡ before.1) };
 }
 
-/// A seat knows all settled events.
+/// The step by which a seat learns which events are settled.
 pub struct Read<J> {
     judge: PhantomData<J>,
 }
@@ -52,7 +52,7 @@ impl<J: Judge> Play<(), View> for Read<J> {
     ghost then = { λ step before found later. Reads J.judged before.0 found later.0 × (later.1 ≡ before.1) };
 }
 
-/// A seat learns whether the node is down.
+/// The step by which a seat learns whether the node is down.
 pub struct DownRead;
 
 impl Play<(), View> for DownRead {
@@ -62,7 +62,7 @@ impl Play<(), View> for DownRead {
     ghost then = { λ step before found later. ReadsDown before.0 found later.0 × (later.1 ≡ before.1) };
 }
 
-/// The node goes down.
+/// The step that takes the node down.
 pub struct Downed;
 
 impl Play<(), View> for Downed {
@@ -72,7 +72,7 @@ impl Play<(), View> for Downed {
     ghost then = { λ step before found later. later ≡ (with_down before.0, before.1) };
 }
 
-/// An event is accepted, unless another one was that the seat hasn't seen.
+/// The step that accepts an event, unless another event was accepted that the seat hasn't seen.
 pub struct Accepted<C> {
     call: PhantomData<C>,
 }
@@ -84,7 +84,7 @@ impl<C: Call> Play<(), View> for Accepted<C> {
     ghost then = { λ step before found later. Accepts step.first C.event before.0 found later.0 × (later.1 ≡ before.1) };
 }
 
-/// Events are settled.
+/// The step that settles events.
 pub struct Settled;
 
 impl Play<(), View> for Settled {
@@ -94,7 +94,7 @@ impl Play<(), View> for Settled {
     ghost then = { λ step before found later. Settles step.first step.second before.0 found later.0 × (later.1 ≡ before.1) };
 }
 
-/// One seat shares what it knows with another: a new seat is split from it and then merged into the other.
+/// How one seat shares its knowledge with another: a new seat is split off from the first, and then merged into the other.
 pub struct Informs;
 
 impl Split<View> for Informs {
@@ -123,7 +123,7 @@ impl Judge for Brand {
     ghost judged = { λ events. Unit {0} };
 }
 
-/// Nothing is asked of the events.
+/// The property that every list of events has, for calls that need none.
 pub struct Anything;
 
 impl Judge for Anything {

@@ -1,9 +1,10 @@
-//! The seat.
+//! Seats, the knowledge of threads.
 
 use crate::view::View;
 use std::marker::Model;
 
-/// What a thread makes steps with: the identity of the words, its number there, and what it knows. It takes no bytes.
+/// The knowledge of one thread, with which it makes steps on the words: which words they are, its number there, and what it knows. It takes
+/// no memory.
 pub struct Seat {
     pub(crate) place: atomic_table::Seat<(), View>,
 }

@@ -1,4 +1,4 @@
-//! How two seats come to know the same.
+//! How a seat comes to know what another seat knows, and how an event gets accepted or settled while other threads do the same.
 
 ghost use Rattle.std.specs.Prelude.{◌≡◌, ◌≤◌, ◌<◌, ◌+◌, ◌^◌, ◌||◌, ◌++◌, ◌∷◌, [], true, length, take};
 ghost use Rattle.spec_model.specs.Histories.{History};
@@ -12,7 +12,7 @@ use crate::words::Words;
 use std::sync::Wait;
 
 impl<K, L: Law<K>> Words<K, L> {
-    /// Looks until the seat has seen exactly what another seat has seen, which is `count` events.
+    /// Looks until the seat has seen exactly the `count` events that another seat has seen.
     pub fn catch_up<J: Judge, R: Wait>(&self, rt: &R, seat: &mut Seat, other: &mut Seat, count: u64)
         requires seat { (seat.old.table ≡ self.now.table) × (seat.old.view.live ≡ true) }
         requires other { (other.old.table ≡ self.now.table) × (other.old.view.live ≡ true) }
@@ -36,7 +36,7 @@ impl<K, L: Law<K>> Words<K, L> {
         unreachable!()
     }
 
-    /// Reads until the seat knows exactly the same events as settled as another seat, which is `count` events.
+    /// Reads until the seat knows as settled exactly the `count` events that another seat knows as settled.
     pub fn catch_up_durable<J: Judge, R: Wait>(
         &self,
         rt: &R,
@@ -68,7 +68,7 @@ impl<K, L: Law<K>> Words<K, L> {
         unreachable!()
     }
 
-    /// Reads until the seat knows all settled events, of which there are `count`. What another seat knows as settled is then among them.
+    /// Reads until the seat knows all settled events, which are `count`. Those that another seat knows as settled are then among them.
     pub fn cover<R: Wait>(&self, rt: &R, seat: &mut Seat, other: &mut Seat, count: u64)
         requires seat { (seat.old.table ≡ self.now.table) × (seat.old.view.live ≡ true) }
         requires other { (other.old.table ≡ self.now.table) × (other.old.view.live ≡ true) }
@@ -90,7 +90,7 @@ impl<K, L: Law<K>> Words<K, L> {
         unreachable!()
     }
 
-    /// Tries until the event is accepted, right after what the seat has seen by then.
+    /// Tries to accept the event until that succeeds; the event then comes right after all that the seat has seen.
     pub fn raise<C: Call, R: Wait>(&self, rt: &R, seat: &mut Seat, from: u64)
         requires of { seat.old.table ≡ self.now.table }
         requires live { (seat.old.view.live ≡ true) × (seat.old.view.numbered ≡ true) }
@@ -111,7 +111,8 @@ impl<K, L: Law<K>> Words<K, L> {
         unreachable!()
     }
 
-    /// Tries until `to` of the events that the seat has seen are settled, starting from `from`, the number that it knows as settled.
+    /// Tries until the first `to` events that the seat has seen are settled. It starts from `from`, the number that the seat knows as
+    /// settled.
     pub fn raise_durable<R: Wait>(&self, rt: &R, seat: &mut Seat, from: u64, to: u64)
         requires of { seat.old.table ≡ self.now.table }
         requires live { seat.old.view.live ≡ true }
@@ -131,7 +132,8 @@ impl<K, L: Law<K>> Words<K, L> {
         unreachable!()
     }
 
-    /// Two looks. After them the second seat has seen all that the first has. Gives the number of events that the second seat has seen.
+    /// Makes a look with each of two seats. Then the second seat has seen all that the first one has. Returns how many events the second
+    /// has seen.
     pub fn meet<J: Judge>(&self, first: &mut Seat, second: &mut Seat) -> u64
         requires first { (first.old.table ≡ self.now.table) × (first.old.view.live ≡ true) }
         requires second { (second.old.table ≡ self.now.table) × (second.old.view.live ≡ true) }

@@ -1,18 +1,18 @@
-//! What a seat knows.
+//! What a seat knows, as contracts see it.
 
 use header::Checked;
 use std::collections::LinkedList;
 
-/// An accepted event, with the number of the seat that brought it. It exists in contracts only.
+/// An accepted event with the number of the seat that brought it. It exists in contracts alone.
 pub struct Marked {
     pub by: u64,
     pub event: Checked,
 }
 
-/// What a seat knows: which accepted events it has seen, which of these it knows as settled, its own events, and whether the node is down.
-/// It exists in contracts only.
+/// What a seat knows: which accepted events it has seen, which of these are settled, which events are its own, and whether the node is
+/// down. It exists in contracts alone.
 pub struct View {
-    /// False once the seat was merged into another one.
+    /// Whether the seat is still in use. It isn't once it was merged into another one.
     pub live: bool,
     /// Whether the seat knows its number.
     pub numbered: bool,
@@ -22,9 +22,9 @@ pub struct View {
     pub mine: LinkedList<Checked>,
     /// Whether the seat knows that the node is down.
     pub down: bool,
-    /// Whether the seat has the right to take the node down. The first seat has it until it uses it, and until then the node is up.
+    /// Whether the seat has the right to take the node down. The first seat has it until it uses it; until then the node is up.
     pub may_fail: bool,
-    /// What another seat has shared: accepted events, and settled ones.
+    /// The accepted events, and the settled ones, that another seat has shared with this one and that it hasn't looked at yet.
     pub heard: LinkedList<Marked>,
     pub heard_durable: LinkedList<Marked>,
 }

@@ -1,4 +1,4 @@
-//! The words.
+//! The words: the three shared counts of a node.
 
 ghost use Rattle.std.specs.Prelude.{◌≡◌, ◌+◌, ◌≤◌, ◌<◌, ◌^◌, ◌++◌, ◌∷◌, [], true, false, length, IfOk};
 ghost use Rattle.spec_model.specs.Histories.{History};
@@ -16,15 +16,15 @@ use atomic_table::Table;
 use std::alloc::{AllocError, Global};
 use std::marker::Model;
 
-// The places of the words: the number of accepted events, the number of settled ones, and 1 where the node is down, otherwise 0.
+// The places of the three words: the number of accepted events, the number of settled ones, and 1 if the node is down (otherwise 0).
 const ACCEPTED: usize = 0;
 
 const SYNCED: usize = 1;
 
 const DOWN: usize = 2;
 
-/// How many events were accepted since a node began, how many of these are settled, and whether the node is down. Each seat at the words
-/// knows prefixes of the two lists of events, which are in no memory themselves.
+/// Three atomic numbers: how many events were accepted since a node began, how many of these are settled, and whether the node is down.
+/// Each seat knows prefixes of the two lists of events; the lists themselves are in no memory.
 pub struct Words<K, L: Law<K>> {
     table: Table<(), View, K, Kept<L>, Global>,
 }
@@ -47,7 +47,7 @@ impl<K, L: Law<K>> Model for Words<K, L> {
 }
 
 impl<K, L: Law<K>> Words<K, L> {
-    /// The words at 0, and the first seat at them, which alone may take the node down. On `AllocError` an allocation failed.
+    /// The words, all 0, and their first seat, which alone may take the node down. On `AllocError` an allocation failed.
     pub fn new(alloc: Global, about: &K) -> Result<(Words<K, L>, Seat), AllocError>
         requires legal { L.legal about.now [] }
         ensures key { IfOk result (λ made. made.0.key ≡ about.now) }
@@ -58,7 +58,7 @@ impl<K, L: Law<K>> Words<K, L> {
         Ok((Words { table }, Seat { place }))
     }
 
-    /// One more seat, which has seen what this one has and has brought no event.
+    /// A new seat, which has seen what this one has and has brought no event.
     pub fn split(&self, seat: &mut Seat) -> Seat
         requires of { seat.old.table ≡ self.now.table }
         requires live { seat.old.view.live ≡ true }
@@ -72,7 +72,7 @@ impl<K, L: Law<K>> Words<K, L> {
         Seat { place }
     }
 
-    /// Shares what one seat knows with another one, which takes the events in at its next look.
+    /// Shares the knowledge of one seat with another, which takes it in at its next look.
     pub fn inform(&self, from: &mut Seat, to: &mut Seat)
         requires from { (from.old.table ≡ self.now.table) × (from.old.view.live ≡ true) }
         requires to { (to.old.table ≡ self.now.table) × (to.old.view.live ≡ true) }
@@ -83,7 +83,7 @@ impl<K, L: Law<K>> Words<K, L> {
         self.table.shared.join_seat::<Informs>(&mut to.place, place);
     }
 
-    /// The number of accepted events, all of which the seat has then seen.
+    /// Reads the number of accepted events. The seat has then seen all of them.
     pub fn look<J: Judge>(&self, seat: &mut Seat) -> u64
         requires of { seat.old.table ≡ self.now.table }
         requires live { seat.old.view.live ≡ true }
@@ -96,7 +96,7 @@ impl<K, L: Law<K>> Words<K, L> {
             .load::<Looked<J>>(&mut seat.place, ACCEPTED)
     }
 
-    /// The number of settled events, which the seat then knows as settled and has seen.
+    /// Reads the number of settled events. The seat then knows which ones these are, and has seen them.
     pub fn read<J: Judge>(&self, seat: &mut Seat) -> u64
         requires of { seat.old.table ≡ self.now.table }
         requires live { seat.old.view.live ≡ true }
@@ -107,7 +107,7 @@ impl<K, L: Law<K>> Words<K, L> {
         self.table.shared.load::<Read<J>>(&mut seat.place, SYNCED)
     }
 
-    /// Whether the node is down, which the seat then knows. It isn't, as long as the seat has the right to take it down.
+    /// Reads whether the node is down, which the seat then knows. As long as the seat has the right to take the node down, it is up.
     pub fn read_down(&self, seat: &mut Seat) -> bool
         requires of { seat.old.table ≡ self.now.table }
         requires live { seat.old.view.live ≡ true }
@@ -118,7 +118,7 @@ impl<K, L: Law<K>> Words<K, L> {
         self.table.shared.load::<DownRead>(&mut seat.place, DOWN) == 1
     }
 
-    /// Takes the node down, which the seat then knows. This uses up the seat's right to do so.
+    /// Takes the node down, and uses up the seat's right to do so.
     pub fn raise_down(&self, seat: &mut Seat)
         requires of { seat.old.table ≡ self.now.table }
         requires live { seat.old.view.live ≡ true }
@@ -128,8 +128,8 @@ impl<K, L: Law<K>> Words<K, L> {
         self.table.shared.store::<Downed>(&mut seat.place, DOWN, 1);
     }
 
-    /// If exactly `from` events were accepted so far, accepts the call's event after them, and gives `from`. Otherwise gives the number of
-    /// accepted events, which the seat has then seen.
+    /// If the number of accepted events is still `from`, accepts one more, the event of the call, and returns `from`. Otherwise returns the
+    /// number of accepted events, all of which the seat has then seen.
     pub fn accept<C: Call>(&self, seat: &mut Seat, from: u64) -> u64
         requires of { seat.old.table ≡ self.now.table }
         requires live { (seat.old.view.live ≡ true) × (seat.old.view.numbered ≡ true) }
@@ -144,8 +144,8 @@ impl<K, L: Law<K>> Words<K, L> {
             .compare_exchange::<Accepted<C>>(&mut seat.place, ACCEPTED, from, from + 1)
     }
 
-    /// If exactly `from` events are settled so far, settles the next ones up to `to`, and gives `from`. Otherwise gives the number of
-    /// settled events, which the seat then knows as settled.
+    /// If the number of settled events is still `from`, settles the next ones up to `to`, and returns `from`. Otherwise returns the number
+    /// of settled events; the seat then knows which ones these are.
     pub fn settle(&self, seat: &mut Seat, from: u64, to: u64) -> u64
         requires of { seat.old.table ≡ self.now.table }
         requires live { seat.old.view.live ≡ true }

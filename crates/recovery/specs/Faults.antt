@@ -1,4 +1,4 @@
--- Why a script ends, where a journal or a writer fails.
+-- Why a script ends early: a fault of the journal or of the writer.
 use Rattle.journal.specs.declared.error.JournalError.{JournalError}
 use Rattle.journal.specs.declared.error.JournalError.TheVariants as journal
 use Rattle.recovery.specs.declared.driving.DriveError.{DriveError}
@@ -6,7 +6,7 @@ use Rattle.recovery.specs.declared.driving.DriveError.TheVariants.{Memory, Devic
 use Rattle.wire_write.specs.declared.frames.WriteError.{WriteError}
 use Rattle.wire_write.specs.declared.frames.WriteError.TheVariants as writing
 
--- the error of the same name
+-- the error of a script that has the same name as this error of the journal
 abbrev pub ended_by : JournalError → DriveError
 ended_by journal.Memory = Memory
 ended_by journal.Device = Device

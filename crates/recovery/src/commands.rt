@@ -1,4 +1,4 @@
-//! How a desk carries out a command.
+//! Carries out the commands of a script at a desk, a node of one owner.
 
 ghost use Rattle.std.specs.Prelude.{◌≡◌, ◌≢◌, ◌⊎◌, ◌+◌, ◌<◌, ◌≤◌, true, false, IfOk, IfErr, OnOk, OnErr, IsErrOf, IsOk, None};
 ghost use Rattle.diskmodel.specs.Disk.{ReportsFault};
@@ -27,7 +27,7 @@ use std::io::Write;
 use validator::{Config, Refusal};
 use wire_write::write_output;
 
-/// Opens a node on one disk or on two, with a book that has accepted nothing.
+/// Opens a node on one disk or on two. Its book has accepted nothing in this run.
 pub(crate) fn open<'a, S: Sign, D: StopDisk>(
     alloc: Global,
     config: &'a Config<S>,
@@ -48,7 +48,7 @@ pub(crate) fn open<'a, S: Sign, D: StopDisk>(
     }
 }
 
-/// Carries out a command, and then writes the outputs that are due.
+/// Carries out a command, and then writes the outputs that are due (as many records are settled as their tickets say).
 pub(crate) fn carry_out<'a, S: Sign, D: StopDisk, W: Write>(
     desk: Desk<'a, S, D>,
     alloc: Global,
@@ -80,7 +80,7 @@ pub(crate) fn carry_out<'a, S: Sign, D: StopDisk, W: Write>(
     }
 }
 
-// The desk after a command, before any output is written.
+// Carries out a command, before any output is written.
 fn apply<'a, S: Sign, D: StopDisk>(
     desk: Desk<'a, S, D>,
     alloc: Global,
@@ -109,7 +109,7 @@ fn apply<'a, S: Sign, D: StopDisk>(
     }
 }
 
-// The desk after an event came in.
+// Carries out a command that hands in an event.
 fn with_event<'a, S: Sign, D: StopDisk>(
     mut desk: Desk<'a, S, D>,
     event: Checked,
@@ -132,7 +132,7 @@ fn with_event<'a, S: Sign, D: StopDisk>(
     }
 }
 
-// The desk after the next group was written and settled.
+// Carries out a flush: writes the next group and settles it.
 fn flushed<'a, S: Sign, D: StopDisk>(
     mut desk: Desk<'a, S, D>,
 ) -> Result<Desk<'a, S, D>, Failed<DriveError, Store<D>>>
@@ -152,7 +152,7 @@ fn flushed<'a, S: Sign, D: StopDisk>(
     }
 }
 
-// The desk after a checkpoint to the spare disk, which settles all accepted events.
+// Carries out a checkpoint: rewrites the spare disk, which settles all accepted events.
 fn rewritten<'a, S: Sign, D: StopDisk>(
     mut desk: Desk<'a, S, D>,
 ) -> Result<Desk<'a, S, D>, Failed<DriveError, Store<D>>>
@@ -173,7 +173,7 @@ fn rewritten<'a, S: Sign, D: StopDisk>(
     }
 }
 
-// The desk after a stop of its machine, opened again.
+// Carries out a stop: stops the machine and opens the node again.
 fn stopped<'a, S: Sign, D: StopDisk>(
     desk: Desk<'a, S, D>,
     alloc: Global,
@@ -239,7 +239,7 @@ fn checkpoint<S: Sign, D: StopDisk>(desk: &mut Desk<'_, S, D>) -> Result<(), Dri
     unless_failed(desk.checkpoint())
 }
 
-// Writes the outputs that are due and removes them from the queue.
+// Writes the outputs that are due, and removes them from the queue.
 fn write_due<S: Sign, D: StopDisk, W: Write>(
     desk: &mut Desk<'_, S, D>,
     alloc: Global,
@@ -261,7 +261,7 @@ fn write_due<S: Sign, D: StopDisk, W: Write>(
     Ok(())
 }
 
-// Writes the first output, if it is due, and removes it from the queue. Gives whether there was one.
+// Writes the first output of the queue if it is due, and removes it. Returns whether there was such an output.
 fn write_next<S: Sign, D: StopDisk, W: Write>(
     desk: &mut Desk<'_, S, D>,
     alloc: Global,
@@ -283,7 +283,7 @@ fn write_next<S: Sign, D: StopDisk, W: Write>(
     Ok(true)
 }
 
-// Ends with an error, and hands the desk's disks back.
+// The result of a script that ended with this error: the error, and the desk's disks.
 fn fail<'a, S: Sign, D: StopDisk>(
     desk: Desk<'a, S, D>,
     error: DriveError,
@@ -297,7 +297,7 @@ fn fail<'a, S: Sign, D: StopDisk>(
     }
 }
 
-// The only error of an event that ends a script: a failed allocation.
+// Of all answers to an event, the one that ends a script is a failed allocation.
 fn unless_memory(answer: Result<Receipt, Refusal>) -> Result<(), DriveError>
     ensures ok { OnOk result (IsErrOf answer Refusal.Memory → ⊥) }
     ensures err { OnErr result (IsErrOf answer Refusal.Memory) }
@@ -310,7 +310,7 @@ fn unless_memory(answer: Result<Receipt, Refusal>) -> Result<(), DriveError>
     }
 }
 
-// Why a round or a checkpoint fails of a desk that was up.
+// The error that ends a script if a round or a checkpoint failed. The desk was up before.
 fn unless_failed(answer: Result<u64, FlushError>) -> Result<(), DriveError>
     requires { IsErrOf answer FlushError.Down → ⊥ }
     ensures ok { OnOk result (IsOk answer) }
@@ -328,7 +328,7 @@ fn unless_failed(answer: Result<u64, FlushError>) -> Result<(), DriveError>
     }
 }
 
-// A failed opening, with the disks that were to be opened.
+// The result of a script whose node could not be opened: the error, and the disks.
 fn ended<D: Disk>(failed: Failed<JournalError, Store<D>>) -> Failed<DriveError, Store<D>>
     ensures error { result.error ≡ ended_by failed.error }
     ensures disk { result.disk ≡ failed.disk }

@@ -1,4 +1,4 @@
-//! A node with one owner, driven by commands.
+//! Drives a node of one owner by a list of commands.
 
 ghost use Rattle.std.specs.Prelude.{◌≡◌, ◌≢◌, ◌⊎◌, ◌<◌, ◌≤◌, true, false, All, IfOk, IfErr, OnOk, OnErr, vec_len};
 ghost use Rattle.journal.specs.Areas.{alone, pair};
@@ -22,16 +22,16 @@ use thiserror::Error;
 use validator::Config;
 use wire_write::WriteError;
 
-/// A command to a node.
+/// A command that drives a node.
 #[derive(Debug, Drop)]
 pub enum Command {
-    /// An event comes in. It passed the checks of the node's committee.
+    /// An event comes in, which passed the checks of the node's committee.
     Event(Checked),
     /// The longest prefix of the pending records that fits a group is written to the disk and settled.
     Flush,
-    /// All accepted events are settled by a checkpoint on the spare disk of two.
+    /// All accepted events are settled by a checkpoint. The node has to be on two disks.
     Checkpoint,
-    /// The machine stops, and the node is opened again.
+    /// The machine stops, and the node is opened again on what the stop left.
     Stop,
 }
 
@@ -41,16 +41,16 @@ pub enum DriveError {
     /// An allocation failed.
     #[error("1 Memory")]
     Memory,
-    /// The disk failed.
+    /// A call on a disk failed.
     #[error("2 Device")]
     Device,
     /// The journal is damaged at this place, in bytes from the front.
     #[error("3 Damaged")]
     Damaged(u64),
-    /// The journal was made with other settings.
+    /// The journal was made with another configuration.
     #[error("4 ConfigMismatch")]
     ConfigMismatch,
-    /// The journal or a checkpoint would exceed the greatest length, or the last generation is reached.
+    /// The journal or a checkpoint would be too long, or the last generation is reached.
     #[error("5 Full")]
     Full,
     /// The writer failed.
@@ -89,12 +89,12 @@ impl From<WriteError> for DriveError {
     }
 }
 
-/// Opens a node on a disk and carries out the commands in turn; none of them may be a checkpoint. After each command every output whose
-/// records are on the disk is written as a frame: the number of its bytes in four bytes, and the bytes. A refused event writes nothing.
+/// Opens a node on one disk and carries out the commands, one after the other; none of them may be a checkpoint. After each command every
+/// output whose records are settled is written as a frame: its length in four bytes, and its bytes. For a refused event nothing is written.
 ///
 /// # Errors
-/// `Damaged` and `ConfigMismatch` as `reopen` reports them, before anything is written. `Full` where the journal has no room for the group
-/// of a flush, `Output` where the writer fails, `Device` or `Memory` where the disk or an allocation fails. The disk is handed back, to be
+/// `Damaged` and `ConfigMismatch` as `reopen` reports them, before anything is written. `Full` if the journal has no room for the group of
+/// a flush; `Output` if the writer fails; `Device` or `Memory` if the disk or an allocation fails. The disk is handed back, and can be
 /// opened again.
 pub fn drive<'a, S: Sign, D: StopDisk, W: Write>(
     alloc: Global,
@@ -107,20 +107,20 @@ pub fn drive<'a, S: Sign, D: StopDisk, W: Write>(
     requires few { vec_len commands ≤ MAX_ACCEPTED }
     requires on_one { All (CarriesOut false) commands.items }
 
-    // What is written is the text of the script, from the state that the disk decoded to.
+    // What was written is the text of the script, from the state on that the disk decoded to.
     ensures ok { IfOk result (λ left. HasRun (node_of S.scheme config.now) (script_of commands.items) (alone (D.device.content disk)) (alone (D.device.content left)) (Leaves D.device (Store.One left)) (W.contents writer.old) (W.contents writer.new)) }
 
-    // After an error nothing was carried out, or some of the commands and a part of the next one.
+    // After an error nothing was carried out, or some of the commands and perhaps a part of the next one.
     ensures err { let node = node_of S.scheme config.now in IfErr result (λ failed. IsUnopened node failed.error (alone (D.device.content disk)) (Leaves D.device (Store.One disk)) (Leaves D.device (Store.One failed.disk)) (W.contents writer.old) (W.contents writer.new)
         ⊎ IsCutShort node (script_of commands.items) failed.error (alone (D.device.content disk)) (alone (D.device.content failed.disk)) (Leaves D.device (Store.One failed.disk)) (W.contents writer.old) (W.contents writer.new)) }
 
-    // Runs of the node give out what is written. Take any run that has just begun with a history, where the disk decoded to the state kept
-    // of that history. The run can go on as the commands say, and the outputs that go out are written as frames. After an error only a
-    // prefix of them is written.
+    // What was written is what runs of the node give out. Take any run that has just begun with a history, where the disk decoded to the
+    // state kept of that history: the run can go on as the commands say, and the outputs that then go out are what was written, as frames.
+    // After an error, what was written is a prefix of them.
     ensures given_out { let node = node_of S.scheme config.now in OnOk result (EachRunOn node (alone (D.device.content disk)) (GivesOut node (script_of commands.items) (W.contents writer.old) (W.contents writer.new))) }
     ensures given_out_err { let node = node_of S.scheme config.now in OnErr result (EachRunOn node (alone (D.device.content disk)) (GivesOutNoLess node (script_of commands.items) (W.contents writer.old) (W.contents writer.new))) }
 
-    // The error is Device exactly where the disk has failed.
+    // The error is Device if and only if the disk has counted a failed call.
     ensures cause { ReportsFaultBack D.device (λ left. left) DriveError.Device disk result }
 {
     match drive_store(alloc, config, Store::One(disk), commands, writer) {
@@ -133,11 +133,11 @@ pub fn drive<'a, S: Sign, D: StopDisk, W: Write>(
     }
 }
 
-/// As `drive`, for a node on two disks, given in the order of their areas; the commands may be checkpoints.
+/// Does what `drive` does for a node on two disks, given in the order of their areas. The commands may be checkpoints.
 ///
 /// # Errors
-/// Those of `drive`, and `Full` also where a checkpoint has no room, possibly at the opening that of a journal in the first version. Both
-/// disks are handed back.
+/// Those of `drive`; `Full` also if a checkpoint has no room, which may be that of a journal in version 1 at its opening. Both disks are
+/// handed back.
 pub fn drive_pair<'a, S: Sign, D: StopDisk, W: Write>(
     alloc: Global,
     config: &'a Config<S>,
@@ -155,7 +155,7 @@ pub fn drive_pair<'a, S: Sign, D: StopDisk, W: Write>(
     ensures given_out { let node = node_of S.scheme config.now in OnOk result (EachRunOn node (pair (D.device.content first) (D.device.content second)) (GivesOut node (script_of commands.items) (W.contents writer.old) (W.contents writer.new))) }
     ensures given_out_err { let node = node_of S.scheme config.now in OnErr result (EachRunOn node (pair (D.device.content first) (D.device.content second)) (GivesOutNoLess node (script_of commands.items) (W.contents writer.old) (W.contents writer.new))) }
 
-    // The error is Device exactly where a disk has failed.
+    // The error is Device if and only if a disk has counted a failed call.
     ensures cause { ReportsFaultsBack (faults_of_both D.device) (λ left. left) DriveError.Device (first, second) result }
 {
     any_on_two(&commands);
@@ -172,12 +172,12 @@ pub fn drive_pair<'a, S: Sign, D: StopDisk, W: Write>(
     }
 }
 
-// On two disks each command can be carried out. The call does nothing.
+// A law: a node on two disks can carry out each command. The call does nothing.
 fn any_on_two(commands: &Vec<Command>)
     ensures { All (CarriesOut true) commands.now.items }
 {}
 
-// Carries commands out on one disk or on two.
+// Opens a node on one disk or on two, and carries out the commands.
 fn drive_store<'a, S: Sign, D: StopDisk, W: Write>(
     alloc: Global,
     config: &'a Config<S>,
@@ -205,7 +205,7 @@ fn drive_store<'a, S: Sign, D: StopDisk, W: Write>(
     Ok(desk.into_store())
 }
 
-// What holds of every command: the message of an event is within all limits. The call does nothing.
+// A law: if a command hands in an event, its message is within all limits. The call does nothing.
 fn limits_hold(command: &Command)
     ensures { IsWithinLimits command.now }
 {

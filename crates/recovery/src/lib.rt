@@ -1,4 +1,4 @@
-//! Runs of a node in a list: opening the node on a disk, and driving a node of one owner by commands.
+//! Drives a node of one owner by a list of commands: opens it on its disks, and carries the commands out.
 #![tactic(auto)]
 
 mod commands;

@@ -1,4 +1,4 @@
-//! The state between two commands.
+//! A desk: the state of a script's node between two commands.
 
 ghost use Rattle.std.specs.Prelude.{◌≤◌, vec_len};
 
@@ -7,7 +7,7 @@ use ref_machine::Tables;
 use std::marker::Model;
 use wire::Output;
 
-/// An output that waits until this many events of its run are settled.
+/// An output that waits until as many events of its run are settled as the ticket says.
 #[derive(Drop)]
 pub struct Waiting {
     pub ticket: usize,
@@ -22,10 +22,10 @@ impl Model for Waiting {
     ghost view = { λ w. record { ticket = w.ticket; output = w.output } };
 }
 
-/// The state between two commands.
+/// The state of a script's node between two commands.
 #[derive(Drop)]
 pub struct Desk {
-    /// The tables with which this run began.
+    /// The tables of the state with which this run began.
     pub base: Tables,
     /// The events that the run accepted.
     pub accepted: Vec<Event>,

@@ -1,4 +1,4 @@
-//! Outputs as frames.
+//! Writes outputs as frames.
 
 ghost use Rattle.std.specs.Prelude.{◌≡◌, ◌++◌, OnOk, nat_le};
 ghost use Rattle.ref_script.specs.Desks.{desk_of};
@@ -9,7 +9,7 @@ use crate::desk::{Desk, Waiting};
 use std::alloc::{AllocError, Global};
 use wire::{Output, encode_output};
 
-/// Adds an output as a frame: the number of its bytes, in four bytes, big-endian, and the bytes.
+/// Adds an output as a frame: its length in four big-endian bytes, and its bytes.
 fn put_frame(alloc: Global, bytes: &mut Vec<u8>, output: &Output) -> Result<(), AllocError>
     ensures { OnOk result (bytes.new.items ≡ bytes.old.items ++ frame_of output.now) }
 {
@@ -19,7 +19,7 @@ fn put_frame(alloc: Global, bytes: &mut Vec<u8>, output: &Output) -> Result<(), 
     Ok(())
 }
 
-/// Whether an output's ticket is settled.
+/// Whether an output is due: as many events are settled as its ticket says.
 fn is_due(desk: &Desk, waiting: &Waiting) -> bool
     ensures { result ≡ script.is_due (desk_of desk.now) waiting.now }
 {

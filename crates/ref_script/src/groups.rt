@@ -1,4 +1,4 @@
-//! The longest prefix of events whose records fit a group.
+//! Finds the longest prefix of events whose records fit a group.
 
 ghost use Rattle.std.specs.Prelude.{◌≡◌, ◌+◌, ◌≤◌, length, map, take};
 ghost use Rattle.journal.specs.Format as format;
@@ -11,7 +11,7 @@ use header::Event;
 use journal::{LENGTH_BYTES, MAX_GROUP_BYTES, MAX_GROUP_RECORDS};
 use wire::encoded_len;
 
-/// The bytes of an event's record before the message: its kind, and the sender's number.
+/// How many bytes of an event's record come before the message: the kind, and the sender's number.
 const FRONT_BYTES: usize = 3;
 
 /// How many bytes the record of an event has.
@@ -22,7 +22,7 @@ fn record_len(event: &Event) -> usize
     FRONT_BYTES + encoded_len(&event.message)
 }
 
-/// How many bytes the body of a group of the events' records has.
+/// How many bytes the body of a group with the records of these events has.
 fn body_len(events: &[Event]) -> usize
     requires few { length events.now ≤ MAX_GROUP_RECORDS }
     ensures { result ≡ format.body_len (map record_of events.now) }
@@ -34,14 +34,14 @@ fn body_len(events: &[Event]) -> usize
     total
 }
 
-/// Whether the records of events are within the limits of a group.
+/// Whether the records of these events are within the limits of a group.
 fn fits_group(events: &[Event]) -> bool
     ensures { result ≡ script.fits_group (map record_of events.now) }
 {
     !events.is_empty() && events.len() <= MAX_GROUP_RECORDS && body_len(events) <= MAX_GROUP_BYTES
 }
 
-/// The longest prefix of events whose records fit a group.
+/// The longest prefix of these events whose records fit a group.
 pub fn group_of(events: &[Event]) -> &[Event]
     ensures value { result.now ≡ script.group_of events.now }
     ensures beginning { result.now ≡ take (length result.now) events.now }

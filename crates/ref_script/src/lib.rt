@@ -1,5 +1,5 @@
-//! A reference implementation, plain and slow, of the text of a script: what a node with one owner writes for commands. It is no part of a
-//! node: the running code is compared with it.
+//! A reference implementation, plain and slow, of the text of a script: what a node of one owner writes for a list of commands. It is no
+//! part of a node: the running code is compared with it.
 #![tactic(auto)]
 
 mod command;

@@ -1,4 +1,4 @@
-//! What a command does to a desk.
+//! What a command does to a desk, a script's node.
 
 ghost use Rattle.std.specs.Prelude.{◌≡◌, ◌++◌, IfOk, OnOk};
 ghost use Rattle.ref_machine.specs.Tables.{state_of};
@@ -16,7 +16,7 @@ use ref_machine::{Tables, after as after_one, answered};
 use sigface::Sign;
 use std::alloc::{AllocError, Global};
 
-/// The tables after these events, the first of which is the oldest.
+/// The tables after these events, of which the first is the oldest.
 ///
 /// # Errors
 /// An allocation failed.
@@ -35,7 +35,7 @@ pub fn after_all<S: Sign>(
     Ok(tables)
 }
 
-/// The desk of a run that has just begun, in the state of these tables.
+/// The desk of a run that has just begun with the state of these tables.
 pub fn desk_on(alloc: Global, base: Tables) -> Desk
     ensures { desk_of result ≡ script.desk_on (state_of base) }
 {
@@ -47,7 +47,7 @@ pub fn desk_on(alloc: Global, base: Tables) -> Desk
     }
 }
 
-/// Adds outputs to those that wait, each with this ticket.
+/// Adds outputs to those that wait, each with this ticket: how many events have to be settled before it may leave.
 fn put_ticketed(
     waiting: &mut Vec<Waiting>,
     ticket: usize,
@@ -61,8 +61,8 @@ fn put_ticketed(
     Ok(())
 }
 
-/// The desk after an event with this answer: a new event is accepted, and its outputs wait until it is settled; those of a known event wait
-/// until all accepted events are; a refused event changes nothing.
+/// The desk after an event with this answer. New: the event is accepted, and its outputs wait until it is settled. Known: the outputs wait
+/// until all accepted events are settled. Refused: nothing changes.
 fn with_event<S: Sign>(
     alloc: Global,
     node: &Node<S>,
@@ -87,7 +87,7 @@ fn with_event<S: Sign>(
     }
 }
 
-/// The next group of the accepted events that aren't settled is settled.
+/// The desk after a flush: the longest group of accepted events that aren't settled yet is settled.
 fn flushed(mut desk: Desk) -> Desk
     ensures { desk_of result ≡ script.flushed (desk_of desk) }
 {
@@ -96,7 +96,7 @@ fn flushed(mut desk: Desk) -> Desk
     desk
 }
 
-/// All accepted events are settled.
+/// The desk after a checkpoint: all accepted events are settled.
 fn settled_all(mut desk: Desk) -> Desk
     ensures { desk_of result ≡ record (desk_of desk) { settled = desk.accepted.items } }
 {
@@ -104,7 +104,7 @@ fn settled_all(mut desk: Desk) -> Desk
     desk
 }
 
-/// The desk of a run that has just begun with what was settled.
+/// The desk after a stop: a run that has just begun with what was settled.
 fn stopped<S: Sign>(alloc: Global, node: &Node<S>, desk: Desk) -> Result<Desk, AllocError>
     ensures { IfOk result (λ next. desk_of next ≡ script.desk_on (script.settled_in (node_view S.scheme node.now) (desk_of desk))) }
 {

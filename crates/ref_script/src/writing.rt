@@ -1,4 +1,4 @@
-//! The text of a script.
+//! Writes the text of a script.
 
 ghost use Rattle.std.specs.Prelude.{◌≡◌, IfOk, map};
 ghost use Rattle.spec_machine.specs.After.{after_all};
@@ -15,8 +15,8 @@ use ref_machine::fresh;
 use sigface::Sign;
 use std::alloc::{AllocError, Global};
 
-/// What a node writes for commands, if its run begins with the state after the events of `history`: after each command the outputs that are
-/// then due, in their order, each as a frame.
+/// What a node writes for these commands, if its run begins with the state after the events of `history`: after each command, the frames of
+/// the outputs that are then due, in their order.
 ///
 /// # Errors
 /// An allocation failed.

@@ -1,5 +1,5 @@
-//! Signatures as the other crates see them; an insecure pair of a signer and a verifier for tests; and the seed that a signer gives to hash
-//! tables.
+//! Signatures as the other crates see them; an insecure signer and verifier for tests; and the seed of a node's hash tables, which is made
+//! from a signature.
 #![tactic(auto)]
 
 mod pair;

@@ -12,13 +12,13 @@ use sha2::{Digest as Hasher, Sha256};
 use std::marker::Model;
 use wire::{Digest, Key, Signature};
 
-/// The letter S, which precedes the key and the digest in the first half of a signature.
+/// The letter S, which is hashed before the key and the digest for the first half of a signature.
 const FIRST_LETTER: u8 = 0x53;
 
-/// The letter T, which precedes the key and the digest in the second half of a signature.
+/// The letter T, which is hashed before the key and the digest for the second half of a signature.
 const SECOND_LETTER: u8 = 0x54;
 
-/// Signs by hashing the key with the digest. INSECURE, for tests only: whoever knows the key can sign, and verifying takes the same key.
+/// Signs by hashing the key and the digest. INSECURE, for tests only: whoever knows the key can sign, and a verifier needs the same key.
 #[derive(Clone, Copy, Debug, PartialEq, Eq)]
 pub struct HashSign {
     key: Key,
@@ -95,7 +95,7 @@ impl Verify for HashVerify {
     }
 }
 
-/// The two belong together: whatever a `HashSign` signs, a `HashVerify` accepts for its key. The call does nothing.
+/// A law: a `HashSign` and a `HashVerify` belong together. What the first signs, the second accepts for its key. The call does nothing.
 pub fn pair_is_tied(signer: &HashSign, verifier: &HashVerify)
     ensures { AreAccepted (⟦<HashVerify as Verify>⟧.accepts verifier.now) (⟦<HashSign as Sign>⟧.scheme.own_key signer.now) (⟦<HashSign as Sign>⟧.scheme.signature_of signer.now) }
 {}

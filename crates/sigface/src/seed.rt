@@ -1,4 +1,4 @@
-//! The seed with which a node's tables hash: bytes that only its signer can make.
+//! The seed of a node's hash tables: bytes that only the node's signer can make.
 
 ghost use Rattle.std.specs.Prelude.{◌≡◌};
 ghost use Rattle.sigface.specs.Seeds.{seed_of};
@@ -8,19 +8,19 @@ use sha2::{Digest as Hashing, Sha256};
 use std::hash::{BuildHasher, DefaultHasher, Hasher};
 use wire::Digest;
 
-/// The letter L, which is digested and signed for a seed. No other digest that is signed is of bytes that begin with it.
+/// The letter L, which is hashed and then signed for a seed. No other digest that is signed is one of bytes that begin with this letter.
 const SEED_LETTER: u8 = 0x4c;
 
-/// The seed of a hash table: SipHash-1-3 (Aumasson and Bernstein, 2012) that has read secret bytes. Whoever doesn't know these can't choose
-/// keys that collide. It needs no randomness, and is the same in each run.
+/// The seed of a hash table: SipHash-1-3 (Aumasson and Bernstein, 2012) that has read secret bytes. Who doesn't know these bytes can't
+/// choose keys that collide. The seed needs no randomness, and is the same in each run.
 #[derive(Clone, Copy)]
 pub struct TableSeed {
     begun: DefaultHasher,
 }
 
 impl TableSeed {
-    /// The seed of this signer: a hasher that has read its signature of the SHA-256 (FIPS 180-4) of the letter L. It is as secret as the
-    /// signer's key.
+    /// The seed that this signer gives: a hasher that has read its signature of the SHA-256 (FIPS 180-4) of the letter L. It is as secret
+    /// as the signer's key.
     pub fn of<S: Sign>(signer: &S) -> TableSeed
         ensures { result ≡ seed_of (S.scheme.signature_of signer.now) }
     {

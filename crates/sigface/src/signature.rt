@@ -9,10 +9,10 @@ ghost use Rattle.wire.specs.declared.keys.Signature.{Signature};
 
 use wire::{Digest, Key, Signature};
 
-/// Tells good signatures from bad ones. The answer depends only on the verifier, the key, the digest and the signature, so the same
-/// question always has the same answer.
+/// A verifier, which says whether a signature is good. The answer depends only on the verifier, the key, the digest and the signature, so
+/// the same question always has the same answer.
 pub trait Verify {
-    /// Which signatures of a digest this verifier accepts for a key.
+    /// Which signatures of a digest this verifier accepts for which key.
     ghost accepts: { Self → Key → Digest → Signature → Bool };
 
     /// Whether the signature of the digest is good for the key.
@@ -20,19 +20,19 @@ pub trait Verify {
         ensures { result ≡ accepts self.now key.now digest.now signature.now };
 }
 
-/// Signs digests with one key. The signature depends only on the signer and the digest.
+/// A signer, which signs digests with one key. A signature depends only on the signer and the digest.
 pub trait Sign {
     /// The key for which a signer's signatures are good, and its signature of each digest.
     ghost scheme: { Scheme Self };
 
-    /// Which signatures of a digest are good for a key.
+    /// Which signatures of a digest are good for which key.
     ghost good: { Key → Digest → Signature → Bool };
 
-    /// The key for which the signatures are good.
+    /// The public key for which the signer's signatures are good.
     fn key(&self) -> Key
         ensures { result ≡ scheme.own_key self.now };
 
-    /// Signs the digest.
+    /// The signer's signature of this digest.
     fn sign(&self, digest: &Digest) -> Signature
         ensures { result ≡ scheme.signature_of self.now digest.now };
 

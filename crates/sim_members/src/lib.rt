@@ -1,4 +1,4 @@
-//! The members of a committee of four that examples and tests run in one process, with the signers of the insecure pair.
+//! The members of a committee of four that examples and tests run in one process. They sign with the insecure signer of the tests.
 #![tactic(auto)]
 
 mod settings;

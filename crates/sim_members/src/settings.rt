@@ -1,4 +1,4 @@
-//! The settings of the members.
+//! The settings of the members of such a committee.
 
 ghost use Rattle.std.specs.Prelude.{◌≡◌, ◌+◌, length, Ok, OnOk, IfOk, IfSome};
 ghost use Rattle.cluster.specs.Cluster.{AreOfOne, AreDistinct};
@@ -13,10 +13,10 @@ use std::alloc::{AllocError, Global};
 use validator::Config;
 use wire::Author;
 
-/// Members of the committee.
+/// How many members the committee has.
 pub const MEMBERS: u16 = 4;
 
-/// The settings of the members of a committee, in the order of their numbers. They sign with the test pair.
+/// The settings of the members of a committee, in the order of their numbers. They sign with the keys of the tests.
 pub struct Settings {
     configs: Vec<Config<HashSign>>,
     ghost one: { AreOfOne configs.items },
@@ -30,21 +30,21 @@ impl Drop for Settings {
 }
 
 impl Settings {
-    /// The settings for a committee of this depth, in which a member holds at most this many batches. On `AllocError` an allocation failed.
+    /// The settings for a committee of this depth in which a node may hold at most so many batches. On `AllocError` an allocation failed.
     pub fn new(alloc: Global, depth: u64, batches: u64) -> Result<Settings, AllocError> {
         let file = committee_file(alloc, depth, batches)?;
         let configs = configs_of(alloc, file.as_str())?;
         Ok(Settings { configs })
     }
 
-    /// One for each member.
+    /// The setting of each member, in the order of their numbers.
     pub fn all(&self) -> &[Config<HashSign>]
         ensures { AreSettings result.now }
     {
         &self.configs
     }
 
-    /// The settings of the first `count` members, if there are so many.
+    /// The settings of the first `count` members. None if the committee has fewer.
     pub fn first(&self, count: usize) -> Option<&[Config<HashSign>]>
         ensures sound { IfSome result (λ configs. AreSettings configs.now) }
         ensures many { IfSome result (λ configs. length configs.now ≡ count) }
@@ -53,7 +53,7 @@ impl Settings {
     }
 }
 
-// The settings of all members of the committee in a file.
+// The settings of all members of the committee that the file describes.
 fn configs_of(alloc: Global, file: &str) -> Result<Vec<Config<HashSign>>, AllocError>
     ensures { IfOk result (λ configs. AreSettings configs.items) }
 {
@@ -78,7 +78,7 @@ fn add_config(
     Ok(())
 }
 
-// The setting of one member. The committee's file is valid, so only an allocation can fail.
+// The setting of the member with this number. The committee's file is valid, so only an allocation can fail.
 fn config_of(alloc: Global, file: &str, own: Author) -> Result<Config<HashSign>, AllocError>
     ensures own { IfOk result (λ config. config.own ≡ own) }
     ensures read { IfOk result (λ config. answer_to (parse_document file.now) ≡ Ok config.charter) }

@@ -1,4 +1,4 @@
--- Laws of histories, mostly of legal ones.
+-- Laws of histories, most of them of legal ones.
 use Rattle.std.specs.Prelude.{◌≡◌, ℕ, ◌+◌, ◌-◌, ◌*◌, Option, Some, None, ◌≤◌, true, List, [], ◌∷◌, ◌++◌, map, All, Contains, find, slice_get, option_and_then, ⊤}
 use Rattle.std.specs.Option.{option_or, option_to_list}
 use Rattle.wire.specs.declared.message.Message.TheVariants as message
@@ -16,30 +16,30 @@ use Rattle.header.specs.declared.admission.Admission.{Admission}
 use Rattle.header.specs.declared.admission.Admission.TheVariants.{New, Known, Refused}
 use Rattle.spec_model.specs.Words.{Author, Certificate, Digest, Event, Header, HeaderBody, Message, Output}
 
--- a legal history has at most one header in each slot, so the node votes there at most once
+-- a legal history has at most one header of each round and author, so the node votes at most once for them
 abbrev pub OneVote : Type 0
 OneVote = (node : Node) (history : History) (one other : Header) → IsLegal node history
     → Contains (headers history) one → Contains (headers history) other
     → one.body.author ≡ other.body.author → one.body.round ≡ other.body.round → one ≡ other
 
--- a legal history has at most one certificate in each slot
+-- a legal history has at most one certificate of each round and author
 abbrev pub OneCertificate : Type 0
 OneCertificate = (node : Node) (history : History) (one other : Certificate) → IsLegal node history
     → Contains (certificates node history) one → Contains (certificates node history) other
     → one.header.author ≡ other.header.author → one.header.round ≡ other.header.round → one ≡ other
 
--- a history contains the coin of a wave, with this value
+-- the history has the coin of this wave, with this value
 pub record ReportsCoin (history : History) (wave value : ℕ) : Type 0 where
   pub sender : Author
   pub reported : Contains history (record { sender = sender; message = message.Coin (record { wave = wave; value = value }) })
 
--- the coins of a legal history came in wave by wave: the one at each place is that of the wave one above the place
+-- the coins of a legal history came in wave by wave: the first one is that of wave 1, the next that of wave 2, and so on
 abbrev pub CoinsInTurn : Type 0
 CoinsInTurn = (node : Node) (history : History) (place value : ℕ) → IsLegal node history → slice_get (coins history) place ≡ Some value
     → ReportsCoin history (place + 1) value
 
--- with one more event a history has, of each kind, what it had and then what the event is. A look-up finds what it found before,
--- and the event where it found nothing
+-- With one more event a history has, of each kind of message, what it had and then what the event is. A look-up finds what it found before;
+-- if it found nothing, it finds the event.
 pub record IsOneMore (history : History) (event : Event) : Type 0 where
   pub of_batches : batches (history ++ event ∷ []) ≡ batches history ++ option_to_list (as_batch event.message)
   pub of_acks : acks (history ++ event ∷ []) ≡ acks history ++ option_to_list (as_ack event.message)
@@ -57,7 +57,7 @@ pub record IsOneMore (history : History) (event : Event) : Type 0 where
 abbrev pub OneMore : Type 0
 OneMore = (history : History) (event : Event) → IsOneMore history event
 
--- the certificate that a new event adds: the one that came in, or that of the own header that a vote completes
+-- the certificate that a new event adds: the one that came in, or that of an own header which a vote completes; None if it adds none
 abbrev pub added : Node → History → Event → Option Certificate
 added node history event = on event.message
   where
@@ -66,75 +66,76 @@ added node history event = on event.message
     on (message.Vote vote) = option_and_then (completed node (history ++ event ∷ [])) (voted_header history vote.round node.own.0)
     on _ = None
 
--- one more event of a legal history leaves each filled slot as it is, and fills an empty one only with the certificate that it adds
+-- One more event of a legal history leaves the certificate of each round and author as it is, and adds none but the certificate that the
+-- event adds
 abbrev pub SlotsGrow : Type 0
 SlotsGrow = (node : Node) (history : History) (event : Event) → IsLegal node (history ++ event ∷ []) → (round author : ℕ)
     → slots node (history ++ event ∷ []) round author
     ≡ option_or (slots node history round author) (slots_of (option_to_list (added node history event)) round author)
 
--- the outputs of an answer may be given out: after the event where it is new, and otherwise at the history as it is
+-- the outputs of an answer may be given out: those of a new event after it, and those of a known event at the history as it is
 abbrev pub PutsOutGiven : Node → History → Event → Admission → Type 0
 PutsOutGiven node history event (New outputs) = All (MayGive node (history ++ event ∷ [])) outputs
 PutsOutGiven node history event (Known outputs) = All (MayGive node history) outputs
 PutsOutGiven node history event (Refused refusal) = ⊤
 
--- the outputs of every answer may be given out, whether or not the history is legal
+-- the outputs of every answer may be given out, even if the history is not legal
 abbrev pub OutputsGiven : Type 0
 OutputsGiven = (node : Node) (history : History) (event : Event) → PutsOutGiven node history event (admit node history event)
 
--- the order of a legal history has the order of each prefix of the history as a prefix
+-- the order of each prefix of a legal history is a prefix of the order of the history
 abbrev pub OrderGrows : Type 0
 OrderGrows = (node : Node) (history more : History) → IsLegal node (history ++ more)
     → Begins (order node history) (order node (history ++ more))
 
--- the last element of a list, or `before` where the list is empty
+-- the last element of a list; `before` if the list is empty
 abbrev pub last_or : {X : Type 0} → Option X → List X → Option X
 last_or before [] = before
 last_or before (x ∷ rest) = last_or (Some x) rest
 
--- the leaders that are committed at a history
+-- the leaders that a history commits
 abbrev pub committed_at : Node → History → List Certificate
 committed_at node history = committed (ledger_at node history)
 
--- `held` agrees with `all` from round `low` on, and each certificate in it is in the slot of its round and author
+-- The certificates `held` agree with the certificates `all` from round `low` on, and each of them stands at its round and author
 pub record HoldsFrom (low : ℕ) (held all : Slots) : Type 0 where
   pub placed : (round author : ℕ) (c : Certificate) → held round author ≡ Some c → is_of_slot round author c.header ≡ true
   pub same : (round author : ℕ) → low ≤ round → held round author ≡ all round author
 
--- the leaders that a later history commits and the earlier one didn't, computed from these slots
+-- the leaders that the later history commits and the earlier one doesn't, found among the certificates `held`
 abbrev pub newer_at_later : Node → History → History → Slots → List Certificate
 newer_at_later node before later held = newer (ledger_of node held (coins later)) (last_wave (ledger_at node before))
 
--- a later history commits the earlier leaders and then the newer ones, and its order is the earlier order followed by
--- what the newer leaders order
+-- The later history commits the leaders of the earlier one and then newer ones; its order is the earlier order, and then what the newer
+-- leaders order.
 pub record Lengthens (node : Node) (before later : History) (held : Slots) : Type 0 where
   pub chain : committed_at node later ≡ committed_at node before ++ newer_at_later node before later held
   pub order : order node later ≡ order node before
       ++ map (λ c. certificate_digest c.header) (segments (ledger_of node held (coins later)) (last_or None (committed_at node before)) (newer_at_later node before later held))
 
--- to find the newer leaders and what they order, the certificates from the earlier floor up are enough
+-- to find the newer leaders and what they order, the certificates of rounds from the earlier floor on are enough
 abbrev pub OrderLengthens : Type 0
 OrderLengthens = (node : Node) (history more : History) (held : Slots) → IsLegal node (history ++ more)
     → HoldsFrom (floor node history) held (slots node (history ++ more)) → Lengthens node history (history ++ more) held
 
--- slots with only a part of the certificates give the same results as all of them, from a round on
+-- A part of the certificates, `held`, gives the same results as all of them, `all`, from a round on.
 pub record SayTheSame (node : Node) (low : ℕ) (before : Ledger) (coins : List ℕ) (held all : Slots) : Type 0 where
-  -- for waves and rounds from `low` on: the leader, its support, whether a wave is directly committed, and whether a round is full
+  -- the same from `low` on: the leader of a wave, its support, whether a wave is directly committed, and whether a round has a quorum
   pub same_leader : (wave : ℕ) → low ≤ 2 * wave - 1 → leader (ledger_of node held coins) wave ≡ leader (ledger_of node all coins) wave
   pub same_support : (c : Certificate) → low ≤ c.header.round + 1 → has_support (ledger_of node held coins) c ≡ has_support (ledger_of node all coins) c
   pub same_committed : (wave : ℕ) → low ≤ 2 * wave - 1
       → is_directly_committed (ledger_of node held coins) wave ≡ is_directly_committed (ledger_of node all coins) wave
   pub same_full : (round : ℕ) → low ≤ round → is_full node held round ≡ is_full node all round
-  -- whether a header's parents are held
+  -- the same: whether a header's parents are held
   pub same_parents : (header : HeaderBody) → all_held held (floor_by (ledger_of node all coins)) header ≡ all_held all (floor_by (ledger_of node all coins)) header
-  -- the last committed wave, and so the floor
+  -- the same: the last committed wave, and so the floor
   pub same_top : top (ledger_of node held coins) ≡ top (ledger_of node all coins)
   pub same_last_wave : last_wave (ledger_of node held coins) ≡ last_wave (ledger_of node all coins)
   pub same_floor : floor_by (ledger_of node held coins) ≡ floor_by (ledger_of node all coins)
-  -- the last leader that was committed before, and the newer ones
+  -- the same: the last leader that was committed before, and the newer leaders
   pub same_last : leader (ledger_of node held coins) (last_wave before) ≡ last_or None (committed before)
   pub same_newer : newer (ledger_of node held coins) (last_wave before) ≡ newer (ledger_of node all coins) (last_wave before)
-  -- what each newer leader orders, whichever leader precedes it, and what they order together
+  -- the same: what each newer leader orders, whichever leader comes before it, and what they order together
   pub same_segment : (previous : Option Certificate) (last : Certificate) → Contains (newer (ledger_of node held coins) (last_wave before)) last
       → segment (ledger_of node held coins) previous last ≡ segment (ledger_of node all coins) previous last
   pub same_segments : (previous : Option Certificate) → segments (ledger_of node held coins) previous (newer (ledger_of node held coins) (last_wave before))
@@ -144,45 +145,45 @@ pub record SayTheSame (node : Node) (low : ℕ) (before : Ledger) (coins : List 
 abbrev pub ordered_since : Ledger → ℕ → List Digest
 ordered_since ledger wave = map (λ c. certificate_digest c.header) (segments ledger (leader ledger wave) (newer ledger wave))
 
--- slots give the same results as all of a later history's, and what they order since the last committed wave extends the order
+-- these certificates give the same results as all of a later history's, and what they order since the last committed wave extends the order
 pub record IsEnough (node : Node) (before later : History) (low : ℕ) (held : Slots) : Type 0 where
   pub same : SayTheSame node low (ledger_at node before) (coins later) held (slots node later)
   pub order : order node later ≡ order node before ++ ordered_since (ledger_of node held (coins later)) (last_wave (ledger_at node before))
 
--- slots are enough in that sense if they hold what a legal history holds from a round on that is not above the floor of a prefix of it
+-- certificates are enough in that sense if they are those of a legal history from some round on, at or below the floor of a prefix of it
 abbrev pub HeldIsEnough : Type 0
 HeldIsEnough = (node : Node) (before more : History) (low : ℕ) (held : Slots) → IsLegal node (before ++ more) → low ≤ floor node before
     → HoldsFrom low held (slots node (before ++ more)) → IsEnough node before (before ++ more) low held
 
--- what may be given out at a legal history may be given out at each legal extension of it
+-- what may be given out after a legal history may be given out after each legal history that extends it
 abbrev pub GivenGrows : Type 0
 GivenGrows = (node : Node) (history more : History) (output : Output) → IsLegal node (history ++ more)
     → MayGive node history output → MayGive node (history ++ more) output
 
--- an own header as the node's host hands it in
+-- the event by which the node's host hands in an own header
 abbrev pub own_event : Node → Header → Event
 own_event node header = record { sender = node.own; message = message.Header header }
 
--- the header that is proposed at a legal history passes the checks, whatever its signature, and is new there
+-- the header that a node proposes after a legal history passes the checks, without those of signatures, and is new there
 abbrev pub ProposalsAreNew : Type 0
 ProposalsAreNew = (node : Node) (history : History) (header : Header) → IsLegal node history → propose node history ≡ Some header
     → (fault_of node.charter accepts_all (own_event node header) ≡ None) × (admit node history (own_event node header) ≡ New (header_outputs node header))
 
--- the history is still legal with the proposed header: it keeps all limits too
+-- a legal history stays legal with the header that the node proposes after it
 abbrev pub ProposalsAreLegal : Type 0
 ProposalsAreLegal = (node : Node) (history : History) (header : Header) → IsLegal node history → propose node history ≡ Some header
     → IsLegal node (history ++ own_event node header ∷ [])
 
--- where the node's signer belongs to the verifier, the proposed header passes the checks with its signature too
+-- if the node's signer and the verifier belong together, the proposed header passes the checks with its signature too
 abbrev pub ProposalsPass : Type 0
 ProposalsPass = (node : Node) (history : History) (header : Header) (accepts : Accepts) → IsLegal node history → AreTied node accepts
     → propose node history ≡ Some header → fault_of node.charter accepts (own_event node header) ≡ None
 
--- the node's vote for a header that it took, as the event that reaches another node
+-- the event by which another node gets the node's vote for a header
 abbrev pub vote_event : Node → HeaderBody → Event
 vote_event node header = record { sender = node.own; message = message.Vote (own_vote node header) }
 
--- where the node's signer belongs to the verifier, its vote for a header that it took passes the checks with its signature
+-- if the node's signer and the verifier belong together, the node's vote for a header that it took passes the checks with its signature
 abbrev pub OwnVotesPass : Type 0
 OwnVotesPass = (node : Node) (sender : Author) (header : Header) (accepts : Accepts) → IsNode node → AreTied node accepts
     → IsTaken node (record { sender = sender; message = message.Header header }) → fault_of node.charter accepts (vote_event node header.body) ≡ None

@@ -13,30 +13,30 @@ use Rattle.journal.specs.Configuration.{number_of}
 use Rattle.journal.specs.declared.version.Version.{Version}
 use Rattle.journal.specs.declared.version.Version.TheVariants.{First, Second}
 
--- the record of an event: its kind, the sender, the message
+-- the record of an event: its kind, the sender's number, the message
 abbrev pub record_of : Event → List ℕ
 record_of event = 1 ∷ to_be_bytes w16 event.sender.0 ++ encoding event.message
 
 -- ---- a node's configuration
 
--- the stakes in a record: from the second version on they are written
+-- the stakes that a configuration has: none in version 1, and all of them in version 2
 abbrev pub stakes_of : Version → List ℕ → List ℕ
 stakes_of First stakes = []
 stakes_of Second stakes = flat_map (to_be_bytes w32) stakes
 
--- the record of a node's configuration: kind, version, own number, depth, workers of a member, batches of a member, number of
--- members, their keys, and from the second version on their stakes
+-- the record of a node's configuration: kind, version, own number, depth, number of workers, greatest number of batches, number of members,
+-- their keys, and in version 2 their stakes
 abbrev pub configuration_of : Version → Charter → Author → List ℕ
 configuration_of version charter own =
     0 ∷ number_of version ∷ to_be_bytes w16 own.0 ++ to_be_bytes w16 charter.depth ++ to_be_bytes w16 charter.workers ++ to_be_bytes w32 charter.batches
     ++ to_be_bytes w16 (length charter.keys) ++ flat_map (λ key. key.0) charter.keys ++ stakes_of version charter.stakes
 
--- a version can express a committee: the first one has no stakes, so there each stake is 1
+-- a configuration in this version can express the committee: version 1 has no stakes, so each stake has to be 1
 abbrev pub CanReport : Version → Charter → Type 0
 CanReport First charter = All (λ stake. stake ≡ 1) charter.stakes
 CanReport Second charter = ⊤
 
--- a sound committee whose keys have 32 bytes each, and an own number that fits two bytes
+-- what a configuration is made of: a sound committee whose keys have 32 bytes each, and an own number that fits two bytes
 pub record IsConfiguration (charter : Charter) (own : Author) : Type 0 where
   pub sound : IsCharter charter
   pub keys : All (λ key. HasBytes 32 key.0) charter.keys
@@ -44,22 +44,22 @@ pub record IsConfiguration (charter : Charter) (own : Author) : Type 0 where
 
 -- ---- laws
 
--- an event that passed the checks of a committee, whatever its signatures, and keeps all limits. The model's IsTaken says the same of a
--- node and its committee; it is said twice since neither crate stands on the other
+-- An event passed the checks of a committee, except those of signatures, and keeps all limits. The model's `IsTaken` says the same of a
+-- node and its committee; it stands twice because neither crate stands on the other.
 pub record IsChecked (charter : Charter) (event : Event) : Type 0 where
   pub message : IsMessage event.message
   pub passed : fault_of charter accepts_all event ≡ None
 
--- no two events that can be taken have the same record
+-- no two different events that can be taken have the same record
 abbrev pub OneRecord : Type 0
 OneRecord = (charter : Charter) (one other : Event) → IsCharter charter → IsChecked charter one → IsChecked charter other
     → record_of one ≡ record_of other → one ≡ other
 
--- no event's record is a configuration's, in any version
+-- no event has the same record as a configuration, in any version
 abbrev pub NoConfiguration : Type 0
 NoConfiguration = (event : Event) (version : Version) (charter : Charter) (own : Author) → record_of event ≢ configuration_of version charter own
 
--- no two configurations that their versions can express have the same record
+-- no two different configurations that their versions can express have the same record
 abbrev pub OneConfiguration : Type 0
 OneConfiguration = (version other : Version) (charter also : Charter) (own number : Author) → IsConfiguration charter own → IsConfiguration also number
     → CanReport version charter → CanReport other also → configuration_of version charter own ≡ configuration_of other also number

@@ -1,4 +1,4 @@
-//! Files of cases for tests: commands, the answers that are expected, and a report of the answers that differ.
+//! Files of test cases: commands, the answers that are expected, and a report of the answers that differ.
 #![tactic(auto)]
 
 mod digits;

@@ -1,15 +1,15 @@
-//! Playing a file of cases, line by line. A line `== TITLE` begins a case; a line `> TEXT` is an expected line of the answer to the command
-//! above it; empty lines, and lines that begin with `#`, are skipped; any other line is a command.
+//! Plays a file of test cases, line by line. `== TITLE` begins a test case; `> TEXT` is a line of the answer that is expected to the
+//! command above; empty lines, and lines that begin with `#`, are skipped; any other line is a command.
 
 use std::alloc::{AllocError, AllocFailed, Global};
 use std::io::{self, BufRead, Write};
 
-/// Why a file of cases wasn't played to its end.
+/// Why a file of test cases wasn't played to its end.
 #[derive(Drop)]
 pub enum Ending {
     /// An allocation failed.
     Memory,
-    /// A read of the file or a write of the report failed.
+    /// The file couldn't be read, or the report couldn't be written.
     InputOutput,
 }
 
@@ -31,14 +31,14 @@ impl From<io::Error> for Ending {
     }
 }
 
-/// How far a file of cases was played.
+/// How far a file of test cases was played, and how many answers were wrong.
 #[derive(Drop)]
 struct Score {
-    /// The answer to the last command.
+    /// The answer that the last command got.
     answer: String,
-    /// The expected answer to the last command.
+    /// The answer that the file expects to the last command.
     expected: String,
-    /// The number of the last command's line.
+    /// The number of the line with the last command.
     last: u64,
     commands: u64,
     wrong: u64,
@@ -59,7 +59,7 @@ fn close<W: Write>(name: &str, writer: &mut W, score: &mut Score) -> Result<(), 
     Ok(())
 }
 
-/// A file of cases that is being played, and the report of the answers that differ from the expected ones.
+/// A file of test cases that is being played, and the report of the answers that differ from the expected ones.
 pub struct Player<'a, R: BufRead + Drop, W: Write + Drop> {
     name: &'a str,
     reader: R,
@@ -101,7 +101,8 @@ impl<'a, R: BufRead + Drop, W: Write + Drop> Player<'a, R, W> {
         }
     }
 
-    /// Moves on to the next title or command, if there is one, and compares the answer to the command before it.
+    /// Moves on to the next title or command, and compares the answer to the command before with the expected one. Returns whether there is
+    /// a next one.
     pub fn advance(&mut self) -> Result<bool, Ending> {
         for _ in 1..u64::MAX {
             self.line.clear();
@@ -117,7 +118,7 @@ impl<'a, R: BufRead + Drop, W: Write + Drop> Player<'a, R, W> {
         Ok(false)
     }
 
-    // Whether the line is a title or a command. An expected line is kept.
+    // Whether the line is a title or a command. If it is an expected line, that is kept.
     fn has_turn(&mut self) -> Result<bool, Ending> {
         let line = self.line.trim_end_matches('\n');
         if line.is_empty() || line.starts_with('#') {
@@ -136,23 +137,23 @@ impl<'a, R: BufRead + Drop, W: Write + Drop> Player<'a, R, W> {
         Ok(true)
     }
 
-    /// Whether the line begins a case; otherwise it is a command.
+    /// Whether the line is a title, which begins a test case. Otherwise it is a command.
     pub fn is_title(&self) -> bool {
         self.line.starts_with("== ")
     }
 
-    /// The command.
+    /// The line as a command, without its newline.
     pub fn command(&self) -> &str {
         self.line.trim_end_matches('\n')
     }
 
-    /// Takes the answer to the command.
+    /// Takes the answer that the command got.
     pub fn answered(&mut self, answer: &str) -> Result<(), Ending> {
         self.score.answer.push_str(answer)?;
         Ok(())
     }
 
-    /// Prints how many commands the file had; gives whether there was one, and all answers were as expected.
+    /// Prints how many commands the file had. Returns whether there was one, and all answers were as expected.
     pub fn end(mut self) -> Result<bool, Ending> {
         let (name, commands, wrong) = (self.name, self.score.commands, self.score.wrong);
         writeln!(

@@ -1,4 +1,4 @@
-//! The coins, and the leaders that they choose.
+//! The coins of the waves, and the leaders that they choose.
 
 ghost use Rattle.std.specs.Prelude.{◌≡◌, ℕ, ◌+◌, ◌-◌, ◌*◌, ◌^◌, ◌<◌, ◌≤◌, ◌++◌, [], ◌∷◌, true, false, length, map, Ok, Some, option_map, slice_get, IfSome, IfOk, OnOk, OnErr};
 ghost use Rattle.spec_model.specs.Ordering.{leader, is_directly_committed, top, newer, newer_to, newer_at};
@@ -45,14 +45,14 @@ impl Coins {
         }
     }
 
-    /// The coins with these values, of the waves from 1 on. The call allocates no memory.
+    /// Coins with these values, of the waves from 1 on. The call allocates no memory.
     pub fn restore(values: Vec<u64>) -> Coins
         ensures { result ≡ values.items }
     {
         Coins { values }
     }
 
-    /// The coin at a place, counted from 0: that of the wave with the next number. None from the number of coins on.
+    /// The coin at this place, counted from 0: the first one is that of wave 1. None if there are fewer coins.
     pub fn nth(&self, place: usize) -> Option<u64>
         ensures { result ≡ slice_get self.now place }
     {
@@ -76,7 +76,7 @@ impl Coins {
         self.values.len()
     }
 
-    /// The coin of a wave, counted from 1.
+    /// The coin of a wave, if there is one; waves are counted from 1.
     pub fn get(&self, wave: u64) -> Option<u64>
         ensures value { result ≡ coin_of self.now wave }
         ensures within { IfSome result (λ _. (0 < wave) × (wave ≤ length self.now)) }
@@ -87,8 +87,8 @@ impl Coins {
         self.values.get((wave - 1) as usize).copied()
     }
 
-    /// The slot of a wave's leader: the wave's first round, and the author that the wave's coin chooses. None where the wave has no coin or
-    /// the slot holds no certificate.
+    /// The leader of a wave, as its round and author: the wave's first round, and the author that the wave's coin chooses. None if there is
+    /// no coin of the wave, or no certificate of that round and author.
     pub fn leader(&self, dag: &Dag, wave: u64) -> Option<(Round, Author)>
         ensures value { result ≡ option_map slot_of (leader (ledger_in dag.now self.now) wave) }
         ensures round { IfSome result (λ leader. leader.0 ≡ 2 * wave - 1) }
@@ -98,7 +98,7 @@ impl Coins {
         chosen(dag, wave, coin)
     }
 
-    // Whether a wave is directly committed: its leader has support.
+    // Whether the leader of a wave has support, so that the wave is directly committed.
     fn is_committed(&self, dag: &Dag, wave: u64) -> bool
         ensures { result ≡ is_directly_committed (ledger_in dag.now self.now) wave }
     {
@@ -109,8 +109,8 @@ impl Coins {
         }
     }
 
-    /// The greatest directly committed wave. The waves are tried from that of the last coin downwards; a wave below the floor has no leader
-    /// that is held.
+    /// The greatest wave whose leader has support. Waves are tried from that of the last coin downwards. A wave below the floor has no
+    /// leader in the DAG.
     pub fn top(&self, dag: &Dag) -> Option<u64>
         ensures { result ≡ top (ledger_in dag.now self.now) }
     {
@@ -125,8 +125,9 @@ impl Coins {
         None
     }
 
-    // The slots of the leaders of the waves above `last` that are committed with this wave's leader, oldest first, and of that leader
-    // itself. It walks down once: the set that the last leader taken reaches in one wave's first round gives the set for the wave below.
+    // The leaders of waves above `last` that are committed with this wave's leader, oldest first, and that leader, each as round and
+    // author. It walks down once: what the last leader taken reaches in the first round of one wave gives what it reaches in that of the
+    // wave below.
     fn newer_to(
         &self,
         alloc: Global,
@@ -160,7 +161,7 @@ impl Coins {
         Ok(chain)
     }
 
-    // The slots that `newer_to` gives if the leader has support, and otherwise none.
+    // The leaders that `newer_to` returns if this wave's leader has support; otherwise none.
     fn newer_if_supported(
         &self,
         alloc: Global,
@@ -181,7 +182,7 @@ impl Coins {
         self.newer_to(alloc, dag, last, wave, leader)
     }
 
-    // The slots of the leaders of the waves above `last` that are committed when this wave's leader is, oldest first.
+    // The leaders of waves above `last` that are committed when this wave's leader is, oldest first, each as round and author.
     fn newer_at(
         &self,
         alloc: Global,
@@ -201,8 +202,8 @@ impl Coins {
         }
     }
 
-    /// The slots of the committed leaders of later waves, oldest first; without a wave, of all committed leaders. If the given wave is
-    /// committed too, these are the newer part of its chain.
+    /// The committed leaders of waves above the given one, oldest first, each as round and author; without a given wave, all committed
+    /// leaders. If the given wave is committed too, these are the newer part of the chain of leaders.
     pub fn chain_from(
         &self,
         alloc: Global,
@@ -219,9 +220,9 @@ impl Coins {
         }
     }
 
-    /// The slots of the leaders, oldest first, that a member's new certificate commits; it isn't in the DAG yet. The last committed wave is
-    /// `last`, and the DAG's base is its leader's round. A certificate of the second round of a wave may support the wave's leader. A
-    /// certificate of any other round supports none, and a new leader has no supporters yet.
+    /// The leaders that a member's new certificate commits, oldest first, each as round and author; the certificate isn't in the DAG yet.
+    /// The last committed wave is `last`, and the DAG's base is the round of its leader. A certificate of the second round of a wave may
+    /// support that wave's leader. A certificate of any other round supports none, and a leader that is new has no supporters yet.
     pub fn committed_by(
         &self,
         alloc: Global,
@@ -251,8 +252,8 @@ impl Coins {
         }
     }
 
-    /// The slots of the leaders, oldest first, that the coin of the next wave commits. The last committed wave is `last`, and the DAG's
-    /// base is its leader's round.
+    /// The leaders that the coin of the next wave commits, oldest first, each as round and author. The last committed wave is `last`, and
+    /// the DAG's base is the round of its leader.
     pub fn committed_with(
         &self,
         alloc: Global,

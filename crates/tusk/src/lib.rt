@@ -1,4 +1,4 @@
-//! The leaders of waves, chosen by the coins among the certificates of a DAG, and which of them are committed.
+//! The leaders of waves, which the coins choose among the certificates of a DAG; and which of these leaders are committed.
 #![tactic(auto)]
 
 mod coins;

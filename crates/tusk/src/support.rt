@@ -1,4 +1,4 @@
-//! Who supports a leader, and whether that is enough to commit it.
+//! Which members support a leader, and whether they are enough to commit it.
 
 ghost use Rattle.std.specs.Prelude.{◌≡◌, ℕ, ◌+◌, ◌-◌, ◌*◌, ◌%◌, ◌<◌, ◌≤◌, ◌==◌, ◌&&◌, ◌||◌, nat_le, length, List, Some, option_map, IfSome, IsNone};
 ghost use Rattle.std.specs.List.{list_any};
@@ -15,7 +15,7 @@ use committee::MemberSet;
 use dag::{Dag, Reads};
 use wire::{Author, Certificate, Digest, ParentReference, Round};
 
-// The first round of a wave; None past the greatest round.
+// The first round of a wave; None if it is above the greatest round.
 fn first_round(wave: u64) -> Option<Round>
     requires { 0 < wave }
     ensures some { IfSome result (λ round. round ≡ 2 * wave - 1) }
@@ -30,7 +30,7 @@ fn first_round(wave: u64) -> Option<Round>
     }
 }
 
-/// The slot that this coin chooses for a wave, if it holds a certificate.
+/// The leader that this coin chooses for a wave, as its round and author; None if there is no certificate of them.
 pub(crate) fn chosen(dag: &Dag, wave: u64, coin: u64) -> Option<(Round, Author)>
     requires { 0 < wave }
     ensures value { result ≡ option_map slot_of (slots_in dag.now (2 * wave - 1) (coin % size_in dag.now)) }
@@ -45,14 +45,14 @@ pub(crate) fn chosen(dag: &Dag, wave: u64, coin: u64) -> Option<(Round, Author)>
     }
 }
 
-/// The last committed wave; 0 where there is none.
+/// The number of the last committed wave; 0 if there is none.
 pub(crate) fn committed_to(last: Option<u64>) -> u64
     ensures { result ≡ wave_of last }
 {
     last.unwrap_or(0)
 }
 
-// The round of a number.
+// The round with this number.
 fn round_of(number: u64) -> Round
     requires { number ≤ MAX }
     ensures { result ≡ number }
@@ -63,7 +63,7 @@ fn round_of(number: u64) -> Round
     }
 }
 
-/// Two rounds down: given the authors of a round that some slot reaches, the authors of two rounds below that it reaches.
+/// Given the authors of a round whose certificates a leader reaches, the authors of two rounds below whose certificates it reaches.
 pub(crate) fn two_down(dag: &Dag, round: u64, authors: &MemberSet) -> MemberSet
     requires low { 2 ≤ round }
     requires limit { round ≤ MAX }
@@ -76,7 +76,7 @@ pub(crate) fn two_down(dag: &Dag, round: u64, authors: &MemberSet) -> MemberSet
     dag.parents_of(round_of(round - 1), &below, &mut reads)
 }
 
-/// Whether these members are enough to support a leader.
+/// Whether these members weigh enough to support a leader.
 pub(crate) fn is_enough(dag: &Dag, members: &MemberSet) -> bool
     ensures { result ≡ nat_le (support_of dag.now.charter) (weight dag.now.charter (has members.now)) }
 {
@@ -84,7 +84,7 @@ pub(crate) fn is_enough(dag: &Dag, members: &MemberSet) -> bool
     committee.support() <= committee.weight(members)
 }
 
-/// Whether a leader, which is held, has support.
+/// Whether a leader, which is in the DAG, has support.
 pub(crate) fn is_supported(dag: &Dag, leader: (Round, Author)) -> bool
     ensures { (c : Certificate) (coins : List ℕ) → slots_in dag.now leader.0 leader.1.0 ≡ Some c → result ≡ has_support (ledger_in dag.now coins) c }
 {
@@ -92,14 +92,14 @@ pub(crate) fn is_supported(dag: &Dag, leader: (Round, Author)) -> bool
     is_enough(dag, &dag.supporters(leader.0, leader.1))
 }
 
-// Whether a parent with this author and digest is named.
+// Whether one of these parents has this author and digest.
 fn is_among(parents: &[ParentReference], author: Author, digest: &Digest) -> bool
     ensures { result ≡ list_any (λ parent. (parent.author.0 == author.0) && same_digest parent.certificate digest.now) parents.now }
 {
     parents.iter().any(|parent| parent.author == author && parent.certificate == *digest)
 }
 
-// Whether a certificate names this leader, which is held, as a parent.
+// Whether a certificate names this leader, which is in the DAG, as a parent.
 fn names(dag: &Dag, certificate: &Certificate, leader: (Round, Author)) -> bool
     ensures { (c : Certificate) → slots_in dag.now leader.0 leader.1.0 ≡ Some c → result ≡ list_any (is_named c) certificate.now.header.parents }
 {
@@ -110,7 +110,8 @@ fn names(dag: &Dag, certificate: &Certificate, leader: (Round, Author)) -> bool
     }
 }
 
-/// The supporters of a leader, which is held, together with the author of a certificate of the next round if that names the leader.
+/// The members that support a leader, which is in the DAG. If this certificate of the next round names the leader, its author is one of
+/// them.
 pub(crate) fn supporters_with(
     dag: &Dag,
     leader: (Round, Author),

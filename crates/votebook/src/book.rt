@@ -1,4 +1,4 @@
-//! The votes, by round and author.
+//! The votes of a validator, by round and author.
 
 ghost use Rattle.std.specs.Prelude.{◌≡◌, ℕ, ◌≤◌, ◌<◌, IfOk, OnErr, slice_get};
 ghost use Rattle.std.specs.FinMap as map;
@@ -13,18 +13,18 @@ use std::collections::BTreeMap;
 use std::marker::Model;
 use wire::{Author, Digest, Round};
 
-/// The answer of the book to a header that asks for a vote.
+/// The answer to a header that asks for the validator's vote.
 #[derive(Clone, Copy, Debug, PartialEq, Eq)]
 pub enum Voted {
-    /// There was no vote in this slot; now the vote is there.
+    /// There was no vote for this round and author; now this header has it.
     New,
-    /// This vote was there already.
+    /// This header had the vote already.
     Again,
-    /// The slot has the vote for another header.
+    /// Another header of this round and author has the vote.
     Equivocation,
 }
 
-/// The votes. Contracts see a finite map from slots to header digests.
+/// The votes of a validator. Contracts see a finite map from slots (a round and an author) to the digests of headers.
 pub struct VoteBook {
     votes: BTreeMap<Slot, Digest>,
 }
@@ -57,7 +57,7 @@ impl VoteBook {
         }
     }
 
-    /// The book with these votes, whose slots are strictly ascending, by round and then author. On `AllocError` an allocation failed.
+    /// The book with these votes, which are strictly ascending by round and then by author. On `AllocError` an allocation failed.
     pub fn restore(alloc: Global, votes: Vec<(Slot, Digest)>) -> Result<VoteBook, AllocError>
         requires rising { IsStrictlySortedBy slot_cmp (keys_of votes.items) }
         ensures { IfOk result (λ book. map.entries book ≡ votes.items) }
@@ -66,8 +66,8 @@ impl VoteBook {
         Ok(VoteBook { votes })
     }
 
-    /// The vote at a place, counted from 0, in the order of rounds and then authors. None from the number of votes on. It takes time in
-    /// proportion to the place.
+    /// The vote at this place, counted from 0 in the order of rounds and then authors. None if there are fewer votes. The call takes time
+    /// in proportion to the place.
     pub fn nth(&self, place: usize) -> Option<(Slot, Digest)>
         ensures { result ≡ slice_get (map.entries self.now) place }
     {
@@ -75,14 +75,14 @@ impl VoteBook {
         Some((*slot, *header))
     }
 
-    /// The digest of the header that was voted for in this slot, if any.
+    /// The digest of the header of this round and author that was voted for, if any was.
     pub fn voted(&self, author: Author, round: Round) -> Option<Digest>
         ensures { result ≡ voted_in self.now author round }
     {
         self.votes.get(&slot_of(author, round)).copied()
     }
 
-    /// Asks for the vote of a slot, for a header. Only `New` changes the book, by adding this vote.
+    /// Asks for the vote for this round and author, for a header. The book changes only if the answer is `New`: it has this vote then.
     pub fn vote(
         &mut self,
         author: Author,
@@ -103,7 +103,7 @@ impl VoteBook {
         }
     }
 
-    /// Drops the votes of the rounds at or below this one.
+    /// Drops the votes of this round and of lower rounds.
     pub fn forget_to(&mut self, round: Round)
         ensures { ForgetsTo round self.old self.new }
     {

@@ -1,4 +1,4 @@
-//! The votes of one validator: at most one header digest for each author and round, the first one.
+//! The votes of one validator: for each round and author the digest of at most one header, the first that asked for the vote.
 #![tactic(auto)]
 
 mod book;

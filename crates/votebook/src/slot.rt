@@ -1,6 +1,6 @@
-//! What a vote is for.
+//! What a vote is for: a round and an author.
 
-/// A slot: the place of an author's header in a round.
+/// A slot: a round and an author, of which there is at most one header that gets the vote.
 #[derive(Clone, Copy, Debug, PartialEq, Eq, PartialOrd, Ord)]
 pub struct Slot {
     pub round: u64,

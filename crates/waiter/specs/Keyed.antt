@@ -4,6 +4,6 @@ use Rattle.wire.specs.Events.{Event}
 use Rattle.wire.specs.declared.keys.Digest.{Digest}
 use Rattle.header.specs.Digested.{certificate_digest_in}
 
--- an event is a certificate, under its digest
+-- an entry of the table is a certificate under its own digest
 abbrev pub IsUnderItsDigest : Digest × Event → Type 0
 IsUnderItsDigest entry = certificate_digest_in entry.1.message ≡ Some entry.0

@@ -1,4 +1,4 @@
-//! Certificates that wait for their parents, in the order in which they came, each once.
+//! Certificates that wait for their parents, each once, in the order in which they came.
 #![tactic(auto)]
 
 mod refusal;

@@ -12,10 +12,10 @@ pub enum WaitRefusal {
     /// An allocation failed.
     #[error("1 Memory")]
     Memory,
-    /// The greatest number of certificates wait already.
+    /// As many certificates wait already as may.
     #[error("2 Full")]
     Full,
-    /// The message is no certificate.
+    /// The message that was to wait is no certificate.
     #[error("3 NotACertificate")]
     NotACertificate,
 }

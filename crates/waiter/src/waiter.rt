@@ -1,4 +1,4 @@
-//! The waiting certificates.
+//! Certificates that wait for their parents.
 
 ghost use Rattle.std.specs.Prelude.{◌≡◌, ◌≢◌, ◌<◌, ◌≤◌, ◌++◌, [], ◌∷◌, ◌↔◌, Some, None, Ok, true, length, take, slice_get, IfSome, IfNone, IsTrue, OnOk, OnErr, IsErrOf, option_copied};
 ghost use Rattle.std.specs.Fn.{CalledAt};
@@ -16,17 +16,17 @@ use std::alloc::Global;
 use std::marker::Model;
 use wire::Digest;
 
-/// How many certificates may wait.
+/// How many certificates may wait at the same time.
 pub const MAX_WAITING: usize = 4_096;
 
-/// The limit as a number.
+/// The limit as a number. The call does nothing: it is a theorem.
 pub fn limits_in_numbers()
     ensures waiting { MAX_WAITING ≡ 4096 }
 {}
 
 /// Certificates that wait for their parents. Contracts see them with their senders, in the order in which they came.
 pub struct Waiter {
-    // The waiting certificates by digest, in the order in which they came.
+    // The waiting certificates under their digests, in the order in which they came.
     waiting: IndexMap<Digest, Checked, TableSeed>,
 }
 
@@ -51,7 +51,7 @@ impl Model for Waiter {
 }
 
 impl Waiter {
-    /// No waiting certificates. The table hashes with this seed.
+    /// No waiting certificates. The hash table gets this seed.
     pub fn new(alloc: Global, seed: TableSeed) -> Waiter
         ensures { result ≡ [] }
     {
@@ -60,7 +60,7 @@ impl Waiter {
         }
     }
 
-    /// Adds a certificate, as the last one. If one with its digest waits already, only that one stays.
+    /// Lets a certificate wait, as the last one. If one with the same digest waits already, only that one stays.
     pub fn offer(&mut self, checked: Checked) -> Result<(), WaitRefusal>
         ensures not_a_certificate { IsErrOf result WaitRefusal.NotACertificate ↔ (certificate_digest_in checked.message ≡ None) }
         ensures full { IsErrOf result WaitRefusal.Full ↔ ((certificate_digest_in checked.message ≢ None) × (¬ Waits self.old checked) × (length self.old ≡ MAX_WAITING)) }
@@ -109,7 +109,7 @@ impl Waiter {
         self.waiting.len()
     }
 
-    /// The certificate at this place in the order of offering, counted from 0; None where fewer wait.
+    /// The certificate at this place, counted from 0 in the order in which they came; None if fewer wait.
     pub fn nth(&self, place: usize) -> Option<&Checked>
         ensures { option_copied result ≡ slice_get self.now place }
     {
@@ -117,8 +117,8 @@ impl Waiter {
         Some(checked)
     }
 
-    /// Removes and gives the certificate at this place, counted from 0; None where fewer wait. The others keep their order. The call
-    /// allocates no memory.
+    /// Takes the certificate at this place out, counted from 0; None if fewer wait. The others keep their order. The call allocates no
+    /// memory.
     pub fn take(&mut self, place: usize) -> Option<Checked>
         ensures taken { IfSome result (λ checked. IsTakenAt self.old place checked self.new) }
         ensures none { IfNone result (self.new ≡ self.old) }
@@ -128,7 +128,8 @@ impl Waiter {
         Some(checked)
     }
 
-    /// Asks about each certificate in turn whether it is ready, and removes and gives the first that is. The call allocates no memory.
+    /// Asks the closure about each certificate in turn whether it is ready, and takes the first one out that is. The call allocates no
+    /// memory.
     pub fn next_ready<F: FnMut(&Checked) -> bool>(&mut self, ready: F) -> Option<Checked>
         requires { F.IsAlwaysCallable ready }
         ensures first { IfSome result (λ checked. IsFirstReady F.FnMut ready self.old checked self.new) }
@@ -140,7 +141,7 @@ impl Waiter {
         Some(checked)
     }
 
-    // The place of the first certificate for which the answer is yes.
+    // The place of the first certificate about which the closure says yes.
     fn first_ready<F: FnMut(&Checked) -> bool>(&self, mut ready: F) -> Option<usize>
         requires { F.IsAlwaysCallable ready }
         ensures found { IfSome result (λ place. (checked : Event) × (asked : F) × (last : F) × (slice_get self.now place ≡ Some checked) × AnswersNo F.FnMut ready (take place self.now) asked × CalledAt F.FnMut asked checked true last) }

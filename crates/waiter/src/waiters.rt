@@ -1,4 +1,4 @@
-//! The waiting certificates by their rounds.
+//! Certificates that wait for their parents, by round.
 
 ghost use Rattle.std.specs.Prelude.{◌≡◌, ◌≢◌, ◌≤◌, ◌<◌, ◌++◌, ◌∷◌, ◌↔◌, ◌+◌, [], ℕ, Some, None, Ok, true, false, List, IfSome, IfNone, IfErr, OnOk, OnErr, IsErrOf, length, option_copied, slice_get};
 ghost use Rattle.wire.specs.Events.{Event};
@@ -16,12 +16,12 @@ use std::collections::BTreeMap;
 use std::marker::Model;
 use wire::Message;
 
-/// Certificates that wait for their parents, by round, so that those of one round can be asked about alone. Contracts see those of each
-/// round, in the order in which they came, and their number.
+/// Certificates that wait for their parents, by round, so that one round can be looked at alone. Contracts see the certificates of each
+/// round, in the order in which they came, and how many wait in all.
 pub struct Waiters {
     alloc: Global,
     seed: TableSeed,
-    // Each round in the tree has at least one certificate.
+    // The waiting certificates of each round. A round without any isn't in the tree.
     rounds: BTreeMap<u64, Waiter>,
     count: usize,
 }
@@ -50,7 +50,7 @@ impl Model for Waiters {
 }
 
 impl Waiters {
-    /// No waiting certificates. The tables hash with this seed.
+    /// No waiting certificates. The hash tables get this seed.
     pub fn new(alloc: Global, seed: TableSeed) -> Waiters
         ensures { result ≡ none_waits }
     {
@@ -62,7 +62,7 @@ impl Waiters {
         }
     }
 
-    /// Adds a certificate, as the last one of its round. If one with its digest waits already, only that one stays.
+    /// Lets a certificate wait, as the last one of its round. If one with the same digest waits already, only that one stays.
     pub fn offer(&mut self, checked: Checked) -> Result<(), WaitRefusal>
         ensures not_a_certificate { IsErrOf result WaitRefusal.NotACertificate ↔ (certificate_digest_in checked.message ≡ None) }
         ensures full { IsErrOf result WaitRefusal.Full ↔ ((certificate_digest_in checked.message ≢ None) × (¬ WaitsThere self.old checked) × (self.old.count ≡ MAX_WAITING)) }
@@ -88,7 +88,7 @@ impl Waiters {
         Ok(())
     }
 
-    /// The first waiting certificate of the lowest round, with that round. The call allocates no memory.
+    /// The lowest round in which a certificate waits, and the first one there. The call allocates no memory.
     pub fn lowest(&self) -> Option<(u64, &Checked)>
         ensures first { IfSome result (λ found. (rest : List Event) × (held self.now found.0 ≡ found.1.now ∷ rest)) }
         ensures least { IfSome result (λ found. (round : ℕ) → round < found.0 → held self.now round ≡ []) }
@@ -99,7 +99,7 @@ impl Waiters {
         Some((*round, first))
     }
 
-    /// How many certificates of a round wait.
+    /// How many certificates of this round wait.
     pub fn count_of(&self, round: u64) -> usize
         ensures { result ≡ length (held self.now round) }
     {
@@ -109,7 +109,7 @@ impl Waiters {
         }
     }
 
-    /// The waiting certificate of a round at this place in the order of offering, counted from 0; None where fewer wait.
+    /// The waiting certificate of this round at this place, counted from 0 in the order in which they came; None if fewer wait.
     pub fn nth_of(&self, round: u64, place: usize) -> Option<&Checked>
         ensures { option_copied result ≡ slice_get (held self.now round) place }
     {
@@ -119,8 +119,8 @@ impl Waiters {
         }
     }
 
-    /// Removes and gives the waiting certificate of a round at this place, counted from 0; None where fewer wait. The others keep their
-    /// order. The call allocates no memory.
+    /// Takes the waiting certificate of this round at this place out, counted from 0; None if fewer wait. The others keep their order. The
+    /// call allocates no memory.
     pub fn take_of(&mut self, round: u64, place: usize) -> Option<Checked>
         ensures taken { IfSome result (λ checked. IsTakenAt (held self.old round) place checked (held self.new round)) }
         ensures others { (other : ℕ) → other ≢ round → held self.new other ≡ held self.old other }
@@ -134,7 +134,7 @@ impl Waiters {
     }
 }
 
-// The round of a certificate.
+// The round of a certificate that waits.
 fn round_of(checked: &Checked) -> u64
     ensures { result ≡ round_of checked.now }
 {
@@ -144,7 +144,7 @@ fn round_of(checked: &Checked) -> u64
     }
 }
 
-// Whether a certificate with the same digest waits in a round.
+// Whether a certificate with the same digest waits in this round.
 fn waits(rounds: &BTreeMap<u64, Waiter>, round: u64, checked: &Checked) -> bool
     ensures yes { result ≡ true → Waits (held_in rounds.now.entries round) checked.now }
     ensures no { result ≡ false → ¬ Waits (held_in rounds.now.entries round) checked.now }
@@ -156,7 +156,7 @@ fn waits(rounds: &BTreeMap<u64, Waiter>, round: u64, checked: &Checked) -> bool
     }
 }
 
-// Adds a certificate to its round, in which none with its digest waits. If an allocation fails, the tree is as it was.
+// Lets a certificate wait in its round, where none with the same digest waits. If an allocation fails, the tree is as before.
 fn add(
     alloc: Global,
     seed: TableSeed,
@@ -184,7 +184,7 @@ fn add(
     Ok(())
 }
 
-// Removes and gives the certificate of a round at this place. A round without certificates is removed too.
+// Takes the certificate of this round at this place out. If the round has no other, it leaves the tree.
 fn take_at(rounds: &mut BTreeMap<u64, Waiter>, round: u64, place: usize) -> Option<Checked>
     requires kept { NoneIsEmpty rounds.old.entries }
     ensures taken { IfSome result (λ checked. IsTakenAt (held_in rounds.old.entries round) place checked (held_in rounds.new.entries round)) }

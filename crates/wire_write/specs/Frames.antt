@@ -1,9 +1,9 @@
--- How a frame is written, also where the writer fails.
+-- How much of a frame is written if the writer fails.
 use Rattle.std.specs.Prelude.{◌<◌, ℕ, List, Option, length}
 use Rattle.std.specs.Io.KnownBytes.{Appends}
 use Rattle.wire.specs.Lists.{Begins}
 
--- what the writer has got grows by a prefix of these bytes, not by all of them
+-- the writer has got a further prefix of these bytes, but not all of them
 pub record AppendsLess (old new : Option (List ℕ)) (bytes : List ℕ) : Type 0 where
   pub part : List ℕ
   pub begins : Begins part bytes

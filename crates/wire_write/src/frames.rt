@@ -1,4 +1,4 @@
-//! Writing outputs as frames.
+//! Writes outputs as frames.
 
 ghost use Rattle.std.specs.Prelude.{◌≡◌, ◌≤◌, length, take, drop, IfOk, IfErr, OnOk, OnErr, IsErrOf};
 ghost use Rattle.std.specs.Io.KnownBytes.{Keeps, Appends};
@@ -32,11 +32,11 @@ impl From<AllocError> for WriteError {
     }
 }
 
-/// Writes an output as a frame: the number of its bytes, in four bytes, big-endian, and the bytes. Makes as many calls of the writer as are
-/// needed, and repeats a call that was interrupted.
+/// Writes an output as a frame: its length in four big-endian bytes, and its bytes. It calls the writer as often as needed, and repeats a
+/// call that was interrupted.
 ///
 /// # Errors
-/// `Memory` where an allocation failed, `Output` where the writer failed or took no more.
+/// `Memory` if an allocation failed; `Output` if the writer failed or took no more bytes.
 pub fn write_output<W: Write>(
     alloc: Global,
     output: &Output,
@@ -51,7 +51,7 @@ pub fn write_output<W: Write>(
     write_bytes(writer, body.as_slice())
 }
 
-// Writes all of these bytes, in as many calls as it takes. At an error a prefix of them was written.
+// Writes all of these bytes, in as many calls as it takes. After an error, a prefix of them was written.
 fn write_bytes<W: Write>(writer: &mut W, bytes: &[u8]) -> Result<(), WriteError>
     ensures ok { OnOk result (Appends (W.contents writer.old) (W.contents writer.new) bytes.now) }
     ensures err { OnErr result (AppendsLess (W.contents writer.old) (W.contents writer.new) bytes.now) }
@@ -80,7 +80,7 @@ fn after(bytes: &[u8], count: usize) -> &[u8]
     &bytes[count..]
 }
 
-// Writes some of the first bytes, and gives how many: none where the call was interrupted, so that it is to be made again.
+// Writes some of the first bytes, and returns how many. It is none if the call was interrupted, so that it has to be made again.
 fn write_some<W: Write>(writer: &mut W, bytes: &[u8]) -> Result<usize, WriteError>
     ensures ok { IfOk result (λ count. Appends (W.contents writer.old) (W.contents writer.new) (take count bytes.now)) }
     ensures within { IfOk result (λ count. count ≤ length bytes.now) }

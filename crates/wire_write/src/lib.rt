@@ -1,4 +1,4 @@
-//! Writing outputs to a stream: `write_output` writes the frame of one.
+//! Writes outputs to a stream: `write_output` writes one as a frame.
 #![tactic(auto)]
 
 mod frames;
