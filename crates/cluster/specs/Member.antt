@@ -1,4 +1,4 @@
--- A member of a cluster: what contracts see of it, and at which world it stands.
+-- What contracts see of one member of a cluster, and which state of the world (of disks, waiting events and outputs) it has reached.
 use Rattle.std.specs.Prelude.{◌≡◌, ◌⊎◌, List, [], ◌∷◌, ◌++◌, map, Bool, true, false, Option, Some, None, Contains}
 use Rattle.book.specs.Book.{Run, Stands, state_in, releasable}
 use Rattle.desk.specs.AtWorld.{IsAt}

@@ -16,7 +16,8 @@ use Rattle.sigface.specs.Scheme.{Scheme}
 
 -- ---- the messages that reach a member
 
--- this event, in flight to this receiver, is the message of an output with that receiver. None stands for an output that is for all
+-- an event is in flight to a receiver: the event's message is that of some output, and the output is addressed to this receiver. None, in
+-- place of a receiver, stands for an output that is addressed to all members
 pub record IsSent (receiver : Option Author) (event : Event) : Type 0 where
   pub output : Output
   pub message : message_of output ≡ Some event.message

@@ -47,7 +47,7 @@ pub record IsRested (file now : List ℕ) : Type 0 where
   pub shut : reports file ≡ None → IsClosedUp file now
   pub kept : (reported : Option ℕ) → reports file ≡ Some reported → now ≡ file
 
--- the spare disk of a journal, noted with the side and the generation of the area that is read
+-- what a journal holds of its spare disk: the disk itself, and with it the side and the generation of the other area, the one that is read
 abbrev pub spare_with : {D : Type 0} → D → Side → ℕ → Spare D
 spare_with disk side generation = record { disk = disk; side = side; generation = generation }
 

@@ -37,7 +37,7 @@ impl Side {
         }
     }
 
-    // Two values, the first for the first area and the second for the second one; returns the value of this area first, then the other.
+    // Takes two values, one for the first area and one for the second, and returns the value of this area followed by the other one.
     pub(crate) fn before_other<X>(self, first: X, second: X) -> (X, X)
         ensures { result ≡ (on_side self first second, off_side self first second) }
     {

@@ -58,7 +58,8 @@ fn generation_in(records: &[Record]) -> Option<u64>
     }
 }
 
-/// The records after a checkpoint's head; None if there is no head, which would be in the group of the first record.
+/// The records after a checkpoint's head. A head is the second record of a journal, in the same group as the first record; None if there is
+/// none.
 #[tactic(auto, unfolding(crate::specs::Accounts::after_head))]
 pub(crate) fn after_head<'r>(first: &Record, rest: &'r [Record]) -> Option<&'r [Record]>
     ensures { option_copied result ≡ after_head first.now rest.now }

@@ -217,7 +217,8 @@ fn row_of(alloc: Global, record: &[u8]) -> Result<Row, Ending> {
     }
 }
 
-// The row for the message of an event's record.
+// The row of the listing for a record that holds an event: the kind of the event's message, with its author, round, wave and digest. The
+// sender is filled in by the caller.
 fn message_row(message: &Message) -> Row {
     match message {
         Message::Batch(batch) => batch_row("batch", batch),

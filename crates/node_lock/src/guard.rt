@@ -127,7 +127,8 @@ impl<T, K, F: Fits<T, K>> Lock<T, K, F> {
         false
     }
 
-    // This method and the next one return the word as it was before.
+    // Takes the lock if the lock's word says that it is free. This method and the next one return the word as it was before the
+    // attempt.
     fn take_free<W: Known<T>>(&self, seat: &mut Seat<Option<T>, ()>) -> u64
         requires of { seat.old.table_id ≡ self.now.id }
         requires empty { seat.old.me.1 ≡ [] }

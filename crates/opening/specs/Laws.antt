@@ -31,7 +31,8 @@ use Rattle.spec_world.specs.World.{World, Holds, StandsFor, MayStop}
 
 -- ---- laws of a journal on one disk
 
--- the bytes of one disk stand for a state, and that state is what is kept of some legal history
+-- these bytes, as the content of the node's only disk, stand for this state (a start restores it from them), and the state is what is kept
+-- of some legal history
 pub record IsOfBytes (node : Node) (bytes : List ℕ) (state : State) : Type 0 where
   pub stands_for : StandsFor node (alone bytes) state
   pub history : History

@@ -156,7 +156,7 @@ fn header_with_votes_of(alloc: Global, reader: &mut Reader) -> Result<KeptHeader
     Ok(KeptHeader { header, votes })
 }
 
-/// Whether an own header may come after these headers, and none of the votes on it is the node's own.
+/// Whether an own header may be kept after the own headers `before`, and all votes that are kept with it are of other members.
 fn is_header_kept<S: Sign>(node: &Node<S>, before: &[KeptHeader], kept: &KeptHeader) -> bool
     ensures { result ≡ (header_may_follow before.now kept.now.header.body.round && are_of_others (node_view S.scheme node.now) kept.now.votes) }
 {
