@@ -47,7 +47,8 @@ abbrev pub read_references_in : DagView → Option Certificate → Certificate �
 read_references_in graph previous leader =
     sum_by (λ c. cond (is_read_for graph previous leader c) (length c.header.parents) 0) (rounds_to (ledger_in graph []) leader.header.round)
 
--- a leader reaches this certificate, whose round is above the given one, and it isn't marked
+-- whether a leader reaches this certificate along references to parents, the certificate's round is above the given one, and it isn't
+-- marked
 abbrev pub is_unmarked_past : DagView → ℕ → Option Certificate → Certificate → Bool
 is_unmarked_past graph low leader certificate =
     nat_lt low certificate.header.round && (is_past (ledger_in graph []) leader certificate && not (marked_in graph certificate.header.round certificate.header.author.0))

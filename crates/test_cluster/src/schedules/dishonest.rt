@@ -1,5 +1,5 @@
-//! What dishonest members do: they make several headers for a round, vote for all, gather votes that honest members gave out, show what
-//! they gathered to one node and not to another, and send what isn't signed.
+//! What dishonest members do: they make several headers for a round, vote for all headers, gather votes that honest members gave out, show
+//! the certificates made of these votes to one node and not to another, and send headers, votes and certificates with bad signatures.
 
 use super::headers::{Made, QUORUM, Showing, Which};
 use super::nodes::LATER;
@@ -16,20 +16,21 @@ use wire::{
     batch_digest, genesis_digest,
 };
 
-/// A digest of no text.
+/// A digest of all zeros, which isn't the digest of any text.
 const NOTHING: Digest = Digest([0; 32]);
 
-/// From how many of the last headers one is drawn.
+/// A header to show or to vote for is drawn from so many of the last headers.
 const NEAR: u64 = 6;
 
-/// A delay of many rounds.
+/// A delay of many rounds, after which the certificate of a face is shown to the nodes that got it late.
 const LONG: u64 = 6;
 
-/// The last round whose certificates come later to the node apart, of a branch.
+/// In the plan of a branch: the last round whose dishonest certificates reach the node apart later than the other nodes.
 const LAST_APART: u64 = 6;
 
 impl<'a> Schedule<'a> {
-    /// Where a node is given this header as its own, each dishonest member makes a face of its round, if it does.
+    /// When a node is given its own header at this place, each dishonest member perhaps makes a face for the header's round: one of its
+    /// headers for the round.
     pub fn make_faces(&mut self, own: usize) -> Reported {
         for author in self.honest.count()..MEMBERS {
             self.make_face(Author(author), own)?;
@@ -57,7 +58,7 @@ impl<'a> Schedule<'a> {
         self.form_face(author, round, face, &parents)
     }
 
-    // The face that is made of a round where this number was drawn, if one is.
+    // Which face (0 or 1) a dishonest member makes for a round, given a number below 4 that was drawn; None if it makes none.
     fn face_of(&self, drawn: u64, round: u64, own: Author) -> Option<u64> {
         match self.plan {
             Plan::Drawn => (drawn < 2).then_some(drawn),
@@ -71,8 +72,8 @@ impl<'a> Schedule<'a> {
         }
     }
 
-    // The parents of a face: of members that are split those of the node's own header, else the certificates that are out. Face 1 leaves
-    // one out that leads to a leader. Of fewer than a quorum no face is made.
+    // The parents of a face. In the plan of a split they are the parents of the node's own header; otherwise all certificates of the round
+    // before that were put out. Face 1 leaves out a parent that leads to a leader. With fewer parents than a quorum no face is made.
     fn parents(
         &self,
         round: u64,
@@ -95,7 +96,7 @@ impl<'a> Schedule<'a> {
         Ok(parents)
     }
 
-    // The certificate of a member for the parents of a face of this round.
+    // A reference to a member's certificate of the round before, as a parent of a face of this round.
     fn parent_of(&self, author: Author, round: u64, face: u64) -> Option<ParentReference> {
         if round == 1 {
             let certificate = genesis_digest(author);
@@ -113,8 +114,8 @@ impl<'a> Schedule<'a> {
         })
     }
 
-    // Leaves the first parent out that leads to a leader. Where there are no more than a quorum that is for the plan of two faces alone,
-    // and then the face isn't made.
+    // Removes the first parent through which the leader is reached. If the parents are no more than a quorum this is done only in the plan
+    // of two faces, and then no face is made for lack of parents.
     fn leave_one_out(&self, parents: &mut Vec<ParentReference>, round: u64) {
         if parents.len() <= QUORUM && !matches!(self.plan, Plan::Faces) {
             return;
@@ -132,7 +133,8 @@ impl<'a> Schedule<'a> {
         }
     }
 
-    // Whether a parent of a header of a wave's second round is of this author, or of its third names a certificate of that.
+    // Whether this parent leads to the leader: in the second round of a wave, whether it is the leader's own certificate; in the third,
+    // whether the parent names the leader's certificate as its own parent.
     fn leads(&self, parent: &ParentReference, round: u64, leader: Author) -> bool {
         if round % 2 == 0 {
             return parent.author == leader;
@@ -196,7 +198,7 @@ impl<'a> Schedule<'a> {
         }
     }
 
-    // By how many rounds the certificate of a face of this round comes later to the node apart, and to the others.
+    // How many rounds late the certificate of a face of this round reaches the node apart, and how many the other nodes.
     fn showing(&mut self, round: u64, face: u64) -> Showing {
         let (apart, others) = match self.plan {
             Plan::Drawn => self.drawn_delays(face),
@@ -225,7 +227,8 @@ impl<'a> Schedule<'a> {
         if face == 0 { (near, far) } else { (far, near) }
     }
 
-    /// The certificate of a dishonest member's header can be gathered: each node wants it, some later.
+    /// Notes that votes enough for the certificate of a dishonest member's header are there: from now on each node is to be given the
+    /// certificate, some nodes some rounds later.
     pub fn gather(&mut self, header: usize) -> Reported {
         self.headers.certify(header);
         let Some(made) = self.headers.get(header) else {
@@ -248,7 +251,7 @@ impl<'a> Schedule<'a> {
         Ok(())
     }
 
-    // The batch that a header names: one of two, or none.
+    // The reference to the batch with this number, 0 or 1, for a header; None for a greater number.
     fn named(&self, named: usize) -> Option<BatchReference> {
         let batch = self.batches.get(named)?;
         Some(BatchReference {
@@ -257,7 +260,7 @@ impl<'a> Schedule<'a> {
         })
     }
 
-    /// What is given to a node that comes from the member of whom it is: who sends it, and the message.
+    /// The message with a content that comes from its author itself and not from a node's output, and the member that sends it.
     pub fn message_of(
         &self,
         content: Option<Content>,
@@ -298,7 +301,7 @@ impl<'a> Schedule<'a> {
         }
     }
 
-    /// A node is given one of the dishonest members' last headers.
+    /// Gives a node one of the dishonest members' last headers.
     pub fn show(&mut self, node: Author) -> Result<Answered, AllocError> {
         let after = self.draws.below(NEAR);
         match self
@@ -310,13 +313,13 @@ impl<'a> Schedule<'a> {
         }
     }
 
-    /// A node gets one of two batches.
+    /// Gives a node one of the two batches.
     pub fn batch(&mut self, node: Author) -> Result<Answered, AllocError> {
         let number = self.draws.below(2) as usize;
         self.deliver("batch", node, Wish::of(number, Part::Batch))
     }
 
-    /// The author of one of the honest members' last headers gets a dishonest member's vote for it.
+    /// Gives the author of one of the honest members' last headers a dishonest member's vote for the header.
     pub fn vote(&mut self, node: Author) -> Result<Answered, AllocError> {
         let voter = self.draw_dishonest();
         let after = self.draws.below(NEAR);
@@ -331,13 +334,13 @@ impl<'a> Schedule<'a> {
         }
     }
 
-    // The author of a header, and the vote of a member for the header.
+    // The author of the header at this place, and a member's vote for the header.
     fn vote_of(&self, header: usize, voter: Author) -> Option<(Author, Vote)> {
         let made = self.headers.get(header)?;
         Some((made.author(), vote(&made.proposed, voter)))
     }
 
-    /// A node gets the certificate of one of the last headers that have enough votes.
+    /// Gives a node the certificate of one of the last headers that have a quorum of votes.
     pub fn gathered(&mut self, node: Author) -> Result<Answered, AllocError> {
         let after = self.draws.below(NEAR);
         match self.headers.near_last(Which::Gathered, after) {
@@ -356,7 +359,7 @@ impl<'a> Schedule<'a> {
         }
     }
 
-    // The list of the voters of a header.
+    // The list of the members whose votes on a header are known, as text.
     fn voters_of(&self, made: &Made) -> Result<String, AllocError> {
         let mut voters = String::new(self.alloc);
         for member in 0..MEMBERS {
@@ -367,7 +370,7 @@ impl<'a> Schedule<'a> {
         Ok(voters)
     }
 
-    /// A node gets something unsigned: one of the last headers, a vote of an honest member for it, or its certificate.
+    /// Gives a node something with a bad signature: one of the last headers, an honest member's vote for the header, or its certificate.
     pub fn forged(&mut self, node: Author) -> Result<Answered, AllocError> {
         let kind = self.draws.below(3);
         let after = self.draws.below(NEAR);
@@ -410,7 +413,7 @@ impl<'a> Schedule<'a> {
         Some((voter, Message::Vote(vote)))
     }
 
-    // A certificate whose votes have signed another digest than the certificate's.
+    // A certificate with votes whose signatures are over another digest than the one that such votes sign.
     fn unsigned_certificate(&self, header: usize) -> Result<Option<(Author, Message)>, AllocError> {
         let Some(made) = self.headers.get(header) else {
             return Ok(None);

@@ -1,4 +1,4 @@
-//! Numbers drawn from a start value.
+//! Pseudo-random numbers from a start value.
 
 ghost use Rattle.std.specs.Prelude.{◌<◌, IfSome};
 
@@ -9,14 +9,14 @@ pub struct Draws {
 }
 
 impl Draws {
-    /// Before the first number of the schedule of this start value.
+    /// The generator's state before the first number of the schedule with this start value.
     pub fn from(start: u64) -> Draws {
         Draws {
             state: start.wrapping_mul(11_400_714_819_323_198_485) % (1 << 48),
         }
     }
 
-    /// A number below this one.
+    /// Returns the next number, which is below the limit.
     pub fn below(&mut self, limit: u64) -> u64
         requires { 0 < limit }
         ensures { result < limit }
@@ -26,7 +26,7 @@ impl Draws {
         (self.state >> 17) % limit
     }
 
-    /// A place in a list of this length. For an empty list there is none, and no number is drawn.
+    /// Draws a place in a list of this length. Returns None for an empty list, and draws no number then.
     pub fn place(&mut self, length: usize) -> Option<usize>
         ensures { IfSome result (λ place. place < length) }
     {

@@ -1,14 +1,15 @@
-//! The headers that were made, by their places, who gave out votes on them, and whose certificates are out.
+//! All headers that were made in a schedule, by their places in a list, with the members whose votes on them may be used, and whether their
+//! certificates are out.
 
 use sim_members::MEMBERS;
 use sim_script::Proposed;
 use std::alloc::{AllocError, Global};
 use wire::{Author, Digest, Header, certificate_digest, header_digest};
 
-/// Members that are a quorum.
+/// How many members are a quorum.
 pub const QUORUM: usize = 3;
 
-/// Parents of a header at most.
+/// How many parents a header has at most.
 pub const PARENTS: usize = MEMBERS as usize;
 
 /// How a dishonest member shows a header's certificate.
@@ -17,13 +18,13 @@ pub struct Showing {
     /// Which face this header is: a dishonest member can make two headers for one round, its faces 0 and 1, and show them to different
     /// nodes. A header of an honest member is no face, and has `u64::MAX` here.
     pub face: u64,
-    /// By how many rounds the certificate comes later to the node apart, and to the others.
+    /// How many rounds late the header's certificate reaches the node apart, and how many the other nodes.
     pub apart: u64,
     pub others: u64,
 }
 
 impl Showing {
-    /// That of a header of an honest member.
+    /// What stands here for a header of an honest member: its certificate is never held back.
     pub fn honest() -> Showing {
         Showing {
             face: u64::MAX,
@@ -33,17 +34,18 @@ impl Showing {
     }
 }
 
-/// A header, with the members whose votes on it may be used: an honest member's only once it was given out.
+/// A header, with the members whose votes on it may be used: a dishonest member's vote always, an honest member's only once it was given
+/// out.
 #[derive(Drop)]
 pub struct Made {
     pub proposed: Proposed,
     pub showing: Showing,
-    /// The batch that it names, by its number.
+    /// The number of the batch that the header names, if it names one.
     pub batch: Option<usize>,
     voters: [bool; MEMBERS as usize],
-    // The places of its parents, but for those of the genesis.
+    // The places of the header's parents in the list of headers; None for genesis certificates.
     parents: [Option<usize>; PARENTS],
-    // Whether its certificate was put out, or can be gathered.
+    // Whether the header's certificate was put out, or can be made of known votes.
     certified: bool,
 }
 
@@ -56,34 +58,34 @@ impl Made {
         self.proposed.header.body.round.number()
     }
 
-    /// Whether a member's vote may be taken.
+    /// Whether a member's vote on the header may be used.
     pub fn is_voter(&self, member: u16) -> bool {
         self.voters.get(member as usize).copied().unwrap_or(false)
     }
 
-    /// Whether votes that may be taken are a quorum.
+    /// Whether the votes on the header that may be used are a quorum.
     pub fn is_gathered(&self) -> bool {
         self.voters.iter().filter(|vote| **vote).count() >= QUORUM
     }
 
-    /// The place of a parent.
+    /// The place, in the list of headers, of the header's parent with this number.
     pub fn parent(&self, place: usize) -> Option<usize> {
         *self.parents.get(place)?
     }
 
-    /// Whether a parent is of this author.
+    /// Whether the header names a certificate of this author as a parent.
     pub fn names(&self, author: Author) -> bool {
         let parents = self.proposed.header.body.parents.as_slice();
         parents.iter().any(|parent| parent.author == author)
     }
 
-    // Whether it is a member's of a round.
+    // Whether the header is this member's header of this round.
     fn is_of(&self, author: Author, round: u64) -> bool {
         self.author() == author && self.round() == round
     }
 }
 
-/// Which headers are asked for.
+/// Which headers are asked for in `near_last`.
 #[derive(Clone, Copy)]
 pub enum Which {
     Any,
@@ -91,25 +93,25 @@ pub enum Which {
     Below(Author),
     /// The headers of this member and of those above it.
     From(Author),
-    /// The headers for which a certificate can be gathered.
+    /// The headers on which a quorum of votes is known, so that a certificate can be made.
     Gathered,
 }
 
-/// The headers, in the order in which they were made.
+/// All headers of a schedule, in the order in which they were made.
 #[derive(Drop)]
 pub struct Headers {
     list: Vec<Made>,
 }
 
 impl Headers {
-    /// No headers.
+    /// An empty list of headers.
     pub fn new(alloc: Global) -> Headers {
         Headers {
             list: Vec::new(alloc),
         }
     }
 
-    /// The header at this place.
+    /// The header at this place of the list, if there is one.
     pub fn get(&self, place: usize) -> Option<&Made> {
         self.list.get(place)
     }
@@ -128,7 +130,8 @@ impl Headers {
             .position(|made| made.proposed.certificate == *digest)
     }
 
-    /// Adds a header, unless it was made before, and gives its place. Votes of the members from this one on may be taken.
+    /// Adds a header to the list, unless it is in it already, and returns its place. The votes of `dishonest` and of the members after it
+    /// may be used from the start.
     pub fn form(
         &mut self,
         header: Header,
@@ -187,7 +190,8 @@ impl Headers {
         self.list.iter().any(|made| made.is_of(author, round) && made.showing.face == face)
     }
 
-    /// A member's header of a round whose certificate is out: where there are several the last one of this face, or else the first.
+    /// A member's header of this round whose certificate is out. If there are several such headers (the member equivocated) it is the last
+    /// one that is this face, or else the first one.
     pub fn certified(&self, author: Author, round: u64, face: u64) -> Option<&Made> {
         let mut found = None;
         for made in self.list.iter() {
@@ -201,7 +205,8 @@ impl Headers {
         found
     }
 
-    /// Of the headers of a kind the place of the one that has so many after it, or else of the first.
+    /// Counts back over the headers of this kind: returns the place of the one with `after` headers of the kind after it, or of the first
+    /// one if there are fewer. None if there is no such header.
     pub fn near_last(&self, which: Which, after: u64) -> Option<usize> {
         let mut found = None;
         let mut left = after;
@@ -225,7 +230,7 @@ fn digests_of(header: &Header) -> (Digest, Digest) {
     (digest, certificate)
 }
 
-// The members from this one on.
+// For each member whether it has this number or a greater one.
 fn voters_from(first: Author) -> [bool; MEMBERS as usize] {
     [first.0 == 0, first.0 <= 1, first.0 <= 2, first.0 <= 3]
 }

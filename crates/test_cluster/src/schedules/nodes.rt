@@ -1,4 +1,4 @@
-//! What nodes get of what they want, and what their hosts do.
+//! The moves of a schedule that give nodes what they are to be given, and those of the nodes' hosts: flushes, stops and openings.
 
 use super::headers::Showing;
 use super::schedule::{Answered, Schedule, WAVES};
@@ -10,16 +10,17 @@ use std::alloc::AllocError;
 use validator::Refusal;
 use wire::{Author, Coin, Header, Message, Wave};
 
-/// Of the wanted deliveries one in this many is lost.
+/// One in so many of the wanted deliveries is lost.
 const LOST_ONE_OF: u64 = 64;
 
-/// Of what a node is ready for one of the first so many is drawn.
+/// What a node is given next is drawn from the first so many things that it is ready for.
 const FIRST: usize = 6;
 
-/// More rounds than there are.
+/// A number of rounds that is greater than that of any schedule.
 pub const LATER: u64 = 1000;
 
-/// The calls of a round that fail, and how a failure is told.
+/// Which calls of the disk fail in a flush: the call's kind, its number among the calls of the kind, and the name of the failure in the
+/// report.
 const CALLS: [(CallKind, u64, &str); 4] = [
     (CallKind::Write, 1, "fault write 1"),
     (CallKind::Sync, 1, "fault sync 1"),
@@ -27,7 +28,7 @@ const CALLS: [(CallKind, u64, &str); 4] = [
     (CallKind::Sync, 2, "fault sync 2"),
 ];
 
-/// What stops may leave, and how that is shown.
+/// What a stop may leave on the disk, each with its name in the report.
 const LEAVINGS: [(Leaving, &str); 4] = [
     (Leaving::Read, "stop keep"),
     (Leaving::Synced, "stop lose"),
@@ -36,12 +37,13 @@ const LEAVINGS: [(Leaving, &str); 4] = [
 ];
 
 impl<'a> Schedule<'a> {
-    // The node that is this many places after this one.
+    // The node that comes `more` nodes after this one; after the last node the first one follows.
     fn after(&self, node: Author, more: u16) -> Author {
         Author(node.0.wrapping_add(more) % self.honest.count())
     }
 
-    /// The first node from this one on that is ready for anything that it wants is given one of the first of that.
+    /// Takes the first node, from this one on, that is ready for anything that it is to be given, and gives it one of the first things that
+    /// it is ready for.
     pub fn want(&mut self, node: Author) -> Result<Answered, AllocError> {
         let Some(to) = self.first_ready(node, 0) else {
             return self.go_on(node);
@@ -53,7 +55,7 @@ impl<'a> Schedule<'a> {
         }
     }
 
-    // The first node from this one on that is ready for anything, or will be so many rounds later.
+    // The first node, from this one on, that is ready for anything now or will be `more` rounds later.
     fn first_ready(&self, node: Author, more: u64) -> Option<Author> {
         for next in 0..self.honest.count() {
             let other = self.after(node, next);
@@ -64,7 +66,7 @@ impl<'a> Schedule<'a> {
         None
     }
 
-    // For how much a node is ready, up to how much is drawn from.
+    // How many things a node is ready for, but at most `FIRST`.
     fn count_ready(&self, node: Author) -> usize {
         let mut count = 0;
         for place in 0..self.known.wants(node) {
@@ -75,7 +77,8 @@ impl<'a> Schedule<'a> {
         count
     }
 
-    // The place of what a node is ready for that has so many before it.
+    // The place, in the list of what a node is to be given, of the thing for which the node is ready (now or `more` rounds later) and that
+    // has `before` such things before it.
     fn ready_place(&self, node: Author, more: u64, before: usize) -> Option<usize> {
         if self.known.of(node).down || u64::from(node.0) == self.deaf {
             return None;
@@ -92,7 +95,7 @@ impl<'a> Schedule<'a> {
         None
     }
 
-    // Whether a node may take what it wants at this place, as far as is known, so many rounds later.
+    // Whether a node, as far as the schedule knows, can accept the thing at this place of its list now, or `more` rounds later.
     fn is_ready(&self, node: Author, place: usize, more: u64) -> bool {
         let Some(wish) = self.known.wanted(node, place) else {
             return false;
@@ -117,7 +120,7 @@ impl<'a> Schedule<'a> {
         }
     }
 
-    // Gives a node what it is ready for that has so many before it.
+    // Gives a node the thing that it is ready for and that has `before` such things before it.
     fn give_ready(&mut self, to: Author, more: u64, before: usize) -> Result<Answered, AllocError> {
         let Some(place) = self.ready_place(to, more, before) else {
             return self.flush(to);
@@ -144,7 +147,7 @@ impl<'a> Schedule<'a> {
         Ok(answered)
     }
 
-    /// Delivers something to a node. Where there is no such thing the node flushes.
+    /// Delivers something to a node. If there is nothing to be delivered the node flushes.
     pub fn deliver(
         &mut self,
         kind: &'static str,
@@ -183,7 +186,7 @@ impl<'a> Schedule<'a> {
         self.make(kind, to, step, wish)
     }
 
-    // Makes a move that gives something to a node.
+    // Makes a move that gives something to a node, and notes what the node has from then on.
     fn make(
         &mut self,
         kind: &'static str,
@@ -207,7 +210,7 @@ impl<'a> Schedule<'a> {
         })
     }
 
-    /// A node gets any output of any node.
+    /// Delivers any output of any node to a node.
     pub fn any(&mut self, to: Author) -> Result<Answered, AllocError> {
         let node = self.draw_node();
         let outputs = self.cluster.outputs(node).unwrap_or(0);
@@ -223,8 +226,9 @@ impl<'a> Schedule<'a> {
         self.deliver("any", to, wish)
     }
 
-    /// The first node from this one on that proposes a header is given that, or the first that has anything pending, or is down, flushes,
-    /// or else the first is given what it wants.
+    /// Makes a move that gets the schedule on. The first node, from this one on, that proposes a header is given its header. If none
+    /// proposes, the first one that is down or has accepted events that aren't settled flushes. If there is none either, the first node
+    /// that is ready for something is given that.
     pub fn go_on(&mut self, node: Author) -> Result<Answered, AllocError> {
         if let Some((other, header)) = self.first_proposing(node)? {
             return self.hand_in(other, header);
@@ -235,8 +239,9 @@ impl<'a> Schedule<'a> {
         }
     }
 
-    // The first node is given the first that it is ready for. Where there is none no node is deaf any more, and it may be what the node is
-    // ready for later. Where nobody wants anything the node flushes.
+    // Gives the first node that is ready for anything the first thing that it is ready for. If no node is ready, from now on no node is
+    // deaf (kept from its deliveries), and a node may be given what it will be ready for only in a later round. If no node is to be given
+    // anything, this node flushes.
     fn give_first(&mut self, node: Author) -> Result<Answered, AllocError> {
         if let Some(to) = self.first_ready(node, 0) {
             return self.give_ready(to, 0, 0);
@@ -248,7 +253,7 @@ impl<'a> Schedule<'a> {
         }
     }
 
-    // The first node that is ready for anything, or will be as soon as it can be, with how many rounds later that is.
+    // The first node that is ready for anything in the fewest rounds from now (0, 1, or any number), and that number of rounds.
     fn first_later(&self, node: Author) -> Option<(Author, u64)> {
         for more in [0, 1, LATER] {
             if let Some(to) = self.first_ready(node, more) {
@@ -282,7 +287,7 @@ impl<'a> Schedule<'a> {
         Ok(None)
     }
 
-    // A node is given the header that it proposes, and the dishonest members make theirs.
+    // Gives a node the header that it proposes, as its own; the dishonest members make their headers for the round.
     fn hand_in(&mut self, node: Author, header: Header) -> Result<Answered, AllocError> {
         let round = round_of(&header);
         let dishonest = self.first_dishonest();
@@ -313,7 +318,7 @@ impl<'a> Schedule<'a> {
         }
     }
 
-    /// A node flushes, and a call of that round fails.
+    /// A node flushes, and a call of its disk fails in that.
     pub fn fault(&mut self, node: Author) -> Result<Answered, AllocError> {
         let (call, count, kind) = CALLS[self.draws.below(4) as usize];
         let noted = self.known.of(node);
@@ -331,7 +336,7 @@ impl<'a> Schedule<'a> {
         }
     }
 
-    /// A node stops.
+    /// A node's machine stops, and the node is opened again.
     pub fn stop(&mut self, node: Author) -> Result<Answered, AllocError> {
         let (leaving, kind) = LEAVINGS[self.draws.below(4) as usize];
         if let Some(grip) = self.grips.get(node.0 as usize) {
@@ -346,7 +351,7 @@ impl<'a> Schedule<'a> {
         })
     }
 
-    /// A node gets a coin.
+    /// Gives a node the coin of its next wave.
     pub fn coin(&mut self, node: Author) -> Result<Answered, AllocError> {
         if self.draws.below(16) == 0 {
             let wave = 1 + self.draws.below(WAVES);
@@ -361,7 +366,7 @@ impl<'a> Schedule<'a> {
         }
     }
 
-    // The first node from this one on whose round is the fourth of its next wave, or greater.
+    // The first node, from this one on, whose round is after the last round of the wave whose coin the node is given next.
     fn first_tossing(&self, node: Author) -> Option<Author> {
         for more in 0..self.honest.count() {
             let other = self.after(node, more);
@@ -397,7 +402,7 @@ fn round_of(header: &Header) -> u64 {
     header.body.round.number()
 }
 
-// Whether a node still wants what it was given: it lacks a parent, or is down.
+// Whether a node is to be given a thing again after this answer: it lacks a parent of it, or is down.
 fn is_still_wanted(answered: &Answered) -> bool {
     matches!(
         answered.outcome,
@@ -405,7 +410,7 @@ fn is_still_wanted(answered: &Answered) -> bool {
     )
 }
 
-// Whether a node has what it was given, or needs it no more.
+// Whether, by this answer, a node has what it was given, or doesn't need it any more.
 fn is_there(outcome: &Result<Applied, ClusterError>) -> bool {
     matches!(
         outcome,

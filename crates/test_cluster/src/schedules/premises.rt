@@ -1,5 +1,6 @@
-//! Whether what the laws on a cluster assume holds in a schedule. Few members are dishonest; no vote and no header of an honest member is
-//! forged; each wave's coin has one value; and no two different texts of headers and certificates share a digest.
+//! Whether the premises of the laws on a cluster hold in a schedule: no more members are dishonest than is tolerated; no vote and no header
+//! of an honest member is forged; each wave's coin has one value; and no two different texts of headers and certificates have the same
+//! digest.
 
 use sigface::{HashVerify, Sign, Verify};
 use sim_members::MEMBERS;
@@ -11,17 +12,18 @@ use wire::{
     certificate_digest, header_digest,
 };
 
-// The greatest number of dishonest members of equal stake that is tolerated.
+// The greatest number of dishonest members that is tolerated, where all members have equal stakes.
 const TOLERATED: u16 = (MEMBERS - 1) / 3;
 
-// What an honest member signed in what it put out.
+// A digest that an honest member has signed, in a header, a vote or a certificate that its node put out.
 #[derive(Clone, Copy)]
 struct Signed {
     signer: Author,
     digest: Digest,
 }
 
-// A header that a node was given, by itself or in a certificate, with the digests of its two texts: its own and its certificate's.
+// A header that a node was given, alone or in a certificate, with the digests of the two texts that are made of it: the header's own, and
+// the one that the votes in its certificate sign.
 #[derive(Drop)]
 struct Text {
     body: HeaderBody,
@@ -38,7 +40,7 @@ impl Text {
             && body.parents.as_slice() == other.parents.as_slice()
     }
 
-    // Whether this text of another header shares a digest with it.
+    // Whether a digest of this header is also one of the other header's, which is a different header.
     fn clashes(&self, other: &Text) -> bool {
         self.header == other.header
             || self.certificate == other.certificate
@@ -47,11 +49,11 @@ impl Text {
     }
 }
 
-/// What was put out and given so far, and whether the premises hold of that.
+/// What nodes put out and were given so far in a schedule, and whether the premises hold of that.
 #[derive(Drop)]
 pub struct Premises {
     alloc: Global,
-    // The number of honest members, which come first.
+    // The number of honest members. They are the first members.
     honest: u16,
     signed: Vec<Signed>,
     coins: Vec<Coin>,
@@ -60,7 +62,7 @@ pub struct Premises {
 }
 
 impl Premises {
-    /// Those of a schedule with so many honest members, before its first move.
+    /// The premises of a schedule with this many honest members, before its first move.
     pub fn new(alloc: Global, honest: u16) -> Premises {
         Premises {
             alloc,
@@ -72,12 +74,12 @@ impl Premises {
         }
     }
 
-    /// Whether they hold of all that was given so far.
+    /// Whether the premises hold of everything that nodes were given so far.
     pub fn hold(&self) -> bool {
         self.hold
     }
 
-    /// Notes what an honest member signed in what it put out.
+    /// Notes the digest that an honest member signed in an output of its node.
     pub fn note(&mut self, signer: Author, output: &Output) -> Reported {
         let digest = match output {
             Output::Header(header) => header_digest(&header.body),
@@ -89,7 +91,7 @@ impl Premises {
         Ok(())
     }
 
-    /// Tests a message that a node is given.
+    /// Tests the premises on a message that a node is given.
     pub fn test(&mut self, to: Author, message: &Message) -> Reported {
         match message {
             Message::Header(header) => self.test_header(to, header),
@@ -103,7 +105,7 @@ impl Premises {
         }
     }
 
-    /// Tests an output that a node is given.
+    /// Tests the premises on an output that a node is given.
     pub fn test_output(&mut self, to: Author, output: &Output) -> Reported {
         match output {
             Output::Header(header) => self.test_header(to, header),
@@ -136,7 +138,8 @@ impl Premises {
         self.test_text(&certificate.header)
     }
 
-    // Where a signature of an honest member is good, the member signed the digest in what it put out.
+    // Tests that a good signature of an honest member is over a digest that the member signed in one of its outputs; otherwise it is
+    // forged, and the premises don't hold.
     fn test_signed(&mut self, signed_by: Author, digest: Digest, signature: &Signature) {
         if signed_by.0 < self.honest
             && HashVerify.verify(&signer(signed_by).key(), &digest, signature)
@@ -175,12 +178,12 @@ impl Premises {
     }
 }
 
-// The digest that a vote signs.
+// The digest that a vote's signature is over.
 fn voted(vote: &Vote) -> Digest {
     certificate_digest(&vote.header, vote.round, vote.author)
 }
 
-// The digest that each vote in a certificate of this header signs.
+// The digest that the signatures of the votes in a certificate of this header are over.
 fn certified(body: &HeaderBody) -> Digest {
     certificate_digest(&header_digest(body), body.round, body.author)
 }

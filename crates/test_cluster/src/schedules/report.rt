@@ -1,4 +1,4 @@
-//! The results of the moves of schedules.
+//! The report on the moves of schedules.
 
 use super::schedule::{Answered, Schedule};
 use crate::reporting::report_move;
@@ -9,11 +9,11 @@ use test_cases::{Reported, put};
 use validator::Refusal;
 use wire::Author;
 
-/// Counts of moves, and a sum over all their answers.
+/// Counts of the moves of schedules by their answers, and a checksum over all answers.
 #[derive(Drop)]
 pub struct Report {
     alloc: Global,
-    /// How many moves had which answer, by their kinds and answers.
+    /// How many moves of a kind had an answer, for each kind and answer, written as text.
     counts: BTreeMap<String, u64>,
     line: String,
     sum: u64,
@@ -23,15 +23,15 @@ pub struct Report {
     growths: u64,
     longest: usize,
     grown: u64,
-    /// In how many of these all premises of agreement hold.
+    /// In how many of the schedules in which some node ordered a certificate all premises of the laws on agreement hold.
     fair: u64,
-    /// In how many schedules came to pass what is marked.
+    /// In how many schedules each of these things happened; `Marks` says what they are.
     unlike: u64,
     skipped: u64,
     dishonest: u64,
     risen: u64,
     wrong: u64,
-    /// The start value of the first schedule in which something was wrong.
+    /// The start value of the first schedule in which two orders contradicted each other, or an order was taken back.
     first_wrong: Option<u64>,
 }
 
@@ -59,7 +59,7 @@ impl Report {
         }
     }
 
-    /// Counts a move.
+    /// Counts a move and adds its answer to the checksum.
     pub fn count(&mut self, answered: &Answered) -> Reported {
         self.add_line(answered);
         match answered.outcome {
@@ -92,12 +92,13 @@ impl Report {
         Ok(())
     }
 
-    /// Counts that a node's order grew.
+    /// Counts a move after which a node's order was longer.
     pub fn grow(&mut self) {
         increase(&mut self.growths);
     }
 
-    /// Of two orders none begins the other, or one was taken back, in the schedule of this start value.
+    /// Notes that something was wrong in the schedule with this start value: of two nodes' orders none is a prefix of the other, or a
+    /// node's new order doesn't begin with its former one.
     pub fn go_wrong(&mut self, start: u64) {
         increase(&mut self.wrong);
         if self.first_wrong.is_none() {
@@ -105,7 +106,7 @@ impl Report {
         }
     }
 
-    /// Counts the result of a schedule.
+    /// Counts what happened in a schedule that has ended.
     pub fn end(&mut self, schedule: &Schedule<'_>) {
         self.lost = self.lost.saturating_add(schedule.lost);
         let mut any = false;
@@ -173,14 +174,14 @@ fn count_if(count: &mut u64, holds: bool) {
     }
 }
 
-// FNV-1a of 64 bits.
+// Adds bytes to a checksum, FNV-1a of 64 bits.
 fn added(sum: u64, bytes: &[u8]) -> u64 {
     bytes.iter().fold(sum, |sum, byte| {
         (sum ^ u64::from(*byte)).wrapping_mul(1_099_511_628_211)
     })
 }
 
-// Adds the answer to a move, without the numbers in it.
+// Writes the answer to a move to the line, without the numbers in it.
 fn put_short(line: &mut String, outcome: Result<Applied, ClusterError>) {
     match outcome {
         Ok(Applied::Took { new: true, .. }) => put(line, "took new"),

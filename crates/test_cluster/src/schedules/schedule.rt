@@ -1,4 +1,4 @@
-//! A schedule, and how its next move is made.
+//! A schedule of moves on a cluster, and how its next move is drawn and made.
 
 ghost use Rattle.std.specs.Prelude.{◌<◌, ◌≤◌};
 
@@ -15,16 +15,16 @@ use std::alloc::{AllocError, Global};
 use test_cases::Reported;
 use wire::{Author, Batch, Digest, MAX_TRANSACTION_BYTES, OpenBatch, Output, header_digest};
 
-/// Waves that have coins.
+/// How many waves have a coin.
 pub const WAVES: u64 = 8;
 
-/// After so many moves another node may be deaf.
+/// After this many moves it is drawn anew which node is deaf (kept from its deliveries).
 const STRETCH: u64 = 32;
 
-/// The author of the batches that nodes are given.
+/// The author of the batches that nodes are given, a dishonest member.
 pub const PACKER: Author = Author(MEMBERS - 1);
 
-/// How many members are honest, and have a node each: all but one, which is tolerated, or all but two.
+/// How many of the four members are honest, and have a node each: three (one dishonest member is tolerated), or two.
 #[derive(Clone, Copy)]
 pub enum Honest {
     Three,
@@ -43,16 +43,17 @@ impl Honest {
     }
 }
 
-/// What the dishonest members want to do.
+/// What the dishonest members aim at in a schedule.
 #[derive(Clone, Copy)]
 pub enum Plan {
-    /// What is drawn.
+    /// Nothing in particular: everything that they do is drawn.
     Drawn,
-    /// They show one face to the node apart, and one to the others.
+    /// They make two headers for a round, the faces 0 and 1, and show one face to the node apart and the other face to the other nodes.
     Faces,
-    /// They make a branch that the node apart doesn't see for long.
+    /// They make a branch of certificates that the node apart isn't shown for the first rounds.
     Branch,
-    /// There is one more of them than is tolerated, and they split the honest members.
+    /// There is one dishonest member more than is tolerated, and they try to split the honest members: to make them commit different
+    /// orders.
     Split,
 }
 
@@ -68,7 +69,7 @@ impl Plan {
         }
     }
 
-    // The value of a coin where this one is drawn.
+    // The value of a wave's coin under this plan, for a value that was drawn.
     fn value(self, start: u64, drawn: u64) -> u64 {
         let last = u64::from(MEMBERS - 1);
         match self {
@@ -85,20 +86,20 @@ impl Plan {
     }
 }
 
-/// What came to pass in a schedule.
+/// Which rare things happened in a schedule.
 #[derive(Clone, Copy)]
 pub struct Marks {
-    /// Two nodes had orders of unlike length, and none was empty.
+    /// At some time two nodes had orders of different lengths, neither of them empty.
     pub unlike: bool,
-    /// A node committed a wave, skipped one, and committed a later one.
+    /// A node committed a wave, skipped the next one, and committed a later one.
     pub skipped: bool,
     /// A dishonest member's certificate was committed as a leader.
     pub dishonest: bool,
-    /// A floor rose by more than one at once.
+    /// A node's floor (the lowest round that it keeps) rose by more than one round at once.
     pub risen: bool,
 }
 
-/// A move that was made: its kind, the node that moved, and what was answered.
+/// A move that was made: its kind, the node that moved, and the cluster's answer.
 #[derive(Clone, Copy)]
 pub struct Answered {
     pub kind: &'static str,
@@ -106,7 +107,7 @@ pub struct Answered {
     pub outcome: Result<Applied, ClusterError>,
 }
 
-/// The nodes of the honest members, and everything from which moves are drawn.
+/// The cluster of the honest members' nodes, and everything from which the next move is drawn.
 #[derive(Drop)]
 pub struct Schedule<'a> {
     pub alloc: Global,
@@ -117,9 +118,9 @@ pub struct Schedule<'a> {
     pub depth: u64,
     pub plan: Plan,
     pub draws: Draws,
-    /// The node that the dishonest members set apart.
+    /// The node apart: the one to which the dishonest members show other headers, or show them later.
     pub apart: Author,
-    /// The number of the node that is given nothing that it wants.
+    /// The number of the deaf node, which is given nothing of what it is to be given; greater than all numbers if no node is deaf.
     pub deaf: u64,
     /// How many moves were made.
     moves: u64,
@@ -128,13 +129,13 @@ pub struct Schedule<'a> {
     pub headers: Headers,
     pub known: Known,
     pub premises: Premises,
-    /// How many deliveries were lost.
+    /// How many of the deliveries were lost.
     pub lost: u64,
     pub marks: Marks,
 }
 
 impl<'a> Schedule<'a> {
-    /// The schedule before the first move. On `AllocError` an allocation failed, or the nodes couldn't be opened.
+    /// A schedule before its first move. `AllocError` if an allocation failed, or the nodes couldn't be opened.
     pub fn new(
         alloc: Global,
         settings: &'a Settings,
@@ -178,7 +179,7 @@ impl<'a> Schedule<'a> {
         })
     }
 
-    /// Makes a move, and counts its result.
+    /// Makes the next move, and counts its answer in the report.
     pub fn advance(&mut self, report: &mut Report) -> Reported {
         let answered = self.step()?;
         report.count(&answered)?;
@@ -195,7 +196,7 @@ impl<'a> Schedule<'a> {
         Ok(())
     }
 
-    // Draws a move, and makes it.
+    // Draws the next move, and makes it.
     fn step(&mut self) -> Result<Answered, AllocError> {
         if self.moves % STRETCH == 0 {
             self.deaf = self.draws.below(8);
@@ -218,7 +219,7 @@ impl<'a> Schedule<'a> {
         }
     }
 
-    /// Draws a node.
+    /// Draws the number of a node.
     pub fn draw_node(&mut self) -> Author {
         Author(self.draws.below(u64::from(self.honest.count())) as u16)
     }
@@ -234,7 +235,7 @@ impl<'a> Schedule<'a> {
         Author(first + self.draws.below(u64::from(MEMBERS - first)) as u16)
     }
 
-    // Looks at what a node put out since it was last looked at.
+    // Looks at the outputs of a node that weren't looked at yet, and notes who is to be given them.
     fn look(&mut self, node: Author) -> Reported {
         let outputs = self.cluster.outputs(node).unwrap_or(0);
         for output in self.known.of(node).outputs..outputs {
@@ -270,14 +271,15 @@ impl<'a> Schedule<'a> {
         }
     }
 
-    // What an output has: a part of a header.
+    // Which part of which header an output is, if the output is a header, a vote or a certificate.
     pub fn content_of(&self, node: Author, output: u64) -> Option<Content> {
         let (digest, part) = self.part_of(node, output)?;
         let number = self.headers.find(&digest)?;
         Some(Content { number, part })
     }
 
-    // The header that an output is of, and which part of it.
+    // The digest of the header that an output is of, and which part of it the output is: the header itself, its certificate or a vote on
+    // it.
     fn part_of(&self, node: Author, output: u64) -> Option<(Digest, Part)> {
         match self.cluster.output(node, output)? {
             Output::Header(header) => Some((header_digest(&header.body), Part::Header)),
@@ -289,7 +291,8 @@ impl<'a> Schedule<'a> {
         }
     }
 
-    // A vote is wanted by the header's author, if that has a node. A dishonest member gathers those on its own headers.
+    // Notes a vote that was put out. If the header's author has a node, the node is to be given the vote; if the author is dishonest and
+    // the votes on the header are a quorum, the certificate can be made.
     fn look_at_vote(&mut self, wish: Wish, header: usize, voter: Author) -> Reported {
         self.headers.add_vote(header, voter);
         match self.author_of(header) {
@@ -306,7 +309,7 @@ impl<'a> Schedule<'a> {
         }
     }
 
-    // A header and a certificate are wanted by all others.
+    // Notes that all other nodes are to be given a header or a certificate that a node put out.
     fn offer_to_others(&mut self, node: Author, wish: Wish) -> Reported {
         for other in 0..self.honest.count() {
             if Author(other) != node {
@@ -316,7 +319,7 @@ impl<'a> Schedule<'a> {
         Ok(())
     }
 
-    // The dishonest members' votes on a node's own header are wanted by the node.
+    // Notes that a node is to be given the dishonest members' votes on its own header.
     fn offer_votes(&mut self, node: Author, header: usize) -> Reported {
         for voter in self.honest.count()..MEMBERS {
             self.known
@@ -335,7 +338,7 @@ impl<'a> Schedule<'a> {
         self.cluster.given_order(node).unwrap_or(&[])
     }
 
-    // Looks at a node's order, of which so much was there before. Says whether it began with what it was before.
+    // Looks at what was added to a node's order from place `before` on. Returns whether the order begins with what it was before.
     fn follow(&mut self, node: Author, before: usize) -> Result<bool, AllocError> {
         let committed = self.known.of(node).committed;
         for place in before..self.order(node).len() {
@@ -355,7 +358,8 @@ impl<'a> Schedule<'a> {
         Ok(kept)
     }
 
-    // The wave that a node committed with the certificate at this place of its order, if it did.
+    // The wave whose leader is the certificate at this place of a node's order, if the node hadn't committed that wave or a later one
+    // before.
     fn wave_led(&self, node: Author, place: usize) -> Option<u64> {
         let made = self.headers.get(self.headers.find_certificate(self.order(node).get(place)?)?)?;
         let wave = made.round().saturating_add(1) / 2;
@@ -381,20 +385,20 @@ impl<'a> Schedule<'a> {
         self.known.commit(node, wave);
     }
 
-    /// The author of the leader of a wave, if that has a coin.
+    /// The author of the leader of a wave, if the wave has a coin.
     pub fn leader_of(&self, wave: u64) -> Option<Author> {
         let value = *self.coins.get(wave.checked_sub(1)? as usize)?;
         Some(Author((value % u64::from(MEMBERS)) as u16))
     }
 
-    // The floor where this is the greatest wave that is committed.
+    // The floor of a node (the lowest round that it keeps) if this is the greatest wave that it has committed.
     fn floor(&self, wave: u64) -> u64 {
         wave.saturating_mul(2)
             .saturating_sub(1)
             .saturating_sub(self.depth)
     }
 
-    // Whether two nodes have orders of unlike length, and none is empty.
+    // Whether two nodes have orders of different lengths, neither of them empty.
     fn is_unlike(&self) -> bool {
         let nodes = self.honest.count();
         (0..nodes).any(|one| (0..one).any(|other| self.are_unlike(Author(one), Author(other))))
@@ -405,7 +409,7 @@ impl<'a> Schedule<'a> {
         0 < one && 0 < other && one != other
     }
 
-    // Whether of any two nodes' orders one begins the other.
+    // Whether of any two nodes' orders one is a prefix of the other.
     fn agree(&self) -> bool {
         let nodes = self.honest.count();
         (0..nodes).all(|one| (0..one).all(|other| self.begin_alike(Author(one), Author(other))))
@@ -437,7 +441,7 @@ fn opened<'a>(
     }
 }
 
-// What is known of new nodes: each wants all batches.
+// What is noted of new nodes: each is to be given all batches.
 fn known(alloc: Global, honest: Honest) -> Result<Known, AllocError> {
     let mut known = Known::new(alloc);
     for node in 0..honest.count() {
@@ -448,7 +452,7 @@ fn known(alloc: Global, honest: Honest) -> Result<Known, AllocError> {
     Ok(known)
 }
 
-// The batches that can be named.
+// The batches that headers of dishonest members can name.
 fn batches(alloc: Global) -> Result<Vec<Batch>, AllocError> {
     let mut batches = Vec::new(alloc);
     for transaction in [b"x", b"y"] {
@@ -457,7 +461,7 @@ fn batches(alloc: Global) -> Result<Vec<Batch>, AllocError> {
     Ok(batches)
 }
 
-// A batch of one transaction.
+// Makes a batch with one transaction.
 fn batch(alloc: Global, transaction: &[u8]) -> Result<Batch, AllocError> {
     let mut batch = OpenBatch::new(alloc, PACKER, 0)?;
     if transaction.len() <= MAX_TRANSACTION_BYTES && batch.has_room(transaction.len()) {

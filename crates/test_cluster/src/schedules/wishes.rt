@@ -1,4 +1,4 @@
-//! What a schedule notes of a node.
+//! What a schedule notes of each node: above all what the node is to be given.
 
 ghost use Rattle.std.specs.Prelude.{◌<◌};
 
@@ -8,19 +8,20 @@ use std::mem;
 use test_cases::Reported;
 use wire::{Author, Digest};
 
-/// The greatest number of nodes.
+/// The greatest number of nodes of a cluster here.
 const NODES: usize = 3;
 
-/// Batches that a node can be given.
+/// How many batches there are that a node can be given.
 pub const BATCHES: usize = 2;
 
-/// Votes that make a certificate of a header, with its author's own.
+/// How many votes of other members, with the author's own vote, make a certificate.
 const VOTES: u64 = 2;
 
-// That a node took the certificate of a header, or needs it no more.
+// Set in the marks of a header if a node has the header's certificate, or doesn't need it any more.
 const HAS: u8 = 128;
 
-/// What is given to a node, if that is known, from where, and the round of the node from which on.
+/// Something that a node is to be given: what it is, if that is known; where it comes from; and from which round of the node on it may be
+/// given.
 #[derive(Clone, Copy)]
 pub struct Wish {
     pub content: Option<Content>,
@@ -29,7 +30,7 @@ pub struct Wish {
 }
 
 impl Wish {
-    /// A part of a header, or a batch, from the member of whom it is.
+    /// A wish for a part of the header at this place, or for the batch with this number, to be given by its author at once.
     pub fn of(number: usize, part: Part) -> Wish {
         Wish {
             content: Some(Content { number, part }),
@@ -39,34 +40,34 @@ impl Wish {
     }
 }
 
-/// From where a node is given something.
+/// Where a node is given something from.
 #[derive(Clone, Copy)]
 pub enum Source {
-    /// From the member of whom it is.
+    /// From its author, a dishonest member.
     Member,
-    /// From a node that put it out under this number.
+    /// From a node, whose output with this number it is.
     Output { node: Author, output: u64 },
 }
 
-/// A part of the header of this place, or the batch of this number.
+/// A part of the header at place `number` of the list of headers, or the batch with this number.
 #[derive(Clone, Copy)]
 pub struct Content {
     pub number: usize,
     pub part: Part,
 }
 
-/// A part of a header's way, or a batch.
+/// What of a header it is: the header itself, its certificate or a vote on it. Or that it is a batch.
 #[derive(Clone, Copy)]
 pub enum Part {
     Batch,
     Header,
     Certificate,
-    /// The vote of a member on the header.
+    /// This member's vote on the header.
     Vote(Author),
 }
 
 impl Part {
-    // A bit for each part of a header's way.
+    // The bit that stands for this part in the marks of a header; 0 for a batch.
     fn bit(self) -> u8 {
         match self {
             Part::Batch => 0,
@@ -80,43 +81,44 @@ impl Part {
     }
 }
 
-/// What is noted of a node.
+/// The numbers that are noted of a node.
 #[derive(Clone, Copy)]
 pub struct Noted {
-    /// How many events were new since the node last settled.
+    /// How many events the node accepted since it last settled all events.
     pub pending: u64,
     pub down: bool,
     /// The wave of the next coin that the node is given.
     pub wave: u64,
-    // The same when it settled last.
+    // The value of `wave` when the node last settled all events, to which a stop takes it back.
     settled_wave: u64,
-    /// How many outputs were looked at.
+    /// How many of the node's outputs the schedule has looked at.
     pub outputs: u64,
-    /// The greatest wave that it committed.
+    /// The greatest wave that the node has committed; 0 if none.
     pub committed: u64,
-    /// The last header that it was given as its own, and its round.
+    /// The place of the last header that the node was given as its own, and the header's round.
     pub own: Option<usize>,
     pub round: u64,
-    // How many votes it took since, or since it stopped.
+    // How many votes on that header the node accepted, since it was given the header or was last stopped.
     voted: u64,
 }
 
-/// What a node wants, and what it accepted since it last settled.
+/// Everything that is noted of a node: what it is to be given, what it accepted since it last settled all events, what it has.
 #[derive(Drop)]
 pub struct Wishes {
     wanted: Vec<Wish>,
     unsettled: Vec<Wish>,
-    // Of each header the parts that were wanted or taken, and whether the certificate is there.
+    // For each header a set of bits: which of its parts were put on the list of what the node is to be given, and whether the node has its
+    // certificate.
     headers: Vec<u8>,
-    // Which batches are there.
+    // For each batch whether the node has it.
     batches: [bool; BATCHES],
-    // The order that it gave out.
+    // The order that the node had given out when it was last looked at.
     order: Vec<Digest>,
     noted: Noted,
 }
 
 impl Wishes {
-    // The wishes of a new node.
+    // What is noted of a new node: nothing.
     fn new(alloc: Global) -> Wishes {
         Wishes {
             wanted: Vec::new(alloc),
@@ -138,7 +140,7 @@ impl Wishes {
         }
     }
 
-    // It wants this, unless it was offered that.
+    // Puts something on the list of what the node is to be given, unless it was on it before; a batch is put on it in any case.
     fn offer(&mut self, wish: Wish) -> Reported {
         let Some(content) = wish.content else {
             return Ok(());
@@ -153,7 +155,7 @@ impl Wishes {
         Ok(())
     }
 
-    // Sets a bit of a header. Says whether it was not set.
+    // Sets a bit in the marks of a header. Returns whether the bit wasn't set before.
     fn mark(&mut self, header: usize, bit: u8) -> Result<bool, std::alloc::AllocError> {
         for _ in self.headers.len()..header.saturating_add(1) {
             self.headers.push(0)?;
@@ -166,14 +168,14 @@ impl Wishes {
         Ok(is_new)
     }
 
-    // Clears a bit of a header.
+    // Clears a bit in the marks of a header.
     fn clear(&mut self, header: usize, bit: u8) {
         if let Some(marks) = self.headers.get_mut(header) {
             *marks &= !bit;
         }
     }
 
-    // It took something new.
+    // Notes that the node accepted something new.
     fn take(&mut self, wish: Option<Wish>) -> Reported {
         self.noted.pending = self.noted.pending.saturating_add(1);
         let Some(wish) = wish else {
@@ -186,7 +188,7 @@ impl Wishes {
         Ok(())
     }
 
-    // It has a certificate or a batch.
+    // Notes that the node has this from now on, if it is a certificate or a batch.
     fn get(&mut self, content: Content) -> Reported {
         match content.part {
             Part::Certificate => {
@@ -198,7 +200,7 @@ impl Wishes {
         Ok(())
     }
 
-    // A stop lost this.
+    // Notes that a stop of the node lost this, if it is a certificate or a batch.
     fn lose(&mut self, content: Content) {
         match content.part {
             Part::Certificate => self.clear(content.number, HAS),
@@ -213,7 +215,7 @@ impl Wishes {
         }
     }
 
-    // Whether it has all that a header names.
+    // Whether the node has everything that a header names: its batch and the certificates of its parents.
     fn has_all(&self, made: &Made) -> bool {
         self.has_batch(made.batch) && (0..PARENTS).all(|place| self.has_parent(made, place))
     }
@@ -232,12 +234,12 @@ impl Wishes {
         }
     }
 
-    // Whether it waits for votes on this header.
+    // Whether this header is the node's own last one, and the node has too few votes on it.
     fn waits_for_votes(&self, header: usize) -> bool {
         self.noted.own == Some(header) && self.noted.voted < VOTES
     }
 
-    // Takes out what it wants at this place.
+    // Removes and returns what stands at this place of the list of what the node is to be given.
     fn take_out(&mut self, place: usize) -> Option<Wish> {
         if place < self.wanted.len() {
             return Some(self.wanted.remove(place));
@@ -245,14 +247,14 @@ impl Wishes {
         None
     }
 
-    // It settled what it had taken.
+    // Notes that the node settled everything that it had accepted.
     fn settle(&mut self) {
         self.noted.pending = 0;
         self.noted.settled_wave = self.noted.wave;
         self.unsettled.clear();
     }
 
-    // It was stopped and opened again: it wants what it had taken since it settled last before all else.
+    // Notes that the node was stopped and opened again: it is to be given anew, before all else, what it had accepted and not settled.
     fn reopen(&mut self) -> Reported {
         self.lose_all();
         self.unsettled.append(&mut self.wanted)?;
@@ -273,7 +275,7 @@ impl Wishes {
         }
     }
 
-    // Its order is this now. Says whether it began with what it was before.
+    // Notes the node's order. Returns whether it begins with the order that was noted before.
     fn follow(&mut self, order: Vec<Digest>) -> bool {
         let kept = self.order.len() <= order.len()
             && self
@@ -286,94 +288,94 @@ impl Wishes {
     }
 }
 
-/// What is noted of all nodes.
+/// What is noted of all nodes, by their numbers.
 #[derive(Drop)]
 pub struct Known {
     nodes: [Wishes; NODES],
 }
 
 impl Known {
-    /// Of new nodes.
+    /// What is noted of new nodes: nothing.
     pub fn new(alloc: Global) -> Known {
         Known {
             nodes: [Wishes::new(alloc), Wishes::new(alloc), Wishes::new(alloc)],
         }
     }
 
-    /// What is noted of a node.
+    /// The numbers that are noted of a node.
     pub fn of(&self, node: Author) -> Noted {
         self.nodes[place(node)].noted
     }
 
-    /// How much a node wants.
+    /// How many things a node is to be given.
     pub fn wants(&self, node: Author) -> usize {
         self.nodes[place(node)].wanted.len()
     }
 
-    /// What a node wants at this place.
+    /// What stands at this place of the list of what a node is to be given.
     pub fn wanted(&self, node: Author, wanted: usize) -> Option<Wish> {
         self.nodes[place(node)].wanted.get(wanted).copied()
     }
 
-    /// A node wants this, unless it was offered that.
+    /// Notes that a node is to be given this, unless it was noted before.
     pub fn offer(&mut self, node: Author, wish: Wish) -> Reported {
         self.nodes[place(node)].offer(wish)
     }
 
-    /// A node took something new.
+    /// Notes that a node accepted something new.
     pub fn take(&mut self, node: Author, wish: Option<Wish>) -> Reported {
         self.nodes[place(node)].take(wish)
     }
 
-    /// A node has this, if it is a certificate or a batch.
+    /// Notes that a node has this, if it is a certificate or a batch.
     pub fn get(&mut self, node: Author, content: Content) -> Reported {
         self.nodes[place(node)].get(content)
     }
 
-    /// Whether a node has all that a header names.
+    /// Whether a node has everything that a header names: its batch and the certificates of its parents.
     pub fn has_all(&self, node: Author, made: &Made) -> bool {
         self.nodes[place(node)].has_all(made)
     }
 
-    /// Whether a node waits for votes on this header, which is its own.
+    /// Whether this header is a node's own last one, and the node has too few votes on it.
     pub fn waits_for_votes(&self, node: Author, header: usize) -> bool {
         self.nodes[place(node)].waits_for_votes(header)
     }
 
-    /// What a node wants at this place is taken out.
+    /// Removes and returns what stands at this place of the list of what a node is to be given.
     pub fn take_out(&mut self, node: Author, wanted: usize) -> Option<Wish> {
         self.nodes[place(node)].take_out(wanted)
     }
 
-    /// A node wants this after all else.
+    /// Puts this at the end of the list of what a node is to be given.
     pub fn put_back(&mut self, node: Author, wish: Wish) -> Reported {
         self.nodes[place(node)].wanted.push(wish)?;
         Ok(())
     }
 
-    /// What a node refused can be offered again.
+    /// Notes that what a node refused may be put on its list again.
     pub fn forget(&mut self, node: Author, wish: Wish) {
         if let Some(content) = wish.content {
             self.nodes[place(node)].clear(content.number, content.part.bit());
         }
     }
 
-    /// A node settled what it had accepted.
+    /// Notes that a node settled everything that it had accepted.
     pub fn settle(&mut self, node: Author) {
         self.nodes[place(node)].settle();
     }
 
-    /// A node is down.
+    /// Notes that a node is down.
     pub fn fall(&mut self, node: Author) {
         self.nodes[place(node)].noted.down = true;
     }
 
-    /// A node was stopped and opened again: it wants what it had accepted since it last settled.
+    /// Notes that a node was stopped and opened again: it is to be given anew what it had accepted and not settled.
     pub fn reopen(&mut self, node: Author) -> Reported {
         self.nodes[place(node)].reopen()
     }
 
-    /// A node was given this header of this round as its own.
+    /// Notes that a node was given the header at this place, of this round, as its own.
     pub fn hand_in(&mut self, node: Author, header: usize, round: u64) {
         let noted = &mut self.nodes[place(node)].noted;
         noted.own = Some(header);
@@ -381,34 +383,34 @@ impl Known {
         noted.voted = 0;
     }
 
-    /// A node took the coin of this wave.
+    /// Notes that a node accepted the coin of this wave.
     pub fn toss(&mut self, node: Author, wave: u64) {
         let noted = &mut self.nodes[place(node)].noted;
         noted.wave = noted.wave.max(wave.saturating_add(1));
     }
 
-    /// So many outputs of a node were looked at.
+    /// Notes how many outputs of a node were looked at so far.
     pub fn note_outputs(&mut self, node: Author, outputs: u64) {
         self.nodes[place(node)].noted.outputs = outputs;
     }
 
-    /// A node committed this wave.
+    /// Notes that a node committed this wave.
     pub fn commit(&mut self, node: Author, wave: u64) {
         self.nodes[place(node)].noted.committed = wave;
     }
 
-    /// How long the order of a node was.
+    /// How long a node's order was when it was last looked at.
     pub fn ordered(&self, node: Author) -> usize {
         self.nodes[place(node)].order.len()
     }
 
-    /// The order of a node is this now. Says whether it began with what it was before.
+    /// Notes a node's order. Returns whether it begins with the order that was noted before.
     pub fn follow(&mut self, node: Author, order: Vec<Digest>) -> bool {
         self.nodes[place(node)].follow(order)
     }
 }
 
-// The place of a node.
+// The place of a node's notes in the list.
 fn place(node: Author) -> usize
     ensures { result < 3 }
 {
