@@ -1,4 +1,4 @@
-//! The answers of a validator to the lines of a history.
+//! How a validator's answers to the lines of a history are shown.
 
 ghost use Rattle.std.specs.Prelude.{◌≡◌, None};
 ghost use Rattle.header.specs.Checks.{fault_of, accepts_all};
@@ -11,14 +11,14 @@ use std::alloc::{AllocError, Global};
 use validator::{Refusal, Step, Validator};
 use wire::{Author, Coin, Header, Message, Wave};
 
-/// The lines of the answer to an event, and whether the event was new.
+/// The lines that show the answer to an event, and whether the event was new.
 #[derive(Drop)]
 pub struct Answer {
     pub is_new: bool,
     pub lines: String,
 }
 
-/// Gives a validator the event of a line; `before` events were new before it.
+/// Gives a validator the event of a line and returns its answer; `before` is how many events were new before.
 pub fn answered(
     alloc: Global,
     labels: &Labels,
@@ -39,7 +39,7 @@ pub fn answered(
     }
 }
 
-/// A function of its own, since the contract of this call is long.
+/// Steps the event on the validator. It is a function of its own, since the contract of this call is long.
 fn stepped(validator: &mut Validator<'_, HashSign>, event: Checked) -> Result<Step, Refusal>
     requires { fault_of validator.old.setting.charter accepts_all event ≡ None }
 {
@@ -97,7 +97,8 @@ fn answer_of(
     Ok(Answer { is_new, lines })
 }
 
-/// The line that shows something of a validator: `floor`, `round`, `order`, or `propose`, which shows its proposal.
+/// The line that shows something of a validator, by this name: `floor`, `round`, `order`, or `propose`, which shows the header that it
+/// proposes.
 pub fn looked(
     alloc: Global,
     labels: &Labels,

@@ -1,11 +1,11 @@
-//! How many validators were loaded along the histories of a file, and how much they were tested.
+//! How many validators were loaded from checkpoints along the histories of a file, and how much they were tested.
 
 use test_cases::Reported;
 
-/// How many events a loaded validator takes, if its history has as many.
+/// How many events of the history a loaded validator is given, if as many follow.
 pub const EVENTS: u64 = 50;
 
-/// How many validators were loaded, how many of them took all their events, and how many answers they gave.
+/// How many validators were loaded, how many of them were given all their events, and how many answers they gave.
 #[derive(Clone, Copy)]
 pub struct Counts {
     loaded: u64,
@@ -14,7 +14,7 @@ pub struct Counts {
 }
 
 impl Counts {
-    /// No validators.
+    /// The counts before the first validator: all are 0.
     pub fn new() -> Counts {
         Counts {
             loaded: 0,
@@ -28,7 +28,7 @@ impl Counts {
         self.loaded = self.loaded.saturating_add(1);
     }
 
-    /// Counts a loaded validator that took all its events.
+    /// Counts a loaded validator that was given all its events.
     pub fn end(&mut self) {
         self.whole = self.whole.saturating_add(1);
     }

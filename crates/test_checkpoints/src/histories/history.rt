@@ -1,4 +1,5 @@
-//! A history: a validator that takes its events, and the ones that were loaded from its records in between.
+//! A history: a validator that is given events, and validators that are loaded from its checkpoint's records in between and given the same
+//! events.
 
 use crate::histories::answers::{answered, looked};
 use crate::histories::counts::Counts;
@@ -14,7 +15,7 @@ use validator::{Config, LoadError, Validator};
 /// After how many events another validator is loaded.
 const BETWEEN: u64 = 5;
 
-/// A validator that takes events, and the ones that were loaded from its records, the oldest first.
+/// The validator that is given all events, and those that were loaded from its checkpoint's records, the oldest first.
 #[derive(Drop)]
 pub struct History<'c> {
     alloc: Global,
@@ -23,14 +24,14 @@ pub struct History<'c> {
     validator: Validator<'c, HashSign>,
     loaded: Vec<Loaded<'c>>,
     counts: Counts,
-    /// How many events came.
+    /// How many events the validator was given.
     events: u64,
     /// How many of the events were new.
     new: u64,
 }
 
 impl<'c> History<'c> {
-    /// A history without events yet; `counts` is of the validators that were loaded before.
+    /// A history before its first event; `counts` are those of the histories before it.
     pub fn new(
         alloc: Global,
         config: &'c Config<HashSign>,
@@ -50,12 +51,12 @@ impl<'c> History<'c> {
         })
     }
 
-    /// How many validators were loaded so far.
+    /// The counts of the validators that were loaded so far, in this history and before.
     pub fn counts(&self) -> Counts {
         self.counts
     }
 
-    /// Carries out a command, and adds the lines of its answer.
+    /// Carries out a command of the history, and adds the lines of its answer.
     pub fn obey(&mut self, command: &str, answer: &mut String) -> Result<(), FormError> {
         let (name, _) = command.split_once(' ').unwrap_or((command, ""));
         match name {
@@ -84,7 +85,8 @@ impl<'c> History<'c> {
         Ok(())
     }
 
-    /// Gives the event of a line to all validators. Before the first event, and then after each `BETWEEN` events, one more is loaded.
+    /// Gives the event of a line to all validators. Before the first event, and then after each `BETWEEN` events, one more validator is
+    /// loaded.
     fn take(&mut self, line: &str, answer: &mut String) -> Result<(), FormError> {
         if self.events % BETWEEN == 0 {
             self.load(answer)?;
@@ -103,7 +105,7 @@ impl<'c> History<'c> {
         Ok(self.end_first(answer)?)
     }
 
-    /// Gives the event of a line, which had this answer, to the loaded validators.
+    /// Gives the event of a line to the loaded validators. Their answers have to be this one.
     fn take_loaded(
         &mut self,
         line: &str,
@@ -117,7 +119,7 @@ impl<'c> History<'c> {
         Ok(())
     }
 
-    /// Loads one more validator from the records.
+    /// Loads one more validator, from the checkpoint's records of the validator that is given all events.
     fn load(&mut self, answer: &mut String) -> Reported {
         match loaded(self.alloc, self.config, &kept_records(&self.validator)?) {
             Err(LoadError::Memory) => Err(AllocError),
@@ -133,7 +135,8 @@ impl<'c> History<'c> {
         }
     }
 
-    /// Ends the oldest of the loaded validators, if it took all its events.
+    /// Lets go of the oldest loaded validator, if it was given all its events; its checkpoint's records have to be those of the first
+    /// validator.
     fn end_first(&mut self, answer: &mut String) -> Reported {
         match self.loaded.first() {
             Some(first) if first.is_done() => {}
@@ -144,7 +147,8 @@ impl<'c> History<'c> {
         first.compare_records(&kept_records(&self.validator)?, answer)
     }
 
-    /// Ends the history: compares the records of the loaded validators that have not taken all their events.
+    /// Ends the history. The loaded validators that weren't given all their events have to have the same checkpoint's records as the first
+    /// validator.
     pub fn end(&self, answer: &mut String) -> Reported {
         let records = kept_records(&self.validator)?;
         for one in &self.loaded {

@@ -1,4 +1,4 @@
-//! Outputs and headers as the files of histories have them: with labels.
+//! How outputs and headers are shown in the files of histories: by the labels of scripts in place of digests.
 
 use sim_script::{Form, FormError, Labels, define_header};
 use std::alloc::Global;
@@ -105,7 +105,7 @@ fn report_labels(labels: &Labels, digests: &[Digest], answer: &mut String) -> Re
     Ok(())
 }
 
-/// Adds a line with an order.
+/// Adds a line with an order, as the labels of its certificates.
 pub fn report_order(labels: &Labels, digests: &[Digest], answer: &mut String) -> Reported {
     answer.push_str("order")?;
     if digests.is_empty() {
@@ -115,7 +115,7 @@ pub fn report_order(labels: &Labels, digests: &[Digest], answer: &mut String) ->
     answer.push_str("\n")
 }
 
-/// Adds a line with a proposal: the round, the parents and the batches.
+/// Adds a line with the header that a validator proposes: its round, parents and batches.
 pub fn report_proposal(labels: &Labels, proposal: Option<Header>, answer: &mut String) -> Reported {
     match proposal {
         Some(header) => report_proposed(labels, &header, answer),

@@ -1,4 +1,4 @@
-//! A validator that was loaded from the records of another one, and then takes the same events.
+//! A validator that was loaded from the checkpoint's records of another one, and is then given the same events.
 
 use crate::histories::answers::{answered, looked};
 use crate::histories::counts::EVENTS;
@@ -9,20 +9,20 @@ use std::alloc::Global;
 use test_cases::Reported;
 use validator::Validator;
 
-/// A validator that was loaded after some events. If its answer differs from that of the validator from whose records it was loaded, the
-/// answer gets extra lines, and then isn't as expected.
+/// A validator that was loaded after some events. If its answer to an event differs from that of the validator from whose records it was
+/// loaded, lines are added to the answer of the test, which then isn't the expected one.
 #[derive(Drop)]
 pub struct Loaded<'c> {
     alloc: Global,
     validator: Validator<'c, HashSign>,
-    /// How many events came before the validator was loaded.
+    /// How many events the other validator had been given when this one was loaded.
     after: u64,
-    /// How many more events the validator takes.
+    /// How many more events this validator is to be given.
     left: u64,
 }
 
 impl<'c> Loaded<'c> {
-    /// A validator that was loaded after this many events.
+    /// A validator that was loaded when the other one had been given this many events.
     pub fn new(alloc: Global, validator: Validator<'c, HashSign>, after: u64) -> Loaded<'c> {
         Loaded {
             alloc,
@@ -32,12 +32,12 @@ impl<'c> Loaded<'c> {
         }
     }
 
-    /// Whether the validator has taken as many events as are planned for a loaded one.
+    /// Whether the validator was given as many events as a loaded one is to be given.
     pub fn is_done(&self) -> bool {
         self.left == 0
     }
 
-    /// Takes the event of a line; the answer has to have these lines.
+    /// Gives the validator the event of a line; its answer has to have these lines.
     pub fn take(
         &mut self,
         labels: &Labels,
@@ -51,7 +51,7 @@ impl<'c> Loaded<'c> {
         Ok(self.compare(own.lines.as_str(), reported, answer)?)
     }
 
-    /// Shows something of the validator; it has to be this line.
+    /// Shows something of the validator; it has to be shown as this line.
     pub fn look(
         &self,
         labels: &Labels,
@@ -70,7 +70,7 @@ impl<'c> Loaded<'c> {
         writeln!(answer, "loaded after {}: {own}", self.after)
     }
 
-    /// Compares its checkpoint with these records.
+    /// Compares the records of the validator's checkpoint with these records.
     pub fn compare_records(&self, records: &[Vec<u8>], answer: &mut String) -> Reported {
         if kept_records(&self.validator)?.as_slice() == records {
             return Ok(());

@@ -1,4 +1,4 @@
-//! The committee of a history, of which member 0 takes the events.
+//! The committee of a history, whose member 0 is the validator that is given the events.
 
 use crate::nodes::{Member, member_of};
 use sim_script::BATCHES;
@@ -14,7 +14,7 @@ pub struct Setup {
 }
 
 impl Setup {
-    /// The setup before the first case.
+    /// The setup before the first test case.
     pub fn new(alloc: Global) -> Setup {
         Setup {
             alloc,
@@ -23,13 +23,13 @@ impl Setup {
         }
     }
 
-    /// Begins a case, with four members of equal stakes.
+    /// Begins a test case, with a committee of four members with equal stakes.
     pub fn begin(&mut self) -> Reported {
         self.stakes.clear();
         self.stakes.push_str("1,1,1,1")
     }
 
-    /// `set depth` and `stakes`.
+    /// Carries out `set depth` or `stakes`, which change the committee.
     pub fn obey(&mut self, command: &str, answer: &mut String) -> Reported {
         if let Some(stakes) = command.strip_prefix("stakes ") {
             self.stakes.clear();
@@ -41,7 +41,7 @@ impl Setup {
         }
     }
 
-    /// The member that takes the events, if there is such a committee.
+    /// The committee's member 0, which is given the events; None if there is no committee with this depth and these stakes.
     pub fn member(&self) -> Result<Option<Member>, AllocError> {
         let (depth, stakes) = (self.depth, self.stakes.as_str());
         let words = format!(in self.alloc; "0 {depth} {BATCHES} {stakes}")?;

@@ -1,4 +1,4 @@
-//! The answer to a run.
+//! How the answer to a run of a node is shown.
 
 use crate::live::streams::Seen;
 use crate::live::words::{put, put_count, put_hex, put_sum};
@@ -6,10 +6,11 @@ use std::alloc::Global;
 use std::str;
 use wire_read::FrameReader;
 
-/// The greatest number of bytes of an output's body that are shown.
+/// The greatest number of bytes of an output's body that are shown; its whole length is shown too.
 const SHOWN_BYTES: usize = 13;
 
-/// Adds a line for each output, with the length of its body and its first bytes, and a line for each line of the errors.
+/// Adds a line for each output of a run, with the length of its body and its first bytes, and a line for each line that was written to the
+/// errors.
 pub fn report_seen(alloc: Global, seen: &Seen, answer: &mut String) {
     match FrameReader::new(alloc).feed(&seen.output) {
         Ok(bodies) => report_outputs(&bodies, answer),
@@ -18,7 +19,7 @@ pub fn report_seen(alloc: Global, seen: &Seen, answer: &mut String) {
     report_errors(&seen.errors, answer);
 }
 
-/// As `report_seen`, with one line for all outputs: how many there are, and a sum over their frames.
+/// As `report_seen`, but with one line for all outputs: how many there are, and a checksum over their frames.
 pub fn report_sum(alloc: Global, seen: &Seen, answer: &mut String) {
     match FrameReader::new(alloc).feed(&seen.output) {
         Ok(bodies) => put_count(answer, "", bodies.len() as u64, " outputs, "),
@@ -37,7 +38,7 @@ fn report_outputs(bodies: &[Vec<u8>], answer: &mut String) {
     }
 }
 
-/// Adds the lines of the errors, except those before the first one that says that the node is down.
+/// Adds the lines that were written to the errors, except those before the first line that says that the node is down.
 pub fn report_errors(errors: &[u8], answer: &mut String) {
     match str::from_utf8(errors) {
         Ok(text) => report_lines(text, answer),

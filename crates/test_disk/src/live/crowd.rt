@@ -1,4 +1,4 @@
-//! Three threads that submit to one node, while a fourth flushes.
+//! A test of one node to which three threads submit batches, while a fourth thread flushes.
 
 ghost use Rattle.std.specs.Prelude.{◌≡◌, IsSome, IsTrue};
 ghost use Rattle.flusher.specs.Rounds.{journal_of};
@@ -30,10 +30,10 @@ const EACH: u64 = 1_000;
 // How many batches there are in all.
 const ALL: u64 = 3_000;
 
-// How often the flushing thread flushes before it gives up.
+// How often the flushing thread flushes before it gives up, if not all batches are settled by then.
 const TURNS: u64 = 10_000_000;
 
-// On two disks a checkpoint is made each time that this many rounds were made. There are at least this many rounds in all.
+// On two disks a checkpoint is made each time that this many group commits were made. At least this many are made in all.
 const EVERY: u64 = 20;
 
 // The member whose batches a thread submits, and the thread's seat.
@@ -60,7 +60,7 @@ where
     Ok(())
 }
 
-// An empty disk, or two of them.
+// An empty disk, or two of them if the journal is to be on two disks.
 fn empty_store(alloc: Global, are_two: bool) -> Result<Store<MemDisk>, AllocError> {
     let first = disk_with(alloc, &[])?;
     match are_two {
@@ -100,8 +100,8 @@ where
     Ok(left)
 }
 
-// How many events two seats that meet have seen. This function is given no handle for waiting, so its types prove that none of its calls
-// waits.
+// Looks at the node's counts with each of two seats, and lets the second seat learn what the first one has seen. Returns how many events
+// the second seat has seen then. This function is given no handle for waiting, so its types prove that none of its calls waits.
 fn look(node: &Node<'_, HashSign>, first: &mut Seat, second: &mut Seat) -> u64
     requires first { IsOf node.now first.old }
     requires second { IsOf node.now second.old }
@@ -111,7 +111,7 @@ fn look(node: &Node<'_, HashSign>, first: &mut Seat, second: &mut Seat) -> u64
     node.meet(first, second)
 }
 
-// Each member submits its batches in a thread, while another thread flushes.
+// Submits each member's batches in a thread of its own, while another thread flushes.
 fn submit_beside<'a, R>(
     rt: &R,
     alloc: Global,
@@ -135,7 +135,8 @@ where
     flushed
 }
 
-// Submits the batches of all members, each member's in a thread of its own, and gives what is shown of their tickets.
+// Submits the batches of all members, each member's in a thread of its own, and returns the lines that show the tickets of the batches (the
+// numbers of the records that must be durable before an answer leaves).
 fn submit_each<R>(
     rt: &R,
     alloc: Global,
@@ -163,7 +164,7 @@ fn members_of<'n, 'a>(
     Ok(members)
 }
 
-// Submits a member's batches, and gives their tickets in order.
+// Submits a member's batches, and returns their tickets in the same order.
 fn submit_batches<R: Wait>(
     rt: &R,
     alloc: Global,
@@ -178,7 +179,7 @@ fn submit_batches<R: Wait>(
     Ok(tickets)
 }
 
-// Submits a batch, which is new, and gives its ticket.
+// Submits a batch that the node doesn't have yet, and returns its ticket.
 fn submit_batch<R: Wait>(
     rt: &R,
     alloc: Global,
@@ -204,7 +205,7 @@ fn submit<R: Wait>(
     Ok(caller.submit(rt, event)?)
 }
 
-// Flushes until all batches are settled, and gives back the disks on which the node was opened.
+// Flushes until all batches are settled, and returns the disks on which the node was opened.
 fn flush_all<R: Wait>(
     rt: &R,
     mut rounds: Rounds<'_, '_, HashSign, MemDisk>,
@@ -227,7 +228,7 @@ fn flush_all<R: Wait>(
     }
 }
 
-// Makes a round, and a checkpoint after it if one is to follow.
+// Makes a group commit, and after it a checkpoint if one is to be made.
 fn flush<R: Wait>(
     rt: &R,
     rounds: &mut Rounds<'_, '_, HashSign, MemDisk>,
@@ -279,7 +280,7 @@ fn are_rising(tickets: &[u64]) -> bool {
     true
 }
 
-// Whether these are the numbers from 1 to that of all batches.
+// Whether these tickets are the numbers from 1 to the number of all batches, each once.
 fn are_all(tickets: &[u64]) -> bool {
     let mut last = 0_u64;
     for ticket in tickets {
@@ -291,7 +292,7 @@ fn are_all(tickets: &[u64]) -> bool {
     last == ALL
 }
 
-// How many of the batches are known to a node on these disks.
+// How many of the batches a node that is opened on these disks already has.
 fn submit_again<R: Wait>(
     rt: &R,
     alloc: Global,

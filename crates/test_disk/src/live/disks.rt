@@ -1,4 +1,4 @@
-//! Commands to the disk that is open.
+//! The commands of a test case to the disk that is open, which is over a file.
 
 use crate::live::folder::report_bytes;
 use crate::live::words::{Reported, bad, joined, parted, put_count, report_fault};
@@ -6,7 +6,7 @@ use disk_file::FileDisk;
 use diskmodel::{Disk, DiskFault};
 use std::alloc::Global;
 
-/// Carries out a command, and adds the lines of its answer.
+/// Carries out a command on the disk, and adds the lines of its answer.
 pub fn obey_disk(
     alloc: Global,
     disk: &mut FileDisk,

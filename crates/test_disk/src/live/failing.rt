@@ -1,4 +1,4 @@
-//! Rounds in which a call of the disk fails.
+//! Tests of group commits in which a call of the disk fails.
 
 ghost use Rattle.std.specs.Prelude.{◌≡◌};
 
@@ -17,27 +17,27 @@ use std::sync::Wait;
 use validator::Config;
 use wire::{Author, Round};
 
-// The greatest number of rounds for one kind of call.
+// The greatest number of group commits that are tried for one kind of call.
 const MOST: u64 = 10;
 
 // What happens to a node whose disk fails.
 #[derive(Clone, Copy)]
 enum Plan {
-    // A sync fails, and then the node is asked several things.
+    // A sync fails in a group commit, and then the node, which is down, is asked several things.
     Down,
-    // In a round with one record the call of this kind and number, counted from 1, fails.
+    // In the group commit of one record the call of this kind with this number, counted from 1, fails.
     Call(CallKind, u64),
 }
 
-/// Shows what a node answers after a round took it down.
+/// Shows what a node answers after a failed group commit took it down.
 pub fn go_down<R: Wait>(rt: &R, alloc: Global, answer: &mut String) -> Result<(), Ending> {
     carry_out(rt, alloc, Plan::Down, answer)?;
     Ok(())
 }
 
-/// Makes rounds with one record in which the first call of a kind fails, then the second, and so on, until none does; `name` is the kind's
-/// name in the plural. Shows the answer of each round, and how many records are left by a stop after it that keeps everything, and by one
-/// that loses what isn't synced.
+/// Makes group commits of one record in which the first call of a kind fails, then the second, and so on, until none fails; `name` is the
+/// kind's name in the plural. Shows the answer to each group commit, and how many records are left by a stop after it that keeps everything
+/// that was written, and by a stop that loses what isn't synced.
 pub fn fail_each<R: Wait>(
     rt: &R,
     alloc: Global,
@@ -65,7 +65,7 @@ fn report_left(alloc: Global, disk: MemDisk, answer: &mut String) -> Result<(), 
     Ok(())
 }
 
-// How many events the journal on a disk has.
+// How many events the journal on a disk holds.
 fn events_on(alloc: Global, disk: MemDisk) -> Result<u64, Ending> {
     let Some(found) = found_on(alloc, Store::One(disk)) else {
         return Err(Ending::Unexpected);
@@ -74,7 +74,7 @@ fn events_on(alloc: Global, disk: MemDisk) -> Result<u64, Ending> {
     Ok(count)
 }
 
-// Plays a round, shows whether its record was settled, and gives the disk back.
+// Makes a group commit, shows whether its record was settled, and returns the disk.
 fn carry_out<R: Wait>(
     rt: &R,
     alloc: Global,
@@ -105,7 +105,7 @@ fn carry_out_on<R: Wait>(
     }
 }
 
-// Plays a round of this node, with a caller of it, and shows whether its record was settled.
+// Makes a group commit of this node, to which a caller submits the record, and shows whether the record was settled.
 fn play_with<'a, R: Wait>(
     rt: &R,
     alloc: Global,

@@ -1,4 +1,4 @@
-//! Runs over files.
+//! Runs of a node over files.
 
 use crate::live::answers::report_errors;
 use crate::live::words::{Reported, put_number};
@@ -10,7 +10,7 @@ use std::rt::Files;
 use std::sync::Wait;
 use std::thread::Threads;
 
-/// Runs a node without input and with these arguments. Its files are in the folder in which the program runs.
+/// Runs a node with these arguments, and without input. Its files are in the folder in which the test runs.
 pub fn run_files<R: Files<File = File> + AllocGlobal + Threads + Wait + Sync>(
     rt: &R,
     alloc: Global,

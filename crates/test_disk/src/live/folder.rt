@@ -1,4 +1,4 @@
-//! The folder, and the file in it that is open as a disk.
+//! The folder in which a test runs, and the file in it that is open as a disk.
 
 use crate::live::disks::obey_disk;
 use crate::live::journals::{records_of, report_opening};
@@ -8,7 +8,7 @@ use std::alloc::Global;
 use std::fs::{self, File};
 use std::rt::Files;
 
-/// The folder in which the program runs, and the open disk over one of its files.
+/// The folder in which the test runs, and the disk that is open over one of its files.
 #[derive(Drop)]
 pub struct Folder {
     alloc: Global,
@@ -54,13 +54,13 @@ impl Folder {
         }
     }
 
-    // Opens a file instead of the disk that is open.
+    // Opens a file as a disk, in place of the one that is open.
     fn open<R: Files<File = File>>(&mut self, rt: &R, name: &str, answer: &mut String) {
         self.disk = None;
         self.disk = opened(FileDisk::open(rt, self.alloc, name), answer);
     }
 
-    // Opens a file instead of the disk that is open, and keeps only this many bytes of it in memory.
+    // Opens a file as a disk, in place of the one that is open, and lets the disk keep only this many bytes of the file in memory.
     fn open_front<R: Files<File = File>>(&mut self, rt: &R, rest: &str, answer: &mut String) {
         let (name, count) = parted(rest);
         let keep = count.parse().unwrap_or(0);
@@ -68,7 +68,8 @@ impl Folder {
         self.disk = opened(FileDisk::open_front(rt, self.alloc, name, keep), answer);
     }
 
-    // Opens a journal on the open disk and appends a group of the records, if there are any. The disk is closed then.
+    // Opens a journal on the open disk and appends these records as a group, if there are any. Then the journal is closed; the disk stays
+    // open.
     fn journal(&mut self, rest: &str, answer: &mut String) -> Reported {
         let records = records_of(self.alloc, rest)?;
         if let Some(disk) = self.disk.take() {
@@ -100,7 +101,7 @@ fn report_file<R: Files<File = File> + AllocGlobal>(rt: &R, name: &str, answer: 
     }
 }
 
-/// A line of an `x` and these bytes.
+/// Adds a line of an `x` and these bytes as hexadecimal digits.
 pub fn report_bytes(answer: &mut String, bytes: &[u8]) {
     put(answer, "x");
     put_hex(answer, bytes);

@@ -1,4 +1,4 @@
-//! A flusher that is held up before a sync, while another thread submits.
+//! A test in which a flusher is held up before a sync, while another thread submits.
 
 ghost use Rattle.std.specs.Prelude.{◌≡◌, IsSome};
 ghost use Rattle.std.specs.Thread.{IsSend, IsSync};
@@ -21,20 +21,20 @@ use std::thread::{self, Threads};
 use validator::Config;
 use wire::{Author, Output, Round};
 
-// How often a thread looks for what it waits for before it goes on without it.
+// How often a thread looks for what it waits for before it goes on without that.
 const TURNS: u64 = 10_000_000;
 
 // What the flushing thread and the submitting thread share.
 #[derive(Drop)]
 struct Doors {
-    // How many syncs were reached.
+    // How many syncs the flushing thread has begun.
     reached: AtomicU64,
-    // How many of the syncs may go on.
+    // How many of the syncs may go on, counted from the first.
     open: AtomicU64,
 }
 
 impl Doors {
-    // Doors that let every sync go on.
+    // Doors that let every sync go on at once.
     fn new() -> Doors {
         Doors {
             reached: AtomicU64::new(0),
@@ -42,7 +42,7 @@ impl Doors {
         }
     }
 
-    // Holds all syncs after those that were reached so far, and gives how many these are.
+    // Holds all syncs after those that were begun so far, and returns how many were begun.
     fn close(&self) -> u64 {
         let reached = self.reached.load(Ordering::SeqCst);
         self.let_go(reached);
@@ -55,7 +55,7 @@ impl Doors {
     }
 }
 
-// Waits until the number is at least `least`.
+// Waits until the shared number is at least `least`. Returns whether it is, since the waiting ends at some time.
 fn wait(number: &AtomicU64, least: u64) -> bool {
     for _ in 0..TURNS {
         if number.load(Ordering::SeqCst) >= least {
@@ -66,7 +66,7 @@ fn wait(number: &AtomicU64, least: u64) -> bool {
     false
 }
 
-// A gate that holds a sync until the doors let it go on.
+// A gate of a disk in memory that holds each sync until the doors let the sync go on.
 #[derive(Drop)]
 struct Held<'d> {
     doors: &'d Doors,
@@ -83,15 +83,15 @@ impl Gate for Held<'_> {
     }
 }
 
-// What is held up: a round, or a checkpoint.
+// What is held up: a group commit, or a checkpoint.
 #[derive(Clone, Copy)]
 enum Kind {
     Round,
     Checkpoint,
 }
 
-/// Submits a header, and two more while a round with the first one, or a checkpoint of it, is held before its sync; then lets it go on to
-/// its next sync, and to its end. The next round has the other two.
+/// Submits a header, and two more headers while a group commit of the first one, or a checkpoint, is held before its sync. Then lets the
+/// flusher go on to its next sync, and then to the end. The next group commit has the other two headers.
 pub fn hold<R>(rt: &R, alloc: Global, name: &str, answer: &mut String) -> Result<(), Ending>
 where
     R: Threads + Wait + Sync,
@@ -139,7 +139,7 @@ where
     flush_rest(rt, rounds, &mut caller, answer)
 }
 
-// Makes a round in which nothing is held.
+// Makes a group commit in which no sync is held.
 fn flush_rest<R: Wait, D: Disk + Drop>(
     rt: &R,
     mut rounds: Rounds<'_, '_, HashSign, D>,
@@ -151,10 +151,10 @@ fn flush_rest<R: Wait, D: Disk + Drop>(
     Ok(())
 }
 
-// The result of a call of the flusher, and the rounds.
+// The result of a call of the flusher, and the flusher itself.
 type Flushed<'n, 'a, D> = (Result<u64, FlushError>, Rounds<'n, 'a, HashSign, D>);
 
-// Flushes in one thread and submits in another.
+// Flushes in one thread, and submits in another one at the same time.
 fn flush_beside<'n, 'a, R, D>(
     rt: &R,
     alloc: Global,
@@ -193,8 +193,8 @@ fn flush<'n, 'a, D: Disk + Drop, R: Wait>(
     (flushed, rounds)
 }
 
-// Once the first sync after the first `before` syncs is held, submits two more headers and shows what the node answers meanwhile. Shows
-// then what it answers while the next sync is held. After that everything may go on.
+// When the sync after the first `before` syncs is held, submits two more headers and shows what the node answers meanwhile. While the next
+// sync is held, shows how many events are synced. After that all syncs may go on.
 fn submit_more<R: Wait>(
     rt: &R,
     alloc: Global,
@@ -253,7 +253,7 @@ fn report_voted<R: Wait>(
     Ok(())
 }
 
-// Adds how many records are synced, and the next two outputs.
+// Adds how many events are synced, and the next two outputs that may leave.
 fn report_outputs<R: Wait>(rt: &R, caller: &mut Caller<'_, '_, HashSign>, reported: &mut String) {
     put_number(reported, "synced", caller.synced());
     for _ in 0..2 {

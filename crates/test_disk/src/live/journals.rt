@@ -1,4 +1,4 @@
-//! Journals: the one on the open disk, and those that runs leave on disks in memory.
+//! Journals in tests: the one on the open disk, and those that runs of a node leave on disks in memory.
 
 ghost use Rattle.std.specs.Prelude.{◌≡◌, None};
 ghost use Rattle.journal.specs.Journal.{spare_of, IsAlive};
@@ -11,7 +11,7 @@ use journal::{Group, Journal, Record, Store};
 use std::alloc::{AllocError, Global};
 use test_cases::bytes_of;
 
-/// The records in these words of digits.
+/// The records in these words of hexadecimal digits.
 pub fn records_of(alloc: Global, rest: &str) -> Result<Vec<Vec<u8>>, AllocError> {
     let mut records = Vec::new(alloc);
     for word in rest.split_whitespace() {
@@ -22,7 +22,7 @@ pub fn records_of(alloc: Global, rest: &str) -> Result<Vec<Vec<u8>>, AllocError>
     Ok(records)
 }
 
-/// Opens a journal on a disk, shows its records, appends a group of these records, if there are any, and gives the disk back.
+/// Opens a journal on a disk, shows its records, appends these records as a group, if there are any, and returns the disk.
 pub fn report_opening(
     alloc: Global,
     disk: FileDisk,
@@ -70,12 +70,12 @@ fn put_records(answer: &mut String, records: &[Record]) {
     put(answer, "\n");
 }
 
-/// What an opened journal has.
+/// What was found in a journal that was opened.
 #[derive(Drop)]
 pub struct Found {
     /// How often the journal was rewritten.
     pub generation: u64,
-    /// The length of the area that is read, in bytes.
+    /// The length, in bytes, of the area that an opening reads.
     pub len: u64,
     /// The records of the journal.
     pub records: Vec<Record>,
@@ -92,7 +92,7 @@ impl Found {
         }
     }
 
-    /// How many of its records are events, and how many bytes these have together with their length fields.
+    /// How many of the journal's records are events, and how many bytes these records have together, with their length fields.
     pub fn events(&self) -> (u64, u64) {
         let (mut count, mut bytes) = (0_u64, 0_u64);
         for record in &self.records {
@@ -106,7 +106,7 @@ impl Found {
     }
 }
 
-/// What the journal on one disk or on two has, if it can be opened.
+/// What is found in the journal on one disk or on two, if the journal can be opened.
 pub fn found_on(alloc: Global, store: Store<MemDisk>) -> Option<Found> {
     match store {
         Store::One(disk) => {

@@ -1,4 +1,4 @@
-//! What runs leave on their disks.
+//! What runs of a node leave on their disks.
 
 ghost use Rattle.std.specs.Prelude.{◌≡◌};
 
@@ -12,7 +12,7 @@ use node::{Caller, start};
 use std::alloc::Global;
 use std::sync::Wait;
 
-/// Adds the order of a node that is opened on these disks, and its round.
+/// Opens a node on these disks, and adds the node's order and round.
 pub fn report_node<R: Wait>(
     rt: &R,
     alloc: Global,
@@ -33,8 +33,8 @@ pub fn report_node<R: Wait>(
     Ok(())
 }
 
-/// Two words are given. Adds whether the journal was rewritten at least as many times as the first one says, or else how many times; and
-/// whether fewer bytes of events follow its checkpoint than the second one says, or else how many bytes.
+/// Adds whether the journal was rewritten at least as many times as the first of two words says, or else how many times; and whether fewer
+/// bytes of events follow its checkpoint than the second word says, or else how many bytes.
 pub fn report_rewritten(alloc: Global, store: Store<MemDisk>, words: &str, answer: &mut String) {
     let (least, most) = words.split_once(' ').unwrap_or((words, ""));
     let (least, most) = (least.parse().unwrap_or(u64::MAX), most.parse().unwrap_or(0));

@@ -1,4 +1,4 @@
-//! Messages for the node that threads share, which is member 0 of four.
+//! Messages for the node of the tests with threads. The node is member 0 of four.
 
 ghost use Rattle.std.specs.Prelude.{◌≡◌, None, IfOk};
 ghost use Rattle.header.specs.Checks.{fault_of, accepts_all};
@@ -14,7 +14,7 @@ use std::sync::Wait;
 use validator::Config;
 use wire::{Author, Message, ParentReference, Round, genesis_digest};
 
-// How many certificates of the round before a header names.
+// How many certificates of the round before a header names as parents.
 const QUORUM: u16 = 3;
 
 /// The header of an author for round 1.
@@ -44,7 +44,7 @@ pub fn first_parents(alloc: Global) -> Result<Vec<ParentReference>, AllocError> 
     Ok(parents)
 }
 
-/// Submits the header of an author for round 1, and gives its ticket.
+/// Submits the header of an author for round 1, and returns the ticket of the answer.
 pub fn submit_header<R: Wait>(
     rt: &R,
     alloc: Global,
@@ -56,7 +56,7 @@ pub fn submit_header<R: Wait>(
     Ok(receipt.ticket)
 }
 
-/// The batch of an author with one transaction, which is this number.
+/// The batch of an author with one transaction, whose bytes are this number.
 pub fn batch_of(
     alloc: Global,
     config: &Config<HashSign>,

@@ -1,4 +1,4 @@
-//! The rounds of the other members, as frames for a run.
+//! The messages of the other members in round after round, as frames that a run of a node reads.
 
 use crate::live::ending::Ending;
 use crate::live::makers::first_parents;
@@ -17,22 +17,22 @@ const OTHERS: [Author; 3] = [Author(1), Author(2), Author(3)];
 /// The members who vote on each header.
 const VOTERS: &str = "0,1,2";
 
-/// The member whose certificate each coin chooses.
+/// The member whose certificate is the leader of every wave, by the coins.
 const ELECTED: u64 = 1;
 
-/// The frames of the rounds so far.
+/// The other members' rounds up to now, from which the frames of the next rounds are made.
 #[derive(Drop)]
 pub struct OtherRounds {
     alloc: Global,
     // The number of the last round.
     number: u64,
-    // The certificates of the last round.
+    // References to the certificates of the last round, as parents of the next one.
     made: Vec<ParentReference>,
     frames: Vec<u8>,
 }
 
 impl OtherRounds {
-    /// Before the first round, with the genesis certificates as parents.
+    /// The state before the first round, with the genesis certificates as parents.
     pub fn new(alloc: Global) -> Result<OtherRounds, Ending> {
         Ok(OtherRounds {
             alloc,
@@ -42,8 +42,8 @@ impl OtherRounds {
         })
     }
 
-    /// The frames of this many more rounds. Each round has a batch of member 1, the headers of the other members, their certificates on top
-    /// of those of the round before, and the coin of the wave that ends with it, if one does.
+    /// The frames of this many more rounds. Each round has a batch of member 1, the headers of the other members with the certificates of
+    /// the round before as parents, the certificates of these headers, and the coin of the wave if the round is the wave's last.
     pub fn next(&mut self, count: u64) -> Result<Vec<u8>, Ending> {
         for _ in 0..count {
             self.number = self.number.saturating_add(1);
@@ -62,7 +62,7 @@ impl OtherRounds {
         }
     }
 
-    // The headers of the round, and after them their certificates.
+    // Adds the frames of the round's headers, and after them those of their certificates.
     fn put_proposals(&mut self) -> Result<(), Ending> {
         let parents = mem::replace(&mut self.made, Vec::new(self.alloc));
         let mut proposals = Vec::new(self.alloc);
@@ -107,7 +107,7 @@ impl OtherRounds {
         self.put(OWN, Message::Coin(Coin { wave, value }))
     }
 
-    // Adds the frame of a message from its sender.
+    // Adds the frame of a message with its sender.
     fn put(&mut self, sender: Author, message: Message) -> Result<(), Ending> {
         let bytes = encode(self.alloc, &message)?;
         let len = (bytes.len() + 2) as u32;

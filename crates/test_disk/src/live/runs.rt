@@ -1,4 +1,4 @@
-//! Runs of a node.
+//! Runs of a node over disks in memory, with given input.
 
 use crate::live::answers::{report_seen, report_sum};
 use crate::live::ending::Ending;
@@ -20,17 +20,17 @@ use std::rt::Files;
 use std::sync::{Mutex, Wait};
 use std::thread::Threads;
 
-/// What the next run of a case gets.
+/// What the next run of a test case is given.
 #[derive(Drop)]
 pub struct Runs {
     alloc: Global,
     text: String,
-    // The member's number; 0 where the case gives none.
+    // The number of the node's own member; 0 if the test case gives none.
     own: Option<String>,
     disk: Vec<u8>,
-    // The bytes of the second disk, where the journal is on two disks.
+    // The bytes of the second disk, if the journal is on two disks.
     second: Option<Vec<u8>>,
-    // By how much the area that is read grows until a checkpoint.
+    // How many bytes the area that is read grows by before a checkpoint is made.
     every: u64,
     rounds: Option<OtherRounds>,
     failing: Option<(CallKind, u64)>,
@@ -40,7 +40,7 @@ pub struct Runs {
 }
 
 impl Runs {
-    /// An empty committee file, an empty disk, and a reader that gives nothing.
+    /// The state of a new test case: an empty committee file, an empty disk, and a reader without bytes.
     pub fn new(alloc: Global) -> Runs {
         Runs {
             alloc,
@@ -125,7 +125,7 @@ impl Runs {
         Ok(())
     }
 
-    // Adds one more line.
+    // Adds one more line to the text of the committee file.
     fn put_line(&mut self, words: &str) -> Reported {
         self.text.push_str(words)?;
         self.text.push_str("\n")
@@ -139,7 +139,7 @@ impl Runs {
         }
     }
 
-    // Adds the frames of this many more rounds.
+    // Adds the frames of this many more rounds of the other members to what the run reads.
     fn add_rounds(&mut self, words: &str) -> Result<(), Ending> {
         let mut rounds = match self.rounds.take() {
             Some(rounds) => rounds,
@@ -150,7 +150,7 @@ impl Runs {
         Ok(())
     }
 
-    // Runs a node on the disks; shows a line for each output, and how many events the journal has.
+    // Runs a node on the disks. Shows a line for each output, and how many events the journal holds then.
     fn run<R: Threads + Wait + Sync>(&mut self, rt: &R, answer: &mut String) -> Reported {
         let (status, seen) = self.carry_out(rt)?;
         report_seen(self.alloc, &seen, answer);
@@ -158,7 +158,7 @@ impl Runs {
         self.report_events(answer)
     }
 
-    // Runs a node and shows a sum over the outputs.
+    // Runs a node on the disks, and shows a checksum over the outputs.
     fn sum<R: Threads + Wait + Sync>(&mut self, rt: &R, answer: &mut String) -> Reported {
         let (status, seen) = self.carry_out(rt)?;
         report_sum(self.alloc, &seen, answer);
@@ -166,7 +166,7 @@ impl Runs {
         Ok(())
     }
 
-    // Runs a node on the disks, and keeps what it leaves on them.
+    // Runs a node on the disks, and keeps the bytes that it leaves on them for the next run.
     fn carry_out<R: Threads + Wait + Sync>(&mut self, rt: &R) -> Result<(u8, Seen), AllocError> {
         let switch = Switch::new(self.alloc)?;
         let store = self.store_with(&switch)?;
@@ -180,7 +180,7 @@ impl Runs {
         Ok((status, seen.into_inner()))
     }
 
-    // The exit status, and the disks, if the run gives them back.
+    // Runs a node. Returns the exit status, and the disks if the run gives them back.
     fn run_steps<R: Threads + Wait + Sync>(
         &self,
         rt: &R,
@@ -200,7 +200,7 @@ impl Runs {
         (ending.status(), store)
     }
 
-    // The text of the committee file, and the own number.
+    // The text of the committee file, and the number of the node's own member.
     fn member(&self) -> (&[u8], &str) {
         let own = match &self.own {
             Some(own) => own.as_str(),
@@ -209,12 +209,12 @@ impl Runs {
         (self.text.as_bytes(), own)
     }
 
-    // The disks.
+    // The one disk or the two disks of the run.
     fn store(&self) -> Result<Store<MemDisk>, AllocError> {
         self.store_with(&Switch::new(self.alloc)?)
     }
 
-    // The same disks, with a switch that sets their calls to fail.
+    // The same disks, with a switch that can set their calls to fail.
     fn store_with(&self, switch: &Switch) -> Result<Store<MemDisk>, AllocError> {
         let first = switched_disk(self.alloc, &self.disk, switch)?;
         match &self.second {
@@ -223,7 +223,7 @@ impl Runs {
         }
     }
 
-    // Keeps the bytes of the disks; no bytes where the disks are lost.
+    // Keeps the bytes of the disks; no bytes if the disks are lost.
     fn keep(&mut self, left: Option<Store<MemDisk>>) -> Reported {
         self.disk.clear();
         match left {
@@ -244,7 +244,7 @@ impl Runs {
         }
     }
 
-    // Adds how many events the journal has.
+    // Adds how many events the journal holds.
     fn report_events(&self, answer: &mut String) -> Reported {
         match found_on(self.alloc, self.store()?) {
             Some(found) if !found.records.is_empty() => {
@@ -256,7 +256,7 @@ impl Runs {
         }
     }
 
-    // Adds the length of the area that is read, and of the other one.
+    // Adds the length of the area that an opening reads, and that of the other area.
     fn report_areas(&self, answer: &mut String) -> Reported {
         let Some(found) = found_on(self.alloc, self.store()?) else {
             return answer.push_str("no journal\n");
@@ -268,7 +268,7 @@ impl Runs {
         Ok(())
     }
 
-    // Adds what a node shows that is opened on the disks.
+    // Opens a node on the disks, and adds what the node shows.
     fn report_opened<R: Wait>(&self, rt: &R, answer: &mut String) -> Reported {
         Ending::write_to(report_node(rt, self.alloc, self.store()?, answer), answer)
     }

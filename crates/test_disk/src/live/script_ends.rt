@@ -1,4 +1,4 @@
-//! The reader that gives a script, and the writer that takes its lines.
+//! The reader of a script that the simulator runs, and the writer that takes the lines that the simulator writes.
 
 use crate::live::streams::filled;
 use crate::live::words::put_count;
@@ -6,11 +6,11 @@ use std::alloc::Global;
 use std::cell::Cell;
 use std::io::{self, Read, Write};
 
-/// Gives a script, and notes before each read how many lines were written.
+/// A reader of a script, which notes before each read how many lines were written by then.
 #[derive(Drop)]
 pub struct Input<'a> {
     pub rest: &'a [u8],
-    /// Whether a read gives at most one line, as a terminal does.
+    /// Whether each read returns at most one line, as a terminal does.
     pub is_typed: bool,
     /// Whether reading fails at the end.
     pub is_broken: bool,
@@ -31,7 +31,7 @@ impl Read for Input<'_> {
 }
 
 impl Input<'_> {
-    // What one read gives at most.
+    // The most bytes that one read returns.
     fn at_once(&self) -> &[u8] {
         if self.is_typed {
             first_line(self.rest)
@@ -41,7 +41,7 @@ impl Input<'_> {
     }
 }
 
-// The bytes up to the first newline, included; all bytes where there is none.
+// The bytes up to the first newline and with it; all bytes if there is none.
 fn first_line(bytes: &[u8]) -> &[u8] {
     match bytes.iter().position(|byte| *byte == b'\n') {
         Some(place) => bytes.get(..place + 1).unwrap_or(bytes),
@@ -49,7 +49,7 @@ fn first_line(bytes: &[u8]) -> &[u8] {
     }
 }
 
-/// Takes a limited number of bytes, and counts the calls and the lines.
+/// A writer that takes a limited number of bytes, and counts its calls and the lines.
 #[derive(Drop)]
 pub struct Taker<'a> {
     pub bytes: Vec<u8>,

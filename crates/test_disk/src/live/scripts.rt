@@ -1,16 +1,16 @@
-//! The script of a case.
+//! The script of the simulator in a test case.
 
 use crate::live::words::add_word;
 use std::alloc::{AllocError, Global};
 
-/// A script, how it is read, and how its lines are taken.
+/// A script for the simulator, how it is read, and how the lines that the simulator writes are taken.
 #[derive(Drop)]
 pub struct Script {
     alloc: Global,
     pub bytes: Vec<u8>,
     pub is_typed: bool,
     pub is_broken: bool,
-    /// How many bytes of output can be written.
+    /// How many bytes the simulator can write before the writer is full.
     pub room: usize,
 }
 
@@ -26,7 +26,7 @@ impl Script {
         }
     }
 
-    /// Adds a line, this many times.
+    /// Adds a line to the script, this many times.
     pub fn add_lines(&mut self, times: u32, line: &str) -> Result<(), AllocError> {
         for _ in 0..times {
             self.bytes.extend_from_slice(line.as_bytes())?;
@@ -35,7 +35,7 @@ impl Script {
         Ok(())
     }
 
-    /// Adds the first lines of a script that a case has kept, as many as these words say; gives whether they say a number.
+    /// Adds the first lines of a script that an earlier test case has kept, as many as `rest` says; returns whether `rest` is a number.
     pub fn add_first(&mut self, kept: &[u8], rest: &str) -> Result<bool, AllocError> {
         let Ok(count) = rest.parse() else {
             return Ok(false);
@@ -46,7 +46,7 @@ impl Script {
         Ok(true)
     }
 
-    /// Changes the script, how it is read or how its lines are taken; gives whether the words say how.
+    /// Changes the script, or how it is read or its lines are taken; returns whether the words are such a command.
     pub fn change(&mut self, name: &str, rest: &str) -> Result<bool, AllocError> {
         match name {
             "bytes" => add_word(self.alloc, rest, &mut self.bytes),

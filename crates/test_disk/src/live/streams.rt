@@ -1,4 +1,4 @@
-//! What a run reads and writes.
+//! The reader and the writers of a run of a node in tests.
 
 ghost use Rattle.std.specs.Prelude.{◌≡◌, ◌≤◌, length, None, IfOk, IfSome};
 
@@ -9,10 +9,10 @@ use std::sync::{Mutex, Wait};
 use std::thread::yield_now;
 use std::time::{Clock, Duration};
 
-/// How often a reader looks for what it waits for.
+/// How often a reader looks for what it waits for before it gives up.
 const TURNS: u64 = 10_000_000;
 
-/// A clock without a time, which never sleeps.
+/// A clock without a time, whose sleeping returns at once.
 pub struct NoClock;
 
 impl Clock for NoClock {
@@ -45,7 +45,7 @@ pub enum Step {
 pub struct Seen {
     pub output: Vec<u8>,
     pub errors: Vec<u8>,
-    /// How many writes of output would block, before one doesn't.
+    /// How many of the first writes of outputs would block.
     pub blocks: u64,
     /// Whether a write of output fails.
     pub is_broken: bool,
@@ -63,7 +63,7 @@ impl Seen {
     }
 }
 
-/// A reader that goes through steps.
+/// A reader that goes through steps: each says what the next reads return.
 #[derive(Drop)]
 pub struct Steps<'t, R: Wait> {
     rt: &'t R,
@@ -77,7 +77,7 @@ impl<'t, R: Wait> Steps<'t, R> {
         Steps { rt, seen, steps }
     }
 
-    // Waits until this many bytes were written. Gives no bytes.
+    // Waits until this many bytes were written. Returns no bytes.
     fn wait(&self, count: usize) -> io::Result<Option<usize>>
         ensures { IfOk result (λ given. given ≡ None) }
     {
@@ -114,8 +114,8 @@ impl<'t, R: Wait> Read for Steps<'t, R> {
 }
 
 impl<'t, R: Wait> Steps<'t, R> {
-    // Makes a step, and gives how many bytes it has put into the buffer. None if the step is over and has put none; then the next step
-    // follows.
+    // Makes a step, and returns how many bytes it has put into the buffer. None if the step is over and has put no bytes; then the next
+    // step follows.
     fn take(&mut self, step: Step, buffer: &mut [u8]) -> io::Result<Option<usize>>
         ensures { IfOk result (λ given. IfSome given (λ count. count ≤ length buffer.old)) }
     {
@@ -139,7 +139,7 @@ impl<'t, R: Wait> Steps<'t, R> {
         Ok(Some(count))
     }
 
-    // Gives the bytes that fit, and keeps the others for later.
+    // Puts the bytes that fit into the buffer, and keeps the others for the next read.
     fn give(&mut self, bytes: Vec<u8>, buffer: &mut [u8]) -> io::Result<Option<usize>>
         ensures { IfOk result (λ given. IfSome given (λ count. count ≤ length buffer.old)) }
     {
@@ -153,7 +153,7 @@ impl<'t, R: Wait> Steps<'t, R> {
     }
 }
 
-/// Copies the bytes that fit into the buffer, and gives how many these are.
+/// Copies the bytes that fit into the buffer, and returns how many these are.
 pub fn filled(bytes: &[u8], buffer: &mut [u8]) -> usize
     ensures few { result ≤ length bytes.now }
     ensures fits { result ≤ length buffer.old }
@@ -163,7 +163,7 @@ pub fn filled(bytes: &[u8], buffer: &mut [u8]) -> usize
     count
 }
 
-/// A writer of output.
+/// The writer of outputs, which keeps what it takes in `Seen`.
 #[derive(Drop)]
 pub struct Output<'t, R: Wait> {
     pub rt: &'t R,
@@ -189,7 +189,7 @@ impl<'t, R: Wait> Write for Output<'t, R> {
     }
 }
 
-/// A writer of lines.
+/// The writer of the lines of errors, which keeps what it takes in `Seen`.
 #[derive(Drop)]
 pub struct Lines<'t, R: Wait> {
     pub rt: &'t R,

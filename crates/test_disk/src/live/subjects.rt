@@ -1,4 +1,4 @@
-//! What a case tests.
+//! What a test case tests: a folder with a disk, runs of a node, a script of the simulator, or threads.
 
 use crate::live::folder::Folder;
 use crate::live::runs::Runs;
@@ -12,27 +12,28 @@ use std::rt::Files;
 use std::sync::Wait;
 use std::thread::Threads;
 
-// What the commands of a case work on.
+// The state that the commands of a test case work on.
 #[derive(Drop)]
 enum Subject {
-    // Each command is a test of its own. Every case begins with this, since only its first command says what it tests.
+    // No state: each command is a test of its own with threads. Every test case begins with this, since only its first command says what is
+    // tested.
     Threads,
     Folder(Folder),
     Script(Script),
     Runs(Runs),
 }
 
-/// The case that is played.
+/// The test case that is played.
 #[derive(Drop)]
 pub struct Case {
     alloc: Global,
     subject: Subject,
-    // The script that a case has kept for later cases.
+    // A script that a test case has kept for later ones.
     kept: Vec<u8>,
 }
 
 impl Case {
-    /// A case without commands.
+    /// A test case without commands.
     pub fn new(alloc: Global) -> Case {
         Case {
             alloc,
@@ -41,7 +42,7 @@ impl Case {
         }
     }
 
-    /// Begins a new case.
+    /// Begins a new test case.
     pub fn begin(&mut self) {
         self.subject = Subject::Threads;
     }
@@ -63,7 +64,7 @@ impl Case {
         }
     }
 
-    // Chooses what the case tests, if no earlier command has.
+    // Chooses what the test case tests, by the name of its first command.
     fn choose(&mut self, name: &str) {
         if let Subject::Threads = self.subject {
             self.subject = subject_of(self.alloc, name);
@@ -71,7 +72,7 @@ impl Case {
     }
 }
 
-// What a case tests whose first command has this name.
+// What a test case tests whose first command has this name.
 fn subject_of(alloc: Global, name: &str) -> Subject {
     match name {
         "hold" | "crowd" | "down" | "fail" => Subject::Threads,

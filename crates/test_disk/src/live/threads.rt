@@ -1,4 +1,4 @@
-//! The commands of a case of threads.
+//! The commands of a test case with threads.
 
 use crate::live::crowd::crowd;
 use crate::live::ending::Ending;

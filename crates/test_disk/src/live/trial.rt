@@ -1,4 +1,4 @@
-//! The commands of a case of the simulator.
+//! The commands of a test case that runs a script on the simulator.
 
 use crate::committees::{FOUR, OWN, own_config};
 use crate::live::script_ends::{Input, Taker};
@@ -15,8 +15,8 @@ use std::cell::Cell;
 use std::sync::Wait;
 use wire::{Message, Vote};
 
-/// A line after `|` is a line of the script. A script that was kept can begin later ones. The other commands change how the script is run,
-/// or run it.
+/// Carries out a command of a test case with a script. After `|` stands a line of the script; `keep` keeps the script, and `first` begins a
+/// later script with lines of the kept one. The other commands change how the script is run, or run it.
 pub fn obey_script<R: Wait>(
     rt: &R,
     alloc: Global,
@@ -54,7 +54,7 @@ fn keep(script: &Script, kept: &mut Vec<u8>) -> Reported {
     kept.extend_from_slice(&script.bytes)
 }
 
-// What is left after a run.
+// What a run of a script leaves: the exit status, and what was written to the output and to the errors.
 #[derive(Drop)]
 struct Outcome {
     notes: String,
@@ -87,7 +87,7 @@ fn outcome_of<R: Wait>(rt: &R, alloc: Global, script: &Script) -> Outcome {
     }
 }
 
-// Adds what is printed, what goes to the errors, and the status.
+// Runs the script, and adds what it writes to the output and to the errors, and the exit status.
 fn play<R: Wait>(rt: &R, alloc: Global, script: &Script, answer: &mut String) {
     let outcome = outcome_of(rt, alloc, script);
     put_text(answer, &outcome.printed);
@@ -98,7 +98,7 @@ fn play<R: Wait>(rt: &R, alloc: Global, script: &Script, answer: &mut String) {
     put_number(answer, "status", outcome.status as u64);
 }
 
-// Adds the SHA-256 of the answer of `play`.
+// Runs the script, and adds the SHA-256 of what `play` would add.
 fn sum<R: Wait>(rt: &R, alloc: Global, script: &Script, answer: &mut String) {
     let mut lines = String::new(alloc);
     play(rt, alloc, script, &mut lines);
@@ -106,13 +106,13 @@ fn sum<R: Wait>(rt: &R, alloc: Global, script: &Script, answer: &mut String) {
     put(answer, "\n");
 }
 
-// Adds how many lines were written before each read.
+// Runs the script, and adds how many lines were written before each read.
 fn watch<R: Wait>(rt: &R, alloc: Global, script: &Script, answer: &mut String) {
     let outcome = outcome_of(rt, alloc, script);
     put(answer, &outcome.notes);
 }
 
-// Adds how many lines are written, and whether there were at most as many calls.
+// Runs the script, and adds how many lines it writes, and whether it makes no more calls of the writer than lines.
 fn count<R: Wait>(rt: &R, alloc: Global, script: &Script, answer: &mut String) {
     let outcome = outcome_of(rt, alloc, script);
     let few = outcome.calls <= outcome.lines;
@@ -120,7 +120,7 @@ fn count<R: Wait>(rt: &R, alloc: Global, script: &Script, answer: &mut String) {
     put_shown(answer, ", at most as many calls: ", &few, "\n");
 }
 
-// Adds how many bytes each area of the journal has after the script.
+// Runs the script, and adds how many bytes each area of the journal has after it.
 fn journal<R: Wait>(rt: &R, alloc: Global, script: &Script, answer: &mut String) {
     match disks_after(rt, alloc, &script.bytes) {
         Some((first, second)) => {
@@ -131,7 +131,7 @@ fn journal<R: Wait>(rt: &R, alloc: Global, script: &Script, answer: &mut String)
     }
 }
 
-// Adds whether a vote may leave after the script, and passes the checks.
+// Runs the script, and adds whether a vote may leave the node after it, and whether the vote passes the checks.
 fn vote<R: Wait>(rt: &R, alloc: Global, script: &Script, answer: &mut String) {
     match vote_after(rt, alloc, &script.bytes) {
         Some(vote) if passes(alloc, vote) => put(answer, "passes\n"),

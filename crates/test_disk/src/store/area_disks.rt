@@ -1,4 +1,4 @@
-//! Both disks of a journal, and what a stop leaves of them.
+//! Both disks of a journal on two disks, and what a stop of the machine leaves on them.
 
 use crate::memory::stop_with;
 use crate::store::area_steps::Left;
@@ -21,7 +21,7 @@ impl Disks {
         })
     }
 
-    /// Stops the machine so that it leaves this of the disks. Gives whether that is possible.
+    /// Stops the machine so that it leaves what `first` and `second` say on the two disks. Returns whether a stop can leave that.
     pub fn stop(&mut self, alloc: Global, first: Left, second: Left) -> Result<bool, AllocError> {
         let can = stop(alloc, &mut self.first, first)?;
         Ok(stop(alloc, &mut self.second, second)? && can)
@@ -53,8 +53,8 @@ fn torn(
     Ok(bytes)
 }
 
-/// The byte at a place, if a stop can't change it; otherwise this byte at places that are a multiple of `every`, and what a read gives, or
-/// the last sync, at the others.
+/// The byte that a torn stop leaves at a place: the byte of the last sync, if a stop can't change it; otherwise `byte` at places that are a
+/// multiple of `every`, and at other places what a read returns there, or else the last sync.
 fn left_at(disk: &MemDisk, byte: u8, every: u64, place: u64) -> u8 {
     let (read, durable) = (
         disk.bytes().get(place as usize),

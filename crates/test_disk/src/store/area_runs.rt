@@ -1,4 +1,4 @@
-//! A list of steps on a journal on two areas, made by the running code.
+//! Carries out a list of steps on a journal on two areas with the running code (not with a model).
 
 ghost use Rattle.std.specs.Prelude.{◌≡◌, ◌≤◌, true, length, IsSome, Some, IfOk, IfSome};
 ghost use Rattle.journal.specs.Areas.{generation_of};
@@ -18,7 +18,7 @@ use std::alloc::{AllocError, Global};
 use std::collections::VecDeque;
 use validator::{Config, Refusal, Step as Stepped, Validator};
 
-/// The calls of an append, each by its kind and its number among the calls of that kind.
+/// The device calls of an append, each as its kind and its number among the calls of that kind.
 const APPEND: [(CallKind, u64); 4] = [
     (CallKind::Write, 1),
     (CallKind::Sync, 1),
@@ -26,7 +26,7 @@ const APPEND: [(CallKind, u64); 4] = [
     (CallKind::Sync, 2),
 ];
 
-/// The calls of a rewriting.
+/// The device calls of a rewriting of the spare area, in the same form.
 const REWRITING: [(CallKind, u64); 8] = [
     (CallKind::Write, 1),
     (CallKind::Sync, 1),
@@ -38,7 +38,7 @@ const REWRITING: [(CallKind, u64); 8] = [
     (CallKind::Sync, 4),
 ];
 
-/// The state of the run that isn't on the disks.
+/// The state of a list of steps that isn't on the disks: the validator, and what was accepted, taken and written.
 #[derive(Drop)]
 pub struct Run<'l, 'a> {
     alloc: Global,
@@ -46,20 +46,20 @@ pub struct Run<'l, 'a> {
     events: &'l [Listed],
     switch: Switch,
     validator: Validator<'a, HashSign>,
-    /// The numbers of all events that were accepted, over all runs; and how many of these are on the disk.
+    /// The numbers of all events that were accepted, over all runs; and how many of these events are on the disk.
     history: Vec<usize>,
     written: usize,
-    /// The numbers of events in the groups in flight; and how many of these groups are written.
+    /// For each group in flight the number of its events; and how many of these groups are written.
     groups: VecDeque<usize>,
     groups_written: usize,
-    /// How many events each generation of the areas has in its checkpoint.
+    /// How many events the checkpoint of each generation of the areas stands for.
     bases: Vec<usize>,
-    /// The records of a checkpoint that was taken.
+    /// The records of a checkpoint that was taken and isn't yet written.
     snapshot: Vec<Vec<u8>>,
 }
 
 impl<'l, 'a> Run<'l, 'a> {
-    /// Before the first opening.
+    /// The state before the first opening.
     pub fn new(
         alloc: Global,
         config: &'a Config<HashSign>,
@@ -80,7 +80,7 @@ impl<'l, 'a> Run<'l, 'a> {
         })
     }
 
-    /// Makes the steps, from two empty areas on, and adds the result of each.
+    /// Makes the steps, beginning with two empty areas, and adds the result of each step.
     pub fn play(&mut self, steps: &[Step], answer: &mut String) -> Reported {
         let mut disks = Disks::new(self.alloc, &self.switch)?;
         let mut place = 0usize;
@@ -105,14 +105,14 @@ impl<'l, 'a> Run<'l, 'a> {
         Ok(())
     }
 
-    /// Sets the count-th call of a kind to fail; 0 sets none.
+    /// Sets a device call to fail: the `count`-th one of its kind from now on; 0 sets none.
     fn report_call(&self, kind: CallKind, count: u64) {
         if count > 0 {
             let _ = self.switch.fail(kind, count);
         }
     }
 
-    /// Sets one of these calls to fail, counted from 1; 0 sets none.
+    /// Sets one of these device calls to fail, by its place in the list counted from 1; 0 sets none.
     fn report_one(&self, calls: &[(CallKind, u64)], call: u64) {
         if call > 0
             && let Some((kind, count)) = calls.get((call - 1) as usize)
@@ -123,7 +123,7 @@ impl<'l, 'a> Run<'l, 'a> {
 
     // ---- openings
 
-    /// Opens both areas, and makes steps until the machine stops. Gives how many steps.
+    /// Opens both areas, and makes the following steps until the machine stops. Returns how many of the steps it made.
     fn open(
         &mut self,
         disks: Disks,
@@ -145,7 +145,7 @@ impl<'l, 'a> Run<'l, 'a> {
         }
     }
 
-    /// Begins a run with what was read. A journal without a record first gets its configuration.
+    /// Begins a run with the records that an opening read. A journal without a record first gets its configuration.
     fn begin(
         &mut self,
         journal: &mut Journal<MemDisk>,
@@ -174,8 +174,8 @@ impl<'l, 'a> Run<'l, 'a> {
         self.go_on(journal, steps, answer)
     }
 
-    /// Adds what was read: the generation, how many records precede the events, a sum over those records, and the events' numbers. The
-    /// state is then that after these events.
+    /// Adds what an opening read: the generation, how many records precede the events, a checksum over those records, and the numbers of
+    /// the events. Sets the state to the one after these events.
     fn find(&mut self, generation: u64, records: &[Record], answer: &mut String) -> Reported {
         let front = records
             .iter()
@@ -193,7 +193,7 @@ impl<'l, 'a> Run<'l, 'a> {
         self.go_back(generation as usize, events.len())
     }
 
-    /// Sets the state to that after a checkpoint and this many events.
+    /// Sets the state to the one after the checkpoint of this generation and this many events more.
     fn go_back(&mut self, generation: usize, events: usize) -> Reported {
         let base = self.bases.get(generation).copied().unwrap_or(0);
         self.bases.truncate(generation.saturating_add(1));
@@ -217,7 +217,7 @@ impl<'l, 'a> Run<'l, 'a> {
 
     // ---- steps
 
-    /// Makes steps until the machine stops, or a call fails. Gives how many steps.
+    /// Makes steps until the machine stops or a device call fails. Returns how many steps it made.
     fn go_on<D: Disk>(
         &mut self,
         journal: &mut Journal<D>,
@@ -241,7 +241,7 @@ impl<'l, 'a> Run<'l, 'a> {
         Ok(made)
     }
 
-    /// Makes a step. Gives whether the machine goes on.
+    /// Makes a step. Returns whether the run goes on: whether no device call failed.
     fn make<D: Disk>(
         &mut self,
         journal: &mut Journal<D>,
@@ -262,7 +262,7 @@ impl<'l, 'a> Run<'l, 'a> {
         Ok(true)
     }
 
-    /// Makes a step that needs no journal.
+    /// Makes a step for which no journal is needed.
     fn make_alone(&mut self, step: Step, answer: &mut String) -> Reported {
         match step {
             Step::Accept(number) => return self.accept(number, answer),
@@ -277,7 +277,7 @@ impl<'l, 'a> Run<'l, 'a> {
         Ok(())
     }
 
-    /// An event comes in. Adds whether it is new, known, or refused for the reason with this number.
+    /// Gives the validator the event with this number. Adds whether the event is new or known, or why it is refused.
     fn accept(&mut self, number: usize, answer: &mut String) -> Reported {
         match self.arrive(number)? {
             Some(Ok(Stepped::New(_))) => {
@@ -296,7 +296,7 @@ impl<'l, 'a> Run<'l, 'a> {
         Ok(())
     }
 
-    /// Steps the event with this number on the validator, if there is such an event.
+    /// Gives the validator the event with this number, if there is such an event.
     fn arrive(&mut self, number: usize) -> Result<Option<Result<Stepped, Refusal>>, AllocError> {
         let Some(listed) = self.events.get(number) else {
             return Ok(None);
@@ -310,7 +310,7 @@ impl<'l, 'a> Run<'l, 'a> {
         }
     }
 
-    /// Takes everything for a checkpoint of the next generation. Adds how many records it has.
+    /// Takes all accepted events for a checkpoint of the next generation. Adds how many records the checkpoint has.
     fn take_all(&mut self, generation: usize, answer: &mut String) -> Reported {
         self.snapshot = kept_records(self.alloc, self.config.own(), self.validator.tables())?;
         self.bases.truncate(generation.saturating_add(1));
@@ -322,7 +322,7 @@ impl<'l, 'a> Run<'l, 'a> {
 
     // ---- writing
 
-    /// The records of the first group that isn't written yet.
+    /// The records of the first group in flight that isn't written yet.
     fn group(&self) -> Result<Vec<Vec<u8>>, AllocError> {
         let count = self.groups.get(self.groups_written).copied().unwrap_or(0);
         let mut records = Vec::new(self.alloc);
@@ -334,7 +334,7 @@ impl<'l, 'a> Run<'l, 'a> {
         Ok(records)
     }
 
-    /// Appends the first group that isn't written yet; a call may be set to fail. Gives whether none failed.
+    /// Appends the first group in flight that isn't written yet; one of the device calls may be set to fail. Returns whether none failed.
     fn append<D: Disk>(
         &mut self,
         journal: &mut Journal<D>,
@@ -364,7 +364,7 @@ impl<'l, 'a> Run<'l, 'a> {
         Ok(true)
     }
 
-    /// Rewrites the spare area to the checkpoint that was taken; a call may be set to fail. Gives whether none failed.
+    /// Rewrites the spare area to the checkpoint that was taken; one of the device calls may be set to fail. Returns whether none failed.
     fn rewrite<D: Disk>(
         &mut self,
         journal: &mut Journal<D>,
@@ -393,7 +393,7 @@ impl<'l, 'a> Run<'l, 'a> {
     }
 }
 
-/// Appends a group. Adds how many records it has, or that a call failed; gives whether none failed.
+/// Appends a group. Adds how many records the group has, or that a device call failed; returns whether none failed.
 fn append_to<D: Disk>(journal: &mut Journal<D>, group: Group, answer: &mut String) -> bool
     requires alive { IsAlive D.device journal.old }
     requires pair { IsSome (spare_of journal.old) }
@@ -414,7 +414,7 @@ fn append_to<D: Disk>(journal: &mut Journal<D>, group: Group, answer: &mut Strin
     }
 }
 
-/// Rewrites the spare area. Adds the new generation, or that a call failed; gives whether none failed.
+/// Rewrites the spare area. Adds the new generation, or that a device call failed; returns whether none failed.
 #[tactic(auto, using(crate::proofs::Begun::begun))]
 fn rewrite_to<D: Disk>(journal: &mut Journal<D>, snapshot: Snapshot, answer: &mut String) -> bool
     requires alive { IsAlive D.device journal.old }
@@ -437,7 +437,7 @@ fn rewrite_to<D: Disk>(journal: &mut Journal<D>, snapshot: Snapshot, answer: &mu
     }
 }
 
-/// The checkpoint with these records, if they are one's.
+/// The checkpoint with these records, if they are the records of a checkpoint.
 fn snapshot_of(alloc: Global, records: &[Vec<u8>]) -> Result<Option<Snapshot>, AllocError> {
     if !records.is_empty() && shaped_version(&records[0]).is_none() {
         return Ok(None);
@@ -445,12 +445,12 @@ fn snapshot_of(alloc: Global, records: &[Vec<u8>]) -> Result<Option<Snapshot>, A
     Snapshot::new(alloc, records)
 }
 
-/// The record of the node's configuration.
+/// The bytes of the configuration's record in the node's journal.
 pub fn own_configuration(alloc: Global, config: &Config<HashSign>) -> Result<Vec<u8>, AllocError> {
     configuration_record(alloc, Version::Second, config.committee(), config.own())
 }
 
-/// Appends the group of a configuration alone. Gives whether no call failed.
+/// Appends a group that has only the configuration's record. Returns whether no device call failed.
 pub fn add_first(
     alloc: Global,
     journal: &mut Journal<MemDisk>,
@@ -470,7 +470,7 @@ pub fn add_first(
     }
 }
 
-/// The group of a configuration alone, if these bytes are one.
+/// The group that has only the configuration's record, if these bytes are one.
 #[tactic(auto, using(crate::proofs::Begun::alone))]
 fn first_group(alloc: Global, configuration: Vec<u8>) -> Result<Option<Group>, AllocError>
     ensures { IfOk result (λ found. IfSome found (λ group. generation_of group ≡ Some 0)) }
@@ -502,7 +502,7 @@ fn put_line(answer: &mut String) {
     }
 }
 
-/// Adds the number of a record's event.
+/// Adds the number of the event in a record.
 fn put_event(answer: &mut String, events: &[Listed], record: &Record) {
     let number = events.iter().position(|listed| listed.record.as_slice()
         == record.bytes.as_slice());
@@ -512,7 +512,7 @@ fn put_event(answer: &mut String, events: &[Listed], record: &Record) {
     }
 }
 
-/// A sum over the bytes of the first records, FNV-1a of 32 bits.
+/// A checksum over the bytes of the first `count` records, FNV-1a of 32 bits.
 fn sum_of(records: &[Record], count: usize) -> u32 {
     let mut sum = 2_166_136_261;
     for record in records.iter().take(count) {

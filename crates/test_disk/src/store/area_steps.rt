@@ -1,12 +1,12 @@
-//! The steps of lists on two areas, each written as a word.
+//! The steps that a test makes on a journal on two areas, each written as a word.
 
 use diskmodel::CallKind;
 use std::alloc::{AllocError, Global};
 
-/// What a stop leaves of an area.
+/// What a stop of the machine leaves of an area.
 #[derive(Clone, Copy)]
 pub enum Left {
-    /// What a read gives.
+    /// What a read returned before the stop.
     Read,
     /// What the last sync left.
     Synced,
@@ -15,16 +15,16 @@ pub enum Left {
     Torn { byte: u8, every: u64, len: u64 },
 }
 
-/// A step. One of the calls that a step makes may be set to fail; 0 sets none.
+/// A step of a test. For a step that makes device calls the number says which of them is set to fail, counted from 1; 0 sets none.
 #[derive(Clone, Copy)]
 pub enum Step {
     /// The event with this number comes in.
     Accept(usize),
-    /// So many more of the accepted events are taken, as a group.
+    /// This many more of the accepted events are taken, as a group.
     Take(usize),
-    /// The first group that isn't written is appended.
+    /// The first group that is taken and not yet written is appended.
     Append(u64),
-    /// The first group is settled.
+    /// The first group is settled: its records are durable.
     Settle,
     /// All accepted events are taken, for a checkpoint.
     TakeAll,
@@ -32,14 +32,14 @@ pub enum Step {
     Rewrite(u64),
     /// Everything that the checkpoint took is settled.
     SettleAll,
-    /// The machine stops, and leaves this of the first area and this of the second.
+    /// The machine stops, and leaves the first of these on the first area, and the second one on the second.
     Stop(Left, Left),
-    /// Both areas are opened, with the count-th call of this kind set to fail.
+    /// Both areas are opened, with the `count`-th device call of this kind set to fail.
     Open(CallKind, u64),
     Bad,
 }
 
-/// The steps of a text.
+/// The steps that a text lists, as words.
 pub fn steps_of(alloc: Global, text: &str) -> Result<Vec<Step>, AllocError> {
     let mut steps = Vec::new(alloc);
     for word in text.split_whitespace() {
@@ -60,7 +60,7 @@ fn step_of(word: &str) -> Step {
     }
 }
 
-/// A step that is a letter before a number, or before what a stop leaves; or the number of an event.
+/// A step that is written as a letter and then a number, or what a stop leaves; or as the number of an event alone.
 fn counted(word: &str) -> Step {
     if let Some(count) = word.strip_prefix('t') {
         return Step::Take(number_of(count) as usize);
@@ -101,7 +101,7 @@ fn failing(call: &str) -> Step {
     }
 }
 
-/// What a stop leaves of each area.
+/// The step of a stop, by what it leaves of each area.
 fn stop(areas: &str) -> Step {
     match areas.split_once(':') {
         Some((first, second)) => Step::Stop(left_of(first), left_of(second)),
@@ -117,7 +117,7 @@ fn left_of(word: &str) -> Left {
     }
 }
 
-/// What is left by a stop that is given as the byte, its places, and the length.
+/// What is left by a torn stop, which is given as the byte, every how many places it stands, and the length.
 fn torn(word: &str) -> Left {
     let (byte, rest) = word.split_once('.').unwrap_or((word, ""));
     let (every, len) = rest.split_once('.').unwrap_or((rest, ""));

@@ -9,7 +9,7 @@ use std::alloc::Global;
 use validator::Config;
 use wire::Author;
 
-/// An event of the lists.
+/// An event of the lists of steps.
 #[derive(Drop)]
 pub struct Listed {
     pub sender: Author,
@@ -18,7 +18,7 @@ pub struct Listed {
     pub record: Vec<u8>,
 }
 
-/// The events that may come in, by number.
+/// The events that the steps of a test case may bring in, by their numbers.
 #[derive(Drop)]
 pub struct AreaLists<'a> {
     alloc: Global,
@@ -27,7 +27,7 @@ pub struct AreaLists<'a> {
 }
 
 impl<'a> AreaLists<'a> {
-    /// The state before the first case.
+    /// The state before the first test case.
     pub fn new(alloc: Global, config: &'a Config<HashSign>) -> AreaLists<'a> {
         let events = Vec::new(alloc);
         AreaLists {
@@ -37,7 +37,7 @@ impl<'a> AreaLists<'a> {
         }
     }
 
-    /// Begins a case.
+    /// Begins a test case.
     pub fn begin(&mut self) {
         self.events = Vec::new(self.alloc);
     }
@@ -57,7 +57,7 @@ impl<'a> AreaLists<'a> {
         Ok(())
     }
 
-    /// `areas STEP ..` makes these steps, from two empty areas on.
+    /// `areas STEP ..` makes these steps, beginning with two empty areas.
     pub fn play(&self, steps: &str, answer: &mut String) -> Reported {
         let steps = steps_of(self.alloc, steps)?;
         Run::new(self.alloc, self.config, &self.events)?.play(&steps, answer)

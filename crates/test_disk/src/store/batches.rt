@@ -1,4 +1,4 @@
-//! Batches of one transaction each, enough of them to fill groups.
+//! Batches of one transaction each, as many as fill whole groups.
 
 use crate::store::scripts::Line;
 use crate::store::words::Reported;
@@ -18,7 +18,7 @@ pub fn come_in(alloc: Global, lines: &mut Vec<Line>, count: u32, len: u32) -> Re
     Ok(())
 }
 
-/// The message of such a batch: its author, worker 0, and one transaction.
+/// The message of a batch of `AUTHOR`: its author, worker 0, and one transaction.
 fn message(alloc: Global, number: u32, len: u32) -> Result<Vec<u8>, AllocError> {
     let mut bytes = vec![in alloc; BATCH_TAG, 0, AUTHOR, 0, 0, 0, 0, 0, 1]?;
     bytes.extend_from_slice(&len.to_be_bytes())?;

@@ -1,4 +1,4 @@
-//! Commands to a book of member 0.
+//! Commands of a test case to a book of member 0.
 
 use crate::memory::taken;
 use crate::store::checkpoints::put_checkpoint;
@@ -20,10 +20,10 @@ use validator::Refusal::{
 use validator::{Config, Step, Validator};
 use wire::{Author, Message, Round};
 
-/// The sender of the votes and the batches in the cases.
+/// The sender of the votes and the batches in the test cases.
 const OTHER: Author = Author(1);
 
-/// Each reason to refuse an event.
+/// All reasons to refuse an event.
 const REFUSALS: [Refusal; 14] = [
     Memory,
     Down,
@@ -50,7 +50,7 @@ pub fn own_book(
 }
 
 impl Store<'_> {
-    /// Commands with no word: groups of the book in flight to the disk, and what the book shows of itself.
+    /// Carries out a command without a word: it writes groups of the book to the disk, or shows something of the book.
     pub fn obey_book(&mut self, name: &str, answer: &mut String) -> Reported {
         match name {
             "put" => return self.put(Putting::Written, answer),
@@ -67,7 +67,7 @@ impl Store<'_> {
         Ok(())
     }
 
-    /// Gives the book a member's vote for an author's header of a round.
+    /// Gives the book member 1's vote on the header of an author and a round.
     pub fn take_vote(&mut self, author: u64, round: u64, answer: &mut String) -> Reported {
         match slot(author, round) {
             Some((author, round)) => self.accept(OTHER, vote(OTHER, author, round), answer),
@@ -76,7 +76,8 @@ impl Store<'_> {
         Ok(())
     }
 
-    /// Gives the book, or a validator without one, the header of an author and a round, with certificates of some members as parents.
+    /// Gives the header of an author and a round, with certificates of some members as parents, to the book, or to a validator without a
+    /// book.
     pub fn take_header(&mut self, name: &str, words: &[Word], answer: &mut String) -> Reported {
         let [
             Word::Number(author),
@@ -107,7 +108,7 @@ impl Store<'_> {
         }
     }
 
-    /// Gives the book this many different batches of member 1, whose records have this length; shows the answer to the last.
+    /// Gives the book this many different batches of member 1, each with a record of this length; shows the answer to the last batch.
     pub fn fill(&mut self, count: u64, len: usize, answer: &mut String) -> Reported {
         for number in 0..count {
             answer.clear();
@@ -138,7 +139,7 @@ impl Store<'_> {
     }
 }
 
-/// What a header names, by the name of its command.
+/// What a header names, by the name of the command that gives the header.
 fn named_of(name: &str) -> Option<Named> {
     match name {
         "header" | "step" => Some(Named::Genesis),
@@ -173,7 +174,7 @@ fn step(
     Ok(())
 }
 
-/// Adds the answer to an event, and whether `is_new` had said that it is new.
+/// Adds a validator's answer to an event, and whether `is_new` said beforehand that the event is new.
 fn report_step(
     committee: &Committee,
     is_new: bool,

@@ -1,4 +1,4 @@
-//! A checkpoint of the book.
+//! The checkpoint of a book, made on two new disks.
 
 ghost use Rattle.std.specs.Prelude.{◌≤◌, length, IsSome};
 ghost use Rattle.journal.specs.Journal.{disk_of, spare_of, IsAlive};
@@ -13,8 +13,8 @@ use sigface::HashSign;
 use std::alloc::Global;
 use validator::Config;
 
-/// Makes a checkpoint of a book on two new disks that have its node's configuration alone. The count-th write to the spare disk is set to
-/// fail; 0 sets none. Adds the new generation, and how long the area is that is read then.
+/// Makes a checkpoint of a book on two new disks, which have nothing but the node's configuration. The `count`-th write to the spare disk
+/// is set to fail; 0 sets none. Adds the new generation, and the length of the area that is read from then on.
 pub fn put_checkpoint(
     alloc: Global,
     config: &Config<HashSign>,
@@ -36,7 +36,7 @@ pub fn put_checkpoint(
     Ok(())
 }
 
-/// Makes a checkpoint of a book on these two disks, where the area that is read has its first group.
+/// Makes a checkpoint of a book on these two disks. The area that is read has a first group already.
 fn rewrite(own: &mut OwnBook<'_, HashSign>, journal: &mut Journal<MemDisk>, answer: &mut String)
     requires alive { IsAlive ⟦<MemDisk as Disk>⟧.device journal.old }
     requires pair { IsSome (spare_of journal.old) }
@@ -47,7 +47,7 @@ fn rewrite(own: &mut OwnBook<'_, HashSign>, journal: &mut Journal<MemDisk>, answ
     rewrite_begun(own, journal, answer)
 }
 
-/// Makes the checkpoint, and adds its result.
+/// Makes the checkpoint, when the area that is read has more than one byte, and adds the result.
 #[tactic(auto, using(crate::proofs::Begun::begun))]
 fn rewrite_begun(
     own: &mut OwnBook<'_, HashSign>,

@@ -25,14 +25,15 @@ pub fn lengths(
     Ok(())
 }
 
-/// How often an answer was given.
+/// An answer, and how often it was given.
 #[derive(Drop)]
 struct Count {
     text: String,
     times: u64,
 }
 
-/// Opens a file with each of these places changed to this many other values at equal distances. Adds how often each answer was given.
+/// Changes each of these places of a file to this many other values, at equal distances, and opens a node on each changed file. Adds how
+/// often each answer was given.
 pub fn changes(
     alloc: Global,
     config: &Config<HashSign>,
@@ -62,7 +63,7 @@ fn report_counts(counts: &[Count], answer: &mut String) {
     }
 }
 
-/// The answer for a file with this number added to one byte.
+/// The answer of opening a node on a file, to one byte of which this number is added.
 fn reported_changed(
     alloc: Global,
     config: &Config<HashSign>,

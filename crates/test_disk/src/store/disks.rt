@@ -1,4 +1,4 @@
-//! Commands to the disk in memory.
+//! Commands of a test case to the disk in memory.
 
 use crate::memory::disk_with;
 use crate::store::journals::{report_errors, report_stands};
@@ -9,7 +9,7 @@ use crate::store::words::{
 use diskmodel::{Call, Disk, MemDisk, StopDisk};
 
 impl Store<'_> {
-    /// Commands with no word: to the disk, to the journal on it, or to the book.
+    /// Carries out a command without a word, on the disk, on the journal on the disk, or on the book.
     pub fn obey_alone(&mut self, name: &str, answer: &mut String) -> Reported {
         match name {
             "sync" => report_fault(answer, self.disk.sync()),
@@ -37,7 +37,7 @@ impl Store<'_> {
         Ok(())
     }
 
-    /// `fail CALL COUNT` sets the count-th of these calls to fail.
+    /// `fail CALL COUNT` lets the `COUNT`-th call of this kind from now on fail.
     pub fn fail(&mut self, words: &[Word], answer: &mut String) -> Reported {
         let [Word::Call(kind), Word::Number(count)] = words else {
             return reported_bad(answer);
@@ -55,7 +55,7 @@ impl Store<'_> {
         Ok(())
     }
 
-    /// Adds whether a stop may leave these bytes.
+    /// Adds whether a stop of the machine may leave these bytes on the disk.
     pub fn report_can(&self, bytes: &[u8], answer: &mut String) -> Reported {
         report_if(answer, self.disk.can_leave(bytes));
         Ok(())
@@ -73,7 +73,7 @@ impl Store<'_> {
         Ok(())
     }
 
-    /// Adds this many bytes from a place on.
+    /// Reads this many bytes from a place on, and adds them.
     pub fn read(&mut self, place: u64, count: u64, answer: &mut String) -> Reported {
         let len = self.disk.bytes().len() as u64;
         if place > len || count > len - place {
@@ -88,12 +88,12 @@ impl Store<'_> {
     }
 }
 
-/// Adds whether something holds.
+/// Adds a line that says whether something holds.
 pub fn report_if(answer: &mut String, holds: bool) {
     put(answer, if holds { "yes\n" } else { "no\n" });
 }
 
-/// Adds what is left of a file on a disk: that all of it is, or the bytes.
+/// Adds what is left of a file on a disk: the words that say that all of it is, or the bytes.
 pub fn report_left(text: &mut String, disk: &MemDisk, file: &[u8]) {
     if disk.durable() != disk.bytes() {
         put(text, ", not firm");
@@ -105,7 +105,7 @@ pub fn report_left(text: &mut String, disk: &MemDisk, file: &[u8]) {
     }
 }
 
-/// Adds the length, what a read gives, the bytes of the last sync, and the places that were written since then.
+/// Adds the length of the disk, the bytes that a read returns, those of the last sync, and the places that were written since that sync.
 fn report_disk(disk: &mut MemDisk, answer: &mut String) {
     put(answer, "bytes");
     if let Ok(len) = disk.len() {

@@ -1,4 +1,4 @@
-//! Numbers drawn from a start value.
+//! Pseudo-random numbers from a start value.
 
 ghost use Rattle.std.specs.Prelude.{◌<◌};
 
@@ -9,12 +9,12 @@ pub struct Draws {
 }
 
 impl Draws {
-    /// The state before the first number.
+    /// The generator's state before the first number.
     pub fn from(start: u64) -> Draws {
         Draws { state: start }
     }
 
-    /// A number below this one.
+    /// Returns the next number, which is below the limit.
     pub fn below(&mut self, limit: u64) -> u64
         requires { 0 < limit }
         ensures { result < limit }

@@ -1,4 +1,4 @@
-//! Groups that are given as bytes.
+//! Groups of a journal that a test gives as bytes.
 
 ghost use Rattle.std.specs.Prelude.{◌≡◌, ◌≤◌, ◌+◌, ◌++◌, length, map, List, ℕ, IfOk, IfSome, OnOk};
 ghost use Rattle.std.specs.Option.{SomeIff};
@@ -10,8 +10,8 @@ use journal::{
 };
 use std::alloc::{AllocError, Global};
 
-/// The group with these bytes and this many records: what follows an open gate there has the same bytes when it is written again. None
-/// where they are no such group.
+/// The group whose bytes, after its open gate, are `bytes`, and which has `count` records. None if the bytes are those of no such group: if
+/// writing the records again doesn't give the same bytes.
 pub fn group_in(alloc: Global, bytes: &[u8], count: u64) -> Result<Option<Group>, AllocError> {
     let mut file = vec![in alloc; OPEN]?;
     file.extend_from_slice(bytes)?;
@@ -26,8 +26,8 @@ pub fn group_in(alloc: Global, bytes: &[u8], count: u64) -> Result<Option<Group>
     }
 }
 
-/// The bytes of a group of these records after its gate: the length of the body, the records, each after its length, and the closed gate
-/// for the next group. None outside a group's limits.
+/// The bytes of a group of these records, without its gate: the length of the body, the records, each after its length, and the closed gate
+/// before the next group. None if the records exceed a group's limits.
 fn encoded(alloc: Global, records: &[Record]) -> Result<Option<Vec<u8>>, AllocError>
     ensures { IfOk result (λ found. IfSome found (λ bytes. IsGroup bytes.items (length records.now))) }
 {
@@ -43,7 +43,7 @@ fn encoded(alloc: Global, records: &[Record]) -> Result<Option<Vec<u8>>, AllocEr
     Ok(Some(bytes))
 }
 
-// The length of the records' body, or `None` above a group's limit.
+// The length of the records' body; None if it is above the limit of a group.
 fn body_len_within(records: &[Record]) -> Option<usize>
     ensures { IfSome result (λ len. (len ≡ body_len (map (λ record_in. record_in.bytes) records.now)) × (len ≤ MAX_GROUP_BYTES)) }
 {
@@ -59,7 +59,7 @@ fn body_len_within(records: &[Record]) -> Option<usize>
     Some(total)
 }
 
-// Adds the records to the bytes, each after its length.
+// Adds the records to the bytes, each after its length field.
 fn put_body(bytes: &mut Vec<u8>, records: &[Record]) -> Result<(), AllocError>
     requires { body_len (map (λ record_in. record_in.bytes) records.now) ≤ MAX_GROUP_BYTES }
     ensures { OnOk result (bytes.new.items ≡ bytes.old.items ++ body_bytes (map (λ record_in. record_in.bytes) records.now)) }

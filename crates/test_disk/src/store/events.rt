@@ -1,4 +1,4 @@
-//! The events of the lists, by number.
+//! The events that random lists of steps bring in, by their numbers.
 
 use crate::committees::OWN;
 use crate::store::headers::{Named, body, header, vote};
@@ -8,19 +8,19 @@ use wire::{Author, HeaderBody, Message, Round};
 /// The members who send events: 1 to 6 of seven.
 pub const SENDERS: u64 = 6;
 
-/// How many kinds of messages each sender may send.
+/// How many kinds of messages each sender can send.
 pub const KINDS: u64 = 6;
 
-/// What a member sends.
+/// The kind of a message that a member sends.
 #[derive(Clone, Copy)]
 pub enum Kind {
     /// A header of round 1 with the genesis certificates of members 0 to 4.
     First,
-    /// Another header of that round, with those of members 2 to 6.
+    /// Another header of round 1, with the genesis certificates of members 2 to 6. A member that sends both headers equivocates.
     Second,
-    /// A header of round 2, whose parents nobody holds.
+    /// A header of round 2, whose parents no node has.
     Orphan,
-    /// A header of round 1 that names a batch that nobody holds.
+    /// A header of round 1 that names a batch that no node has.
     Batched,
     /// A header of round 0.
     Low,
@@ -54,7 +54,7 @@ pub fn message_of(alloc: Global, number: u64) -> Result<Message, AllocError> {
     Ok(header(body_of(alloc, author, kind)?))
 }
 
-/// The header body of this kind, by this member.
+/// The body of this member's header of this kind.
 pub fn body_of(alloc: Global, author: Author, kind: Kind) -> Result<HeaderBody, AllocError> {
     let named = match kind {
         Kind::Batched => Named::Batch,

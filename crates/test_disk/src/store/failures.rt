@@ -1,4 +1,4 @@
-//! Openings or scripts in which a call of the disk fails, and the openings on whatever a stop may leave after that.
+//! Openings of a node, or runs of a script, in which a call of the disk fails, and the openings on whatever a stop may leave after that.
 
 use crate::memory::{failing_disk, stop_with};
 use crate::store::openings::opened;
@@ -12,10 +12,10 @@ use validator::Config;
 /// A byte that occurs in no journal here.
 const OTHER: u8 = 0x99;
 
-/// In how many ways the written bytes of an outcome are filled.
+/// In how many ways the places are filled that were written and not synced when the machine stops.
 const FILLS: usize = 4;
 
-/// A node that is opened on a file, and carries out a script if there is one, with the count-th call of this kind set to fail.
+/// An attempt to open a node on a file, and to carry out a script if there is one, with the `count`-th call of this kind set to fail.
 #[derive(Clone, Copy)]
 pub struct Trial<'a> {
     pub alloc: Global,
@@ -27,7 +27,8 @@ pub struct Trial<'a> {
 }
 
 impl Trial<'_> {
-    /// Adds the answer of the opening or the script, and then the answers of the openings on its outcomes, each answer once.
+    /// Adds the answer of the opening or of the script; then, for each outcome that a stop may leave after that, the answer of an opening
+    /// on it. No answer is added twice.
     pub fn write_to(&self, answer: &mut String) -> Reported {
         let disk = self.play(answer)?;
         put(answer, "\n");
@@ -42,7 +43,7 @@ impl Trial<'_> {
         Ok(())
     }
 
-    /// Adds how a node is opened after a stop that leaves the bytes of this length and fill, if that is possible.
+    /// Adds how a node is opened after a stop that leaves the bytes of this length and fill, if a stop may leave them.
     fn report_outcome(
         &self,
         disk: &MemDisk,
@@ -87,8 +88,8 @@ impl Trial<'_> {
     }
 }
 
-/// Bytes of this length that a stop may leave. Where bytes were written they are, by the fill, as they are read, as the last sync left
-/// them, another byte, or one of these in turn.
+/// Bytes of this length that a stop may leave. By `fill`, the places that were written since the last sync hold what a read returns there,
+/// what the last sync left, another byte, or in turn another byte and what a read returns.
 fn outcome(
     alloc: Global,
     disk: &MemDisk,

@@ -1,4 +1,5 @@
-//! Journals on a file that is cut or changed at each of several places. A line is added wherever the answer changes.
+//! Openings of a journal on a file that is cut at each of several lengths or changed at each of several places. A line is added wherever
+//! the answer changes.
 
 use crate::memory::disk_with;
 use crate::store::disks::report_left;
@@ -8,7 +9,7 @@ use diskmodel::MemDisk;
 use journal::Record;
 use std::alloc::{AllocError, Global};
 
-/// Opens the prefixes of a file, from the first of these lengths to the last.
+/// Opens a journal on each prefix of a file, from the first of these lengths to the last.
 pub fn beginnings(alloc: Global, file: &[u8], from: u64, to: u64, answer: &mut String) -> Reported {
     for len in from..=to {
         if let Some(bytes) = file.get(..len as usize) {
@@ -18,7 +19,7 @@ pub fn beginnings(alloc: Global, file: &[u8], from: u64, to: u64, answer: &mut S
     Ok(())
 }
 
-/// Opens a file with each value at each of these places, and shows only the number of its records.
+/// Opens a journal on a file with each value of a byte at each of these places, and shows only how many records it has.
 pub fn changes(alloc: Global, file: &[u8], from: u64, to: u64, answer: &mut String) -> Reported {
     for place in from..=to {
         for value in 0..=255 {
@@ -36,7 +37,7 @@ pub fn changes(alloc: Global, file: &[u8], from: u64, to: u64, answer: &mut Stri
     Ok(())
 }
 
-/// Adds a line with this text, unless the last line has it.
+/// Adds a line with this text, unless the last line has the same text.
 fn note(answer: &mut String, places: &[u64], text: String) {
     if !answer.as_str().ends_with(text.as_str()) {
         put(answer, "at");
@@ -55,7 +56,7 @@ fn opened(alloc: Global, file: &[u8], in_full: bool) -> Result<String, AllocErro
     Ok(text)
 }
 
-/// Adds how a file is opened, its records or how many they are, and what is left of it.
+/// Adds how a journal is opened on a file (its records, or only how many they are) and what is left of the file.
 fn report_opened(alloc: Global, file: &[u8], in_full: bool, text: &mut String) -> Reported {
     let (disk, found) = attempt(alloc, disk_with(alloc, file)?, None, text)?;
     put_records(text, &found, in_full);
@@ -63,7 +64,7 @@ fn report_opened(alloc: Global, file: &[u8], in_full: bool, text: &mut String) -
     open_again(alloc, disk, &found, text)
 }
 
-/// Opens a disk again, which has to give the same.
+/// Opens a journal on a disk again; it has to have the same records.
 fn open_again(alloc: Global, disk: MemDisk, found: &[Record], text: &mut String) -> Reported {
     let len = disk.bytes().len();
     let (disk, again) = attempt(alloc, disk, None, &mut String::new(alloc))?;

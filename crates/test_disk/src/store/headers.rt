@@ -1,4 +1,4 @@
-//! The messages of the cases, and the outputs of a node for them.
+//! The messages of the test cases, and the outputs of a node for them.
 
 ghost use Rattle.std.specs.Prelude.{◌≡◌, ◌≤◌, None, IfOk, IfSome, length};
 ghost use Rattle.header.specs.Checks.{fault_of, accepts_all};
@@ -16,28 +16,28 @@ use wire::{
 };
 use wire_read::decode;
 
-/// The digest of something that nobody holds.
+/// The digest of something that no node has.
 pub const FOREIGN: Digest = Digest([7; 32]);
 
 /// The length of a batch's record without its one transaction: the kind, the sender, the tag, the body's eight bytes and the transaction's
 /// length field.
 const AROUND: usize = 16;
 
-/// The length of the shortest record of a batch, whose transaction is a number alone.
+/// The length of the shortest record of a batch: its transaction is nothing but a number of eight bytes.
 pub const SHORTEST: usize = AROUND + 8;
 
-/// What a header of the cases names.
+/// What a header of the test cases names as its parents and batches.
 #[derive(Clone, Copy)]
 pub enum Named {
-    /// The genesis certificates of its parents' authors.
+    /// The genesis certificates of the members that are its parents' authors.
     Genesis,
-    /// The genesis certificates, and a batch that nobody holds.
+    /// The genesis certificates, and a batch that no node has.
     Batch,
-    /// Certificates that nobody holds.
+    /// Certificates that no node has.
     Foreign,
 }
 
-/// The body of a header with certificates of these members as parents, as many as a header may have.
+/// The body of a header with certificates of these members as parents, of as many of them as a header may have.
 pub fn body(
     alloc: Global,
     named: Named,
@@ -83,7 +83,7 @@ pub fn header(body: HeaderBody) -> Message {
     Message::Header(Header { body, signature })
 }
 
-/// The vote of a member for a header of an author that nobody holds, with a signature of zeros.
+/// A member's vote on an author's header of a round, a header that no node has; the signature is all zeros.
 pub fn vote(voter: Author, author: Author, round: Round) -> Message {
     let signature = Signature([0; 64]);
     Message::Vote(Vote {
@@ -95,8 +95,8 @@ pub fn vote(voter: Author, author: Author, round: Round) -> Message {
     })
 }
 
-/// The batch of a member with one transaction, which begins with this number, and with a record of this length. None where the record would
-/// be too short or too long.
+/// A member's batch with one transaction, which begins with this number; its record has this length. None if the record would be too short
+/// or too long.
 pub fn batch(
     alloc: Global,
     author: Author,
@@ -141,8 +141,8 @@ pub fn event(committee: &Committee, sender: Author, message: Message) -> Option<
     recheck(committee, sender, message).ok()
 }
 
-/// Adds an output: an acknowledgement, an own header, or a vote of member 0; of a vote also whether it passes the checks, and whether it
-/// does with another signature.
+/// Adds an output: an acknowledgement, an own header, or a vote of member 0. For a vote it adds whether the vote passes the checks, and
+/// whether it passes them with another signature.
 pub fn report_output(committee: &Committee, answer: &mut String, output: &Output) {
     match output {
         Output::Vote(vote) => report_vote(committee, answer, vote),
@@ -167,7 +167,7 @@ fn report_vote(committee: &Committee, answer: &mut String, vote: &Vote) {
     );
 }
 
-/// Why a vote of member 0 is refused; None where it passes.
+/// Why the checks refuse a vote of member 0; None if it passes.
 fn refusal(committee: &Committee, vote: Vote) -> Option<CheckError> {
     check(committee, &HashVerify, OWN, Message::Vote(vote)).err()
 }

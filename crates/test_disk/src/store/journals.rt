@@ -1,4 +1,4 @@
-//! Commands to a journal on the disk; each of them opens the journal first.
+//! Commands of a test case to a journal on the disk; each of them opens the journal first.
 
 ghost use Rattle.std.specs.Prelude.{◌≡◌, None};
 ghost use Rattle.journal.specs.Journal.{spare_of, IsAlive};
@@ -12,7 +12,7 @@ use journal::JournalError::{ConfigMismatch, Damaged, Device, Full, Memory};
 use journal::{Group, Journal, JournalError, Record, stands};
 use std::alloc::{AllocError, Global};
 
-/// All errors of a journal.
+/// All errors that a journal can return.
 const ERRORS: [JournalError; 5] = [Memory, Device, Damaged(15), ConfigMismatch, Full];
 
 impl Store<'_> {
@@ -28,7 +28,7 @@ impl Store<'_> {
         self.attempt(Some(records), answer)
     }
 
-    /// Opens the journal, and appends the group with these bytes and this many records.
+    /// Opens the journal, and appends a group that is given as these bytes and the number of its records.
     pub fn append_written(&mut self, count: u64, bytes: &[u8], answer: &mut String) -> Reported {
         let disk = taken(self.alloc, &mut self.disk)?;
         self.disk = append_written(self.alloc, disk, count, bytes, answer)?;
@@ -47,7 +47,7 @@ impl Store<'_> {
     }
 }
 
-/// The records in these words; None where there is no word, or one that isn't bytes.
+/// The records in these words; None if there are no words, or a word isn't bytes.
 pub fn listed(alloc: Global, words: &[Word]) -> Result<Option<Vec<Vec<u8>>>, AllocError> {
     let mut records = Vec::new(alloc);
     for word in words {
@@ -67,8 +67,8 @@ fn alike(alloc: Global, count: u64, len: usize) -> Result<Vec<Vec<u8>>, AllocErr
     Ok(records)
 }
 
-/// Opens the journal on a disk, adds its records to the answer, and appends a group of these records. If it doesn't open it has no records.
-/// Gives the disk back.
+/// Opens the journal on a disk, adds its records to the answer, and appends these records as a group, if there are any. If the journal
+/// can't be opened it has no records. Returns the disk.
 pub fn attempt(
     alloc: Global,
     disk: MemDisk,
@@ -90,7 +90,7 @@ pub fn attempt(
     }
 }
 
-/// Opens the journal on a disk, and appends the group with these bytes and this many records. Gives the disk back.
+/// Opens the journal on a disk, and appends a group that is given as these bytes and the number of its records. Returns the disk.
 fn append_written(
     alloc: Global,
     disk: MemDisk,
@@ -149,7 +149,7 @@ fn append_group(journal: &mut Journal<MemDisk>, group: Option<Group>, text: &mut
     }
 }
 
-/// Adds how many records there are, and, if they are shown in full, each one after the place of its gate.
+/// Adds how many records there are and, if `in_full`, each record after the place of its gate.
 pub fn put_records(text: &mut String, records: &[Record], in_full: bool) {
     put(text, ", records");
     put_number(text, records.len() as u64);
@@ -162,7 +162,7 @@ pub fn put_records(text: &mut String, records: &[Record], in_full: bool) {
     }
 }
 
-/// Adds each error of a journal.
+/// Adds the text of each error that a journal can return.
 pub fn report_errors(answer: &mut String) {
     for error in &ERRORS {
         put_error(answer, *error);
@@ -170,7 +170,7 @@ pub fn report_errors(answer: &mut String) {
     }
 }
 
-/// Adds an error, and the place of damage.
+/// Adds the text of an error, with the place if it is damage.
 pub fn put_error(text: &mut String, error: JournalError) {
     put_shown(text, "", &error, "");
     if let Damaged(gate) = error {
@@ -179,7 +179,7 @@ pub fn put_error(text: &mut String, error: JournalError) {
     }
 }
 
-/// Adds the records that these bytes are read as.
+/// Adds the records that an opening reads from a file of these bytes.
 pub fn report_stands(alloc: Global, bytes: &[u8], answer: &mut String) {
     match stands(alloc, bytes) {
         Ok(records) => {

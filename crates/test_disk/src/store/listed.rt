@@ -1,4 +1,4 @@
-//! A model of a node's world, in lists.
+//! A model of a node and what it gives out, made of plain lists, against which the running code is tested.
 
 use crate::store::events::{Kind, SENDERS, kind_of};
 use book::Receipt;
@@ -6,24 +6,24 @@ use book::Refusal::{self, Down, Equivocation, MissingBatch, MissingParents, NotO
 use std::alloc::{AllocError, Global};
 use std::collections::VecDeque;
 
-/// A node's world: events by their numbers, oldest first.
+/// The model's state. Events are given by their numbers, and stand oldest first.
 #[derive(Drop)]
 pub struct Plain {
-    /// What this run began with, and then what it accepted.
+    /// The events with which this run began, and then those that the node accepted in it.
     pub history: Vec<u64>,
-    // How long the history was when this run began, and how much of it is taken and settled.
+    // How long the history was when this run began, how much of it is taken into groups, and how much is settled.
     began: usize,
     taken: usize,
     settled: usize,
-    /// The events whose outputs wait, each with the length of the history at that time.
+    /// The events whose outputs may not leave yet, each with the length of the history that must be settled first.
     waiting: VecDeque<(usize, u64)>,
-    /// The events whose outputs were given out, over all runs.
+    /// The events whose outputs have left the node, over all runs.
     given: Vec<u64>,
     down: bool,
 }
 
 impl Plain {
-    /// The world of a node with an empty disk, which has given nothing out.
+    /// The model of a node with an empty disk, which has given nothing out.
     pub fn new(alloc: Global) -> Plain {
         Plain {
             history: Vec::new(alloc),
@@ -36,7 +36,7 @@ impl Plain {
         }
     }
 
-    // Whether an event is new or known, or why it is refused.
+    // The node's answer to the event with this number: whether the event is new (or known already), or why it is refused.
     fn answer(&self, number: u64) -> Result<bool, Refusal> {
         if self.down {
             return Err(Down);
@@ -60,7 +60,7 @@ impl Plain {
         }
     }
 
-    /// An event comes in.
+    /// An event comes in. Returns the node's answer to it.
     pub fn accept(&mut self, number: u64) -> Result<Result<Receipt, Refusal>, AllocError> {
         let new = match self.answer(number) {
             Ok(new) => new,
@@ -75,27 +75,27 @@ impl Plain {
         Ok(Ok(Receipt { ticket, new }))
     }
 
-    /// How many records there are to be taken.
+    /// How many accepted events are not yet taken into a group.
     pub fn pending(&self) -> usize {
         self.history.len().saturating_sub(self.taken)
     }
 
-    /// Takes everything that is pending; here it always fits a group.
+    /// Takes all events that are not yet taken into a group; in these tests they always fit one.
     pub fn take(&mut self) {
         self.taken = self.history.len();
     }
 
-    /// What was taken is on the disk now.
+    /// Notes that everything that was taken is durable.
     pub fn settle(&mut self) {
         self.settled = self.taken;
     }
 
-    /// A device call failed.
+    /// Notes that a device call failed, so that the node is down.
     pub fn fail(&mut self) {
         self.down = true;
     }
 
-    /// The event whose output goes out next, if there is one.
+    /// The event whose output leaves the node next, if an output may leave.
     pub fn release(&mut self) -> Result<Option<u64>, AllocError> {
         match self.waiting.front() {
             Some((end, number)) if *end <= self.settled && !self.down => {
@@ -108,7 +108,8 @@ impl Plain {
         }
     }
 
-    /// The machine stops, and leaves what was settled, or also what was taken. A new run begins.
+    /// The machine stops, and leaves the settled events on the disk, or if `leaves_taken` also those that were taken. A new run begins with
+    /// them.
     pub fn stop(&mut self, leaves_taken: bool) {
         let end = if leaves_taken {
             self.taken
@@ -123,7 +124,7 @@ impl Plain {
         self.down = false;
     }
 
-    /// Whether each event whose output was given out is still there, and no two of them are of one author and round.
+    /// Whether the node still has each event whose output left it. Then no two of these events are headers of one author and round.
     pub fn keeps_what_it_gave(&self) -> bool {
         self.given
             .iter()

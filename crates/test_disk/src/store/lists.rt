@@ -1,4 +1,4 @@
-//! Lists of random steps, made by the running code and by a list-based model of the world side by side.
+//! Random lists of steps, carried out by the running code and by a model of plain lists side by side, and compared.
 
 ghost use Rattle.std.specs.Prelude.{◌≡◌, ◌<◌, None, IfOk, IsNone};
 ghost use Rattle.journal.specs.Journal.{spare_of, IsAlive};
@@ -22,7 +22,7 @@ use std::alloc::{AllocError, Global};
 use validator::Config;
 use wire::{Output, header_digest};
 
-/// The running code and the model of its world.
+/// The running code, and the model with which its answers are compared.
 #[derive(Drop)]
 pub struct Lists<'a> {
     alloc: Global,
@@ -32,12 +32,12 @@ pub struct Lists<'a> {
     book: OwnBook<'a, HashSign>,
     plain: Plain,
     tally: Tally,
-    /// How many answers differed from those of the model.
+    /// How many answers of the running code differed from the model's.
     wrong: u64,
 }
 
 impl<'a> Lists<'a> {
-    /// The running code and the model, both on an empty disk, with random numbers from this start value.
+    /// The running code and the model, both on an empty disk; the steps are drawn from this start value.
     pub fn new(
         alloc: Global,
         config: &'a Config<HashSign>,
@@ -55,7 +55,7 @@ impl<'a> Lists<'a> {
         })
     }
 
-    /// Makes a list of this many steps, from an empty disk on.
+    /// Draws and makes this many steps, beginning with an empty disk.
     pub fn play(&mut self, steps: u64) -> Reported {
         self.disk = disk_with(self.alloc, &[])?;
         self.plain = Plain::new(self.alloc);
@@ -72,7 +72,7 @@ impl<'a> Lists<'a> {
         Ok(())
     }
 
-    /// Adds the counts, and how many answers were wrong.
+    /// Adds the counts of steps, and how many answers were wrong.
     pub fn write_to(&self, answer: &mut String) -> Reported {
         self.tally.write_to(answer);
         put_count(answer, "wrong ", self.wrong, "\n");
@@ -93,7 +93,7 @@ impl<'a> Lists<'a> {
         }
     }
 
-    /// An event comes in.
+    /// Gives an event to the running code and to the model.
     fn accept(&mut self) -> Reported
         ensures { KeepsInFlight ⟦<HashSign as Sign>⟧.scheme self.old.book self.new.book }
     {
@@ -105,7 +105,7 @@ impl<'a> Lists<'a> {
         Ok(())
     }
 
-    /// An output goes out, if one may.
+    /// Lets the next output leave the node, if one may leave, and compares it with the model's.
     fn release(&mut self) -> Reported
         ensures { KeepsInFlight ⟦<HashSign as Sign>⟧.scheme self.old.book self.new.book }
     {
@@ -116,7 +116,7 @@ impl<'a> Lists<'a> {
         Ok(())
     }
 
-    /// Steps that happen while a group is in flight: events come in, and outputs go out.
+    /// Makes steps while a group is in flight: events come in, and outputs leave.
     fn beside(&mut self) -> Reported
         ensures { KeepsInFlight ⟦<HashSign as Sign>⟧.scheme self.old.book self.new.book }
     {
@@ -124,8 +124,8 @@ impl<'a> Lists<'a> {
         self.release()
     }
 
-    /// Takes a group and appends it, which may fail at each device call, and then settles it unless the machine stops. A second group may
-    /// follow on the same journal.
+    /// Takes a group and appends it; the append may fail at any of its device calls. Then settles the group, unless the machine stops. A
+    /// second group may follow on the same journal.
     fn flush(&mut self) -> Reported {
         let (has_pending, pending) = (self.book.has_pending(), self.plain.pending());
         self.expect(has_pending == (pending > 0));
@@ -150,7 +150,7 @@ impl<'a> Lists<'a> {
         }
     }
 
-    /// Takes a group and appends it, and then perhaps a second one; stops where the machine is to stop.
+    /// Takes a group and appends it, and then perhaps a second group. If the machine is to stop in that, stops it.
     fn write_groups(
         &mut self,
         mut journal: Journal<MemDisk>,
@@ -171,7 +171,7 @@ impl<'a> Lists<'a> {
         }
     }
 
-    /// Takes a group and appends it. Gives the moment of a stop, if there is to be one.
+    /// Takes a group and appends it. Returns at which moment the machine is to stop, if it is to stop.
     fn write(
         &mut self,
         journal: &mut Journal<MemDisk>,
@@ -230,7 +230,7 @@ impl<'a> Lists<'a> {
         taken(self.alloc, &mut self.disk)
     }
 
-    /// The machine stops and begins a new run. The gate of a group in flight is at this place.
+    /// The machine stops and the node is opened again. `gate` is the place of the gate of the group in flight.
     fn stop(&mut self, moment: Moment, gate: usize) -> Reported {
         self.tally.add_stop(moment);
         let mut leaves_taken = self.leave(moment, gate)?;
@@ -241,7 +241,7 @@ impl<'a> Lists<'a> {
         self.open()
     }
 
-    /// A stop leaves any of its outcomes; gives whether that has the group that was taken.
+    /// Lets a stop leave any bytes on the disk that it can leave; returns whether the group that was taken is among these.
     fn leave(&mut self, moment: Moment, gate: usize) -> Result<bool, AllocError> {
         let leaves = leaves_of(self.draws.below(3));
         let found = self.outcome(leaves)?;
@@ -255,7 +255,7 @@ impl<'a> Lists<'a> {
         })
     }
 
-    /// Bytes that a stop may leave.
+    /// Bytes of this kind that a stop may leave on the disk.
     fn outcome(&mut self, leaves: Leaves) -> Result<Vec<u8>, AllocError> {
         match leaves {
             Leaves::Read => self.disk.bytes().to_vec(self.alloc),
@@ -264,7 +264,7 @@ impl<'a> Lists<'a> {
         }
     }
 
-    /// Stops the disk so that it leaves these bytes.
+    /// Stops the machine so that these bytes are left on the disk.
     fn stop_disk(&mut self, found: &[u8]) -> Reported {
         stop_with(self.alloc, &mut self.disk, found)?;
         let left = self.disk.bytes() == found;
@@ -272,7 +272,8 @@ impl<'a> Lists<'a> {
         Ok(())
     }
 
-    /// Opens with one of the calls set to fail; gives whether that call was made. The disk is then left to another stop.
+    /// Opens the node with one of the opening's device calls set to fail; returns whether that call was made. If so the disk is as the
+    /// failed opening left it, and a stop may follow.
     fn fail_to_open(&mut self) -> Result<bool, AllocError> {
         let call = self.draws.below(5);
         let (kind, count) = opening_call(call);
@@ -291,7 +292,7 @@ impl<'a> Lists<'a> {
         }
     }
 
-    /// Opens the node, whose journal has to have the records of the model's history.
+    /// Opens the node; its journal has to have the records of the model's history.
     fn open(&mut self) -> Reported {
         match open_book(self.alloc, self.config, self.taken_disk()?) {
             Ok((book, journal)) => {
@@ -307,7 +308,7 @@ impl<'a> Lists<'a> {
         }
     }
 
-    /// Compares what was opened with the model.
+    /// Compares the journal of the node that was opened with the model.
     fn compare(&mut self) -> Reported {
         let (right, keeps) = (self.has_plain_records()?, self.plain.keeps_what_it_gave());
         self.expect(right && keeps);
@@ -330,7 +331,7 @@ impl<'a> Lists<'a> {
     }
 }
 
-/// Whether the output is that of the event with this number; or there is neither an output nor an event.
+/// Whether the output is that of the event with this number. If no event is given: whether there is no output.
 fn is_expected(
     alloc: Global,
     output: Option<Output>,
@@ -357,7 +358,7 @@ fn is_vote_for(alloc: Global, output: &Output, number: u64) -> Result<bool, Allo
     )
 }
 
-/// Makes calls of a kind, which change nothing, until one fails, so that none is set to fail any more.
+/// Makes calls of this kind, which change nothing, until one fails: then no call is set to fail any more.
 fn spend(disk: &mut MemDisk, kind: CallKind) {
     for _ in 0..3 {
         if fails(disk, kind) {
@@ -378,7 +379,7 @@ fn is_open(bytes: &[u8], gate: usize) -> bool {
     matches!(bytes.get(gate), Some(byte) if *byte != 0)
 }
 
-/// One of the calls of an opening, as its kind and its number among the calls of that kind.
+/// One of the five device calls of an opening, as its kind and its number among the calls of that kind.
 fn opening_call(number: u64) -> (CallKind, u64) {
     match number {
         0 => (CallKind::Sync, 1),
@@ -389,7 +390,7 @@ fn opening_call(number: u64) -> (CallKind, u64) {
     }
 }
 
-/// The moment at which an append fails, if it does.
+/// The moment at which an append is to fail, by a number that was drawn; None if it isn't to fail.
 fn moment_of(number: u64) -> Option<Moment> {
     match number {
         0 => Some(Moment::Taken),
@@ -400,7 +401,7 @@ fn moment_of(number: u64) -> Option<Moment> {
     }
 }
 
-/// Sets the call after this moment of an append to fail. The opening before it makes one sync.
+/// Sets the device call of an append to fail that comes after this moment. The opening before the append makes one sync.
 fn arm(disk: &mut MemDisk, failing: Option<Moment>) -> Reported {
     match failing {
         Some(Moment::Taken) => disk.fail(CallKind::Write, 1),
@@ -411,8 +412,8 @@ fn arm(disk: &mut MemDisk, failing: Option<Moment>) -> Reported {
     }
 }
 
-/// Any bytes that a stop may leave: of a length between that of the last sync and the current one; with any byte at each place that was
-/// written since then or is past the smaller of both lengths, closed gates more often than others.
+/// Any bytes that a stop may leave: their length is between that of the last sync and the current one. Each place that was written since
+/// the last sync, or is past the smaller of both lengths, holds any byte, more often a closed gate than others.
 fn torn(alloc: Global, disk: &MemDisk, draws: &mut Draws) -> Result<Vec<u8>, AllocError> {
     let (durable, read) = (disk.durable(), disk.bytes().len());
     let (smallest, greatest) = (durable.len().min(read), durable.len().max(read));

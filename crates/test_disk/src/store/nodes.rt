@@ -7,7 +7,7 @@ use crate::store::{batches, damages, failures, openings, texts};
 use std::alloc::{AllocError, Global};
 use wire::Author;
 
-/// The setting of a node, the file of its journal, and its commands.
+/// The node of a test case: its setting (committee and own member), the file of its journal, and its commands.
 #[derive(Drop)]
 pub struct Node {
     alloc: Global,
@@ -17,7 +17,7 @@ pub struct Node {
 }
 
 impl Node {
-    /// The state before the first case.
+    /// The state before the first test case.
     pub fn new(alloc: Global) -> Result<Node, AllocError> {
         Ok(Node {
             alloc,
@@ -35,7 +35,7 @@ impl Node {
         Ok(())
     }
 
-    /// Carries out a command. Its words are interpreted by the function that carries it out.
+    /// Carries out a command of the test case. Its words are interpreted by the function that carries it out.
     pub fn obey(&mut self, name: &str, words: &[Word], answer: &mut String) -> Reported {
         match name {
             "node" => self.set_up(words, answer),
@@ -53,7 +53,7 @@ impl Node {
         }
     }
 
-    /// Commands with no word.
+    /// Carries out a command that has no words.
     fn obey_alone(&mut self, name: &str, words: &[Word], answer: &mut String) -> Reported {
         match name {
             _ if !words.is_empty() => reported_bad(answer),
@@ -126,8 +126,8 @@ impl Node {
         damages::changes(alloc, config, &self.file, *from..=*to, *values, answer)
     }
 
-    /// Carries out the node's commands, with a flush or a stop from these words after each; or with calls of a kind that fail; or with
-    /// writers that take only some of the bytes.
+    /// Lets the node carry out its commands. `words` are flushes, checkpoints and stops that follow each command; or the kind of the device
+    /// calls that fail in turn; or the text of which writers take only some of the bytes.
     fn drive(&self, words: &[Word], answer: &mut String) -> Reported {
         let after = lines_of(self.alloc, words)?;
         let script = self.script(&after);
@@ -138,14 +138,15 @@ impl Node {
         }
     }
 
-    /// Adds what the reference implementation writes for the node's commands.
+    /// Adds what the reference implementation writes for the node's commands, and whether the node writes the same.
     fn report_plain(&self, words: &[Word], answer: &mut String) -> Reported {
         let after = lines_of(self.alloc, words)?;
         texts::write_to(&self.script(&after), &self.setting.node, answer)
     }
 
-    /// The same on two disks, compared with the reference implementation, or with calls of a kind that fail on each disk. Words after the
-    /// kind or the bytes are carried out after each command here too.
+    /// As `drive` and `report_plain`, on two disks: either compared with the reference implementation, or with device calls of a kind that
+    /// fail on each disk, or with writers that take only some of the bytes. Words after the kind or the bytes are carried out after each
+    /// command.
     fn drive_pair(&self, words: &[Word], answer: &mut String) -> Reported {
         let after = lines_of(self.alloc, words)?;
         let script = self.script(&after);
@@ -166,7 +167,7 @@ impl Node {
         }
     }
 
-    /// Opens the node, or lets it carry out a script, with a call of a kind and number set to fail.
+    /// Opens the node, or lets it carry out a script, with the device call of a kind and number set to fail.
     fn report_fails(
         &self,
         words: &[Word],

@@ -1,4 +1,4 @@
-//! Openings of a node, and their answers.
+//! Openings of a node, and how their answers are shown.
 
 use crate::memory::disk_with;
 use crate::store::disks::report_left;
@@ -14,7 +14,7 @@ use wire::{Author, Round};
 /// How many bytes of a digest are shown.
 const SHOWN: usize = 4;
 
-/// Opens a node on a file, and adds what is left of the file. What is left is opened again, which has to give the same.
+/// Opens a node on a file, and adds the answer and what is left of the file. Opens a node on that again, which has to give the same answer.
 pub fn open(
     alloc: Global,
     config: &Config<HashSign>,
@@ -43,7 +43,7 @@ pub fn reported(
     Ok(text)
 }
 
-/// Opens a node on a disk, and adds the answer. Gives the disk back.
+/// Opens a node on a disk, and adds the answer. Returns the disk.
 pub fn opened(
     alloc: Global,
     config: &Config<HashSign>,
@@ -80,7 +80,7 @@ pub fn report_pair(
     put(answer, "\n");
 }
 
-/// Adds the round, the length of the order, and the votes of the first rounds, by author and round.
+/// Adds what an opened node has: its round, the length of its order, and its votes in the first rounds, by author and round.
 fn report_node(validator: &Validator<'_, HashSign>, text: &mut String) {
     put_count(text, "opened, round ", validator.round(), "");
     put_count(text, ", order ", validator.order().len() as u64, "");

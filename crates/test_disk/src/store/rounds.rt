@@ -1,4 +1,4 @@
-//! How the groups of a book reach the disk.
+//! How a test writes the groups of a book to the disk.
 
 ghost use Rattle.std.specs.Prelude.{◌≡◌, ◌∷◌, [], None};
 ghost use Rattle.journal.specs.Journal.{spare_of, IsAlive};
@@ -12,18 +12,18 @@ use journal::{Group, Journal, Synced};
 use sigface::{HashSign, Sign};
 use std::alloc::Global;
 
-/// What is done with the groups of a book.
+/// What a test does with the groups of a book.
 #[derive(Clone, Copy)]
 pub enum Putting {
-    /// One is taken and written, and not settled.
+    /// It takes one group and writes it, and doesn't settle it.
     Written,
-    /// One is taken, written and settled.
+    /// It takes one group, writes and settles it.
     Settled,
-    /// Two are taken and written, and then settled in turn.
+    /// It takes two groups and writes both, and then settles one after the other.
     Two,
 }
 
-/// Opens the journal on a disk, and writes groups of the book. Gives the disk back.
+/// Opens the journal on a disk, and writes groups of the book. Returns the disk.
 pub fn put_groups(
     alloc: Global,
     own: &mut OwnBook<'_, HashSign>,
@@ -48,7 +48,7 @@ pub fn put_groups(
     }
 }
 
-/// Takes a group and writes it. It stays in flight.
+/// Takes a group and writes it. The group stays in flight.
 fn write(own: &mut OwnBook<'_, HashSign>, journal: &mut Journal<MemDisk>, answer: &mut String)
     requires alive { IsAlive ⟦<MemDisk as Disk>⟧.device journal.old }
     requires alone { spare_of journal.old ≡ None }
@@ -68,7 +68,7 @@ fn write(own: &mut OwnBook<'_, HashSign>, journal: &mut Journal<MemDisk>, answer
     }
 }
 
-/// One round of the book.
+/// Takes a group of the book, writes and settles it.
 fn flush(own: &mut OwnBook<'_, HashSign>, journal: &mut Journal<MemDisk>, answer: &mut String)
     requires alive { IsAlive ⟦<MemDisk as Disk>⟧.device journal.old }
     requires alone { spare_of journal.old ≡ None }
@@ -84,7 +84,7 @@ fn flush(own: &mut OwnBook<'_, HashSign>, journal: &mut Journal<MemDisk>, answer
     }
 }
 
-/// Takes two groups and writes each, and settles them in turn.
+/// Takes a group and writes it, does the same with a second one, and then settles both in turn.
 fn write_two(own: &mut OwnBook<'_, HashSign>, journal: &mut Journal<MemDisk>, answer: &mut String)
     requires alive { IsAlive ⟦<MemDisk as Disk>⟧.device journal.old }
     requires alone { spare_of journal.old ≡ None }
@@ -104,7 +104,7 @@ fn write_two(own: &mut OwnBook<'_, HashSign>, journal: &mut Journal<MemDisk>, an
     }
 }
 
-/// Takes a second group and writes it, and settles it after the first.
+/// Takes a second group and writes it, and settles it after the first group.
 fn write_second(
     own: &mut OwnBook<'_, HashSign>,
     journal: &mut Journal<MemDisk>,
@@ -130,7 +130,7 @@ fn write_second(
     }
 }
 
-/// Settles two groups, of which the first was taken before the second.
+/// Settles two groups, in the order in which they were taken.
 fn settle_two(own: &mut OwnBook<'_, HashSign>, first: Synced, second: Synced)
     requires { AreInFlight (node_of ⟦<HashSign as Sign>⟧.scheme own.old.validator.setting) own.old (first ∷ second ∷ []) }
 {

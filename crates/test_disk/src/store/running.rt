@@ -1,4 +1,4 @@
-//! The running code: a book, and a journal on a disk in memory.
+//! The running code under test: a book, and a journal on a disk in memory.
 
 ghost use Rattle.std.specs.Prelude.{◌≡◌, None, IfOk};
 ghost use Rattle.journal.specs.Journal.{spare_of};
@@ -15,7 +15,7 @@ use std::alloc::{AllocError, Global};
 use validator::Config;
 use wire::encode;
 
-/// Opens the node on a disk: a book whose run begins with the events there, and the journal.
+/// Opens the node on a disk. Returns its book, whose run begins with the events on the disk, and the journal.
 pub fn open_book<'a>(
     alloc: Global,
     config: &'a Config<HashSign>,
@@ -27,7 +27,7 @@ pub fn open_book<'a>(
     Ok((OwnBook::new(alloc, validator), journal))
 }
 
-/// The event with this number comes in; None where it doesn't pass the checks.
+/// Gives the book the event with this number, and returns the answer; None if the event doesn't pass the checks.
 pub fn accept(
     own: &mut OwnBook<'_, HashSign>,
     alloc: Global,
@@ -42,7 +42,7 @@ pub fn accept(
     }
 }
 
-/// The records of a journal with this history.
+/// The records of the journal of a node that has accepted the events with these numbers.
 pub fn records_of(alloc: Global, history: &[u64]) -> Result<Vec<Vec<u8>>, AllocError> {
     let mut records = vec![in alloc; configuration(alloc)?]?;
     for number in history {
@@ -60,7 +60,7 @@ fn record_of(alloc: Global, number: u64) -> Result<Vec<u8>, AllocError> {
     Ok(record)
 }
 
-/// The configuration record: kind, version, own number, depth, workers, batches, members, their keys, and their stakes.
+/// The bytes of the configuration's record: kind, version, own number, depth, workers, batches, members, their keys, and their stakes.
 fn configuration(alloc: Global) -> Result<Vec<u8>, AllocError> {
     let mut record = vec![in alloc; 0, 2, 0, 0, 0, 50, 0, 1, 0, 16, 0, 0, 0, 7]?;
     for member in 1..=7 {
@@ -72,7 +72,7 @@ fn configuration(alloc: Global) -> Result<Vec<u8>, AllocError> {
     Ok(record)
 }
 
-/// Whether these are the records of a journal with this history.
+/// Whether these are the records of the journal of a node that has accepted the events with these numbers.
 pub fn are_of(alloc: Global, records: &[Record], history: &[u64]) -> Result<bool, AllocError> {
     let expected = records_of(alloc, history)?;
     let mut same = records.len() == expected.len();

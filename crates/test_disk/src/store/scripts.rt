@@ -1,4 +1,4 @@
-//! Scripts of commands, and what a node writes for them.
+//! The scripts of a test case (commands for a node), and what the node writes when it carries them out.
 
 ghost use Rattle.std.specs.Prelude.{Bool, false, All, IfOk, IfSome};
 ghost use Rattle.recovery.specs.Script.{Passes, CarriesOut};
@@ -20,13 +20,13 @@ use test_cases::write_hex;
 use validator::Config;
 use wire::Author;
 
-/// Texts longer than this are shown by their SHA-256.
+/// A text of more bytes than this is shown by its SHA-256.
 const SHOWN: usize = 128;
 
-/// A number of calls of one kind that no script here reaches.
+/// A number that is greater than that of the calls of any kind in any script here.
 const CALLS: u64 = 100;
 
-/// A command of a case.
+/// A command of a script.
 #[derive(Drop)]
 pub enum Line {
     /// A message comes in from a sender.
@@ -36,7 +36,7 @@ pub enum Line {
     Stop,
 }
 
-/// The flushes, checkpoints and stops among these words.
+/// The flushes, checkpoints and stops that these words stand for.
 pub fn lines_of(alloc: Global, words: &[Word]) -> Result<Vec<Line>, AllocError> {
     let mut lines = Vec::new(alloc);
     for word in words {
@@ -50,32 +50,33 @@ pub fn lines_of(alloc: Global, words: &[Word]) -> Result<Vec<Line>, AllocError> 
     Ok(lines)
 }
 
-/// The disk after all commands; or after those up to an early end, with the reason.
+/// The disk after all commands; or, with the reason of an early end, the disk after the commands up to the end.
 pub type Driven = Result<MemDisk, Failed<DriveError, MemDisk>>;
 
-/// Both disks after all commands; or after those up to an early end, with the reason.
+/// Both disks after all commands; or, with the reason of an early end, both disks after the commands up to the end.
 pub type DrivenOnTwo = Result<(MemDisk, MemDisk), Failed<DriveError, (MemDisk, MemDisk)>>;
 
-/// Commands that a node carries out in turn, on a disk with a file.
+/// The commands that a node carries out in turn, on a disk with a file.
 #[derive(Clone, Copy)]
 pub struct Script<'a> {
     pub alloc: Global,
     pub config: &'a Config<HashSign>,
     pub file: &'a [u8],
     pub lines: &'a [Line],
-    /// The commands that follow each of the lines.
+    /// The commands that are carried out after each of the lines.
     pub after: &'a [Line],
 }
 
 impl Script<'_> {
-    /// Adds what is written, and how long the file is then.
+    /// Carries out the script, and adds what the node writes, and how long the file is then.
     pub fn write_to(&self, answer: &mut String) -> Reported {
         let _ = self.report_on(self.disk()?, answer)?;
         put(answer, "\n");
         Ok(())
     }
 
-    /// Adds what is written if a call of this kind fails: the first one, the second one and so on, until none does.
+    /// Carries out the script with the first device call of this kind set to fail, then with the second one, and so on until none fails.
+    /// Adds each time what the node writes.
     pub fn report_failing(&self, kind: CallKind, answer: &mut String) -> Reported {
         for count in 1..CALLS {
             put_count(answer, "", count, ": ");
@@ -89,8 +90,8 @@ impl Script<'_> {
         Ok(())
     }
 
-    /// Carries out everything on two disks with a call of this kind failing on one of them: the first one, the second one and so on. Adds
-    /// whether each time the script ended so, and whether a node could be opened on what was left.
+    /// Carries out the script on two disks with a device call of this kind set to fail on one of them: the first call, the second one and
+    /// so on. Adds whether the script ended by the failure each time, and whether a node could be opened on what was left.
     pub fn report_failing_on_two(&self, kind: CallKind, answer: &mut String) -> Reported {
         for is_second in [false, true] {
             for count in 1..CALLS {
@@ -123,13 +124,13 @@ impl Script<'_> {
         }
     }
 
-    /// An empty disk of which a call is set to fail.
+    /// An empty disk, of which the `count`-th call of this kind is set to fail.
     fn failing(&self, kind: CallKind, count: u64) -> Result<MemDisk, AllocError> {
         failing_disk(self.alloc, self.file, kind, count)
     }
 
-    /// Adds what is written to a writer that fails after some number of bytes, for each such number up to the length of the text. A line is
-    /// added wherever the answer changes.
+    /// Carries out the script with a writer that fails after some number of bytes, for each number up to the length of the text. Adds a
+    /// line wherever the answer changes.
     pub fn report_rooms(&self, text: &[u8], answer: &mut String) -> Reported {
         let mut before = String::new(self.alloc);
         for room in 0..=text.len() {
@@ -149,7 +150,7 @@ impl Script<'_> {
         Ok(())
     }
 
-    /// The answer on two disks, if the writer takes this many bytes of the text.
+    /// The answer of a node on two disks whose writer takes this many bytes of the text.
     fn reported_room_on_two(&self, room: usize, text: &[u8]) -> Result<String, AllocError> {
         let mut taker = Taker::new(self.alloc, room);
         let mut reported = String::new(self.alloc);
@@ -162,7 +163,7 @@ impl Script<'_> {
         Ok(reported)
     }
 
-    /// The answer if the writer takes this many bytes of the text.
+    /// The answer of a node whose writer takes this many bytes of the text.
     fn reported_room(&self, room: usize, text: &[u8]) -> Result<String, AllocError> {
         let mut taker = Taker::new(self.alloc, room);
         let mut reported = String::new(self.alloc);
@@ -175,7 +176,7 @@ impl Script<'_> {
         Ok(reported)
     }
 
-    /// Adds what is written if the node is on this disk, and gives whether all was carried out.
+    /// Carries out the script on this disk, and adds what the node writes; returns whether all commands were carried out.
     fn report_on(&self, disk: MemDisk, answer: &mut String) -> Result<bool, AllocError> {
         let mut written = Vec::new(self.alloc);
         match self.run(disk, &mut written)? {
@@ -197,7 +198,7 @@ impl Script<'_> {
         }
     }
 
-    /// Adds how the commands end on this disk, and gives it back.
+    /// Carries out the script on this disk, and adds how it ends; returns the disk.
     pub fn left_by(&self, disk: MemDisk, answer: &mut String) -> Result<MemDisk, AllocError> {
         let mut written = Vec::new(self.alloc);
         match self.run(disk, &mut written)? {
@@ -216,12 +217,12 @@ impl Script<'_> {
         }
     }
 
-    /// A disk with the file.
+    /// A disk in memory with the file.
     pub fn disk(&self) -> Result<MemDisk, AllocError> {
         disk_with(self.alloc, self.file)
     }
 
-    /// Each line, and the commands that follow it.
+    /// Each line of the script, followed by the commands that come after each line.
     pub fn spaced_lines(&self) -> Result<Vec<&Line>, AllocError> {
         let mut spaced = Vec::new(self.alloc);
         for line in self.lines {
@@ -233,7 +234,7 @@ impl Script<'_> {
         Ok(spaced)
     }
 
-    /// Carries out all commands on a disk; None where a message isn't valid.
+    /// Carries out all commands on a disk; None if a message isn't valid.
     pub fn run<W: Write>(
         &self,
         disk: MemDisk,
@@ -246,7 +247,7 @@ impl Script<'_> {
         }
     }
 
-    /// Carries out these commands on a disk; None where they are too many.
+    /// Carries out these commands on a disk; None if there are too many.
     fn carry_out<W: Write>(
         &self,
         disk: MemDisk,
@@ -262,7 +263,7 @@ impl Script<'_> {
         Some(drive(self.alloc, self.config, disk, commands, writer))
     }
 
-    /// Carries out all commands on two disks; None where a message isn't valid.
+    /// Carries out all commands on two disks; None if a message isn't valid.
     pub fn run_on_two<W: Write>(
         &self,
         first: MemDisk,
@@ -276,7 +277,7 @@ impl Script<'_> {
         }
     }
 
-    /// Carries out these commands on two disks; None where they are too many.
+    /// Carries out these commands on two disks; None if there are too many.
     fn carry_out_on_two<W: Write>(
         &self,
         first: MemDisk,
@@ -294,7 +295,7 @@ impl Script<'_> {
     }
 }
 
-/// The commands of these lines, on two disks or on one, if each message is valid.
+/// The commands of these lines for a node on two disks or on one; None if a message isn't valid.
 fn commands_of(
     alloc: Global,
     config: &Config<HashSign>,
@@ -314,7 +315,7 @@ fn commands_of(
     Ok(Some(commands))
 }
 
-/// A command of a line; a checkpoint needs two disks.
+/// The command of a line; None for a checkpoint on one disk, since a checkpoint needs two disks.
 fn command_of(
     alloc: Global,
     config: &Config<HashSign>,
@@ -333,7 +334,7 @@ fn command_of(
     }
 }
 
-/// The event with this message, if it can be read and passes the checks.
+/// The event with this message, if the bytes are a message and it passes the checks.
 fn event_of(
     alloc: Global,
     config: &Config<HashSign>,
@@ -352,7 +353,7 @@ fn event_of(
     }
 }
 
-/// Whether the bytes that a writer took are all that it has room for.
+/// The word that says whether the bytes that a writer took are the first bytes of the text, as many as it has room for.
 fn filled(text: Option<&[u8]>, taken: &[u8]) -> &'static str {
     match text {
         Some(text) if text == taken => ", filled",
@@ -367,7 +368,7 @@ fn report_error(error: DriveError, answer: &mut String) {
     }
 }
 
-/// Adds how long a text is, and the text, or its SHA-256.
+/// Adds the length of a text, and the text itself, or its SHA-256 if it is long.
 pub fn report_text(text: &[u8], answer: &mut String) {
     put_count(answer, ", ", text.len() as u64, " bytes");
     if text.len() > SHOWN {

@@ -1,4 +1,4 @@
-//! Stops of the machine at a failing call of the disk, with each of their outcomes.
+//! Tests of stops of the machine at a failing call of the disk: an opening on each outcome that the stop may have.
 
 use crate::memory::{failing_disk, stop_with};
 use crate::store::journals::{attempt, listed, put_records};
@@ -7,10 +7,11 @@ use crate::store::words::{Reported, Word, put, put_number, put_once, reported_ba
 use diskmodel::{CallKind, Disk, MemDisk};
 use std::alloc::{AllocError, Global};
 
-/// A byte that occurs in no case.
+/// A byte that occurs in no test case.
 const OTHER: u8 = 0x99;
 
-/// A file that is opened, the records that are then appended, and a call of the disk that is set to fail; 0 sets none.
+/// A file on which a journal is opened, the records that are then appended, and the device call that is set to fail; the number 0 sets
+/// none.
 #[derive(Clone, Copy)]
 struct Trial<'a> {
     alloc: Global,
@@ -39,7 +40,8 @@ impl Store<'_> {
 }
 
 impl Trial<'_> {
-    /// Adds the answers of the calls, how many outcomes a stop has, and what opening them gives, each answer once.
+    /// Adds the answers of the opening and the append, how many outcomes a stop has after them, and what an opening on each outcome gives.
+    /// No answer is added twice.
     fn write_to(&self, answer: &mut String) -> Reported {
         let found = outcomes(self.alloc, &self.play(answer)?)?;
         put(answer, ", outcomes");
@@ -51,7 +53,7 @@ impl Trial<'_> {
         Ok(())
     }
 
-    /// The disk after the calls. No more of its calls are set to fail.
+    /// Opens the journal and appends the records. Returns the disk; no call of it is set to fail any more.
     fn play(&self, text: &mut String) -> Result<MemDisk, AllocError> {
         let records = listed(self.alloc, self.records)?;
         let disk = failing_disk(self.alloc, self.file, self.kind, self.count)?;
@@ -62,7 +64,7 @@ impl Trial<'_> {
         Ok(disk)
     }
 
-    /// What opening gives after a stop that leaves these bytes.
+    /// What an opening gives after a stop that leaves these bytes.
     fn after_stop(&self, outcome: &[u8]) -> Result<String, AllocError> {
         let mut text = String::new(self.alloc);
         let mut disk = self.play(&mut text)?;
@@ -78,7 +80,7 @@ impl Trial<'_> {
     }
 }
 
-/// Makes a call of this kind that changes neither bytes nor length, and gives whether it fails.
+/// Makes a call of this kind that changes neither bytes nor length, and returns whether it fails.
 pub fn fails(disk: &mut MemDisk, kind: CallKind) -> bool {
     let len = disk.bytes().len() as u64;
     let outcome = match kind {
@@ -90,7 +92,8 @@ pub fn fails(disk: &mut MemDisk, kind: CallKind) -> bool {
     outcome.is_err()
 }
 
-/// What a stop may leave, for each length. For each byte three values are tried: as the last sync left it, as it is read, and another.
+/// The byte strings of each length that a stop may leave. For each byte three values are tried: what the last sync left, what a read
+/// returns, and another byte.
 fn outcomes(alloc: Global, disk: &MemDisk) -> Result<Vec<Vec<u8>>, AllocError> {
     let mut found = Vec::new(alloc);
     let mut fronts = vec![in alloc; Vec::new(alloc)]?;
@@ -106,7 +109,7 @@ fn outcomes(alloc: Global, disk: &MemDisk) -> Result<Vec<Vec<u8>>, AllocError> {
     Ok(found)
 }
 
-/// The prefixes of outcomes that are one byte longer.
+/// From these prefixes of outcomes, those that are longer by one byte.
 fn longer(alloc: Global, disk: &MemDisk, fronts: &[Vec<u8>]) -> Result<Vec<Vec<u8>>, AllocError> {
     let mut found = Vec::new(alloc);
     for front in fronts {
@@ -141,7 +144,7 @@ fn add_value(values: &mut Vec<u8>, value: Option<&u8>) -> Reported {
     }
 }
 
-/// Whether a stop may leave a file with this prefix, in which the bytes after it are as they are read.
+/// Whether a stop may leave a file that begins with this prefix and goes on with the bytes that a read returns.
 fn may_begin(alloc: Global, disk: &MemDisk, front: &[u8]) -> Result<bool, AllocError> {
     let mut bytes = front.to_vec(alloc)?;
     if let Some(rest) = disk.bytes().get(front.len()..) {

@@ -1,4 +1,4 @@
-//! A disk, a journal on it, and a book.
+//! A disk, a journal on the disk, and a book: what commands of a test case work on.
 
 use crate::memory::disk_with;
 use crate::store::books::own_book;
@@ -10,7 +10,7 @@ use sigface::HashSign;
 use std::alloc::{AllocError, Global};
 use validator::Config;
 
-/// A disk and a book, both new in each case.
+/// A disk and a book, both new in each test case.
 #[derive(Drop)]
 pub struct Store<'a> {
     pub alloc: Global,
@@ -20,7 +20,7 @@ pub struct Store<'a> {
 }
 
 impl<'a> Store<'a> {
-    /// The state before the first case.
+    /// The state before the first test case.
     pub fn new(alloc: Global, config: &'a Config<HashSign>) -> Result<Store<'a>, AllocError> {
         Ok(Store {
             alloc,
@@ -30,15 +30,15 @@ impl<'a> Store<'a> {
         })
     }
 
-    /// An empty disk, and a book that has accepted nothing.
+    /// Begins a test case, with an empty disk and a book that has accepted nothing.
     pub fn begin(&mut self) -> Reported {
         self.disk = disk_with(self.alloc, &[])?;
         self.book = own_book(self.alloc, self.config)?;
         Ok(())
     }
 
-    /// Carries out a command. The words of some are interpreted by the function that carries them out. The others are distinguished by the
-    /// number and kinds of their words, and then by their names.
+    /// Carries out a command of the test case. The words of some commands are interpreted by the function that carries them out. The other
+    /// commands are distinguished by the number and kinds of their words, and then by their names.
     pub fn obey(&mut self, name: &str, words: &[Word], answer: &mut String) -> Reported {
         match name {
             "append" => self.append(words, answer),

@@ -1,34 +1,34 @@
-//! How many steps and stops of each kind there were.
+//! Counts of the steps and stops of each kind in random lists.
 
 use crate::store::words::{put, put_number};
 use book::Receipt;
 use book::Refusal::{self, Down, Equivocation, MissingBatch, MissingParents, NotOurs, TooOld};
 
-/// The moment of a stop.
+/// The moment at which the machine stops, by what happened to the group in flight.
 #[derive(Clone, Copy)]
 pub enum Moment {
-    /// Nothing was taken that isn't settled.
+    /// Before the group was taken: nothing is taken that isn't settled.
     Idle,
-    /// A group was taken.
+    /// After the group was taken, with nothing written.
     Taken,
-    /// The group was written, but not synced.
+    /// After the group's bytes were written, before the sync.
     Written,
-    /// The group was synced, and its gate is closed.
+    /// After the group's bytes were synced; its gate is still closed, so the group doesn't count.
     Synced,
-    /// The group's gate was opened, but not synced.
+    /// After the group's gate was opened, before that is synced.
     Opened,
-    /// The group's gate is synced, and the group isn't settled.
+    /// After the open gate was synced: the group is durable, but the node hasn't settled it.
     Durable,
 }
 
-/// What a stop leaves.
+/// Which bytes a stop leaves on the disk.
 #[derive(Clone, Copy)]
 pub enum Leaves {
-    /// What a read gives.
+    /// The bytes that a read returned before the stop.
     Read,
     /// The bytes of the last sync.
     Lost,
-    /// Any length and any bytes that the disk allows.
+    /// Any length and any bytes that the disk may have after a stop.
     Torn,
 }
 
@@ -44,16 +44,17 @@ pub struct Tally {
     pub settled: u64,
     pub failed: u64,
     pub stops: [u64; 6],
-    // Outcomes of stops where the group or its gate was written but not synced: what a read gives, what the last sync had, torn.
+    // For the stops when the group or its gate was written but not synced: how many left what a read returned, what the last sync left, or
+    // torn bytes.
     left: [u64; 3],
-    /// Stops where the group's gate was written but not synced, that left it open, or closed.
+    /// For the stops when the group's gate was opened but not synced: how many left it open, and how many closed.
     pub gates: [u64; 2],
     pub opened: u64,
-    // Openings that failed: at the first sync, the read, the write, the cut, the second sync.
+    // How many openings failed at each of their calls: the first sync, the read, the write, the cut, the second sync.
     faults: [u64; 5],
 }
 
-// The names of the counts of each kind of refusal, of stop, of outcome and of opening.
+// The names of the counts: of the kinds of refusals, of stops, of what stops leave, and of failed openings.
 const REFUSED: [&str; 6] = [
     "down",
     "too old",
@@ -89,7 +90,7 @@ const OPENED: [&str; 6] = [
     "second sync",
 ];
 
-/// Counts one more at a place.
+/// Adds one to a count.
 pub fn count(place: &mut u64) {
     *place = place.saturating_add(1);
 }
@@ -130,7 +131,7 @@ impl Tally {
         count(&mut self.refused[place]);
     }
 
-    /// Counts an output that went out, or was held back.
+    /// Counts whether an output left the node or was held back.
     pub fn add_release(&mut self, went: bool) {
         if went {
             count(&mut self.released);
@@ -139,12 +140,12 @@ impl Tally {
         }
     }
 
-    /// Counts a stop of the machine.
+    /// Counts a stop of the machine at this moment.
     pub fn add_stop(&mut self, moment: Moment) {
         count(&mut self.stops[moment as usize]);
     }
 
-    /// Counts an outcome that a stop left, of a group with its gate open or closed.
+    /// Counts which bytes a stop left, and whether the gate of the group in flight is open or closed in them.
     pub fn add_outcome(&mut self, moment: Moment, leaves: Leaves, open: bool) {
         match moment {
             Moment::Written => count(&mut self.left[leaves as usize]),
@@ -156,7 +157,7 @@ impl Tally {
         }
     }
 
-    /// Counts an opening that failed at this of its calls.
+    /// Counts an opening that failed at the call with this number.
     pub fn add_fault(&mut self, call: usize) {
         if call < 5 {
             count(&mut self.faults[call]);
@@ -181,7 +182,7 @@ impl Tally {
     }
 }
 
-/// Adds counts, each after its name.
+/// Adds a line of counts, each after its name.
 fn report_line(answer: &mut String, names: &[&str], counts: &[u64]) {
     for (place, count) in counts.iter().enumerate() {
         if place > 0 {

@@ -1,4 +1,4 @@
-//! The text of a script by the reference implementation, compared with what a node writes.
+//! What the reference implementation writes for a script, compared with what a node writes.
 
 use crate::memory::disk_with;
 use crate::store::headers::message_in;
@@ -13,10 +13,10 @@ use sigface::HashSign;
 use std::alloc::{AllocError, Global};
 use wire::Author;
 
-/// The kind of a record that has an event.
+/// The first byte of a record that holds an event.
 const EVENT: u8 = 1;
 
-/// Adds the text of a script, and whether a node writes the same.
+/// Adds what the reference implementation writes for a script, and whether a node writes the same.
 pub fn write_to(script: &Script, node: &Node<HashSign>, answer: &mut String) -> Reported {
     let mut written = Vec::new(script.alloc);
     match script.run(script.disk()?, &mut written)? {
@@ -25,7 +25,8 @@ pub fn write_to(script: &Script, node: &Node<HashSign>, answer: &mut String) -> 
     }
 }
 
-/// Adds the text of a script on two disks, whether a node writes the same, and what both disks are read as after that.
+/// Adds what the reference implementation writes for a script on two disks, whether a node writes the same, and what an opening reads from
+/// both disks after that.
 pub fn report_pair(script: &Script, node: &Node<HashSign>, answer: &mut String) -> Reported {
     let alloc = script.alloc;
     let mut written = Vec::new(alloc);
@@ -66,7 +67,7 @@ fn report_beside(text: &[u8], written: &[u8], answer: &mut String) {
     put(answer, "\n");
 }
 
-/// The text of a script after the events in its file, if all of that can be read.
+/// What the reference implementation writes for a script that follows the events in the script's file, if all of that can be read.
 fn text_of(script: &Script, node: &Node<HashSign>) -> Result<Option<Vec<u8>>, AllocError> {
     let alloc = script.alloc;
     let Some(history) = history_of(alloc, script.disk()?)? else {
@@ -79,7 +80,7 @@ fn text_of(script: &Script, node: &Node<HashSign>) -> Result<Option<Vec<u8>>, Al
     Ok(Some(text(alloc, node, history, commands)?))
 }
 
-/// The events of the journal on a disk, after its configuration.
+/// The events in the journal on a disk, which begins with a configuration.
 fn history_of(alloc: Global, disk: MemDisk) -> Result<Option<Vec<Event>>, AllocError> {
     match Journal::open(alloc, disk) {
         Ok((_, records)) => events_of(alloc, &records),
@@ -87,7 +88,7 @@ fn history_of(alloc: Global, disk: MemDisk) -> Result<Option<Vec<Event>>, AllocE
     }
 }
 
-/// The events of the records after the first one.
+/// The events in these records, without the first one, which is the configuration.
 fn events_of(alloc: Global, records: &[Record]) -> Result<Option<Vec<Event>>, AllocError> {
     let mut history = Vec::new(alloc);
     for record in records.iter().skip(1) {
@@ -99,7 +100,7 @@ fn events_of(alloc: Global, records: &[Record]) -> Result<Option<Vec<Event>>, Al
     Ok(Some(history))
 }
 
-/// The event of a record.
+/// The event in a record, if the record holds one.
 fn event_in(alloc: Global, record: &[u8]) -> Result<Option<Event>, AllocError> {
     match record {
         [EVENT, high, low, message @ ..] => {
@@ -110,7 +111,7 @@ fn event_in(alloc: Global, record: &[u8]) -> Result<Option<Event>, AllocError> {
     }
 }
 
-/// The commands of lines.
+/// The reference implementation's commands for these lines.
 fn commands_of(alloc: Global, lines: &[&Line]) -> Result<Option<Vec<Command>>, AllocError> {
     let mut commands = Vec::new(alloc);
     for line in lines {

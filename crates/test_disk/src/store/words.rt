@@ -1,4 +1,4 @@
-//! The words of a command, and the parts of its answer.
+//! The words of a command of a test case, and the parts of its answer.
 
 use crate::words::call_of;
 pub use crate::words::{Reported, bad, parted, put, put_count, put_shown, report_fault};
@@ -6,11 +6,11 @@ use diskmodel::CallKind;
 use std::alloc::{AllocError, Global};
 use test_cases::{bytes_of, write_hex};
 
-/// A word after a command's name.
+/// A word that follows a command's name.
 #[derive(Drop)]
 pub enum Word {
     Number(u64),
-    /// Bytes: an `x`, and then digits.
+    /// Bytes, written as an `x` and then hexadecimal digits.
     Bytes(Vec<u8>),
     Call(CallKind),
     Flush,
@@ -19,7 +19,7 @@ pub enum Word {
     Bad,
 }
 
-/// The words of a text.
+/// The words of a text, which are separated by blanks.
 pub fn words_of(alloc: Global, text: &str) -> Result<Vec<Word>, AllocError> {
     let mut words = Vec::new(alloc);
     for word in text.split_whitespace() {
@@ -38,7 +38,7 @@ fn word_of(alloc: Global, word: &str) -> Result<Word, AllocError> {
     }
 }
 
-/// A word that isn't bytes.
+/// Reads a word that isn't bytes: `flush`, `checkpoint`, `stop`, a kind of device call, or a number.
 fn named(word: &str) -> Word {
     match word {
         "flush" => Word::Flush,
@@ -69,14 +69,14 @@ pub fn numbers(alloc: Global, words: &[Word]) -> Result<Vec<u64>, AllocError> {
     Ok(numbers)
 }
 
-/// Adds a line, unless the text has it already.
+/// Adds a line to the text, unless the text has the same line already.
 pub fn put_once(text: &mut String, line: &str) {
     if !text.as_str().contains(line) {
         put(text, line);
     }
 }
 
-/// Adds a line with a number and a text, if the text differs from the last one, and keeps it as the last one.
+/// Adds a line with a number and a text, if the text differs from the last one that was added, and keeps the text as the last one.
 pub fn put_other(answer: &mut String, number: u64, text: String, before: &mut String) {
     if text.as_str() != before.as_str() {
         put_count(answer, "", number, ": ");
@@ -91,13 +91,13 @@ pub fn put_number(text: &mut String, number: u64) {
     put_count(text, " ", number, "");
 }
 
-/// Adds bytes as digits, after a space and an `x`.
+/// Adds a space, an `x`, and bytes as hexadecimal digits.
 pub fn put_bytes(text: &mut String, bytes: &[u8]) {
     put(text, " x");
     let _ = write_hex(text, bytes);
 }
 
-/// Adds the answer to a line that is no command.
+/// Adds the answer to a line that isn't a command.
 pub fn reported_bad(answer: &mut String) -> Reported {
     bad(answer);
     Ok(())

@@ -1,11 +1,11 @@
-//! Lists of runs: random steps and stops of the running code, compared with a list-based model of the world.
+//! Random lists of steps and stops, carried out by the running code and compared with a model of plain lists.
 
 use crate::committees::{SEVEN, own_config};
 use crate::store::lists::Lists;
 use crate::store::words::{Reported, Word, put, put_count, reported_bad};
 use std::alloc::Global;
 
-/// The results of the lists.
+/// The results of all lists.
 #[derive(Drop)]
 pub struct Worlds {
     alloc: Global,
@@ -14,7 +14,7 @@ pub struct Worlds {
 }
 
 impl Worlds {
-    /// The state before the first list.
+    /// The state before the first command.
     pub fn new(alloc: Global) -> Worlds {
         let report = String::new(alloc);
         Worlds { alloc, report }
@@ -49,7 +49,7 @@ impl Worlds {
     }
 }
 
-/// Makes this many lists of this many steps each, and adds their results.
+/// Makes this many lists of this many steps each, and adds the results.
 fn play(mut lists: Lists<'_>, count: u64, steps: u64, answer: &mut String) -> Reported {
     for _ in 0..count {
         lists.play(steps)?;
