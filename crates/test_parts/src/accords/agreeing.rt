@@ -1,4 +1,4 @@
-//! Whether two nodes with their histories are of one committee, and whether the order of one is a prefix of the other's.
+//! Tests whether two nodes with their histories are of one committee, and whether the order of one is a prefix of the other's.
 
 ghost use Rattle.std.specs.Prelude.{◌≡◌, ◌↔◌, IsTrue, IfOk, true};
 ghost use Rattle.std.specs.Option.{option_map_or};
@@ -27,13 +27,13 @@ pub struct Agreed {
     pub premises: bool,
     /// One of the orders is a prefix of the other.
     pub agrees: bool,
-    /// The order of the first.
+    /// The order of the first node.
     pub one: Vec<Digest>,
-    /// The order of the second.
+    /// The order of the second node.
     pub other: Vec<Digest>,
 }
 
-/// Whether a slot, if it is filled, has this header.
+/// Whether the slot of this round and author, if a certificate fills it, has this header.
 fn has_header(certificates: &[Certificate], round: u64, author: u16, header: &HeaderBody) -> bool
     ensures { result ≡ option_map_or (λ c. same_header header.now c.header) (slots_of certificates.now round author) true }
 {
@@ -43,7 +43,7 @@ fn has_header(certificates: &[Certificate], round: u64, author: u16, header: &He
     }
 }
 
-/// Whether a slot that both have filled has the same header in both.
+/// Whether a slot that is filled in both lists of certificates has the same header in both.
 fn has_one_header(one: &[Certificate], other: &[Certificate], round: u64, author: u16) -> bool
     ensures { result ≡ accords.has_one_header (slots_of one.now) (slots_of other.now) round author }
 {
@@ -53,7 +53,7 @@ fn has_one_header(one: &[Certificate], other: &[Certificate], round: u64, author
     }
 }
 
-/// Whether the slot of a certificate, if both have filled it, has the same header in both.
+/// Whether the slot of this certificate, if it is filled in both lists of certificates, has the same header in both.
 fn has_one_at(one: &[Certificate], other: &[Certificate], certificate: &Certificate) -> bool
     ensures { result ≡ accords.has_one_header (slots_of one.now) (slots_of other.now) certificate.now.header.round certificate.now.header.author.0 }
 {
@@ -61,7 +61,7 @@ fn has_one_at(one: &[Certificate], other: &[Certificate], certificate: &Certific
     has_one_header(one, other, header.round.number(), header.author.0)
 }
 
-/// Whether no slot of some certificates contradicts the same slot of others.
+/// Whether no slot has one header in the first list of certificates and another header in the second.
 fn have_one_header(one: &[Certificate], other: &[Certificate]) -> bool
     ensures { result ≡ accords.have_one_header one.now other.now }
 {

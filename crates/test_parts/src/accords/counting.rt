@@ -1,4 +1,4 @@
-//! What two histories have in common, and how many pairs there are of each kind.
+//! What the histories of two nodes (a pair) have in common, and how many pairs there are of each kind.
 
 use crate::accords::agreeing::{Agreed, agree};
 use crate::accords::playing::Played;
@@ -14,7 +14,7 @@ use std::alloc::{AllocError, Global};
 use test_cases::write_hex;
 use wire::{Certificate, Digest};
 
-/// The kinds, in the order in which they are counted.
+/// The kinds of pairs, in the order in which they are counted.
 const KINDS: [&str; 9] = [
     "pairs",
     "legal",
@@ -33,7 +33,7 @@ pub struct Counts {
     counts: [u64; 9],
 }
 
-/// What a history decides.
+/// What follows from a history: its certificates and coins, the leaders that they commit, and the floor.
 #[derive(Drop)]
 struct Decided {
     certificates: Vec<Certificate>,
@@ -64,7 +64,7 @@ fn decide(alloc: Global, played: &Played) -> Result<Decided, AllocError> {
     })
 }
 
-/// A played history, and what it decides.
+/// A history that was played, and what follows from it.
 #[derive(Clone, Copy)]
 struct Side<'a> {
     played: &'a Played,
@@ -90,7 +90,8 @@ impl<'a> Side<'a> {
             .any(|leader| leader.header.round.number() == first)
     }
 
-    /// Whether some wave is directly committed here, and at the other node only through a later leader.
+    /// Whether some wave is directly committed (by the support for its own leader) by this history, and by the other one only through a
+    /// later leader.
     fn is_before(&self, other: &Side) -> bool {
         let (here, there) = (self.ledger(), other.ledger());
         for wave in 1..here.coins.len() as u64 + 1 {
@@ -101,7 +102,7 @@ impl<'a> Side<'a> {
         false
     }
 
-    /// Whether a certificate at or below a floor is held here, and not by the other node.
+    /// Whether this history has a certificate at or below a floor whose slot isn't filled in the other one.
     fn holds_more(&self, other: &Side, floor: u64) -> bool {
         self.decided.certificates.iter().any(|certificate| {
             let round = certificate.header.round.number();
@@ -115,7 +116,7 @@ fn is_before_at(here: &Ledger, there: &Ledger, wave: u64) -> bool {
     is_directly_committed(here, wave) && !is_directly_committed(there, wave)
 }
 
-/// Whether the slot of a certificate isn't filled.
+/// Whether none of these certificates fills the slot of the given one.
 fn lacks(certificates: &[Certificate], certificate: &Certificate) -> bool {
     let (round, author) = (
         certificate.header.round.number(),
@@ -124,7 +125,7 @@ fn lacks(certificates: &[Certificate], certificate: &Certificate) -> bool {
     slot(certificates, round, author).is_none()
 }
 
-/// For each kind whether two histories are of it.
+/// For each kind of pairs whether these two histories are a pair of that kind.
 fn kinds(one: Side, other: Side, agreed: &Agreed) -> [bool; 9] {
     let floor = one.decided.floor.min(other.decided.floor);
     let (first, second) = (agreed.one.len(), agreed.other.len());
@@ -141,7 +142,7 @@ fn kinds(one: Side, other: Side, agreed: &Agreed) -> [bool; 9] {
     ]
 }
 
-/// Adds the line of two histories.
+/// Adds the line that shows what two histories have in common.
 fn line(one: Side, other: Side, agreed: &Agreed, answer: &mut String) -> Result<(), AllocError> {
     let (legal, also) = (yes(one.played.legal), yes(other.played.legal));
     let (premises, agrees) = (yes(agreed.premises), yes(agreed.agrees));
@@ -156,7 +157,7 @@ fn line(one: Side, other: Side, agreed: &Agreed, answer: &mut String) -> Result<
     writeln!(answer, "floors {first} {second}")
 }
 
-/// Adds the first four bytes of the SHA-256 of an order's digests, in their order.
+/// Adds a checksum of an order: the first four bytes of the SHA-256 of its digests.
 fn write_sum(order: &[Digest], answer: &mut String) -> Result<(), AllocError> {
     let mut hasher = Sha256::new();
     for digest in order {
@@ -171,12 +172,12 @@ fn yes(is_so: bool) -> &'static str {
 }
 
 impl Counts {
-    /// No pairs.
+    /// The counts before the first pair: all are 0.
     pub fn none() -> Counts {
         Counts { counts: [0; 9] }
     }
 
-    /// Counts a pair, and adds the line of what both have in common.
+    /// Counts a pair of histories, and adds the line of what both have in common.
     pub fn add(
         &mut self,
         alloc: Global,
@@ -206,7 +207,7 @@ impl Counts {
         }
     }
 
-    /// Adds how many there are of each kind.
+    /// Adds how many pairs there are of each kind.
     pub fn report(&self, answer: &mut String) -> Result<(), AllocError> {
         for (kind, count) in KINDS.iter().zip(&self.counts) {
             writeln!(answer, "{kind}: {count}")?;

@@ -73,7 +73,7 @@ impl<'a, S: Sign> Held for Unordered<'a, S> {
     }
 }
 
-/// Whether the last of some events is new after those before it.
+/// Whether the last of these events is new to the node that has accepted the events before it.
 pub fn is_last_new<S: Sign>(
     alloc: Global,
     node: &Node<S>,

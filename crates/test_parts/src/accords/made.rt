@@ -9,7 +9,7 @@ use wire::Author;
 /// The number of members whose genesis certificates have labels.
 const MEMBERS: u16 = 16;
 
-/// The headers, each under its round and its author.
+/// The headers, each with the label `ROUND.AUTHOR`, as `3.1`.
 #[derive(Drop)]
 pub struct Made {
     labels: Labels,
@@ -23,7 +23,7 @@ impl Made {
         }
     }
 
-    /// The headers of these words, in which each follows its parents.
+    /// Makes the headers of these words, in which each stands after its parents.
     pub fn read(alloc: Global, words: &str) -> Result<Made, FormError> {
         let mut labels = Labels::new(alloc);
         label_genesis(alloc, &mut labels, MEMBERS)?;
@@ -33,13 +33,13 @@ impl Made {
         Ok(Made { labels })
     }
 
-    /// The header with this label, its round and its author: `3.1`.
+    /// The header with this label, which is its round and its author: `3.1`.
     pub fn header(&self, label: &str) -> Option<&Proposed> {
         self.labels.header(label)
     }
 }
 
-/// Adds the header of a word: its round, its author, which a letter may follow, and the authors of its parents.
+/// Makes the header of a word: its round, its author, after which a letter may stand, and the authors of its parents.
 fn add(alloc: Global, labels: &mut Labels, word: &str) -> Result<(), FormError> {
     let (round, rest) = parted(word, '.');
     let (author, parents) = parted(rest, '.');

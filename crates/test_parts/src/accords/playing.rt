@@ -1,4 +1,4 @@
-//! A node's history, event by event.
+//! A node's history, made event by event from words.
 
 ghost use Rattle.std.specs.Prelude.{◌<◌, ◌≤◌};
 
@@ -31,7 +31,7 @@ pub struct Played {
 /// The signature of all votes. No signature is verified, since a history may be legal whatever its signatures are.
 const SIGNATURE: Signature = Signature([0; 64]);
 
-/// The history of these words, of which the first is the member's number.
+/// The history that these words describe; the first of them is the number of the node's member.
 pub fn play_words(
     alloc: Global,
     committee: Committee,
@@ -52,7 +52,7 @@ pub fn play_words(
     Ok(played)
 }
 
-/// An empty history, and the votes of a quorum: the members from the node on.
+/// A node with an empty history, and the votes with which headers are certified: those of a quorum.
 fn begun(alloc: Global, node: Node<HashSign>) -> Result<Played, AllocError> {
     let votes = votes_of(alloc, &voters_from(&node))?;
     Ok(Played {
@@ -65,7 +65,7 @@ fn begun(alloc: Global, node: Node<HashSign>) -> Result<Played, AllocError> {
     })
 }
 
-/// A quorum: as few members as it takes, from the node on, and after the last one from 0 on.
+/// A quorum: as few members as it takes, counted from the node's own member on, and after the last member from member 0 on.
 fn voters_from(node: &Node<HashSign>) -> MemberSet {
     let size = node.size();
     let mut voters = MemberSet::none();
@@ -77,7 +77,7 @@ fn voters_from(node: &Node<HashSign>) -> MemberSet {
     voters
 }
 
-/// The member this many places after another one, where the first member follows the last.
+/// The member that comes `place` members after `own`; after the last member comes the first.
 fn after(own: u16, place: u16, size: u16) -> u16
     requires { 0 < size }
     ensures { result < size }
@@ -137,7 +137,7 @@ impl Played {
         Ok(self.take(self.node.own, Message::Certificate(certificate))?)
     }
 
-    /// Takes an own header, and then votes on it until they are a quorum, of the node itself and the members after it in order.
+    /// Takes an own header, and then votes on it until they are a quorum: the node's own vote and those of the members after it, in order.
     fn make(&mut self, proposed: &Proposed) -> Result<(), FormError> {
         let header = proposed.header.try_clone()?;
         self.take(self.node.own, Message::Header(header))?;
@@ -148,7 +148,7 @@ impl Played {
         Ok(())
     }
 
-    /// Takes the vote of a member, if it is one of those who vote.
+    /// Takes the vote of a member, if the member is one of those whose votes are used.
     fn vote(&mut self, proposed: &Proposed, voter: Author) -> Result<(), AllocError> {
         if !is_among(&self.votes, voter) {
             return Ok(());
@@ -156,7 +156,7 @@ impl Played {
         self.take(voter, Message::Vote(vote_on(proposed, voter)))
     }
 
-    /// Takes a message, and tests whether it passes the checks, whatever its signatures, and is new.
+    /// Takes a message, and notes whether it passes the checks (but for its signatures) and is new.
     fn take(&mut self, sender: Author, message: Message) -> Result<(), AllocError> {
         match recheck(&self.node.committee, sender, message) {
             Err(_) => {

@@ -1,4 +1,5 @@
-//! The tables of a node next to its history: what both answer to an event, and what both hold and decide after it.
+//! Compares the tables of a node with what the definitions say of its history: the answers to an event, and what is held and decided after
+//! it.
 
 use crate::definitions::looking::proposal_line;
 use crate::definitions::played::{Played, report_kind};
@@ -13,7 +14,7 @@ use ref_order::held::{Held, floor_in};
 use std::alloc::AllocError;
 use wire::{Batch, Digest, Header, batch_digest};
 
-/// Adds both texts, where they differ.
+/// Adds what the history says and what the tables say of something, if these texts differ.
 pub fn same(
     what: &str,
     by_history: String,
@@ -31,14 +32,14 @@ pub fn same(
 
 // ---- answers
 
-/// The text of an answer, with its outputs.
+/// The text of an answer to an event, with its outputs.
 pub fn reported(played: &Played, found: &Admission) -> Result<String, AllocError> {
     let mut text = String::new(played.alloc);
     report(played, found, &mut text)?;
     Ok(text)
 }
 
-/// Adds an answer, with its outputs.
+/// Adds the text of an answer to an event, with its outputs.
 pub fn report(played: &Played, found: &Admission, text: &mut String) -> Result<(), AllocError> {
     report_kind(found, text)?;
     match found {
@@ -55,7 +56,7 @@ fn lacks_parents(found: &Admission) -> bool {
     matches!(found, Admission::Refused(Refusal::MissingParents))
 }
 
-/// Compares the answer of the history to its last event with that of the tables, which haven't taken the event.
+/// Compares the answer that the history gives to its last event with the answer of the tables, to which the event wasn't applied yet.
 pub fn compare_answers(
     played: &Played,
     found: &Admission,
@@ -88,7 +89,7 @@ pub fn answers_by_tables(played: &Played, events: &[Event]) -> Result<String, Al
     Ok(text)
 }
 
-/// Adds the answer of the tables to an event, and gives the tables after it.
+/// Adds the answer of the tables to an event, and returns the tables after the event.
 fn answer_next(
     played: &Played,
     tables: Tables,
@@ -101,7 +102,7 @@ fn answer_next(
     }
 }
 
-/// Adds the answer of the tables to an event, and gives whether it is new.
+/// Adds the answer of the tables to an event, and returns whether the event is new.
 fn report_next(
     played: &Played,
     tables: &Tables,
@@ -115,7 +116,7 @@ fn report_next(
 
 // ---- states
 
-/// Compares the order, the floor and the round.
+/// Compares the order, the floor and the round that the history and the tables give.
 pub fn compare_states(played: &Played, answer: &mut String) -> Result<(), AllocError> {
     let by_history = decided_by_history(played)?;
     same("decided", by_history, decided_by_tables(played)?, answer)
@@ -133,7 +134,7 @@ fn decided_by_tables(played: &Played) -> Result<String, AllocError> {
     decided(played, tables, floor, round_in(node, tables))
 }
 
-/// The floor, the round and the order.
+/// The text of the floor, the round and the order.
 fn decided<H: Held>(
     played: &Played,
     held: &H,
@@ -145,7 +146,7 @@ fn decided<H: Held>(
     Ok(text)
 }
 
-/// Compares what is kept below the floor too, and the proposal.
+/// Compares what the history and the tables hold, also below the floor, and the headers that they propose.
 pub fn compare_held(played: &Played, answer: &mut String) -> Result<(), AllocError> {
     let (alloc, node) = (played.alloc, &played.node);
     let proposal = propose(alloc, node, &played.history)?;
@@ -155,7 +156,7 @@ pub fn compare_held(played: &Played, answer: &mut String) -> Result<(), AllocErr
     same("held", by_history, by_tables, answer)
 }
 
-/// What is held, and the proposal.
+/// The text of what is held, and of the header that is proposed.
 fn held_by<H: Held>(
     played: &Played,
     held: &H,
@@ -167,7 +168,7 @@ fn held_by<H: Held>(
     Ok(text)
 }
 
-/// Batches, who acknowledged them, which were named, the greatest round and coins.
+/// Adds the batches, who acknowledged them, which of them were named in own headers, the greatest round of a certificate, and the coins.
 fn add_held<H: Held>(played: &Played, held: &H, text: &mut String) -> Result<(), AllocError> {
     add_batches(played, held, text)?;
     list("highest", &[held.highest(played.alloc)?], text)?;
@@ -181,7 +182,7 @@ fn add_batches<H: Held>(played: &Played, held: &H, text: &mut String) -> Result<
     Ok(())
 }
 
-/// A batch, the one that its digest finds, whether a header named it, and who acknowledged it.
+/// The line of a batch: the batch that is found by its digest, whether an own header named it, and who acknowledged it.
 fn batch_line<H: Held>(
     played: &Played,
     held: &H,

@@ -1,4 +1,4 @@
-//! What a node's tables keep, next to what its history says that they keep.
+//! Compares what a node's tables keep with what, by the definitions, is kept of its history.
 
 use crate::definitions::beside::same;
 use crate::definitions::played::Played;
@@ -11,11 +11,11 @@ use ref_order::slots::slot;
 use std::alloc::AllocError;
 use wire::{Certificate, Digest, Header, Vote, header_digest};
 
-/// What is kept of a round and an author or voter.
+/// What is kept for a round and a member, as the author or the voter.
 #[derive(Drop)]
 struct Kept {
     vote: Option<Digest>,
-    /// The digest of the own header, where the author is the node itself.
+    /// The digest of the own header of the round, if the author is the node itself.
     header: Option<Digest>,
     counted: Option<Vote>,
     certificate: Option<Certificate>,
@@ -55,7 +55,7 @@ fn by_tables(played: &Played, round: u64, author: u16) -> Result<Kept, AllocErro
     })
 }
 
-/// Adds what is kept, a line for each.
+/// Adds what is kept for a round and a member, one line for each thing.
 fn add_kept(played: &Played, kept: &Kept, text: &mut String) -> Result<(), AllocError> {
     digest_line(played, kept.vote, text)?;
     digest_line(played, kept.header, text)?;
@@ -63,14 +63,14 @@ fn add_kept(played: &Played, kept: &Kept, text: &mut String) -> Result<(), Alloc
     certificate_line(&played.labels, kept.certificate.as_ref(), text)
 }
 
-/// A heading with the round and the author or voter, and what is kept of them.
+/// The text of what is kept for a round and a member, under a heading with both.
 fn text_of(played: &Played, round: u64, author: u16, kept: &Kept) -> Result<String, AllocError> {
     let mut text = format!(in played.alloc; "round {round}, author {author}\n")?;
     add_kept(played, kept, &mut text)?;
     Ok(text)
 }
 
-/// Compares what is kept of a round for an author or voter.
+/// Compares what is kept for a round and a member.
 fn compare_one(
     played: &Played,
     round: u64,
@@ -89,7 +89,7 @@ fn compare_round(played: &Played, round: u64, answer: &mut String) -> Result<(),
     Ok(())
 }
 
-/// Compares what is kept, for each author of each round up to two above that of any certificate.
+/// Compares what is kept for each member in each round, up to the second round above that of any certificate.
 pub fn compare_kept(played: &Played, answer: &mut String) -> Result<(), AllocError> {
     let highest = kept_highest(played.alloc, &played.node, &played.history)?;
     let by_tables = played.tables.highest(played.alloc)?;

@@ -17,7 +17,7 @@ use sim_script::Labels;
 use std::alloc::{AllocError, Global};
 use wire::{Certificate, Header};
 
-/// The certificates and coins of a history.
+/// The certificates and the coins of a history.
 #[derive(Drop)]
 pub struct View {
     certificates: Vec<Certificate>,
@@ -59,7 +59,7 @@ pub fn member(word: &str) -> u16 {
     word.parse().unwrap_or(65535)
 }
 
-/// What a command is about.
+/// What a command that looks at a history is about.
 #[derive(Clone, Copy)]
 enum About {
     State,
@@ -93,7 +93,7 @@ fn kind_of_look(name: &str) -> About {
     About::Certificates
 }
 
-/// Carries out a command that looks.
+/// Carries out a command that looks at a history.
 pub fn look(played: &Played, words: &[&str], answer: &mut String) -> Result<(), AllocError> {
     let Some(name) = words.first() else {
         return line("bad case", answer);
@@ -133,7 +133,7 @@ fn look_at(
     }
 }
 
-/// What the certificates of a round show.
+/// Shows what the certificates of a round are, or count.
 fn look_in(
     played: &Played,
     view: &View,
@@ -167,7 +167,7 @@ fn look_for(
     }
 }
 
-/// Whether the certificate of a slot may be given out.
+/// Shows whether the certificate in a slot may leave the node; `none` if there is no certificate.
 fn given_line(
     played: &Played,
     view: &View,
@@ -197,7 +197,7 @@ fn counts(played: &Played, answer: &mut String) -> Result<(), AllocError> {
     answer.push_str("\n")
 }
 
-/// A word, and how many were found.
+/// Adds a word, and how many things were found.
 fn count<T: Drop>(
     word: &str,
     found: Result<Vec<T>, AllocError>,
@@ -236,7 +236,7 @@ fn slot_line(
     )
 }
 
-/// Whether one certificate is a parent of another, or reachable from it.
+/// Shows whether one certificate is a parent of another one, or is reached from it along parents.
 fn paths(
     played: &Played,
     view: &View,
@@ -254,7 +254,7 @@ fn paths(
     }
 }
 
-/// Leaders, and what they order.
+/// Carries out a command about leaders and what they order.
 fn leaders(
     played: &Played,
     view: &View,
@@ -286,7 +286,8 @@ fn leaders_now(
     }
 }
 
-/// The leader of a wave, or the leaders up to it or after it.
+/// Shows the leader of a wave (`leader`), all leaders that are committed if this one is (`chain`), or the committed leaders of later waves
+/// (`newer`).
 fn leaders_of(
     played: &Played,
     ledger: &Ledger,
@@ -311,7 +312,7 @@ fn tops(ledger: &Ledger, answer: &mut String) -> Result<(), AllocError> {
     }
 }
 
-/// The order and the floor that certificates and coins decide.
+/// Shows the order and the floor that certificates and coins determine.
 fn by_ledger(played: &Played, ledger: &Ledger, answer: &mut String) -> Result<(), AllocError> {
     let floor = floor_by(ledger);
     write!(answer, "floor {floor}, order")?;
@@ -325,7 +326,7 @@ fn proposal(played: &Played, answer: &mut String) -> Result<(), AllocError> {
     proposal_line(&played.labels, found, answer)
 }
 
-/// The header that is proposed, or that none is.
+/// Shows the header that is proposed; `none` if none is.
 pub fn proposal_line(
     labels: &Labels,
     found: Option<Header>,
@@ -337,7 +338,7 @@ pub fn proposal_line(
     }
 }
 
-/// The round of a header, the labels of its parents, and of its batches.
+/// Shows the round of a header, the labels of its parents, and those of its batches.
 fn proposed(labels: &Labels, header: &Header, answer: &mut String) -> Result<(), AllocError> {
     let round = header.body.round.number();
     write!(answer, "proposes {round}")?;

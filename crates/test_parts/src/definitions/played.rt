@@ -23,14 +23,14 @@ use sim_script::{
 use std::alloc::{AllocError, Global};
 use wire::{Author, Coin, Message, Wave};
 
-/// An output's line, which may be shown once this many events are settled.
+/// The line of an output, which may be shown once `ticket` events are settled.
 #[derive(Drop)]
 struct Waiting {
     ticket: usize,
     line: String,
 }
 
-/// How often the tables were compared with the history, over all cases.
+/// How often the tables were compared with the history, over all test cases.
 #[derive(Clone, Copy)]
 struct Counts {
     answers: u64,
@@ -49,9 +49,9 @@ pub struct Played {
     waiting: Vec<Waiting>,
     collected: usize,
     settled: usize,
-    /// Whether outputs are shown with each answer, instead of once the event is settled.
+    /// Whether the outputs of an event are shown with its answer, and not only when the event is settled.
     reports: bool,
-    /// Whether events are gathered first and answered later.
+    /// Whether events are only gathered, and answered later all together.
     gathers: bool,
 }
 
@@ -69,7 +69,7 @@ fn node_with(alloc: Global, depth: u64, batches: u64) -> Result<Node<HashSign>, 
 }
 
 impl Played {
-    /// An empty history.
+    /// The state before the first command: a node with an empty history.
     pub fn new(alloc: Global) -> Result<Played, AllocError> {
         let node = node_with(alloc, DEPTH, BATCHES)?;
         let tables = fresh(alloc, &node)?;
@@ -91,7 +91,7 @@ impl Played {
         })
     }
 
-    /// A command of scripts.
+    /// Carries out a command of scripts.
     fn run(&mut self, command: Command<'_>, answer: &mut String) -> Result<(), FormError> {
         match command {
             Command::Set(setting) => Ok(self.begin_with(setting)?),
@@ -101,7 +101,7 @@ impl Played {
         }
     }
 
-    /// A command that looks at the history, or submits a message to it.
+    /// Carries out a command that looks at the history, or submits a message to the node.
     fn run_over_history(
         &mut self,
         command: Command<'_>,
@@ -117,7 +117,7 @@ impl Played {
         }
     }
 
-    /// Starts with another node, whose tables are those before any event.
+    /// Takes another node, with a new committee and the tables before any event.
     fn begin_with(&mut self, setting: Setting) -> Result<(), AllocError> {
         let (depth, batches) = match setting {
             Setting::Depth(depth) => (depth, BATCHES),
@@ -156,7 +156,7 @@ impl Played {
         }
     }
 
-    /// Admits the last event, and drops it again where it isn't new.
+    /// Answers the last event of the history, and removes the event from the history if it isn't new.
     fn admit(&mut self, answer: &mut String) -> Result<(), AllocError> {
         if self.history.is_empty() {
             return Ok(());
@@ -171,7 +171,7 @@ impl Played {
         self.admitted(&found, answer)
     }
 
-    /// Shows the answer to an event, and how many events there are then.
+    /// Shows the answer to an event, and how many events the history has then.
     fn admitted(&mut self, found: &Admission, answer: &mut String) -> Result<(), AllocError> {
         match found {
             Admission::New(outputs) => self.accepted("new", outputs, answer),
@@ -191,7 +191,7 @@ impl Played {
         self.put_out(ticket, list, answer)
     }
 
-    /// Applies the last event of the history to the tables, and compares both.
+    /// Applies the last event of the history to the tables, and compares the tables with the history.
     fn follow(&mut self, answer: &mut String) -> Result<(), AllocError> {
         if let Some(event) = self.history.last() {
             let tables = self.tables.try_clone(self.alloc)?;
@@ -258,7 +258,7 @@ impl Played {
         writeln!(answer, "voted {label}")
     }
 
-    /// Answers each of the events that were gathered.
+    /// Answers each of the events that were gathered, in order.
     fn answer_all(&mut self, answer: &mut String) -> Result<(), AllocError> {
         let events = std::mem::replace(&mut self.history, Vec::new(self.alloc));
         let by_tables = answers_by_tables(self, &events)?;
@@ -290,7 +290,7 @@ impl Played {
         writeln!(answer, "compared {answers} answers, {states} states")
     }
 
-    /// Gives the node a committee whose members have these stakes, with the limits of its last one.
+    /// Gives the node a committee whose members have these stakes, with the limits of its last committee.
     fn weigh(&mut self, stakes: &str) -> Result<(), FormError> {
         let limits = &self.node.committee;
         let committee = committee_of(
@@ -342,7 +342,7 @@ impl Played {
         }
     }
 
-    /// Begins a case.
+    /// Begins a test case.
     pub fn begin(&mut self) -> Result<(), AllocError> {
         let counts = self.counts;
         *self = Played::new(self.alloc)?;

@@ -1,4 +1,4 @@
-//! Commands that look for batches and votes.
+//! Commands that look for batches and votes in a history.
 
 use crate::definitions::looking::{member, number};
 use crate::definitions::played::Played;
@@ -40,7 +40,7 @@ fn nameable_line(played: &Played, answer: &mut String) -> Result<(), AllocError>
     named(&played.labels, &found, answer)
 }
 
-/// The history as what the node holds.
+/// The history as what a node with this history holds.
 pub fn past(played: &Played) -> Past<'_, HashSign> {
     Past {
         node: &played.node,
@@ -89,7 +89,7 @@ fn of_digest(
     yes_or_no(is_so, answer)
 }
 
-/// The worker of a batch that may be named, and whether the batch is held.
+/// Shows the worker of a batch if an own header may name the batch, and whether the node holds it; `none` if no header may name it.
 fn to_name_line(played: &Played, batch: &Batch, answer: &mut String) -> Result<(), AllocError> {
     let Some(found) = to_name(&played.node, &past(played), batch) else {
         return line("none", answer);
@@ -123,7 +123,7 @@ fn reference(word: &str) -> BatchReference {
     }
 }
 
-/// References with these bytes as digests, each inserted at its place in the list of those before.
+/// Shows the list to which references with these bytes as digests are added one after the other, each at its place in the list.
 fn in_place(played: &Played, places: &[&str], answer: &mut String) -> Result<(), AllocError> {
     let mut found = Vec::new(played.alloc);
     for place in places {
@@ -157,7 +157,7 @@ pub fn votes(played: &Played, words: &[&str], answer: &mut String) -> Result<(),
     }
 }
 
-/// The node's own vote for an author in a round, or the counted vote of a voter.
+/// Shows the node's own vote on an author's header in a round, or the vote of a voter that the node has counted in a round.
 fn in_history(
     played: &Played,
     how: &str,
@@ -276,7 +276,7 @@ fn kept_header_line(played: &Played, round: u64, answer: &mut String) -> Result<
     digest_line(played, digest, answer)
 }
 
-/// What is kept of a round and an author or a voter.
+/// Shows what is kept for a round and a member, as the author or the voter.
 fn kept_in(
     played: &Played,
     kind: &str,
@@ -307,7 +307,7 @@ fn kept_slot_line(
     label_line(&played.labels, found.as_ref(), answer)
 }
 
-/// Whether the header that the node proposes passes the checks, that of its signature too.
+/// Shows whether the header that the node proposes passes the checks, also the check of its signature.
 pub fn passes(played: &Played, answer: &mut String) -> Result<(), AllocError> {
     match propose(played.alloc, &played.node, &played.history)? {
         None => line("none", answer),

@@ -1,4 +1,4 @@
-//! Values in the form that a file of cases has.
+//! How certificates, outputs and other values are shown in a file of test cases.
 
 use ref_order::slots::digest_of;
 use sim_script::Labels;
@@ -48,13 +48,13 @@ pub fn line(word: &str, answer: &mut String) -> Result<(), AllocError> {
     writeln!(answer, "{word}")
 }
 
-/// Adds a mark, and a word after it.
+/// Adds a mark (as a comma), and a word after it.
 pub fn add(mark: &str, word: &str, answer: &mut String) -> Result<(), AllocError> {
     answer.push_str(mark)?;
     answer.push_str(word)
 }
 
-/// A word, and then the labels of certificates.
+/// Adds a word, and then the labels of these certificates.
 pub fn certificates(
     labels: &Labels,
     word: &str,
@@ -68,7 +68,7 @@ pub fn certificates(
     answer.push_str("\n")
 }
 
-/// The labels of certificates of which these are the digests.
+/// Adds the labels of the certificates with these digests.
 pub fn order(labels: &Labels, digests: &[Digest], answer: &mut String) -> Result<(), AllocError> {
     for digest in digests {
         add(" ", label_of(labels, digest), answer)?;
@@ -79,7 +79,7 @@ pub fn order(labels: &Labels, digests: &[Digest], answer: &mut String) -> Result
     answer.push_str("\n")
 }
 
-/// The voters, separated by commas.
+/// Adds the voters of these votes, separated by commas.
 fn voters(entries: &[VoteEntry], answer: &mut String) -> Result<(), AllocError> {
     let mut mark = ' ';
     for entry in entries {
@@ -90,7 +90,7 @@ fn voters(entries: &[VoteEntry], answer: &mut String) -> Result<(), AllocError> 
     answer.push_str("\n")
 }
 
-/// The label of a certificate, or that there is none.
+/// Adds the label of a certificate, or `none` if there is no certificate.
 pub fn label_line(
     labels: &Labels,
     certificate: Option<&Certificate>,
@@ -102,7 +102,7 @@ pub fn label_line(
     }
 }
 
-/// The label of a certificate with its voters, or that there is none.
+/// Adds the label of a certificate with its voters, or `none` if there is no certificate.
 pub fn certificate_line(
     labels: &Labels,
     certificate: Option<&Certificate>,
@@ -115,7 +115,7 @@ pub fn certificate_line(
     voters(certificate.votes.as_slice(), answer)
 }
 
-/// An output in the form that `collect` shows.
+/// Adds an output, in the form that the command `collect` shows.
 fn output(labels: &Labels, output: &Output, answer: &mut String) -> Result<(), AllocError> {
     let (kind, label) = match output {
         Output::Batch(batch) => ("batch", batch_label(labels, &batch_digest(batch))),

@@ -1,4 +1,4 @@
-//! The lines of a case, which are played once all of them are read.
+//! Test cases whose lines are first gathered, and are played through a validator when all of them are read.
 
 mod asking;
 mod beside;
@@ -19,7 +19,7 @@ use playing::{Way, play_lines};
 use sim_script::{BATCHES, DEPTH, FormError, OWN, signer};
 use std::alloc::{AllocError, Global};
 
-/// The lines of a case.
+/// The gathered lines of a test case, and its committee.
 #[derive(Drop)]
 pub struct Gathered {
     alloc: Global,
@@ -30,7 +30,7 @@ pub struct Gathered {
 }
 
 impl Gathered {
-    /// No lines.
+    /// No lines, and no committee yet.
     pub fn new(alloc: Global) -> Gathered {
         Gathered {
             alloc,
@@ -41,7 +41,7 @@ impl Gathered {
         }
     }
 
-    /// Plays the gathered lines, from the genesis on.
+    /// Plays the gathered lines through a validator that begins with the genesis.
     fn play(&self, way: Way, answer: &mut String) -> Result<(), FormError> {
         let stakes = self.stakes.as_str();
         let node = Node {
@@ -54,7 +54,7 @@ impl Gathered {
         play_lines(self.alloc, node, committee, lines, way, answer)
     }
 
-    /// Begins a case.
+    /// Begins a test case.
     pub fn begin(&mut self) -> Result<(), AllocError> {
         *self = Gathered::new(self.alloc);
         self.stakes.push_str("1,1,1,1")
@@ -96,7 +96,7 @@ impl Gathered {
         self.lines.push_str("\n")
     }
 
-    /// Shows how much of the process's memory this many batches of this many transactions take.
+    /// Shows how much more memory the process needs for this many batches of this many transactions.
     fn report_bodies(
         &self,
         rt: &HostRuntime,

@@ -5,10 +5,10 @@ use sim_script::{Form, FormError, Labels, define_header, member_list};
 use std::alloc::Global;
 use wire::Author;
 
-/// The number of members whose genesis certificates have labels in every case.
+/// The number of members whose genesis certificates have labels in every test case.
 const LABELLED: u16 = 4;
 
-/// A committee of as many members as there are stakes, separated by commas; all sign with the test key pair.
+/// A committee with a member for each of these stakes, which are separated by commas; all members sign with the test key pair.
 pub fn committee_of(
     alloc: Global,
     stakes: &str,
@@ -27,7 +27,7 @@ pub fn committee_of(
     }
 }
 
-/// How many words there are between the commas.
+/// How many words there are in a text that separates them by commas.
 fn count_of(words: &str) -> u16 {
     let mut count = 1u16;
     for byte in words.as_bytes() {

@@ -1,4 +1,4 @@
-//! Certificates that words describe, without batches and votes.
+//! Certificates that the words of a test case describe, without batches and votes.
 
 ghost use Rattle.std.specs.Prelude.{◌≡◌};
 ghost use Rattle.wire.specs.Digests.{header_digest_of, certificate_digest_of};
@@ -11,7 +11,8 @@ use wire::{
     ParentReferences, Round, VoteEntries, certificate_digest, header_digest,
 };
 
-// The parents of a header by these authors in the round below: the digest that the DAG holds, or one of zeros if it holds none.
+// The parents, by these authors, of a header of the round after: for each author the digest of its certificate in the DAG, or all zeros if
+// the DAG has none.
 fn parents_of(
     alloc: Global,
     dag: &Dag,
@@ -35,7 +36,7 @@ fn parents_of(
     Ok(parents)
 }
 
-/// The certificate of a round and an author whose parents are by these authors.
+/// The certificate of a round and an author, with the certificates of these authors in the round before as parents.
 pub fn certificate_of(
     alloc: Global,
     dag: &Dag,

@@ -1,4 +1,4 @@
-//! Committees of members with these stakes.
+//! Committees whose members have given stakes.
 
 use crate::parts::members::add_members;
 use crate::parts::words::Reported;
@@ -13,7 +13,7 @@ fn add_stakes(text: &mut String, stakes: &[u64]) -> Reported {
     text.push_str("]\n")
 }
 
-/// The committee of members with these stakes, from a file that also has this line; or why the file is refused.
+/// Reads the committee of members with these stakes from a committee file that also has this line; or says why the file is refused.
 pub fn committee_of(
     alloc: Global,
     stakes: &[u64],

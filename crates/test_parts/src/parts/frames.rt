@@ -1,11 +1,12 @@
-//! Frames on a stream.
+//! Tests of the reader of frames on a stream.
 
 use crate::parts::words::{Reported, list, show};
 use std::alloc::Global;
 use wire::WireError;
 use wire_read::FrameReader;
 
-/// Shows the bodies of the frames that this piece completes, and whether the reader then has nothing of the next frame.
+/// Gives the reader a piece of the stream. Shows the bodies of the frames that the piece completes, and whether no part of a further frame
+/// is left in the reader then.
 pub fn feed(reader: &mut FrameReader, piece: &[u8], answer: &mut String) -> Reported {
     match reader.feed(piece) {
         Ok(bodies) => show_each(&bodies, answer)?,
@@ -21,7 +22,8 @@ fn show_each(bodies: &[Vec<u8>], answer: &mut String) -> Reported {
     Ok(())
 }
 
-/// Shows in how many of the first ways to cut the frame the reader gives its body once and has nothing left.
+/// Cuts the frame in each of the first `ways` ways. Shows in how many of them the reader returns the frame's body once and has nothing
+/// left.
 pub fn count_ways(alloc: Global, ways: u64, frame: &[u8], answer: &mut String) -> Reported {
     let mut good: u64 = 0;
     for cuts in 0..ways {
@@ -32,7 +34,8 @@ pub fn count_ways(alloc: Global, ways: u64, frame: &[u8], answer: &mut String) -
     list("good", &[good, ways], answer)
 }
 
-/// Whether the reader gives the frame's body once and has nothing left, where the frame is cut after each byte whose bit is set in `cuts`.
+/// Cuts the frame after each byte whose bit is set in `cuts`. Returns whether the reader returns the frame's body once and has nothing
+/// left.
 fn is_one_body(alloc: Global, frame: &[u8], cuts: u64) -> Result<bool, WireError> {
     let (mut reader, mut bodies) = (FrameReader::new(alloc), Vec::new(alloc));
     feed_cut(&mut reader, frame, cuts, &mut bodies)?;
@@ -40,7 +43,7 @@ fn is_one_body(alloc: Global, frame: &[u8], cuts: u64) -> Result<bool, WireError
     Ok(is_one && reader.is_empty())
 }
 
-/// Feeds the frame in the pieces into which `cuts` divides it.
+/// Gives the reader the frame in the pieces into which `cuts` divides it.
 fn feed_cut(
     reader: &mut FrameReader,
     frame: &[u8],

@@ -1,4 +1,4 @@
-//! A DAG that words change and ask, one after the other.
+//! Tests of a DAG that the words of a test case change and ask in turn.
 
 ghost use Rattle.std.specs.Prelude.{◌≡◌, ◌<◌, length};
 ghost use Rattle.wire.specs.Digests.{header_digest_of, certificate_digest_of};
@@ -97,7 +97,7 @@ fn add(
     write_added(answer, &added)
 }
 
-// Holds a certificate if it is new; its author is a member, and it names a parent.
+// Holds a certificate in the DAG, if it is new. Its author is a member, and it names a parent.
 fn hold(dag: &mut Dag, certificate: Certificate, digest: Digest) -> Result<Added, DagRefusal>
     requires member { certificate.header.author.0 < length dag.old.charter.keys }
     requires named { 0 < length certificate.header.parents }
@@ -110,7 +110,7 @@ fn hold(dag: &mut Dag, certificate: Certificate, digest: Digest) -> Result<Added
     Ok(added)
 }
 
-// Shows the answer to a certificate.
+// Shows the DAG's answer to a certificate that was offered.
 fn write_added(answer: &mut String, added: &Result<Added, DagRefusal>) -> Reported {
     match added {
         Ok(added) => writeln!(answer, "{added:?}"),
@@ -145,7 +145,8 @@ fn change(
     }
 }
 
-// Adds the certificates of four members for these rounds, each with the four below as its parents; shows how many rounds were full then.
+// Adds the certificates of four members for these rounds, each with the four certificates of the round before as parents; shows how many
+// rounds were full then.
 fn full(alloc: Global, dag: &mut Dag, first: u64, last: u64, answer: &mut String) -> Reported {
     let mut text = String::new(alloc);
     for round in first..last.saturating_add(1) {
@@ -162,7 +163,7 @@ fn full_round(alloc: Global, dag: &mut Dag, round: u64, text: &mut String) -> Re
     Ok(())
 }
 
-// What a DAG answers about a certificate that isn't added to it.
+// Shows what a DAG answers about a certificate, which isn't added to the DAG.
 fn ask(alloc: Global, dag: &Dag, name: &str, numbers: &[u64], answer: &mut String) -> Reported {
     let [round, author, parents @ ..] = numbers else {
         return answer.push_str("bad word\n");

@@ -1,10 +1,10 @@
-//! What can be seen of a DAG.
+//! Shows what can be seen of a DAG.
 
 use crate::parts::words::{Reported, author_of, list, round_of, set_of, whether, write_set};
 use dag::{Dag, Reads, answers_as_admission, reach_stays, reach_stays_above};
 use wire::{Author, Round};
 
-/// Shows what a word asks of a DAG.
+/// Shows what a word of a test case asks of a DAG.
 pub fn look(
     dag: &Dag,
     reads: &mut Reads,
@@ -45,7 +45,7 @@ fn own_look(dag: &Dag, name: &str, answer: &mut String) -> Reported {
     }
 }
 
-// Calls that do nothing, whose contracts are laws: of this DAG, and of all DAGs.
+// Calls the functions that do nothing and whose contracts are laws of this DAG, or of all DAGs.
 fn laws(dag: &Dag) {
     dag.limits_hold();
     answers_as_admission();

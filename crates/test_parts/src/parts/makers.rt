@@ -1,17 +1,17 @@
-//! Makers of batches.
+//! Tests of the maker of batches.
 
 use crate::parts::words::{Reported, author_of, list, show};
 use batchmaker::BatchMaker;
 use std::alloc::Global;
 use wire::Batch;
 
-/// A maker for the worker of this number, of the author of this number.
+/// A maker of batches for the author and the worker with these numbers.
 pub fn make(alloc: Global, author: u64, worker: u64, maker: &mut Option<BatchMaker>) -> Reported {
     *maker = Some(BatchMaker::new(alloc, author_of(author), author_of(worker).0)?);
     Ok(())
 }
 
-/// Pushes a transaction, and shows the batch that is given out, or the refusal.
+/// Pushes a transaction to the maker. Shows the batch that the maker returns, if it does, or why it refuses the transaction.
 pub fn push(maker: &mut Option<BatchMaker>, transaction: &[u8], answer: &mut String) -> Reported {
     match maker {
         Some(maker) => match maker.push(transaction) {
@@ -22,7 +22,7 @@ pub fn push(maker: &mut Option<BatchMaker>, transaction: &[u8], answer: &mut Str
     }
 }
 
-/// Seals the open batch, and shows it.
+/// Seals the maker's open batch, and shows it.
 pub fn seal(maker: &mut Option<BatchMaker>, answer: &mut String) -> Reported {
     match maker {
         Some(maker) => report(maker.seal()?, answer),

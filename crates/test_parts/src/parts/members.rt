@@ -1,4 +1,4 @@
-//! The committee, its signatures, and the checks of the messages that its members send.
+//! Tests of the committee, of signatures, and of the checks of messages.
 
 ghost use Rattle.std.specs.Prelude.{IsTrue};
 ghost use Rattle.wire.specs.declared.keys.Digest.{Digest};
@@ -14,7 +14,7 @@ use std::alloc::{AllocError, Global};
 use test_cases::write_hex;
 use wire::{Author, Digest, Key, Signature};
 
-/// Starts a list of members in which the key of each is its number plus 1, 32 times.
+/// Begins a committee file with a list of members. The key of each is 32 bytes of its number plus 1.
 pub fn add_members(text: &mut String, count: u64) -> Reported {
     text.push_str("members = [")?;
     for member in 0..count.min(255) as u8 {
@@ -25,7 +25,7 @@ pub fn add_members(text: &mut String, count: u64) -> Reported {
     Ok(())
 }
 
-/// Shows the committee of this text.
+/// Reads a committee from this text, and shows it.
 pub fn read_committee(
     alloc: Global,
     text: &str,
@@ -59,7 +59,7 @@ pub fn show_key(committee: &Option<Committee>, member: u64, answer: &mut String)
     }
 }
 
-/// Shows the result of the checks of a message, once with and once without those of its signatures.
+/// Shows the result of the checks of a message, once with those of its signatures and once without them.
 pub fn check_both(
     alloc: Global,
     committee: &Option<Committee>,
@@ -102,7 +102,7 @@ fn key_of(byte: u64) -> Key {
     Key([byte.min(255) as u8; 32])
 }
 
-/// Shows the signature and the key of the signer with the key of 32 such bytes, and whether the verifier accepts the signature.
+/// Signs the bytes with a key of 32 bytes of this value. Shows the signature and the key, and whether the verifier accepts the signature.
 pub fn sign(byte: u64, bytes: &[u8], answer: &mut String) -> Reported {
     let (signer, digest) = (HashSign::new(key_of(byte)), digest_of(bytes));
     show(&signer.sign(&digest).0, answer)?;
@@ -111,7 +111,7 @@ pub fn sign(byte: u64, bytes: &[u8], answer: &mut String) -> Reported {
     list("taken", &[is_taken as u64], answer)
 }
 
-/// Shows whether the signature after a digest is valid for the key of 32 such bytes.
+/// Shows whether the signature that stands after a digest is valid for the key of 32 bytes of this value.
 pub fn verify(byte: u64, bytes: &[u8], answer: &mut String) -> Reported {
     let signature = bytes.last_chunk::<64>().copied().unwrap_or([0; 64]);
     let is_good = HashVerify.verify(&key_of(byte), &digest_of(bytes), &Signature(signature));

@@ -1,4 +1,4 @@
-//! Messages, and the outputs of a validator.
+//! Tests of messages, and of the outputs that carry them.
 
 use crate::parts::words::{Reported, digest_of, list, report, show};
 use std::alloc::{AllocError, Global};
@@ -19,8 +19,7 @@ pub fn written(alloc: Global, message: &Message) -> Result<Vec<u8>, AllocError> 
     encode(alloc, message)
 }
 
-/// Whether these bytes are the message's encoding, have the length that was computed before, and are the same if they are appended to
-/// others.
+/// Whether these bytes are the message's encoding, as long as the computed length, and the same if they are appended to other bytes.
 pub fn is_encoded(alloc: Global, message: &Message, bytes: &[u8]) -> Result<bool, AllocError> {
     let mut twice = written(alloc, message)?;
     let is_encoded = twice.as_slice() == bytes && encoded_len(message) == bytes.len();
@@ -28,14 +27,14 @@ pub fn is_encoded(alloc: Global, message: &Message, bytes: &[u8]) -> Result<bool
     Ok(is_encoded && twice.get(bytes.len()..).unwrap_or(&[]) == bytes)
 }
 
-/// Decodes a message and encodes it again.
+/// Decodes a message and encodes it again; returns the word that says whether the bytes are the same.
 pub fn encoded_again(alloc: Global, bytes: &[u8]) -> Result<&'static str, WireError> {
     let message = read(alloc, bytes)?;
     let is_same = is_encoded(alloc, &message, bytes)?;
     Ok(if is_same { "Ok" } else { "other bytes" })
 }
 
-/// Shows how many proper prefixes are refused as `Short`, and the results of the others.
+/// Shows how many proper prefixes of a message are refused as `Short`, and the results of the others.
 pub fn beginnings(alloc: Global, bytes: &[u8], answer: &mut String) -> Reported {
     let mut short: u64 = 0;
     for len in 0..bytes.len() {
@@ -47,8 +46,8 @@ pub fn beginnings(alloc: Global, bytes: &[u8], answer: &mut String) -> Reported 
     list("short", &[short], answer)
 }
 
-/// Shows the fields of a message, whether its lists could go on with this number, and its output; that of an acknowledgement is sent to the
-/// author of this number.
+/// Shows the fields of a message, whether its lists could go on with this number, and the output that carries the message. An
+/// acknowledgement is an output for the author with this number.
 pub fn message(alloc: Global, number: u64, bytes: &[u8], answer: &mut String) -> Reported {
     match read(alloc, bytes) {
         Ok(message) => report_message(alloc, &message, number.min(255) as u8, answer),
@@ -142,8 +141,8 @@ fn entries(name: &str, len: usize, is_empty: bool, follows: bool, answer: &mut S
     list(name, &[len as u64, is_empty as u64, follows as u64], answer)
 }
 
-/// Adds a transaction for each of these lengths, as far as the batch has room. Each transaction has the first of these bytes, as many as
-/// its length says. Shows the batch and gives its message.
+/// Adds a transaction of each of these lengths, as long as the batch has room; a transaction is the first of these bytes, as many as its
+/// length says. Shows the batch and returns its message.
 pub fn fill(
     mut open: OpenBatch,
     lens: &[u64],
@@ -167,7 +166,7 @@ fn push(open: &mut OpenBatch, bytes: &[u8], answer: &mut String) -> Reported {
     Ok(())
 }
 
-/// Shows the piece of the order that these bytes are the digests of, as far as it has room.
+/// Shows the piece of the order that has the digests in these bytes, as many as it has room for.
 pub fn order(alloc: Global, start: u64, bytes: &[u8], answer: &mut String) -> Reported {
     let mut digests = OrderDigests::new(alloc);
     add_digests(&mut digests, bytes, answer)?;

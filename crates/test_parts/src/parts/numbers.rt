@@ -1,4 +1,4 @@
-//! The genesis, the laws, and the vote book.
+//! Tests of the genesis, of laws, and of the vote book.
 
 use crate::parts::messages::{report_body, written};
 use crate::parts::words::{Reported, author_of, digest_of, round_of, show};
@@ -48,7 +48,7 @@ pub fn laws(answer: &mut String) -> Reported {
     writeln!(answer, "{}", CheckError::Memory)
 }
 
-/// Asks the vote book for a vote.
+/// Asks the vote book for a vote on a header, and shows the answer.
 pub fn vote(
     book: &mut VoteBook,
     author: u64,
@@ -60,7 +60,7 @@ pub fn vote(
     writeln!(answer, "{voted:?}")
 }
 
-/// Shows who has the vote.
+/// Shows for which header of an author and a round the vote book has noted a vote.
 pub fn voted(book: &VoteBook, author: u64, round: u64, answer: &mut String) -> Reported {
     match book.voted(author_of(author), round_of(round)) {
         Some(header) => show(&header.0, answer),

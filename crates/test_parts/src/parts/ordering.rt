@@ -1,4 +1,4 @@
-//! What is needed for an order, and the order: votes, batches, a DAG, and certificates and coins in the order of their arrival.
+//! Tests of the order and of what it is made from: votes, batches, a DAG, and certificates and coins in the order of their arrival.
 
 use crate::parts::committees::committee_of;
 use crate::parts::graphs::graph;
@@ -9,7 +9,7 @@ use crate::parts::words::{Reported, list, numbers_in, parted};
 use committee::Committee;
 use std::alloc::Global;
 
-/// The committee of a case.
+/// The committee of a test case.
 #[derive(Drop)]
 pub struct Ordering {
     alloc: Global,
@@ -17,7 +17,7 @@ pub struct Ordering {
 }
 
 impl Ordering {
-    /// No committee.
+    /// The state before the first test case: no committee.
     pub fn new(alloc: Global) -> Ordering {
         Ordering {
             alloc,
@@ -37,12 +37,13 @@ impl Ordering {
         }
     }
 
-    /// Begins a case.
+    /// Begins a test case.
     pub fn begin(&mut self) {
         self.committee = None;
     }
 
-    /// `committee` gives its stakes and, after `|`, another line of its file; any other name is that of a table, or asks the committee.
+    /// Carries out a command. `committee` gives the stakes and, after `|`, another line of the committee file; any other name is that of a
+    /// table, or asks the committee.
     pub fn obey(&mut self, name: &str, words: &str, answer: &mut String) -> Reported {
         if name == "committee" {
             return self.read(words, answer);
@@ -54,7 +55,7 @@ impl Ordering {
     }
 }
 
-/// Whether a command of this name is one of those about a committee, what it assembles, or its order.
+/// Whether a command of this name is about a committee, what it assembles, or its order.
 pub fn is_ordering(name: &str) -> bool {
     match name {
         "committee" | "quorum" | "assemble" | "store" | "dag" | "play" => true,

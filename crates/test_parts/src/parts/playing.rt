@@ -1,4 +1,4 @@
-//! Certificates and coins in the order of their arrival, and what they commit.
+//! Tests of commits: certificates and coins in the order of their arrival, and the leaders and the order that they commit.
 
 ghost use Rattle.std.specs.Prelude.{◌≡◌, ◌<◌, length};
 ghost use Rattle.wire.specs.Digests.{header_digest_of, certificate_digest_of};
@@ -12,7 +12,7 @@ use std::alloc::{AllocError, Global};
 use tusk::Coins;
 use wire::{Author, Certificate, Digest, Round};
 
-// What a node keeps in order to decide the order.
+// What a node keeps to determine the order.
 #[derive(Drop)]
 struct Playing<'a> {
     alloc: Global,
@@ -25,7 +25,7 @@ struct Playing<'a> {
     counts: bool,
 }
 
-/// Plays these words from the genesis on, and shows the answer to each.
+/// Plays these words, beginning with the genesis, and shows the answer to each.
 pub fn play_words(
     alloc: Global,
     committee: &Committee,
@@ -86,7 +86,7 @@ impl<'a> Playing<'a> {
         }
     }
 
-    // Adds a certificate that is new, and commits what it commits.
+    // Adds a certificate that is new, and commits the leaders that can be committed with it.
     fn add_new(&mut self, certificate: Certificate, digest: Digest, answer: &mut String) -> Reported
         requires member { certificate.header.author.0 < length self.old.dag.charter.keys }
         requires named { 0 < length certificate.header.parents }
@@ -111,7 +111,7 @@ impl<'a> Playing<'a> {
         self.commit(&chain, &made, answer)
     }
 
-    // For each prefix of this chain of leaders what it adds to the order.
+    // For each prefix of this chain of leaders the certificates that it orders, as a `Lengthening` of the order.
     fn lengthen(&self, chain: &[(Round, Author)]) -> Result<Vec<Lengthening>, AllocError> {
         let mut made = Vec::new(self.alloc);
         for count in 1..chain.len() + 1 {
@@ -120,7 +120,8 @@ impl<'a> Playing<'a> {
         Ok(made)
     }
 
-    // Compares this chain with the one that the DAG gives now, shows what each leader orders, and takes the last one as committed.
+    // Compares this chain of leaders with the one that the DAG gives now, shows what each leader orders, and takes the last leader as
+    // committed.
     fn commit(
         &mut self,
         chain: &[(Round, Author)],
@@ -153,7 +154,7 @@ impl<'a> Playing<'a> {
         Ok(again.as_slice() == chain)
     }
 
-    // Takes the leader of a round as committed, and marks all that is ordered up to it.
+    // Notes that the leader of a round is committed, and marks all certificates that are ordered up to the leader.
     fn take(&mut self, round: Round, all: Option<&Lengthening>) {
         if let Some(all) = all {
             mark(&mut self.dag, all);
@@ -165,7 +166,8 @@ impl<'a> Playing<'a> {
         self.dag.drop_below(floor);
     }
 
-    // Whether each of these leaders orders, if asked only after the one before it, what its prefix of the chain adds to that one's.
+    // Whether each of these leaders, if asked alone after the one before it, orders the same certificates that it adds as a part of the
+    // chain.
     fn is_alike(
         &self,
         chain: &[(Round, Author)],
@@ -214,8 +216,9 @@ impl<'a> Playing<'a> {
         Ok(())
     }
 
-    // Shows for each leader of a chain how many references to parents are read, counted in two ways: how many more a `Lengthening` of the
-    // chain up to this leader reads than one of the chain before it, and how many `segment_counted` reads for this leader alone.
+    // Shows for each leader of a chain how many references to parents are read for it, counted in two ways: how many more a `Lengthening`
+    // of the chain up to this leader reads than one of the chain up to the leader before, and how many `segment_counted` reads for this
+    // leader alone.
     fn report_reads(
         &self,
         chain: &[(Round, Author)],
@@ -237,7 +240,7 @@ impl<'a> Playing<'a> {
         answer.push_str("\n")
     }
 
-    // Shows the slot of the certificate with this digest.
+    // Shows the round and the author of the certificate with this digest.
     fn report_digest(&self, digest: &Digest, answer: &mut String) -> Reported {
         for number in self.dag.floor().number()..self.dag.end() {
             for author in 0..self.dag.committee().size() {

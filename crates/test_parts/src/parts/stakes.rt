@@ -1,9 +1,9 @@
-//! The stakes of the members, and of sets of them.
+//! Tests of the stakes of members, and of sets of members.
 
 use crate::parts::words::{Reported, author_of, list};
 use committee::{Committee, MAX_MEMBERS, MemberSet};
 
-/// Shows the stake of all members together, and how much of it may be faulty.
+/// Shows the stake of all members together, and how much stake of faulty members is tolerated.
 pub fn show_total(committee: &Option<Committee>, answer: &mut String) -> Reported {
     match committee {
         Some(committee) => list("total", &[committee.total(), committee.tolerated()], answer),
@@ -22,7 +22,7 @@ pub fn show_stake(committee: &Option<Committee>, member: u64, answer: &mut Strin
     }
 }
 
-/// Shows the stake of the members of these numbers together.
+/// Shows the sum of the stakes of the members with these numbers.
 pub fn weigh(committee: &Option<Committee>, members: &[u64], answer: &mut String) -> Reported {
     match committee {
         Some(committee) => list("weight", &[committee.weight(&set_of(members))], answer),
@@ -30,14 +30,14 @@ pub fn weigh(committee: &Option<Committee>, members: &[u64], answer: &mut String
     }
 }
 
-/// Shows whether a number is in the set of the members of these numbers.
+/// Shows whether a member's number is in the set of the members with these numbers.
 pub fn is_among(number: u64, members: &[u64], answer: &mut String) -> Reported {
     let is_among = set_of(members).contains(author_of(number));
     list("among", &[is_among as u64], answer)
 }
 
-/// Shows whether a number is in the union of two sets, in their intersection, and in the first one without the second. The first set has
-/// the first `count` of these members, the second one the others.
+/// Shows whether a member's number is in the union of two sets, in their intersection, and in the first set without the second. The first
+/// set has the first `count` of these members, the second set has the others.
 pub fn is_in_both(number: u64, count: u64, members: &[u64], answer: &mut String) -> Reported {
     let (some, others) = members.split_at(members.len().min(count as usize));
     let others = set_of(others);
@@ -54,7 +54,7 @@ pub fn is_in_both(number: u64, count: u64, members: &[u64], answer: &mut String)
     list("in", &found.map(|is_in| is_in as u64), answer)
 }
 
-// The set of the members of these numbers, without the numbers that no member can have.
+// The set of the members with these numbers, without the numbers that no member can have.
 fn set_of(members: &[u64]) -> MemberSet {
     let mut set = MemberSet::none();
     for member in members {

@@ -1,4 +1,4 @@
-//! A store of batches that words change and ask, one after the other.
+//! Tests of a store of batches that the words of a test case change and ask in turn.
 
 use crate::parts::words::{Reported, author_of, list, member_in, numbers_in, parted};
 use batchstore::BatchStore;
@@ -21,7 +21,7 @@ fn batch_of(
     Ok(open.close().ok())
 }
 
-/// Carries out these words on a member's store, and shows its answers.
+/// Carries out these words on a member's store of batches, and shows the answers.
 pub fn store(alloc: Global, committee: &Committee, words: &str, answer: &mut String) -> Reported {
     let (own, words) = parted(words, ':');
     let own = member_in(own);
@@ -55,7 +55,7 @@ fn obey(
     }
 }
 
-// Adds an acknowledgement of the batch with this number, or answers a question about it.
+// Adds an acknowledgement of the batch with this number, or shows something of the batch.
 fn look(
     store: &mut BatchStore,
     name: &str,
@@ -88,7 +88,7 @@ fn put_of(
     put(store, digests, batch, answer)
 }
 
-// Puts one batch each of this many workers of a member, and shows how many are held then.
+// Puts one batch for each of this many workers of a member, and shows how many batches the store holds then.
 fn many(
     alloc: Global,
     store: &mut BatchStore,
@@ -108,7 +108,7 @@ fn many(
     list("held", &[store.len() as u64], answer)
 }
 
-// Shows how many of the batches are held at the place in which they were put.
+// Shows how many of these batches are at the place of the store at which they were put.
 fn all(store: &BatchStore, digests: &[Digest], answer: &mut String) -> Reported {
     let mut there: u64 = 0;
     for (place, digest) in digests.iter().enumerate() {
@@ -150,8 +150,8 @@ fn ack(store: &mut BatchStore, digest: Digest, member: Author, answer: &mut Stri
     }
 }
 
-// Shows of the batch with a digest whether it is held with a worker and who made it, whether it is available, or whether it was named; or
-// marks it as named.
+// Shows something of the batch with a digest: whether it is held for a worker and who made it, whether it is available, or whether it was
+// named by a header; or marks it as named.
 fn ask(store: &mut BatchStore, name: &str, digest: Digest, answer: &mut String) -> Reported {
     match name {
         "get" => get(store, &digest, answer),
@@ -176,7 +176,7 @@ fn get(store: &BatchStore, digest: &Digest, answer: &mut String) -> Reported {
     }
 }
 
-// Shows the batches that may be named: the number of the word that put each first, and its worker.
+// Shows the batches that an own header may name: for each the number of the word that put it first, and its worker.
 fn least(alloc: Global, store: &BatchStore, digests: &[Digest], answer: &mut String) -> Reported {
     answer.push_str("least")?;
     for reference in store.least_nameable(alloc)? {

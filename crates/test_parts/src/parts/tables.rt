@@ -1,4 +1,4 @@
-//! Messages, and what checks, counts and makes them.
+//! Tests of messages and of what checks, counts and makes them.
 
 use crate::parts::frames::{count_ways, feed};
 use crate::parts::makers::{make, push, seal};
@@ -18,7 +18,8 @@ use votebook::VoteBook;
 use wire::{OpenBatch, Round, Wave};
 use wire_read::FrameReader;
 
-/// The named bytes, the committee that was read last, and the reader, the vote book, the maker and the waiter of a case.
+/// What the commands of a test case work on: bytes with names, the committee that was read last, the reader, the vote book, the maker of
+/// batches and the waiter.
 #[derive(Drop)]
 pub struct Tables {
     alloc: Global,
@@ -32,7 +33,7 @@ pub struct Tables {
 }
 
 impl Tables {
-    /// No named bytes, and no committee.
+    /// The state before the first test case: no bytes with names, and no committee.
     pub fn new(alloc: Global) -> Tables {
         Tables {
             alloc,
@@ -46,7 +47,7 @@ impl Tables {
         }
     }
 
-    /// Begins a case. Named bytes and the committee stay.
+    /// Begins a test case. The bytes with names and the committee stay.
     pub fn begin(&mut self) {
         self.reader = FrameReader::new(self.alloc);
         self.book = VoteBook::new(self.alloc);
@@ -54,7 +55,7 @@ impl Tables {
         self.waiting = None;
     }
 
-    /// A command is a name, numbers and, after a colon, words that stand for bytes; ` = ` gives bytes a name.
+    /// Carries out a command: a name, numbers and, after a colon, words that stand for bytes. ` = ` gives bytes a name.
     pub fn obey(&mut self, command: &str, answer: &mut String) -> Reported {
         if let Some(text) = command.strip_prefix("line ") {
             return self.add_line(text);
@@ -65,7 +66,7 @@ impl Tables {
         self.run(command, answer)
     }
 
-    // Adds a line to the committee's file; `\0` stands for the byte of this number.
+    // Adds a line to the committee file; `\0` stands for the byte with this number.
     fn add_line(&mut self, line: &str) -> Reported {
         self.text.push_str(if line == "\\0" { "\0" } else { line })?;
         self.text.push_str("\n")
@@ -77,7 +78,8 @@ impl Tables {
         Ok(())
     }
 
-    // Some commands have a list of numbers. The others are distinguished by how many they have, and then by their names.
+    // Carries out a command with numbers. For some commands the numbers are a list of any length; the others are distinguished by how many
+    // numbers they have, and then by their names.
     fn put(&mut self, name: &str, numbers: &[u64], bytes: &[u8], answer: &mut String) -> Reported {
         match name {
             "weigh" => weigh(&self.committee, numbers, answer),
@@ -222,7 +224,7 @@ fn reckon(alloc: Global, name: &str, number: u64, bytes: &[u8], answer: &mut Str
     }
 }
 
-// Shows the batch of an author and a worker, of transactions with these lengths.
+// Shows the batch of an author and a worker whose transactions have these lengths.
 fn batch(alloc: Global, numbers: &[u64], bytes: &[u8], answer: &mut String) -> Reported {
     let [author, worker, lens @ ..] = numbers else {
         return bad(answer);

@@ -1,4 +1,4 @@
-//! An assembly that is given votes one after the other.
+//! Tests of an assembly (the collector of the votes on a header) that is given votes one after the other.
 
 ghost use Rattle.std.specs.Prelude.{◌≡◌};
 ghost use Rattle.wire.specs.Digests.{header_digest_of};
@@ -24,7 +24,7 @@ fn header_of(alloc: Global, author: Author) -> Header {
     }
 }
 
-// A vote on the header of this body, with a signature of 64 times this byte.
+// A vote on the header of this body, with a signature of 64 bytes of this value.
 fn vote_on(body: &HeaderBody, voter: Author, byte: u8) -> Vote
     ensures digest { result.header.0 ≡ header_digest_of body.now }
     ensures round { result.round ≡ body.now.round }
@@ -40,8 +40,8 @@ fn vote_on(body: &HeaderBody, voter: Author, byte: u8) -> Vote
     }
 }
 
-// The vote that a word describes: the voter's number, and after it `h`, `r` or `a` if the vote names another header, round or author than
-// this body's.
+// The vote that a word describes: the voter's number, and after it `h`, `r` or `a` if the vote names another header, another round or
+// another author than this body's.
 fn vote_of(body: &HeaderBody, word: &str, byte: u8) -> Vote {
     let number = word.trim_end_matches(|c| c == 'h' || c == 'r' || c == 'a');
     let voter = Author(number.parse::<u16>().unwrap_or(0));
@@ -67,7 +67,7 @@ fn vote_of(body: &HeaderBody, word: &str, byte: u8) -> Vote {
     vote
 }
 
-/// Shows what an assembly of a member's header answers to each vote, and its state then.
+/// Gives votes on a member's header to an assembly. Shows the answer to each vote, and the assembly's state at the end.
 pub fn assemble(
     alloc: Global,
     committee: &Committee,

@@ -1,4 +1,4 @@
-//! The waiter, over certificates of a committee of four.
+//! Tests of the waiter (the queue of certificates whose parents are missing), with a committee of four.
 
 use crate::parts::members::add_members;
 use crate::parts::words::{Reported, author_of, bad, list};
@@ -10,7 +10,7 @@ use waiter::Waiter;
 use wire::{Author, CERTIFICATE_TAG, HEADER_TAG, Key, Message};
 use wire_read::decode;
 
-/// A committee, and its waiter.
+/// The committee of the test, and the waiter.
 #[derive(Drop)]
 pub struct Waiting {
     committee: Committee,
@@ -32,7 +32,7 @@ pub fn open(alloc: Global, waiting: &mut Option<Waiting>, answer: &mut String) -
     }
 }
 
-/// Offers the certificate of a round and author with the votes of three members from this one on.
+/// Offers the waiter the certificate of a round and an author, with the votes of three members from this one on.
 pub fn offer(
     alloc: Global,
     waiting: &mut Option<Waiting>,
@@ -44,7 +44,7 @@ pub fn offer(
     put(alloc, waiting, &bytes, answer)
 }
 
-/// Offers the header of a round and of member 0.
+/// Offers the waiter the header of member 0 for a round.
 pub fn offer_header(
     alloc: Global,
     waiting: &mut Option<Waiting>,
@@ -58,7 +58,7 @@ pub fn offer_header(
     put(alloc, waiting, &bytes, answer)
 }
 
-/// Offers the certificates of member 0 of these rounds, and shows how many the waiter takes.
+/// Offers the waiter the certificates of member 0 of these rounds, and shows how many of them it takes.
 pub fn offer_rounds(
     alloc: Global,
     waiting: &mut Option<Waiting>,
@@ -79,7 +79,8 @@ pub fn offer_rounds(
     list("taken", &[taken], answer)
 }
 
-/// Takes the next ready certificate of this author, or of any; shows how many the waiter asked about, and its round and author.
+/// Takes the next ready certificate of this author, or of any author, from the waiter. Shows how many certificates the waiter asked about,
+/// and the round and the author of the one that was taken.
 pub fn next(waiting: &mut Option<Waiting>, author: Option<u64>, answer: &mut String) -> Reported {
     let Some(waiting) = waiting else {
         return bad(answer);
@@ -96,7 +97,8 @@ pub fn next(waiting: &mut Option<Waiting>, author: Option<u64>, answer: &mut Str
     }
 }
 
-/// Shows whether a message from this sender, which passes the checks under a committee, is a certificate that passes under the waiter's.
+/// Checks a message from this sender under the given committee. If it passes, shows whether it is a certificate that also passes under the
+/// waiter's committee.
 pub fn pass(
     alloc: Global,
     committee: &Option<Committee>,
@@ -160,7 +162,7 @@ fn checked(alloc: Global, committee: &Committee, bytes: &[u8]) -> Option<Checked
     recheck(committee, Author(0), message).ok()
 }
 
-// Adds a header's body with no batches and with the parents 0, 1 and 2.
+// Adds the body of a header without batches, and with the parents of members 0, 1 and 2.
 fn add_body(bytes: &mut Vec<u8>, slot: (u64, u64)) -> Reported {
     bytes.extend_from_slice(&(slot.1.min(3) as u16).to_be_bytes())?;
     bytes.extend_from_slice(&slot.0.to_be_bytes())?;

@@ -1,4 +1,4 @@
-//! The words of a command, and the parts of its answer.
+//! The words of a command of a test case, and the parts of its answer.
 
 use committee::{MAX_MEMBERS, MemberSet};
 use std::alloc::{AllocError, Global};
@@ -24,7 +24,7 @@ pub fn member_in(word: &str) -> Author {
     Author(word.trim().parse::<u16>().unwrap_or(0))
 }
 
-/// The numbers of these words.
+/// The numbers in these words; None if a word isn't a number.
 pub fn numbers_of(alloc: Global, words: &str) -> Result<Option<Vec<u64>>, AllocError> {
     let mut numbers = Vec::new(alloc);
     for word in words.split_whitespace() {
@@ -63,7 +63,7 @@ fn put(numbers: &mut Vec<u64>, number: Option<u64>) -> Reported {
     Ok(())
 }
 
-/// The bytes of these words together, in their order.
+/// The bytes that these words stand for, one word's after the other's.
 pub fn joined(alloc: Global, names: &Names, words: &str) -> Result<Option<Vec<u8>>, AllocError> {
     let mut bytes = Vec::new(alloc);
     for word in words.split_whitespace() {
@@ -86,22 +86,22 @@ fn part_of(alloc: Global, names: &Names, word: &str) -> Result<Option<Vec<u8>>, 
     }
 }
 
-/// The author of this number, or the greatest one if the number is too great.
+/// The author with this number, or the one with the greatest number if this one is too great.
 pub fn author_of(number: u64) -> Author {
     Author(number.min(65_535) as u16)
 }
 
-/// The round of this number, or the genesis if the number is too great.
+/// The round with this number, or round 0 (the genesis) if the number is too great.
 pub fn round_of(number: u64) -> Round {
     Round::new(number).unwrap_or(Round::genesis())
 }
 
-/// The first 32 bytes of these as a digest, or zeros if there are fewer.
+/// The digest of the first 32 of these bytes, or of all zeros if there are fewer.
 pub fn digest_of(bytes: &[u8]) -> Digest {
     Digest(bytes.first_chunk::<32>().copied().unwrap_or([0; 32]))
 }
 
-/// Adds a line: how many bytes these are, and the first of them.
+/// Adds a line: how many bytes there are, and the first ones.
 pub fn show(bytes: &[u8], answer: &mut String) -> Reported {
     let len = bytes.len();
     write!(answer, "{len} [")?;
@@ -134,7 +134,7 @@ pub fn report<T: Display + Drop, E: Display + Drop>(
     }
 }
 
-/// The set of those of these authors who may be members.
+/// The set of those of these authors whose numbers members can have.
 pub fn set_of(authors: &[u64]) -> MemberSet {
     let mut set = MemberSet::none();
     for author in authors {
@@ -157,7 +157,7 @@ pub fn write_set(answer: &mut String, name: &str, set: &MemberSet) -> Reported {
     answer.push_str("\n")
 }
 
-/// Adds a slot in the form `3.1`.
+/// Adds a slot as its round and its author: `3.1`.
 pub fn write_slot(answer: &mut String, slot: &(Round, Author)) -> Reported {
     write!(answer, " {}.{}", slot.0.number(), slot.1.0)
 }

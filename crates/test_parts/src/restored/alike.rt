@@ -1,4 +1,4 @@
-//! In what two validators differ.
+//! Compares two validators, and names the first thing in which they differ.
 
 use admission::{Refusal, Step, Tables};
 use batchstore::{BatchStore, Held};
@@ -119,7 +119,7 @@ fn marks_of_round_differ(tables: &Tables, number: u64) -> bool {
     })
 }
 
-/// Whether the votes differ in some round up to the one after the last.
+/// Whether the votes differ in some round, up to the round after the last one.
 fn votes_differ(one: &Tables, other: &Tables) -> bool {
     let dag = one.sequencer().dag();
     (dag.floor().number()..dag.end().saturating_add(1)).any(|round| votes_of_round_differ(
@@ -161,7 +161,7 @@ fn headers_differ(one: &Tables, other: &Tables) -> bool {
     false
 }
 
-/// Whether just one of two own headers is complete, or just one has a counted vote of some member.
+/// Whether only one of two own headers is complete, or only one has a counted vote of some member.
 fn assembly_differs(one: &Assembly, other: &Assembly, size: u16) -> bool {
     one.digest() != other.digest()
         || one.is_complete() != other.is_complete()
@@ -186,12 +186,12 @@ fn difference_of_proposals(
     }
 }
 
-/// What a validator proposes. A function of its own, since the contract of this call is long.
+/// The header that a validator proposes. This is a function of its own, since the contract of the call is long.
 fn proposal(validator: &Validator<'_, HashSign>) -> Result<Option<Header>, AllocError> {
     validator.propose()
 }
 
-/// The bytes of a header's message, or nothing where there is no header.
+/// The bytes of a header's message; no bytes if there is no header.
 fn bytes_of_header(alloc: Global, header: Option<Header>) -> Result<Vec<u8>, AllocError> {
     match header {
         None => Ok(Vec::new(alloc)),
@@ -218,7 +218,7 @@ fn same_outputs(alloc: Global, one: &[Output], other: &[Output]) -> Result<bool,
     Ok(left.as_slice() == right.as_slice())
 }
 
-/// Outputs as bytes, in their order.
+/// The bytes of these outputs, one after the other.
 fn bytes_of(alloc: Global, outputs: &[Output]) -> Result<Vec<u8>, AllocError> {
     let mut bytes = Vec::new(alloc);
     for output in outputs {

@@ -1,16 +1,17 @@
-//! How many states tables were restored at, by kind.
+//! At how many states a node's tables were taken apart and restored, by the kind of the state.
 
 use std::alloc::AllocError;
 
-/// How many states there have to be at least: of all kinds, of those with a floor above 0, and of those without a leader.
+/// How many states there have to be at least: of all kinds together, of those with a floor above 0, and of those without a committed
+/// leader.
 const LEAST: u64 = 300;
 
 const LEAST_ABOVE: u64 = 100;
 
 const LEAST_WITHOUT_LEADER: u64 = 20;
 
-/// How many states tables were restored at: all, those with a floor above 0, and those without a leader; and how often an allocation failed
-/// while they were restored.
+/// At how many states tables were restored: of all kinds, of those with a floor above 0, and of those without a committed leader; and how
+/// often an allocation failed while tables were restored.
 #[derive(Clone, Copy)]
 pub struct Counts {
     states: u64,
@@ -20,7 +21,7 @@ pub struct Counts {
 }
 
 impl Counts {
-    /// Counts of 0.
+    /// The counts before the first state: all are 0.
     pub fn new() -> Counts {
         Counts {
             states: 0,
@@ -30,7 +31,7 @@ impl Counts {
         }
     }
 
-    /// Counts a state with this floor, and with a leader or without one.
+    /// Counts a state with this floor, and with a committed leader or without one.
     pub fn count(&mut self, floor: u64, has_leader: bool) {
         self.states = self.states.saturating_add(1);
         if floor > 0 {
@@ -46,7 +47,7 @@ impl Counts {
         self.refused = self.refused.saturating_add(1);
     }
 
-    /// Whether there were enough of each kind.
+    /// Whether there were enough states of each kind.
     pub fn are_enough(&self) -> bool {
         self.states >= LEAST
             && self.above >= LEAST_ABOVE

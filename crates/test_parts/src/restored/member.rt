@@ -1,4 +1,4 @@
-//! A validator that can be made again from the parts into which its tables are taken apart.
+//! A validator whose tables can be taken apart, and that can be made again from the parts.
 
 ghost use Rattle.std.specs.Prelude.{◌≡◌, None, IfOk};
 ghost use Rattle.header.specs.Checks.{fault_of, accepts_all};
@@ -47,7 +47,7 @@ impl<'a, S: Sign> Model for Member<'a, S> {
 }
 
 impl<'a, S: Sign> Member<'a, S> {
-    /// A validator that has taken nothing.
+    /// A validator that was given no events.
     pub fn new(alloc: Global, config: &'a Config<S>) -> Result<Member<'a, S>, AllocError> {
         let validator = Validator::new(alloc, config)?;
         Ok(Member {
@@ -70,7 +70,7 @@ impl<'a, S: Sign> Member<'a, S> {
         })
     }
 
-    /// The parts of its tables.
+    /// Takes a copy of the validator's tables apart, and returns the parts.
     pub fn parts(&self) -> Result<Kept, AllocError>
         ensures { let node = node_of S.scheme self.now.setting in IfOk result (λ kept. (state : State) × IsKeptOf node state kept) }
     {
@@ -85,12 +85,12 @@ impl<'a, S: Sign> Member<'a, S> {
         &self.validator
     }
 
-    /// Its tables.
+    /// The tables of the validator.
     pub fn tables(&self) -> &Tables<'a> {
         self.validator.tables()
     }
 
-    /// Takes an event that passed the checks.
+    /// Gives the validator an event that passed the checks.
     pub fn step(&mut self, event: Checked) -> Result<Step, Refusal>
         requires { fault_of self.old.setting.charter accepts_all event ≡ None }
         ensures { self.new.setting ≡ self.old.setting }

@@ -1,4 +1,4 @@
-//! Plays the events of a case through a member's tables, and through tables that are restored from them.
+//! Plays the events of a test case through a validator's tables, and through tables that are restored from them.
 
 ghost use Rattle.std.specs.Prelude.{◌≡◌, None};
 ghost use Rattle.header.specs.Checks.{fault_of, accepts_all};
@@ -21,10 +21,10 @@ use std::alloc::{AllocError, Global};
 use validator::{Config, Refusal};
 use wire::{Author, Message, Round};
 
-/// The mark before the title of a case.
+/// The mark before the title of a test case.
 const TITLE: &str = "== ";
 
-/// What a case sets up.
+/// The committee that a test case sets up.
 #[derive(Drop)]
 struct Setup {
     depth: u64,
@@ -41,7 +41,7 @@ impl Setup {
         })
     }
 
-    /// Reads a line, which may set up something.
+    /// Reads a line of a test case, which may set up something.
     fn read(&mut self, line: &str) -> Result<(), AllocError> {
         let line = line.strip_prefix("set ").unwrap_or(line);
         let (name, rest) = parted(line, ' ');
@@ -59,7 +59,7 @@ impl Setup {
     }
 }
 
-/// The setting of member 0 of the committee that a case sets up.
+/// The setting of member 0 of the committee that a test case sets up.
 fn config_of(alloc: Global, setup: &Setup) -> Result<Config<HashSign>, FormError> {
     let committee = committee_of(alloc, setup.stakes.as_str(), setup.depth, setup.batches)?;
     match Config::new(committee, OWN, signer(OWN)) {
@@ -68,8 +68,8 @@ fn config_of(alloc: Global, setup: &Setup) -> Result<Config<HashSign>, FormError
     }
 }
 
-/// Plays each case of a text, and counts the states at which tables were restored, each time after this many events; gives whether all were
-/// alike. For each case in which something differs, the first such line is shown.
+/// Plays each test case of a text. Restores the tables each time after this many events, and counts the states at which it does. Returns
+/// whether nothing differed; for each test case in which something differs the first such line is shown.
 pub fn play_cases(
     alloc: Global,
     text: &str,
@@ -89,7 +89,7 @@ pub fn play_cases(
     Ok(alike)
 }
 
-/// The text before the next title.
+/// The text before the next title of a test case.
 fn first_of(cases: &str) -> &str {
     match cases.split_once(TITLE) {
         None => cases,
@@ -97,7 +97,7 @@ fn first_of(cases: &str) -> &str {
     }
 }
 
-/// What the lines of a case set up.
+/// What the lines of a test case set up.
 fn setup_of(alloc: Global, case: &str) -> Result<Setup, AllocError> {
     let mut setup = Setup::new(alloc)?;
     for line in case.lines() {
@@ -106,7 +106,7 @@ fn setup_of(alloc: Global, case: &str) -> Result<Setup, AllocError> {
     Ok(setup)
 }
 
-/// Plays the lines of a case, of which the first is its title.
+/// Plays the lines of a test case; the first line is its title.
 fn play_case(
     alloc: Global,
     case: &str,
@@ -126,13 +126,13 @@ fn play_case(
     }
 }
 
-/// Shows at which line of a case something differs.
+/// Shows at which line of a test case something differs.
 fn report(case: &str, line: &str, differs: &str, answer: &mut String) -> Result<(), AllocError> {
     let (title, _) = parted(case, '\n');
     writeln!(answer, "{title}: {line}: otherwise {differs}")
 }
 
-/// A member that takes the events of a case, and a second one whose tables were restored from the first one's.
+/// A validator that is given the events of a test case, and a second validator whose tables were restored from the first one's.
 #[derive(Drop)]
 struct Trial<'c> {
     alloc: Global,
@@ -159,7 +159,7 @@ impl<'c> Trial<'c> {
         })
     }
 
-    /// Plays the lines of a case, and shows the first one at which something differs.
+    /// Plays the lines of a test case, and shows the first line at which something differs.
     fn play<'t>(
         &mut self,
         case: &'t str,
@@ -176,12 +176,13 @@ impl<'c> Trial<'c> {
         }
     }
 
-    /// In what the tables of the two members differ.
+    /// The name of what differs in the tables of the two validators, if anything does.
     fn tables_differ(&self) -> Option<&'static str> {
         difference_of_tables(self.member.tables(), self.restored.tables())
     }
 
-    /// A line that defines something, or an event; any other line is skipped.
+    /// Runs a line that defines something, or submits an event; any other line is skipped. Returns the name of what differs, if anything
+    /// does.
     fn run(&mut self, line: &str, counts: &mut Counts) -> Result<Option<&'static str>, FormError> {
         match parse(line.as_bytes()) {
             Some(Command::Pack(pack)) => {
@@ -200,7 +201,7 @@ impl<'c> Trial<'c> {
         }
     }
 
-    /// The coin that another member sends, in the form that these cases have.
+    /// Runs the coin that another member sends, in the form that these test cases have.
     fn run_own(
         &mut self,
         line: &str,
@@ -216,7 +217,8 @@ impl<'c> Trial<'c> {
         self.take(sender, &message, counts)
     }
 
-    /// Gives an event to both members, and gives in what they differ then. Each time after this many events the tables are restored first.
+    /// Gives an event to both validators, and returns the name of what differs then. Each time after `each` events the tables are restored
+    /// first.
     fn take(
         &mut self,
         sender: Author,
@@ -241,7 +243,7 @@ impl<'c> Trial<'c> {
         }
     }
 
-    /// Gives an event that passed the checks to both members.
+    /// Gives an event that passed the checks to both validators.
     fn take_both(
         &mut self,
         one: Checked,
@@ -260,8 +262,8 @@ impl<'c> Trial<'c> {
         }
     }
 
-    /// Compares the tables that were restored last time with the first member's, and takes those apart and restores them anew. Gives in
-    /// what they differ, before or after.
+    /// Compares the tables that were restored last time with the first validator's tables; then takes the first one's apart and restores
+    /// them anew. Returns the name of what differs, before or after that.
     fn restore(&mut self, counts: &mut Counts) -> Result<Option<&'static str>, FormError> {
         if let Some(differs) = self.tables_differ() {
             return Ok(Some(differs));
@@ -282,7 +284,7 @@ impl<'c> Trial<'c> {
         self.restored_differs()
     }
 
-    /// Restores the tables again, after an allocation failed and left them as they were.
+    /// Restores the tables again, after a failed allocation, which leaves them as they were.
     fn restore_again(&mut self, counts: &mut Counts) -> Result<Option<&'static str>, FormError> {
         counts.refuse();
         if let Some(differs) = self.tables_differ() {
@@ -293,7 +295,7 @@ impl<'c> Trial<'c> {
         Ok(None)
     }
 
-    /// In what the tables that have just been restored differ from the first member's.
+    /// The name of what differs between the tables that have just been restored and the first validator's.
     fn restored_differs(&self) -> Result<Option<&'static str>, FormError> {
         if marks_differ_from_order(self.restored.tables()) {
             return Ok(Some("the marks, by the order"));
@@ -304,7 +306,7 @@ impl<'c> Trial<'c> {
         }
     }
 
-    /// In what the validators of the two members differ after an event.
+    /// The name of what differs between the two validators after an event.
     fn validators_differ(&self) -> Result<Option<&'static str>, FormError> {
         Ok(difference(
             self.alloc,
@@ -331,7 +333,7 @@ impl<'c> Trial<'c> {
     }
 }
 
-/// The floor of a committee whose last leader is this one.
+/// The floor of a node with this committee whose last committed leader is this one.
 fn floor_below(committee: &Committee, last: Option<(Round, Author)>) -> Round {
     let round = match last {
         None => 0,

@@ -1,4 +1,4 @@
-//! What a validator is asked while lines are played. The line that asks is the answer that is expected.
+//! What a validator is asked while the lines of a test case are played. A line that asks something is also the expected answer.
 
 use crate::definitions::looking::{member, number};
 use crate::definitions::showing::{add, header_label, line, order, outputs};
@@ -11,14 +11,14 @@ use std::alloc::{AllocError, Global};
 use validator::{Step, Validator};
 use wire::Output;
 
-/// What came of the last event, and whether the validator was ready for it.
+/// The answer to the last event, and whether the validator said beforehand that it was ready for the event.
 #[derive(Drop)]
 pub struct Last {
     pub is_ready: bool,
     pub step: Result<Step, Refusal>,
 }
 
-/// The first word of each line that asks, and the name of what differs if the answer is another line.
+/// The first word of each line that asks something, and the name of what differs if the answer is another line.
 const ASKED: [(&str, &str); 8] = [
     ("answered", "the answer"),
     ("ready", "whether it was ready"),
@@ -30,7 +30,7 @@ const ASKED: [(&str, &str); 8] = [
     ("proposes", "the proposal"),
 ];
 
-/// The name of what a line of these words asks for; none if it doesn't ask.
+/// The name of what a line of these words asks for; None if the line doesn't ask.
 pub fn asked(words: &[&str]) -> Option<&'static str> {
     let name = words.first()?;
     for (word, what) in ASKED {
@@ -42,7 +42,7 @@ pub fn asked(words: &[&str]) -> Option<&'static str> {
 }
 
 impl Last {
-    /// Shows `answered`, `ready` or `out` of the last event.
+    /// Shows what the lines `answered`, `ready` and `out` ask of the last event.
     pub fn report(
         &self,
         alloc: Global,

@@ -1,4 +1,4 @@
-//! The reference implementation of a node's tables next to a validator: both are given the same events.
+//! The reference implementation of a node's tables, which is given the same events as a validator.
 
 use crate::definitions::validating::same::{difference, same_answer};
 use header::{Admission, Event, Node, Refusal};
@@ -8,7 +8,7 @@ use std::alloc::{AllocError, Global};
 use validator::{Step, Validator};
 use wire::Header;
 
-/// The tables in lists, and how many events they took.
+/// The tables of the reference implementation, which are lists, and how many events they were given.
 #[derive(Drop)]
 pub struct Beside {
     alloc: Global,
@@ -31,7 +31,7 @@ impl Beside {
         })
     }
 
-    /// Whether the tables take one more event. They are slow, so they take only the first ones.
+    /// Whether the tables are given one more event. They are slow, so they are given only the first events.
     pub fn goes_on(&self) -> bool {
         self.taken < self.most
     }
@@ -41,7 +41,7 @@ impl Beside {
         self.taken
     }
 
-    /// Takes an event that the validator has taken, and gives in what the two differ, if they do.
+    /// Gives the tables an event that the validator was given. Returns in what the two differ then, if they do.
     pub fn take(
         &mut self,
         validator: &Validator<'_, HashSign>,
@@ -57,7 +57,7 @@ impl Beside {
         }
     }
 
-    /// Answers an event, and gives in what that differs from the validator's step, if it does.
+    /// Answers an event, and returns in what the answer differs from the validator's, if it does.
     fn answer(
         &mut self,
         event: &Event,

@@ -13,19 +13,19 @@ use std::fs;
 use validator::{Config, Step, Validator};
 use wire::{Batch, MAX_TRANSACTION_BYTES, Message, OpenBatch, Output};
 
-/// Where the operating system reports on its processes, on this one under `self`.
+/// The folder in which the operating system reports on its processes; the entry `self` is this process.
 const PROCESSES: &str = "/proc";
 
-/// The place of the number of pages that the process may write to.
+/// The place, in the report, of the number of pages that the process may write to.
 const WRITABLE: usize = 5;
 
 /// The size of a page, in bytes.
 const PAGE_BYTES: u64 = 4096;
 
-/// How often the bodies are copied at most, until no memory is left that the process has already been given.
+/// How often the bodies are copied at most, to use up the memory that the process has already been given.
 const ROUNDS: u64 = 16;
 
-/// How many bytes of memory the process may write to, 0 where the operating system doesn't report it. It reports pages.
+/// How many bytes of memory the process may write to, by the pages that the operating system reports; 0 if it doesn't report them.
 fn memory(rt: &HostRuntime) -> u64 {
     let Ok(file) = format!(in rt.alloc(); "{PROCESSES}/self/statm") else {
         return 0;
@@ -37,8 +37,9 @@ fn memory(rt: &HostRuntime) -> u64 {
     pages.parse::<u64>().unwrap_or(0).saturating_mul(PAGE_BYTES)
 }
 
-/// Makes this many own batches, each of this many transactions of the greatest length. Shows whether memory grows by half of the size of
-/// their bodies or more, first where each body is copied, then where a validator takes the batches and all of its outputs are kept.
+/// Makes this many own batches, each of this many transactions of the greatest length. Shows whether the process's memory grows by at least
+/// half of the size of their bodies, first when each body is copied, and then when a validator takes the batches and all its outputs are
+/// kept.
 pub fn report_bodies(
     rt: &HostRuntime,
     committee: Committee,
@@ -70,7 +71,7 @@ fn report_steps(
     Ok(writeln!(answer, "taken, and put out {out}: grown {grown}")?)
 }
 
-/// Own batches, no two of the same transactions.
+/// Own batches, no two of which have the same transactions.
 fn batches_of(alloc: Global, count: u64, transactions: u64) -> Result<Vec<Batch>, AllocError> {
     let mut batches = Vec::new(alloc);
     for byte in 0..count.min(255) as u8 {
@@ -80,7 +81,7 @@ fn batches_of(alloc: Global, count: u64, transactions: u64) -> Result<Vec<Batch>
     Ok(batches)
 }
 
-/// An own batch of this transaction, this many times.
+/// An own batch that has this transaction this many times.
 fn batch_of(alloc: Global, transaction: &[u8], count: u64) -> Result<Batch, AllocError> {
     let mut open = OpenBatch::new(alloc, OWN, 0)?;
     for _ in 0..count {
@@ -97,7 +98,7 @@ fn fill(open: &mut OpenBatch, transaction: &[u8]) -> Result<(), AllocError> {
     Ok(())
 }
 
-/// The size of the bodies of these batches together, in bytes.
+/// The size of the bodies of all these batches, in bytes.
 fn bytes_of(batches: &[Batch]) -> u64 {
     let mut bytes = 0u64;
     for batch in batches {
@@ -106,8 +107,8 @@ fn bytes_of(batches: &[Batch]) -> u64 {
     bytes
 }
 
-/// Copies the bodies until the memory that the process already had is used up; gives whether memory has grown by half of their size at
-/// last.
+/// Copies the bodies until the memory that the process already had is used up. Returns whether the last copy let memory grow by at least
+/// half of the bodies' size.
 fn grows_by_copies(
     rt: &HostRuntime,
     batches: &[Batch],
@@ -123,7 +124,7 @@ fn grows_by_copies(
     Ok(false)
 }
 
-/// Gives the batches to the validator, and keeps what it answers; gives whether memory has grown by half of the size of their bodies.
+/// Gives the batches to the validator, and keeps its answers. Returns whether memory has grown by at least half of the size of the bodies.
 fn grows_by_steps(
     rt: &HostRuntime,
     validator: &mut Validator<'_, HashSign>,
@@ -137,7 +138,7 @@ fn grows_by_steps(
     Ok(has_grown(rt, before, batches))
 }
 
-/// Whether memory has grown by half of the size of these batches' bodies or more.
+/// Whether memory has grown by at least half of the size of these batches' bodies.
 fn has_grown(rt: &HostRuntime, before: u64, batches: &[Batch]) -> bool {
     memory(rt).saturating_sub(before) >= bytes_of(batches) / 2
 }
@@ -179,7 +180,7 @@ fn step(
     Ok(steps.push(validator.step(checked))?)
 }
 
-/// How many batches are among the outputs of new events.
+/// How many batches are in the outputs of the events that were new.
 fn put_out(steps: &[Result<Step, Refusal>]) -> u64 {
     let mut count = 0u64;
     for step in steps {

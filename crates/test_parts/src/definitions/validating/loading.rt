@@ -1,4 +1,4 @@
-//! A validator that is loaded from the records of its own checkpoint, while it plays a history.
+//! A validator that is loaded from the records of its own checkpoint, while the lines of a test case are played.
 
 use crate::definitions::looking::number;
 use crate::definitions::validating::seen::seen_of;
@@ -10,7 +10,7 @@ use sim_script::FormError;
 use std::alloc::{AllocError, Global};
 use validator::{Config, Validator};
 
-/// How many records a checkpoint is expected to have, and the expected sum over them.
+/// How many records a checkpoint is expected to have, and the checksum that is expected over them.
 #[derive(Clone, Copy)]
 pub struct Expected {
     count: u64,
@@ -35,7 +35,7 @@ impl Expected {
     }
 }
 
-/// The number of states at which a validator was loaded, and how many of these had a floor above 0, and how many no committed leader.
+/// At how many states a validator was loaded, how many of these states had a floor above 0, and how many had no committed leader.
 #[derive(Clone, Copy)]
 pub struct Loads {
     states: u64,
@@ -44,7 +44,7 @@ pub struct Loads {
 }
 
 impl Loads {
-    /// No states.
+    /// The counts before the first state: all are 0.
     pub fn new() -> Loads {
         Loads {
             states: 0,
@@ -53,7 +53,7 @@ impl Loads {
         }
     }
 
-    /// Counts the state of a validator.
+    /// Counts the state of a validator that is loaded.
     pub fn count(&mut self, validator: &Validator<'_, HashSign>) {
         let seen = seen_of(validator);
         self.states = self.states.saturating_add(1);
@@ -63,7 +63,7 @@ impl Loads {
             .saturating_add(u64::from(seen.order.is_empty()));
     }
 
-    /// Shows how many they were.
+    /// Shows the counts.
     pub fn report(&self, answer: &mut String) -> Result<(), AllocError> {
         let found = [
             ("loaded", self.states),

@@ -1,4 +1,4 @@
-//! Plays the lines of a case through a validator and, for its first events, through the reference implementation.
+//! Plays the lines of a test case through a validator and, for the first events, through the reference implementation.
 
 ghost use Rattle.std.specs.Prelude.{◌≡◌, None};
 ghost use Rattle.header.specs.Checks.{fault_of, accepts_all};
@@ -23,7 +23,7 @@ use std::alloc::{AllocError, Global};
 use validator::{Config, Refusal, Step, Validator};
 use wire::{Author, Header, Message};
 
-/// How lines are played.
+/// How the lines of a test case are played.
 #[derive(Clone, Copy)]
 pub struct Way {
     /// How many of the first events are played through the reference implementation too.
@@ -33,12 +33,12 @@ pub struct Way {
 }
 
 impl Way {
-    /// With the reference implementation for as many of the first events as `most`.
+    /// Plays the first events through the reference implementation too, as many as `most`.
     pub fn beside(most: u64) -> Way {
         Way { most, loads: false }
     }
 
-    /// With a validator that is loaded anew.
+    /// Loads the validator anew wherever the lines give the records of its checkpoint.
     pub fn loading() -> Way {
         Way {
             most: 0,
@@ -47,7 +47,7 @@ impl Way {
     }
 }
 
-/// A validator, with the sums and counts over what it did, and with the reference implementation next to it.
+/// A validator, with a checksum and counts over what it did, and with the reference implementation that is given the same events.
 #[derive(Drop)]
 struct Playing<'c> {
     alloc: Global,
@@ -58,7 +58,7 @@ struct Playing<'c> {
     sum: Sum,
     tally: Tally,
     last: Option<Last>,
-    /// At how many states the validator was loaded, where that is to be counted.
+    /// At how many states the validator was loaded; None if that isn't counted.
     loads: Option<Loads>,
 }
 
@@ -81,7 +81,7 @@ pub fn play_lines(
     playing.play(lines, answer)
 }
 
-/// The setting of member 0. A function of its own, since the contract of this call is long.
+/// The setting of member 0. This is a function of its own, since the contract of the call is long.
 fn config_of(committee: Committee) -> Result<Config<HashSign>, FormError> {
     match Config::new(committee, OWN, signer(OWN)) {
         None => Err(FormError::BadCommand),
@@ -108,7 +108,7 @@ impl<'c> Playing<'c> {
         })
     }
 
-    /// Plays these lines, up to the first at which something differs.
+    /// Plays these lines, up to the first line at which something differs.
     fn play(&mut self, lines: &str, answer: &mut String) -> Result<(), FormError> {
         let members = self.validator.committee().size();
         label_genesis(self.alloc, &mut self.labels, members)?;
@@ -121,7 +121,7 @@ impl<'c> Playing<'c> {
         Ok(self.report(answer)?)
     }
 
-    /// Runs a line, and gives what differs from what it should be, if anything does.
+    /// Runs a line. Returns the name of what differs from what it should be, if anything does.
     fn run(&mut self, line: &str) -> Result<Option<&'static str>, FormError> {
         match parse(line.as_bytes()) {
             Some(Command::Pack(pack)) => {
@@ -140,8 +140,8 @@ impl<'c> Playing<'c> {
         }
     }
 
-    /// A line that only these tests have: a coin from another member, the expected running sum, the expected records of a checkpoint, an
-    /// event that doesn't pass the checks, or a question to the validator.
+    /// Runs a line of a kind that only these tests have: a coin from another member, the expected checksum, the expected records of a
+    /// checkpoint, an event that doesn't pass the checks, or a question to the validator.
     fn run_own(&mut self, line: &str) -> Result<Option<&'static str>, FormError> {
         let words = words_of(self.alloc, line)?;
         self.run_words(line, &words)
@@ -194,7 +194,7 @@ impl<'c> Playing<'c> {
         Ok(as_reported(is_same, "the records of the loaded validator"))
     }
 
-    /// `unchecked`, an error's number and name, and an event: the event fails the checks with this error.
+    /// Tests a line of `unchecked`, an error's number and name, and an event: the event has to fail the checks with this error.
     fn refuse(&self, line: &str) -> Result<Option<&'static str>, FormError> {
         let (sender, message) = self.event_in(line)?;
         match check(self.validator.committee(), &HashVerify, sender, message) {
@@ -215,7 +215,7 @@ impl<'c> Playing<'c> {
         }
     }
 
-    /// Asks the validator, and gives the name of what differs if its answer is another line.
+    /// Asks the validator what the line asks. Returns the name of what differs if the answer is another line.
     fn ask(
         &self,
         line: &str,
@@ -248,7 +248,7 @@ impl<'c> Playing<'c> {
         }
     }
 
-    /// Gives an event to the validator, compares its answer, and adds it to the sum.
+    /// Gives an event to the validator, compares its answer, and adds the answer to the checksum.
     fn take(
         &mut self,
         sender: Author,
@@ -261,7 +261,7 @@ impl<'c> Playing<'c> {
         }
     }
 
-    /// The event, for the reference implementation. None once that has taken as many events as it takes at most.
+    /// The event as the reference implementation takes it. None once that was given as many events as it is to be given.
     fn beside_event(&self, sender: Author, message: &Message) -> Result<Option<Event>, FormError> {
         if !self.beside.goes_on() {
             return Ok(None);
@@ -286,7 +286,7 @@ impl<'c> Playing<'c> {
         Ok(self.compare(is_ready, step, event)?)
     }
 
-    /// What the validator proposes. A function of its own, since the contract of this call is long, as in `seen_of`.
+    /// The header that the validator proposes. This is a function of its own, since the contract of the call is long, as in `seen_of`.
     fn proposal(&self) -> Result<Option<Header>, AllocError> {
         self.validator.propose()
     }
@@ -321,7 +321,7 @@ impl<'c> Playing<'c> {
         }
     }
 
-    /// Shows how often each answer came, what there is at the end, and either how often the validator was loaded or how many events were
+    /// Shows how often each answer came, the state at the end, and either how often the validator was loaded or how many events were
     /// compared with the reference implementation.
     fn report(&self, answer: &mut String) -> Result<(), AllocError> {
         self.tally.report(answer)?;
@@ -343,7 +343,7 @@ impl<'c> Playing<'c> {
     }
 }
 
-/// Nothing if a line expects this error of the checks, and the name of what differs otherwise.
+/// None if a line expects this error of the checks; the name of what differs otherwise.
 fn same_error(
     alloc: Global,
     line: &str,
@@ -353,7 +353,7 @@ fn same_error(
     Ok(as_reported(line.strip_prefix(begin.as_str()).is_some(), "the error"))
 }
 
-/// Nothing if this is as expected, and the name of what differs otherwise.
+/// None if the answer is as expected; otherwise `what`, the name of what differs.
 fn as_reported(is_so: bool, what: &'static str) -> Option<&'static str> {
     match is_so {
         true => None,

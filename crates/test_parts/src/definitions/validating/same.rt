@@ -1,4 +1,4 @@
-//! What a validator answers and holds, compared with the reference implementation of its tables.
+//! Compares what a validator answers and holds with the reference implementation of its tables.
 
 use crate::definitions::validating::seen::seen_of;
 use header::{Admission, Node, Refusal};
@@ -9,7 +9,7 @@ use std::alloc::{AllocError, Global};
 use validator::{Step, Validator};
 use wire::{Author, Digest, Header, Message, Output, Round, encode, encode_output};
 
-/// Outputs as bytes, in their order.
+/// The bytes of these outputs, one after the other.
 fn bytes_of(alloc: Global, outputs: &[Output]) -> Result<Vec<u8>, AllocError> {
     let mut bytes = Vec::new(alloc);
     for output in outputs {
@@ -39,7 +39,7 @@ pub fn same_answer(
     }
 }
 
-/// The first thing in which a validator differs from the tables, if any.
+/// The name of the first thing in which a validator differs from the tables of the reference implementation, if there is one.
 pub fn difference(
     alloc: Global,
     node: &Node<HashSign>,
@@ -87,7 +87,7 @@ fn difference_but_proposal(
     }
 }
 
-/// Whether the votes of all rounds are the same, up to the round after this one.
+/// Whether the node's votes are the same in all rounds, up to the round after this one.
 fn votes_are_same(
     node: &Node<HashSign>,
     validator: &Validator<'_, HashSign>,
@@ -120,7 +120,7 @@ fn same_header(
     Ok(one.as_slice() == other.as_slice())
 }
 
-/// The bytes of a header's message, or nothing where there is no header.
+/// The bytes of a header's message; no bytes if there is no header.
 fn bytes_of_header(alloc: Global, header: Option<&Header>) -> Result<Vec<u8>, AllocError> {
     match header {
         None => Ok(Vec::new(alloc)),

@@ -1,5 +1,5 @@
-//! What a validator has ordered, up to which round, and what it voted for. The calls that answer this have long contracts, and each
-//! statement beside such a call makes its function more expensive to prove. So they stand in small functions of their own.
+//! Small functions that return a validator's order, its floor and round, and its votes. The calls in them have long contracts, and each
+//! statement beside such a call makes its function more expensive to prove.
 
 use sigface::HashSign;
 use validator::Validator;

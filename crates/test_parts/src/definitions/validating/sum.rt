@@ -1,4 +1,4 @@
-//! A running sum over all that a validator answers, gives out, holds and proposes.
+//! A running checksum over everything that a validator answers, gives out, holds and proposes.
 
 use crate::definitions::validating::seen::seen_of;
 use header::Refusal;
@@ -9,7 +9,7 @@ use wire::{
     header_digest,
 };
 
-/// FNV-1a of 64 bits, over what `oracles/histories.py` adds.
+/// The checksum, FNV-1a of 64 bits, over the same bytes that `oracles/histories.py` adds.
 #[derive(Clone, Copy)]
 pub struct Sum {
     value: u64,
@@ -36,14 +36,14 @@ pub fn number_of(refusal: Refusal) -> u8 {
 }
 
 impl Sum {
-    /// The sum over nothing.
+    /// The checksum over no bytes.
     pub fn new() -> Sum {
         Sum {
             value: 14_695_981_039_346_656_037,
         }
     }
 
-    /// The sum as a number.
+    /// The checksum as a number.
     pub fn value(&self) -> u64 {
         self.value
     }
@@ -54,7 +54,7 @@ impl Sum {
         }
     }
 
-    /// Adds a record of a checkpoint, after its length.
+    /// Adds a record of a checkpoint, with its length before it.
     pub fn add_record(&mut self, record: &[u8]) {
         self.add(&(record.len() as u64).to_be_bytes());
         self.add(record);
@@ -70,7 +70,7 @@ impl Sum {
         }
     }
 
-    /// Adds the answer to an event, and the state after it.
+    /// Adds the answer to an event, and the validator's state after the event.
     pub fn add_event(
         &mut self,
         validator: &Validator<'_, HashSign>,
@@ -126,7 +126,7 @@ impl Sum {
         }
     }
 
-    /// Adds the round, the floor, the length of the order, and the votes near the floor and the round.
+    /// Adds the validator's round, floor and length of the order, and its votes in the rounds near the floor and the round.
     fn add_state(&mut self, validator: &Validator<'_, HashSign>) {
         let seen = seen_of(validator);
         self.add(&seen.round.to_be_bytes());

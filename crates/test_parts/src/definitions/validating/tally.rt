@@ -1,4 +1,4 @@
-//! How often each answer came.
+//! How often a validator gave each answer.
 
 use crate::definitions::validating::sum::number_of;
 use header::Refusal;
@@ -9,7 +9,7 @@ use wire::Output;
 /// The numbers of refusals are below this one.
 const REFUSALS: usize = 15;
 
-/// How often each answer came, and how often an output was a piece of the order, and a header was proposed.
+/// How often each answer came, how often an output was a piece of the order, and how often a header was proposed.
 #[derive(Clone, Copy)]
 pub struct Tally {
     new: u64,
@@ -20,7 +20,7 @@ pub struct Tally {
 }
 
 impl Tally {
-    /// None came.
+    /// The counts before the first answer: all are 0.
     pub fn new() -> Tally {
         Tally {
             new: 0,
@@ -57,14 +57,14 @@ impl Tally {
         }
     }
 
-    /// Counts a proposal, if there is one.
+    /// Counts a proposed header, if there is one.
     pub fn count_proposal(&mut self, is_there: bool) {
         if is_there {
             self.proposals = self.proposals.saturating_add(1);
         }
     }
 
-    /// Shows how often each answer came, without the refusals that never did.
+    /// Shows how often each answer came, without the refusals that never came.
     pub fn report(&self, answer: &mut String) -> Result<(), AllocError> {
         counts(&[("new", self.new), ("known", self.known)], answer)?;
         self.report_refused(answer)?;
