@@ -8,7 +8,7 @@ ghost use Rattle.committee.specs.declared.members.TheConstants.{MAX_MEMBERS};
 use std::alloc::{AllocError, Global};
 use wire::{Author, Certificate, HeaderBody, Signature, Vote, VoteEntries, VoteEntry};
 
-/// So many places, none of which has a vote.
+/// A list of signatures by members, `size` places long, in which no member has voted yet.
 pub(crate) fn no_votes(alloc: Global, size: usize) -> Result<Vec<Option<Signature>>, AllocError>
     ensures { IfOk result (λ places. places.items ≡ replicate size None) }
 {

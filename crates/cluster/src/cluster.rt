@@ -74,7 +74,7 @@ impl<'a, S: Sign, D: StopDisk + Drop, V: Verify + Drop> Cluster<'a, S, D, V> {
         requires distinct { AreDistinct configs.now }
         ensures settings { IfOk result (λ cluster. map (λ member. member.setting) cluster.members ≡ configs.now) }
         ensures verifier { IfOk result (λ cluster. cluster.verifier ≡ verifier) }
-        // Each member stands at the world where the runs of its node begin.
+        // The model of each member's node is at its beginning: no run has accepted, settled or given out anything.
         ensures runs { IfOk result (λ cluster. All (λ member. IsRun (node_of S.scheme member.setting) [] (first_world (node_of S.scheme member.setting))) cluster.members) }
         ensures begins { IfOk result (λ cluster. All (λ member. StandsAt (node_of S.scheme member.setting) D.device (first_world (node_of S.scheme member.setting)) member) cluster.members) }
         ensures up { IfOk result (λ cluster. All (λ member. member.desk ≢ None) cluster.members) }

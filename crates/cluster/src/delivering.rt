@@ -42,7 +42,7 @@ pub(crate) fn message_again(message: &Message) -> Result<Message, AllocError>
     })
 }
 
-/// The one member that an output is for. None if it is for all others, or is a piece of the order, which is no message.
+/// The member that an output is for. None if the output is for all other members, or is a piece of the order, which carries no message.
 pub(crate) fn receiver_of(output: &Output) -> Option<Author>
     ensures some { IfSome result (λ to. to.0 ≡ wire.receiver_of output.now) }
     ensures none { IsNone result → (wire.receiver_of output.now ≡ TO_ALL) ⊎ (message_of output.now ≡ None) }

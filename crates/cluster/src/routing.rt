@@ -16,7 +16,7 @@ use wire::{Author, Message, Output};
 #[derive(Drop)]
 pub(crate) struct Envelope {
     sender: Author,
-    // The one receiver. None where the message is for all others.
+    // The member that the message is for; None if the message is for all other members.
     receiver: Option<Author>,
     message: Message,
 }

@@ -87,7 +87,7 @@ where
     all_members(alloc, ended)
 }
 
-// One empty inbox for each member.
+// Makes an empty inbox for each member.
 fn inboxes_of<S: Sign, D: StopDisk>(
     alloc: Global,
     members: &[Member<'_, S, D>],

@@ -1,4 +1,5 @@
--- Where a desk (a node of one owner) stands in its node's world, the model of all the node's runs.
+-- Which state of the world (the model of all runs of a node) belongs to a desk (a running node with its journal, in the hands of one
+-- owner).
 use Rattle.std.specs.Prelude.{◌≡◌, ◌⊎◌, ℕ, true, false, List, [], ◌∷◌, ◌++◌, Some, IsSome}
 use Rattle.book.specs.Steps as book
 use Rattle.journal.specs.Areas.{Areas}

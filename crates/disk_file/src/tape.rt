@@ -10,7 +10,7 @@ use atomic_table::{Play, Seat, Table, TableRule};
 use std::alloc::{AllocError, Global};
 use std::marker::{Brand, Model, PhantomData};
 
-// The one word of the table, which no step changes.
+// The place of the only word in the table of shared words. No step changes the word.
 const WORD: usize = 0;
 
 /// What the record says after a step. The proof of each call of `Tape::turn` chooses it.

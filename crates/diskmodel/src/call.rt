@@ -50,7 +50,7 @@ impl KeptBytes {
 /// A call that a disk has carried out, or a stop of the machine. Places and lengths are in bytes.
 #[derive(Debug, Drop)]
 pub enum Call {
-    /// These bytes were written at this place.
+    /// A write of these bytes at this place.
     Wrote {
         /// The place of the first byte that was written.
         place: u64,
@@ -90,7 +90,7 @@ pub struct Span {
 impl Span {
     ghost use Rattle.diskmodel.specs.Outcomes.{holds};
 
-    /// Whether this place is in the span.
+    /// Whether a place of the disk is in the span.
     pub fn holds(&self, place: u64) -> bool
         ensures { result ≡ holds self.now place }
     {

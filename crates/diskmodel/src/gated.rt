@@ -25,7 +25,7 @@ pub struct GatedDisk<D, G> {
 }
 
 impl<D, G> GatedDisk<D, G> {
-    /// This disk with this gate.
+    /// Makes a disk with a gate of a disk and a gate.
     pub fn new(disk: D, gate: G) -> GatedDisk<D, G>
         ensures disk { disk_of result ≡ disk }
         ensures gate { gate_of result ≡ gate }

@@ -40,7 +40,7 @@ impl Lengths {
         self.greatest = self.greatest.max(len);
     }
 
-    /// Whether this length is at least the smallest and at most the greatest one.
+    /// Whether a length is at least the smallest and at most the greatest of the lengths that are noted here.
     pub fn include(&self, len: usize) -> bool
         ensures { IsTrue result ↔ ((self.now.smallest ≤ len) × (len ≤ self.now.greatest)) }
     {

@@ -319,7 +319,8 @@ impl StopDisk for MemDisk {
         ensures faults { self.new.faults.count ≡ self.old.faults.count }
         ensures calls { made_of self.new ≡ made_of self.old }
 
-        // Each possible outcome can be chosen. Without a choice a read gives the same bytes as before.
+        // If the content that was chosen beforehand is one that a stop may leave, the stop leaves it. Otherwise a read gives the same bytes
+        // as before.
         ensures chosen { (found : List ℕ) → choice_of self.old ≡ Some found → CanStopAt self.old found → content_of self.new ≡ found }
         ensures otherwise { ((found : List ℕ) → choice_of self.old ≡ Some found → ¬ CanStopAt self.old found) → content_of self.new ≡ content_of self.old }
         ensures spent { choice_of self.new ≡ None }

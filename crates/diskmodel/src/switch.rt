@@ -152,7 +152,7 @@ impl Switch {
     pub(crate) fn count(&self, call: CallKind) -> bool {
         let mut is_due = false;
         for word in self.words.of(call) {
-            // Each word has to count the call, also after an earlier word has said that the call fails.
+            // The call counts for every countdown, also if an earlier countdown has already said that the call fails.
             is_due |= count_down(word);
         }
         is_due

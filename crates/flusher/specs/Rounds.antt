@@ -160,8 +160,8 @@ pub record TakesAllAndSettles {D : Type 0} (seat later_seat : SeatView) (before 
   pub reported : OnOk result (later_seat.view.durable ≡ taken_in later)
   pub not_settled : OnErr result (settled_in later ≡ settled_in before)
 
--- These records are a checkpoint of all that the call took. It reports Full if and only if the journal has no room for them, and then
--- leaves the journal as it was.
+-- The records here are the checkpoint of all events that the call of the flusher has taken. The call reports Full if and only if the
+-- journal has no room for these records, and then leaves the journal as it was.
 pub record ReportsRoomToRewrite {S D : Type 0} (scheme : Scheme S) (node : NodeView S) (before later : Flusher D) (result : Result ℕ FlushError) : Type 0 where
   pub records : List (List ℕ)
   pub checkpoint : IsCheckpointAfter scheme node (taken_in later) records

@@ -101,7 +101,7 @@ impl<D: Disk> Flusher<D> {
         ensures cause { ReportsFault FlushError.Device (D.device.faults (disk_of (journal_of self.old))) (D.device.faults (disk_of (journal_of self.new))) result }
         // A round that has nothing to take leaves the journal unchanged.
         ensures nothing { IfOk result (λ count. count ≡ 0 → journal_of self.new ≡ journal_of self.old) }
-        // Otherwise it adds one group to the area that is read: the records of what it settled.
+        // A round that takes something adds one group to the area that is read: the records of the events that the round settled.
         ensures adds { IfOk result (λ count. 0 < count → AddsSettled D.device self.old self.new) }
         // The spare disk, if there is one, is untouched.
         ensures spare { spare_of (journal_of self.new) ≡ spare_of (journal_of self.old) }

@@ -19,7 +19,7 @@ use wire::{
     certificate_digest, header_digest,
 };
 
-/// Whether this number is that of a member.
+/// Whether a member of the committee has this number.
 pub(crate) fn is_member(committee: &Committee, author: Author) -> bool
     ensures { result ≡ is_member committee.now author }
 {

@@ -17,7 +17,7 @@ impl Side {
     ghost use Rattle.journal.specs.Areas.{base_of, other_side};
     ghost use Rattle.journal.specs.Opened.{on_side, off_side};
 
-    // The other one of the two areas.
+    // The other area of the journal.
     pub(crate) fn other(self) -> Side
         ensures { result ≡ other_side self }
     {

@@ -30,7 +30,7 @@ pub enum Why {
     /// A record of a checkpoint's state breaks the format, or holds what no node could have.
     #[error("a record of the checkpoint is at fault")]
     State,
-    /// Each record of a checkpoint's state is in order by itself, but together they are no state that a node could have.
+    /// Each record of a checkpoint is well formed by itself, but no node can have a state with all of them.
     #[error("the records of the checkpoint don't go together")]
     WholeState,
     /// No committee can have the keys, stakes and limits of the configuration.
@@ -51,7 +51,7 @@ pub enum Why {
     /// The message of an event fails a check of the committee.
     #[error("an event fails a check: {0}")]
     Unchecked(CheckError),
-    /// The same event occurs a second time.
+    /// An event occurs a second time in the journal.
     #[error("an event is there twice")]
     Known,
     /// The node would have refused an event after the events before it.

@@ -23,7 +23,7 @@ pub(crate) fn short(digest: &Digest) -> u32 {
     short_of([first, second, third, fourth])
 }
 
-/// These bytes, the first four of a digest, as a number.
+/// The first four bytes of a digest as a number, by which the tool shows the digest.
 pub(crate) fn short_of(bytes: [u8; 4]) -> u32 {
     u32::from_be_bytes(bytes)
 }

@@ -99,7 +99,8 @@ fn put_waiting(stream: &mut Vec<u8>, task: Task, rounds: &mut Rounds) -> Result<
     for number in 0..task.size {
         let author = author_of(task, number);
         if author.0 == 0 {
-            // These parents are those of round 1, the genesis certificates. In a later round no such certificate exists, so this one waits.
+            // From here on the certificates have a higher round, but still the parents of round 1, the genesis certificates. These don't
+            // exist as certificates of the round before, so each such certificate waits for parents.
             rounds.raise();
         }
         let message = Message::Certificate(rounds.certificate(author)?);

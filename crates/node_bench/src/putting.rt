@@ -50,7 +50,7 @@ fn put_some(
     Ok(())
 }
 
-// As many small batches as `count` says, numbered from `first` on.
+// Makes `count` small batches, whose numbers begin with `first`.
 fn made(alloc: Global, first: u64, count: u64) -> Result<Vec<Batch>, Ending> {
     let mut batches = Vec::new(alloc);
     for number in 0..count {

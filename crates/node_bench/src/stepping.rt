@@ -125,7 +125,7 @@ fn pieces_of(task: Task, committee: &Committee, step: Step) -> Result<u64, Endin
 }
 
 impl Step {
-    // Whether this kind of work measures this message.
+    // Whether a benchmark of this kind counts and times a message of this kind.
     fn counts(self, message: &Message) -> bool {
         match (self, message) {
             (Step::Header, Message::Header(_)) => true,

@@ -37,10 +37,10 @@ pub enum Step {
     Batch,
     /// Rounds of all members' certificates, with a coin for each wave.
     Round,
-    /// The same rounds, with the other members' headers before the certificates.
+    /// Rounds as in `Round`, with the other members' headers before the certificates.
     Event,
-    /// The same rounds with all that a node meets: its own header, the headers of the others, the votes that complete the own certificate,
-    /// and then the certificates of the others.
+    /// Rounds with everything that a node meets: its own header, the headers of the other members, the votes that complete its own
+    /// certificate, and then the certificates of the other members.
     All,
 }
 

@@ -29,7 +29,7 @@ impl<'c, C: Clock, F: Drop> Drop for Blocking<'c, C, F> {
 }
 
 impl<'c, C: Clock, F: Drop> Blocking<'c, C, F> {
-    /// The same stream, which now waits by this clock.
+    /// A stream whose calls, if they would block, wait by this clock and try again.
     pub fn new(clock: &'c C, stream: F) -> Blocking<'c, C, F>
         ensures { result.stream ≡ stream }
     {

@@ -44,11 +44,11 @@ pub fn reopen<'a, S: Sign, D: Disk>(
     ensures configured { IfOk result (λ opened. stands (D.device.content (disk_of opened.1)) ≢ Ok []) }
     ensures alone { IfOk result (λ opened. spare_of opened.1 ≡ None) }
 
-    // This state is kept of a legal history, and the bytes stand for it.
+    // The state of the opened validator is kept of a legal history, and the bytes on the disk stood for the state before the call.
     ensures stands_for { IfOk result (λ opened. StandsForAt (node_of S.scheme config.now) (D.device.content disk) opened.0.tables) }
     // For each state that the bytes stood for before the call, the disk now has a proper journal of the node with that state.
     ensures kept { IfOk result (λ opened. KeepsStates (node_of S.scheme config.now) (D.device.content disk) (D.device.content (disk_of opened.1))) }
-    // One of these states is the one that the validator holds.
+    // The opened validator's state is one of the states that the bytes on the disk stand for after the call.
     ensures holds { IfOk result (λ opened. HoldsAt (node_of S.scheme config.now) (D.device.content (disk_of opened.1)) opened.0.tables) }
 
     // What the errors say, and what a stop at any moment of the opening may leave.

@@ -47,7 +47,7 @@ pub fn reopen_store<'a, S: Sign, D: Disk>(
     ensures stands_for { IfOk result (λ opened. StandsForIn (node_of S.scheme config.now) (areas_in D.device store) opened.0.tables) }
     // For each state that the areas stood for before the call, the disks now have a proper journal of the node with that state.
     ensures kept { IfOk result (λ opened. KeepsStatesIn (node_of S.scheme config.now) (areas_in D.device store) (areas_of D.device opened.1)) }
-    // One of these states is the one that the validator holds.
+    // The opened validator's state is one of the states that the areas stand for after the call.
     ensures holds { IfOk result (λ opened. HoldsIn (node_of S.scheme config.now) (areas_of D.device opened.1) opened.0.tables) }
 
     // What the errors say, and what a stop at any moment of the opening may leave.
@@ -93,7 +93,7 @@ pub fn reopen_pair<'a, S: Sign, D: Disk>(
     ensures stands_for { IfOk result (λ opened. StandsForIn (node_of S.scheme config.now) (pair (D.device.content first) (D.device.content second)) opened.0.tables) }
     // For each state that the areas stood for before the call, the disks now have a proper journal of the node with that state.
     ensures kept { IfOk result (λ opened. KeepsStatesIn (node_of S.scheme config.now) (pair (D.device.content first) (D.device.content second)) (areas_of D.device opened.1)) }
-    // One of these states is the one that the validator holds.
+    // The opened validator's state is one of the states that the areas stand for after the call.
     ensures holds { IfOk result (λ opened. HoldsIn (node_of S.scheme config.now) (areas_of D.device opened.1) opened.0.tables) }
 
     // What the errors say, and what a stop at any moment of the opening may leave.

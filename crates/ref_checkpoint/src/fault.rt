@@ -5,6 +5,6 @@
 pub enum LoadFault {
     /// The record at this place is the first one at fault.
     AtRecord(u64),
-    /// Each record is in order by itself, but together they are no state that a node could have.
+    /// Each record is well formed by itself, but no node can have a state with all of them.
     OfWhole,
 }

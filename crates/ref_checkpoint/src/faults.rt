@@ -118,7 +118,7 @@ fn weight_of_voters<S: Sign>(node: &Node<S>, kept: &KeptHeader) -> u64
     node.committee.weight(&voters(node, kept))
 }
 
-/// Whether this voter has a vote on an own header, and isn't the member `left_out`.
+/// Whether `voter` has a vote on an own header, and isn't the member `left_out`.
 fn has_kept_of_others<S: Sign>(node: &Node<S>, kept: &KeptHeader, left_out: u16, voter: u16) -> bool
     ensures { result ≡ (faults.has_kept (node_view S.scheme node.now) kept.now voter && not (voter == left_out)) }
 {

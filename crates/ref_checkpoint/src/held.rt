@@ -99,7 +99,7 @@ fn first_held<S: Sign>(
     Ok(Vec::new(alloc))
 }
 
-/// Those of these certificates whose round is above 0.
+/// The certificates whose round is above 0, without the genesis certificates.
 fn above_genesis(
     alloc: Global,
     certificates: &[Certificate],

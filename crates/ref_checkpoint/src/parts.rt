@@ -29,7 +29,7 @@ fn mark_of(reader: &mut Reader) -> Result<bool, WireError>
     }
 }
 
-/// Whether this number is greater than all those before it.
+/// Whether a member's number is greater than the last one of an ascending list, so that it may follow the list.
 fn member_may_follow(before: &[u16], member: u16) -> bool
     ensures { result ≡ follows (λ one. nat_lt one member) before.now }
 {

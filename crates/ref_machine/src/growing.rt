@@ -40,7 +40,7 @@ fn with_ack(mut acks: Vec<BatchAck>, message: &Message) -> Result<Vec<BatchAck>,
     Ok(acks)
 }
 
-/// These digests, with those of some batches added.
+/// Adds the digests of some batches to a list of digests.
 fn with_digests(
     mut named: Vec<Digest>,
     batches: &[BatchReference],

@@ -22,7 +22,7 @@ pub fn is_ack(ack: &BatchAck, digest: &Digest, member: u16) -> bool
     ack.batch == *digest && ack.author.0 == member
 }
 
-/// Whether this is the node's vote for a header of this round and author.
+/// Whether a vote of the node is for a header of this round and author.
 pub fn is_of_slot(vote: &SlotVote, round: u64, author: u16) -> bool
     ensures { result ≡ votes_for round author vote.now }
 {

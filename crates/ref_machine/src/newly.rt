@@ -38,7 +38,7 @@ impl<'a, H: Held> Clone for WithVote<'a, H> {
 
 impl<'a, H: Held> Copy for WithVote<'a, H> {}
 
-/// This vote, if it is by this member on the own header of this round; otherwise None.
+/// The vote itself, if it is this member's vote on the node's own header of this round; None otherwise.
 fn only_of(vote: &Vote, round: u64, voter: u16) -> Option<Vote>
     ensures value { result ≡ vote_if vote.now round voter }
     ensures voter { IfSome result (λ vote. vote.voter.0 ≡ voter) }

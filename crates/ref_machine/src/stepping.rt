@@ -83,7 +83,7 @@ pub fn proposed<S: Sign>(
     propose_of(alloc, node, tables, round_in(node, tables))
 }
 
-/// Whether this answer says that parents are missing.
+/// Whether an answer refuses an event because parents are missing.
 fn is_missing_parents(answer: &Admission) -> bool
     ensures { result ≡ machine.is_missing_parents answer.now }
 {

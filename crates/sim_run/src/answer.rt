@@ -27,7 +27,7 @@ pub enum Answer {
     Fault(FlushError),
     /// There is no output that may leave.
     OutNone,
-    /// This output left.
+    /// An output has left the node: this one.
     Out(Output),
     /// The order that the settled records lead to: the digests of its certificates.
     Order(Vec<Digest>),

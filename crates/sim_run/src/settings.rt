@@ -29,7 +29,8 @@ impl Settings {
         }
     }
 
-    /// These settings with one more set. None if it is out of its range, or if the version of the journal can't express the stakes.
+    /// The settings of a script after one more setting. None if its value is out of its range, or if the version of the journal can't
+    /// express the stakes.
     pub fn with(&self, alloc: Global, setting: Setting) -> Result<Option<Settings>, AllocError> {
         let mut settings = *self;
         match setting {

@@ -19,7 +19,7 @@ pub struct StoppingDisk<'a> {
 }
 
 impl<'a> StoppingDisk<'a> {
-    /// This disk in memory as a disk of this machine.
+    /// Makes a disk of a machine that may stop out of a disk in memory.
     pub fn new(disk: MemDisk, machine: &'a Machine) -> StoppingDisk<'a>
         ensures { memory_of result ≡ disk }
     {

@@ -7,7 +7,7 @@ ghost use Rattle.sim_run.specs.Stops.{WillLeave, IsTornBy};
 use diskmodel::MemDisk;
 use std::alloc::{AllocError, Global};
 
-/// The same disk, whose next stop will leave the bytes of the last sync: what was written later is lost. On `AllocError` an allocation
+/// Sets a disk so that its next stop leaves the bytes of the last sync: what was written later is lost. On `AllocError` an allocation
 /// failed.
 pub fn losing(alloc: Global, mut disk: MemDisk) -> Result<MemDisk, AllocError>
     ensures { IfOk result (λ left. WillLeave disk left (state_of disk).durable) }
@@ -17,7 +17,7 @@ pub fn losing(alloc: Global, mut disk: MemDisk) -> Result<MemDisk, AllocError>
     Ok(disk)
 }
 
-/// The same disk, whose next stop will leave this byte at each place that was written since the last sync. On `AllocError` an allocation
+/// Sets a disk so that its next stop leaves this byte at each place that was written since the last sync. On `AllocError` an allocation
 /// failed.
 pub fn tearing(alloc: Global, mut disk: MemDisk, byte: u8) -> Result<MemDisk, AllocError>
     ensures { IfOk result (λ left. (found : List ℕ) × IsTornBy byte disk found × WillLeave disk left found) }

@@ -41,7 +41,7 @@ unfoldable pub load_fault : Node → List (List ℕ) → Option LoadFault
 load_fault node [] = Some (at_record 0)
 load_fault node (first ∷ records) = if is_configuration node first then fault_of_read node (checkpoint_read node records) else Some (at_record 0)
 
--- These records are the node's configuration, and then those that a node writes of a sound state.
+-- The records consist of the node's configuration and of those that a node writes for the checkpoint of a sound state.
 pub record AreLoadable (node : Node) (records : List (List ℕ)) (checkpoint : Checkpoint) : Type 0 where
   pub version : Version
   pub can_report : CanReport version node.charter

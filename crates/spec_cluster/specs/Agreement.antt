@@ -43,8 +43,8 @@ abbrev pub Agreement : Type 0
 Agreement = (cluster : Cluster) (value : ℕ → ℕ) (turns : List Turn) (worlds : Worlds) → IsCharter cluster.charter → AreMembers cluster → FewFaulty cluster
     → IsReached cluster (Fair cluster value) turns worlds → NoTwoTexts cluster worlds → AreAgreed cluster worlds
 
--- The same for members that run side by side, however their steps interleave. Here it is assumed of each event that came in that it has no
--- forged vote, by what was signed by the end of the runs.
+-- The orders of honest members agree also if the members run side by side, however their steps interleave. Here it is assumed of each event
+-- that came in that it has no forged vote, judged by what was signed by the end of the runs.
 abbrev pub RunsAgree : Type 0
 RunsAgree = (cluster : Cluster) (value : ℕ → ℕ) (worlds : Worlds) → IsCharter cluster.charter → AreMembers cluster → FewFaulty cluster
     → HaveRun cluster (ComesFair cluster value worlds) worlds → NoTwoTexts cluster worlds → AreAgreed cluster worlds

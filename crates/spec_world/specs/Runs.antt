@@ -156,7 +156,8 @@ abbrev pub spare_calls : ℕ → List Move
 spare_calls zero = []
 spare_calls (suc count) = spare_call ∷ spare_calls count
 
--- All accepted events are settled, nothing is in flight, and the two disks have changed places. Nothing else changed.
+-- After a checkpoint all accepted events are settled, nothing is in flight, and the two disks have changed places. Nothing else has
+-- changed.
 pub record HasSettledCheckpoint (node : Node) (world : World) (before : Spare) (bytes : List ℕ) (next : World) : Type 0 where
   pub began : next.began ≡ world.began
   pub accepted : next.accepted ≡ world.accepted

@@ -110,11 +110,11 @@ pub enum Fill {
     Keep,
     /// The bytes that were there at the last sync.
     Lose,
-    /// This byte at each such place.
+    /// This byte at each place that was written since the last sync.
     Torn(u8),
 }
 
-/// Each way of filling such places that is tried, with the name that answers use for it.
+/// The ways that are tried of filling the places that were written since the last sync, each with the name that answers use for it.
 pub const FILLS: [(Fill, &str); 6] = [
     (Fill::Keep, "keep"),
     (Fill::Lose, "lose"),

@@ -93,7 +93,7 @@ fn rewritten_areas(
     }
 }
 
-/// These areas with further bytes after the closed gate of the first one, as a torn append leaves them: an opening has to cut them off.
+/// Adds bytes after the closed gate of the first area, as a torn append leaves them: an opening has to cut them off.
 fn after_gate(alloc: Global, areas: &Areas) -> Result<Areas, AllocError> {
     Ok(Areas {
         first: vec![in alloc; 0, 9, 9]?,

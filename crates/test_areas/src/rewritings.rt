@@ -33,9 +33,9 @@ impl Fault {
 /// How a checkpoint is made.
 #[derive(Clone, Copy)]
 pub enum Made {
-    /// All its records are given at once.
+    /// The checkpoint is made of all its records at once.
     Whole,
-    /// Its records are given one after the other, and each in two parts.
+    /// The checkpoint is made as a draft, to which its records are added one after the other, each in two parts.
     Draft,
 }
 

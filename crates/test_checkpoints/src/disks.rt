@@ -104,7 +104,7 @@ pub enum Fill {
     Keep,
     /// The bytes that were there at the last sync.
     Lose,
-    /// This byte at each such place.
+    /// This byte at each place that was written since the last sync.
     Torn(u8),
 }
 

@@ -83,7 +83,7 @@ fn report_found(
     write!(text, ", round {round}, order {ordered}")
 }
 
-/// Whether this answer of an opening shows a node, and not a failure.
+/// Whether the answer of an opening shows an opened node, and not a failure.
 pub fn is_node(text: &str) -> bool {
     text.starts_with("generation ")
 }

@@ -68,7 +68,7 @@ impl Grip {
     }
 }
 
-/// As many new grips as `count` says.
+/// Makes `count` new grips, which set what stops leave and which calls fail.
 pub fn new_grips(alloc: Global, count: u16) -> Result<Vec<Grip>, AllocError> {
     let mut grips = Vec::new(alloc);
     for _ in 0..count {

@@ -18,7 +18,7 @@ use wire::{Author, Digest, Round};
 pub enum Voted {
     /// There was no vote for this round and author; now this header has it.
     New,
-    /// This header had the vote already.
+    /// The node has voted for this header before.
     Again,
     /// Another header of this round and author has the vote.
     Equivocation,

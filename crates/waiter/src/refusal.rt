@@ -12,7 +12,7 @@ pub enum WaitRefusal {
     /// An allocation failed.
     #[error("1 Memory")]
     Memory,
-    /// As many certificates wait already as may.
+    /// The greatest number of certificates is waiting already.
     #[error("2 Full")]
     Full,
     /// The message that was to wait is no certificate.
