@@ -22,7 +22,8 @@ pub record IsCut (len : ℕ) (old found : List ℕ) : Type 0 where
   pub no_shorter : min len (length old) ≤ length found
   pub no_longer : length found ≤ length old
 
--- each outcome that is possible after a call comes by this change from an outcome that was possible before it
+-- each outcome (the bytes that a stop would leave) that is possible after a call comes, by this change, from an outcome that was possible
+-- before the call
 abbrev pub ComesBy : (List ℕ → List ℕ → Type 0) → (List ℕ → Type 0) → (List ℕ → Type 0) → Type 0
 ComesBy change old new = (c : List ℕ) → new c → (d : List ℕ) × old d × change d c
 

@@ -31,7 +31,7 @@ impl KeptBytes {
         KeptBytes { items }
     }
 
-    /// The bytes.
+    /// The bytes, borrowed. The call allocates no memory.
     pub fn as_slice(&self) -> &[u8]
         ensures { result.now ≡ self.now }
     {

@@ -17,7 +17,8 @@ pub record Enters (before after : DagView) (certificate : Certificate) : Type 0 
   pub new : answer before certificate ≡ Ok New
   pub with : IsWith before after certificate
 
--- what was prepared in the earlier DAG, for leaders below the round of the new certificate, is right for the later DAG too
+-- A lengthening of the order that was computed in the DAG before a certificate came is also right after it, if the leaders are of rounds
+-- below that of the new certificate.
 abbrev pub MadeStays : Type 0
 MadeStays = (before after : DagView) (certificate : Certificate) (made : LengtheningView) → Enters before after certificate → made.last.0 < certificate.header.round
     → FitsTo before made → FitsTo after made

@@ -60,7 +60,8 @@ impl<D: Disk> Flusher<D> {
         // A stop at any moment may leave the spare area half written. Both areas together then have what was settled before, or all that
         // the checkpoint took.
         ensures any_moment { IsErrOf result FlushError.Down ⊎ AtEachMoment D.device (spare_disk (journal_of self.old)) (rewritten_disk result (journal_of self.new)) (λ left. HoldsEither S.scheme node.now (settled_in self.old) (taken_in self.new) (areas_of D.device (journal_of self.old)) (areas_with D.device (journal_of self.old) left)) }
-        // If from some state on the journal had what was settled before the call, then from the same state on it has what is settled now.
+        // For each state: if the journal before the call held the state that follows from it with the events that were settled then, the
+        // journal now holds the state that follows from it with the events that are settled now.
         ensures earlier { OnOk result (KeepsEarlier S.scheme node.now (settled_in self.old) (settled_in self.new) (areas_of D.device (journal_of self.old)) (areas_of D.device (journal_of self.new))) }
     {
         if self.down {

@@ -93,7 +93,8 @@ abbrev pub moved : ℕ → Result (List Record) ℕ → Result (List Record) ℕ
 moved base (Ok records) = Ok (map (moved_by base) records)
 moved base (Err gate) = Err (base + gate)
 
--- what the area on this side is read as, with the places of that side
+-- The records that are read from the bytes of the area on this side, or the error. Places are counted from the place where that side
+-- begins.
 abbrev pub stands_at : Side → List ℕ → Result (List Record) ℕ
 stands_at First bytes = stands bytes
 stands_at Second bytes = moved (base_of Second) (stands bytes)

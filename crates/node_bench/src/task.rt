@@ -121,7 +121,7 @@ pub struct Sizes {
     members: Option<u16>,
 }
 
-/// For work that has no size.
+/// The sizes of a benchmark that has no size to choose.
 const NO_SIZE: Sizes = Sizes {
     usual: 0,
     least: 1,
@@ -129,7 +129,7 @@ const NO_SIZE: Sizes = Sizes {
     members: Some(4),
 };
 
-/// For work whose size is the number of members: four, seven, and so on.
+/// The sizes of a benchmark whose size is the number of members: four, seven, and so on.
 const MEMBERS: Sizes = Sizes {
     usual: 4,
     least: 4,
@@ -137,7 +137,7 @@ const MEMBERS: Sizes = Sizes {
     members: None,
 };
 
-/// For work whose size is the length of a batch's body, in bytes.
+/// The sizes of a benchmark whose size is the length of a batch's body, in bytes.
 const BODY: Sizes = Sizes {
     usual: 100_000,
     least: 20,
@@ -145,7 +145,7 @@ const BODY: Sizes = Sizes {
     members: Some(4),
 };
 
-/// For work whose size is the length of the pieces in which a stream is read, in bytes.
+/// The sizes of a benchmark whose size is the length of the pieces in which a stream is read, in bytes.
 const STREAM: Sizes = Sizes {
     usual: 4_096,
     least: 1,
@@ -153,7 +153,7 @@ const STREAM: Sizes = Sizes {
     members: Some(4),
 };
 
-/// For work whose size is the number of records in a group.
+/// The sizes of a benchmark whose size is the number of records in a group.
 const GROUP: Sizes = Sizes {
     usual: 1_024,
     least: 1,
@@ -161,7 +161,7 @@ const GROUP: Sizes = Sizes {
     members: Some(4),
 };
 
-/// For work whose size is the number of events between two flushes.
+/// The sizes of a benchmark whose size is the number of events between two flushes.
 const FLUSH: Sizes = Sizes {
     usual: 1_024,
     least: 1,
@@ -169,7 +169,7 @@ const FLUSH: Sizes = Sizes {
     members: Some(4),
 };
 
-/// For work whose size is the number of batches that a store holds at first.
+/// The sizes of a benchmark whose size is the number of batches that a store holds at first.
 const HELD: Sizes = Sizes {
     usual: 100,
     least: 1,
@@ -177,7 +177,7 @@ const HELD: Sizes = Sizes {
     members: Some(4),
 };
 
-/// For work whose size is the number of certificates that wait for their parents.
+/// The sizes of a benchmark whose size is the number of certificates that wait for their parents.
 const WAITING: Sizes = Sizes {
     usual: 16,
     least: 0,
@@ -185,7 +185,7 @@ const WAITING: Sizes = Sizes {
     members: Some(4),
 };
 
-/// For work whose size is the number of certificates that wait, in the largest committee.
+/// The sizes of a benchmark whose size is the number of certificates that wait for their parents, with the largest committee.
 const MANY_WAITING: Sizes = Sizes {
     usual: 16,
     least: 0,
@@ -193,7 +193,7 @@ const MANY_WAITING: Sizes = Sizes {
     members: Some(31),
 };
 
-/// For work whose size is the depth of the committee: how many rounds below itself a leader orders.
+/// The sizes of a benchmark whose size is the depth of the committee: how many rounds below itself a leader orders.
 const DEPTH: Sizes = Sizes {
     usual: 1_000,
     least: 50,
@@ -201,7 +201,7 @@ const DEPTH: Sizes = Sizes {
     members: Some(4),
 };
 
-/// For work whose size is the number of rounds that come before it.
+/// The sizes of a benchmark whose size is the number of rounds that come before it.
 const ROUNDS: Sizes = Sizes {
     usual: 70,
     least: 3,

@@ -136,7 +136,7 @@ pub record IsOpening {T D : Type 0} (node : Node) (device : Disks D) (disk_in : 
   pub never_full : IfErr result (λ failed. failed.error ≢ Full)
   -- the error is Device if and only if the disk has counted a failed call
   pub cause : ReportsFaultBack device disk_in Device disk result
-  -- what a stop at any moment leaves decodes to the same as some outcome from before the opening
+  -- whatever a stop at any moment of the opening leaves decodes to the same state as something that a stop before the opening could leave
   pub any_moment : AtEachMoment device disk (disk_after disk_in result) (IsDecodedAsOneOf node (device.outcome disk))
   -- A stop keeps the records, even those of another node; if there were none, the configuration may have been added. If what is left is
   -- read as no records, it is an outcome from before the opening, byte for byte.

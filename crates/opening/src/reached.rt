@@ -20,7 +20,7 @@ use validator::{Config, LoadError, Loading, Validator};
 /// How far a reader of a journal on two disks has got.
 #[derive(Drop)]
 pub(crate) enum Reached<'a, S: Sign> {
-    /// No record came yet.
+    /// The reader has been given no record.
     Empty,
     /// The configuration was taken and nothing else; it is in this version, and in the group with this gate.
     Configured(Version, u64),

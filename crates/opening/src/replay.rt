@@ -40,7 +40,7 @@ impl<'a, S: Sign> Replay<'a, S> {
         })
     }
 
-    /// Whether no record was taken yet.
+    /// Whether the reader has been given no record.
     pub(crate) fn is_empty(&self) -> bool
         ensures { result ≡ is_none self.now.first }
     {

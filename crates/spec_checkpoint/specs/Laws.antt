@@ -65,7 +65,8 @@ pub record IsCutShortBy (read : Reader) (records : List (List ℕ)) (place : ℕ
   pub cut : is_cut_short checkpoint (kind_of (get_or records (place + 1) [])) ≡ true
   pub none : IsNoneRead read records (place + 2)
 
--- The record at this place is the first that breaks the format, and not because the piece before it is too short.
+-- The record at this place is the first that breaks the format, and it does so by itself: not because the record before it is a piece that
+-- isn't full.
 pub record IsFirstUnread (read : Reader) (records : List (List ℕ)) (place : ℕ) : Type 0 where
   pub within : place < length records
   pub so_far : Checkpoint

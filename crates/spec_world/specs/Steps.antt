@@ -120,7 +120,8 @@ with_spare_call world spare rewriting call = record world {
   rewriting = Some (record rewriting { made = rewriting.made + 1 });
 }
 
--- the disk that is read before a rewriting ends, as the spare disk after that: then the other area is read, with the next generation
+-- The new spare disk once a rewriting ends: it is the disk that was read until then. The other area is read from then on, with the next
+-- generation.
 abbrev pub replaced : World → Spare → Spare
 replaced world spare = record { bytes_at_start = world.bytes_at_start; calls = world.calls; side = other_side spare.side; generation = spare.generation + 1 }
 

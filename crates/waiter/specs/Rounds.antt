@@ -40,7 +40,7 @@ none_waits = record { rounds = []; count = 0 }
 abbrev pub WaitsThere : WaitersView → Event → Type 0
 WaitsThere waiters event = Waits (held waiters (round_of event)) event
 
--- this round has these waiting certificates now, and every other round those that it had
+-- this round now has these waiting certificates, and every other round has those that it had before
 abbrev pub HeldWith : (ℕ → List Event) → (ℕ → List Event) → ℕ → List Event → Type 0
 HeldWith old new round events = (other : ℕ) → new other ≡ (if other == round then events else old other)
 
