@@ -26,7 +26,7 @@ HasParents charter parents = quorum_of charter ≤ weight charter (is_parent par
 abbrev pub HasVotes : Charter → List VoteEntry → Type 0
 HasVotes charter votes = quorum_of charter ≤ weight charter (is_voter votes)
 
--- a header has parents of a quorum; a certificate has parents and votes of a quorum
+-- the authors of a header's parents weigh a quorum; of a certificate, the authors of the parents do, and the voters too
 abbrev pub HasQuorums : Charter → Message → Type 0
 HasQuorums charter (message.Header header) = HasParents charter header.body.parents
 HasQuorums charter (message.Certificate certificate) = HasParents charter certificate.header.parents × HasVotes charter certificate.votes

@@ -37,7 +37,7 @@ pub record IsDraft (bytes : List ℕ) (start count : ℕ) : Type 0 where
   pub packable : CanPack records
   pub last : IsLast records start count
 
--- A draft's bytes, with what a checkpoint also keeps: the place of the generation in them, and the number of records without the head.
+-- The bytes of a draft are kept with the place of the generation in them, and with the number of the draft's records without the head.
 pub record IsDraftOf (bytes : List ℕ) (place records_count start count : ℕ) : Type 0 where
   pub draft : IsDraft bytes start count
   pub shaped : BeginsShaped draft.records

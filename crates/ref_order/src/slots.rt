@@ -72,7 +72,7 @@ pub fn round_of(
     Ok(found)
 }
 
-/// Whether a path of so many steps leads from one certificate to another, each step to a parent.
+/// Whether a path of `steps` steps, each from a certificate to a parent, leads from one certificate to another.
 pub fn has_path(
     alloc: Global,
     size: u16,

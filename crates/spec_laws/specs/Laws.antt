@@ -120,22 +120,24 @@ OrderLengthens = (node : Node) (history more : History) (held : Slots) → IsLeg
 
 -- A part of the certificates, `held`, gives the same results as all of them, `all`, from a round on.
 pub record SayTheSame (node : Node) (low : ℕ) (before : Ledger) (coins : List ℕ) (held all : Slots) : Type 0 where
-  -- the same from `low` on: the leader of a wave, its support, whether a wave is directly committed, and whether a round has a quorum
+  -- `held` and `all` give the same, for rounds from `low` on: the leader of a wave, its support, whether a wave is directly committed, and
+  -- whether a round has a quorum
   pub same_leader : (wave : ℕ) → low ≤ 2 * wave - 1 → leader (ledger_of node held coins) wave ≡ leader (ledger_of node all coins) wave
   pub same_support : (c : Certificate) → low ≤ c.header.round + 1 → has_support (ledger_of node held coins) c ≡ has_support (ledger_of node all coins) c
   pub same_committed : (wave : ℕ) → low ≤ 2 * wave - 1
       → is_directly_committed (ledger_of node held coins) wave ≡ is_directly_committed (ledger_of node all coins) wave
   pub same_full : (round : ℕ) → low ≤ round → is_full node held round ≡ is_full node all round
-  -- the same: whether a header's parents are held
+  -- `held` and `all` give the same: whether a header's parents are held
   pub same_parents : (header : HeaderBody) → all_held held (floor_by (ledger_of node all coins)) header ≡ all_held all (floor_by (ledger_of node all coins)) header
-  -- the same: the last committed wave, and so the floor
+  -- `held` and `all` give the same: the last committed wave, and so the floor
   pub same_top : top (ledger_of node held coins) ≡ top (ledger_of node all coins)
   pub same_last_wave : last_wave (ledger_of node held coins) ≡ last_wave (ledger_of node all coins)
   pub same_floor : floor_by (ledger_of node held coins) ≡ floor_by (ledger_of node all coins)
-  -- the same: the last leader that was committed before, and the newer leaders
+  -- `held` and `all` give the same: the last leader that was committed before, and the newer leaders
   pub same_last : leader (ledger_of node held coins) (last_wave before) ≡ last_or None (committed before)
   pub same_newer : newer (ledger_of node held coins) (last_wave before) ≡ newer (ledger_of node all coins) (last_wave before)
-  -- the same: what each newer leader orders, whichever leader comes before it, and what they order together
+  -- `held` and `all` give the same: what each newer leader orders, whichever leader comes before it, and what the newer leaders order
+  -- together
   pub same_segment : (previous : Option Certificate) (last : Certificate) → Contains (newer (ledger_of node held coins) (last_wave before)) last
       → segment (ledger_of node held coins) previous last ≡ segment (ledger_of node all coins) previous last
   pub same_segments : (previous : Option Certificate) → segments (ledger_of node held coins) previous (newer (ledger_of node held coins) (last_wave before))
@@ -150,7 +152,8 @@ pub record IsEnough (node : Node) (before later : History) (low : ℕ) (held : S
   pub same : SayTheSame node low (ledger_at node before) (coins later) held (slots node later)
   pub order : order node later ≡ order node before ++ ordered_since (ledger_of node held (coins later)) (last_wave (ledger_at node before))
 
--- certificates are enough in that sense if they are those of a legal history from some round on, at or below the floor of a prefix of it
+-- `IsEnough` holds of the certificates of a legal history from some round on, if this round is at or below the floor of a prefix of the
+-- history
 abbrev pub HeldIsEnough : Type 0
 HeldIsEnough = (node : Node) (before more : History) (low : ℕ) (held : Slots) → IsLegal node (before ++ more) → low ≤ floor node before
     → HoldsFrom low held (slots node (before ++ more)) → IsEnough node before (before ++ more) low held
