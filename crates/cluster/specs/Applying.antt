@@ -33,8 +33,8 @@ use Rattle.sigface.specs.Scheme.{Scheme}
 
 -- ---- what was done with a cluster
 
--- one step of a cluster: a move was applied and got this answer; or all members ran in threads for so many turns, with the acts of each,
--- newest first
+-- one step of a cluster: a move was applied and got this answer; or all members ran in threads for a number of turns, and did these acts,
+-- for each member the newest first
 pub data Doing : Type 0 where
   moved : Move → Result Applied ClusterError → Doing
   ran : ℕ → List (List Act) → Doing

@@ -220,7 +220,8 @@ impl<'a, S: Sign, D: Disk> Desk<'a, S, D> {
         // The error is Device if and only if the disk has counted a failed call.
         ensures cause { ReportsFault FlushError.Device (D.device.faults (disk_of self.old.journal)) (D.device.faults (disk_of self.new.journal)) result }
         ensures setting { self.new.book.validator.setting ≡ self.old.book.validator.setting }
-        // In the desk's world so many events are taken, the four device calls of an append are made, and the events are settled.
+        // In the world of the desk's runs a round is these moves: `count` events are taken, the four device calls of an append are made,
+        // and the events are settled.
         ensures steps { let node = node_of S.scheme self.old.book.validator.setting in IfOk result (λ count. self.old.book.pending ≢ [] → (world : World) → IsAt node D.device world self.old
             → LeadsTo node D.device world (take_to (length world.settled + count) ∷ device_call ∷ device_call ∷ device_call ∷ device_call ∷ settle ∷ []) self.new) }
         // If the desk goes down, its world has made the move that takes the events.

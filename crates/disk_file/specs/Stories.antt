@@ -14,7 +14,7 @@ begun bytes = record { first = bytes; calls = []; faults = 0 }
 abbrev pub with_more : List ℕ → TapeView → TapeView
 with_more bytes story = record story { first = story.first ++ bytes }
 
--- before any call, the file was found to have so many further bytes at its end
+-- before any call, the file was found to have `count` further bytes at its end
 pub record GoesOnFor (count : ℕ) (old new : TapeView) : Type 0 where
   pub bytes : List ℕ
   pub is : new ≡ with_more bytes old

@@ -110,7 +110,7 @@ pub(crate) fn read_on(
     Ok(())
 }
 
-// Reads so many bytes from this place on.
+// Reads `count` bytes, from this place of the file on, into the front of the window.
 fn read_piece(
     file: &File,
     tape: &mut Tape,

@@ -196,7 +196,8 @@ pub fn reopen_journal(
     Ok(())
 }
 
-// The bytes of that journal. It is flushed only after all events were accepted, so that each group has as many records as possible.
+// The bytes of the journal for `reopen_journal`. It is flushed only after all events were accepted, so that each group has as many records
+// as possible.
 fn journal_of(task: Task, config: &Config<HashSign>) -> Result<Vec<u8>, Ending> {
     let mut kept = Vec::new(task.alloc);
     kept.push(CLOSED)?;

@@ -65,7 +65,7 @@ pub enum Kind {
     Reopen,
     /// Writing a checkpoint of a validator that holds batches to a journal.
     Checkpoint,
-    /// Loading the records of such a checkpoint.
+    /// Loading a validator from the records of a checkpoint with batches.
     Load,
     /// Batches that three threads submit to a node, while a fourth one flushes.
     Node,

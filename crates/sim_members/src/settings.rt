@@ -1,4 +1,4 @@
-//! The settings of the members of such a committee.
+//! The settings of the members of a committee of four that run in one process.
 
 ghost use Rattle.std.specs.Prelude.{◌≡◌, ◌+◌, length, Ok, OnOk, IfOk, IfSome};
 ghost use Rattle.cluster.specs.Cluster.{AreOfOne, AreDistinct};
@@ -30,7 +30,8 @@ impl Drop for Settings {
 }
 
 impl Settings {
-    /// The settings for a committee of this depth in which a node may hold at most so many batches. On `AllocError` an allocation failed.
+    /// The settings for a committee of this depth in which a node holds at most `batches` batches, those of all members together. On
+    /// `AllocError` an allocation failed.
     pub fn new(alloc: Global, depth: u64, batches: u64) -> Result<Settings, AllocError> {
         let file = committee_file(alloc, depth, batches)?;
         let configs = configs_of(alloc, file.as_str())?;

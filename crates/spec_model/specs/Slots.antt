@@ -43,8 +43,8 @@ abbrev pub is_parent : Certificate → Certificate → Bool
 is_parent parent child =
     (parent.header.round + 1 == child.header.round) && list_any (is_named parent) child.header.parents
 
--- a path of so many steps leads from `start` to `end`, each step to a parent. With no step left, both have to be of the same round and
--- author
+-- a path with this number of steps leads from `start` to `end`, each step to a parent. With no step left, both have to be of the same round
+-- and author
 abbrev pub has_path : ℕ → Slots → ℕ → Certificate → Certificate → Bool
 has_path size slots zero start end = is_of_slot start.header.round start.header.author.0 end.header
 has_path size slots (suc steps) start end =

@@ -110,7 +110,7 @@ abbrev pub GroupsSettle : Type 0
 GroupsSettle = (node : Node) (moves : List Move) (world : World) (count : ℕ) → IsNode node → IsRun node moves world → world.groups ≡ [] → FitsGroup (map record_of (group_to world count))
     → (next : World) × Leads node world (take_to count ∷ device_call ∷ device_call ∷ device_call ∷ device_call ∷ settle ∷ []) next × HasSettledGroup node world count next
 
--- so many moves in a row, each of which makes the next device call of an append
+-- a number of moves in a row, each of which makes the next device call of an append
 abbrev pub device_calls : ℕ → List Move
 device_calls zero = []
 device_calls (suc count) = device_call ∷ device_calls count
@@ -151,7 +151,7 @@ AppendsMakeCalls = (node : Node) (world next : World) (count : ℕ) → world.ph
 
 -- ---- checkpoints
 
--- so many moves in a row, each of which makes the next device call of a rewriting
+-- a number of moves in a row, each of which makes the next device call of a rewriting
 abbrev pub spare_calls : ℕ → List Move
 spare_calls zero = []
 spare_calls (suc count) = spare_call ∷ spare_calls count

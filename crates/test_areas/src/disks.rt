@@ -124,7 +124,8 @@ pub const FILLS: [(Fill, &str); 6] = [
     (Fill::Torn(0xff), "ff"),
 ];
 
-/// The bytes, as many as `length` says, that a crash leaves of a disk with lost places filled this way. None if it can't leave so many.
+/// The `length` bytes that a crash leaves of a disk if the places that were written since the last sync are filled this way. None if a
+/// crash can't leave this many.
 pub fn outcome(
     alloc: Global,
     disk: &MemDisk,

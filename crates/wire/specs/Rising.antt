@@ -1,4 +1,4 @@
--- Strictly ascending lists with at most so many entries.
+-- Strictly ascending lists that have no more entries than a limit.
 use Rattle.std.specs.Prelude.{ℕ, ◌≤◌, All, IsTrue, Bool, true, ◌&&◌, List, [], ◌∷◌, length}
 
 -- each element of the list comes before the next one

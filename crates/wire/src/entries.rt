@@ -1,4 +1,4 @@
-//! Sorted lists with at most so many entries.
+//! Sorted lists that have no more entries than a limit.
 
 ghost use Rattle.std.specs.Prelude.{◌≡◌, ◌<◌, ◌≤◌, ◌++◌, [], ◌∷◌, ℕ, Bool, length, IsTrue, ◌↔◌, IfOk, OnOk, OnErr};
 ghost use Rattle.wire.specs.Rising.{rises, follows, AreEntries};
@@ -6,7 +6,7 @@ ghost use Rattle.wire.specs.Rising.{rises, follows, AreEntries};
 use std::alloc::{AllocError, Global};
 use std::marker::Model;
 
-/// What can be an entry of such a list: a reference to a batch, a reference to a parent, or a vote.
+/// What can be an entry of a sorted list with a limit: a reference to a batch, a reference to a parent, or a vote.
 pub trait Entry: Copy {
     // The greatest number of entries that a list of this type may have.
     ghost limit: { ℕ };

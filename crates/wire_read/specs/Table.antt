@@ -17,8 +17,8 @@ pub record Field : Type 0 where
   pub width : ℕ
   pub fault : List ℕ → Option WireError
 
--- A part of a message: one field; or entries, with their number before them in this width, and at most so many. An entry is a key, whose
--- test depends on the keys before it, and a field that depends on the key.
+-- A part of a message: one field; or a list of entries, with their number before them in a field of this width, and no more entries than
+-- this number. An entry is a key, whose test depends on the keys before it, and a field that depends on the key.
 pub data Part : Type 0 where
   one : Field → Part
   many : Width → ℕ → (List (List ℕ) → Field) → (List ℕ → Field) → Part

@@ -24,7 +24,7 @@ struct Body {
     len: usize,
 }
 
-// Whether a body that has so many bytes has room for one more transaction of this length.
+// Whether a batch's body that has `so_far` bytes has room for one more transaction of this length.
 fn has_room(so_far: usize, len: usize) -> bool
     requires { so_far ≤ MAX_BATCH_BYTES }
     ensures { result ≡ nat_le (so_far + (4 + len)) MAX_BATCH_BYTES }

@@ -19,7 +19,7 @@ use wire::{
 /// A digest of all zeros, which isn't the digest of any text.
 const NOTHING: Digest = Digest([0; 32]);
 
-/// A header to show or to vote for is drawn from so many of the last headers.
+/// A header to show or to vote for is drawn from this many of the last headers.
 const NEAR: u64 = 6;
 
 /// A delay of many rounds, after which the certificate of a face is shown to the nodes that got it late.

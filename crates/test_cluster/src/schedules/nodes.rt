@@ -10,10 +10,10 @@ use std::alloc::AllocError;
 use validator::Refusal;
 use wire::{Author, Coin, Header, Message, Wave};
 
-/// One in so many of the wanted deliveries is lost.
+/// One in this many of the wanted deliveries is lost.
 const LOST_ONE_OF: u64 = 64;
 
-/// What a node is given next is drawn from the first so many things that it is ready for.
+/// What a node is given next is drawn from the first things that it is ready for, at most this many.
 const FIRST: usize = 6;
 
 /// A number of rounds that is greater than that of any schedule.

@@ -10,8 +10,8 @@ pub enum Left {
     Read,
     /// What the last sync left.
     Synced,
-    /// An area of this length. Of the places that a stop may leave with any byte, those that are a multiple of `every` hold this byte. The
-    /// others hold what a read gives there, or else what the last sync left.
+    /// An area of this length. A stop may leave any byte at some places; of these, the places that are a multiple of `every` hold `byte`.
+    /// The others hold what a read returns there, or else what the last sync left.
     Torn { byte: u8, every: u64, len: u64 },
 }
 
