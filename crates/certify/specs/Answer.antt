@@ -54,7 +54,7 @@ complete_after Again complete = complete
 complete_after Counted complete = complete
 complete_after (Complete certificate) complete = true
 
--- the assembly after this answer
+-- the assembly after it has given this answer to a vote
 abbrev pub after : Added → AssemblyView → Vote → AssemblyView
 after added assembled vote = record assembled {
   places = places_after added assembled.places vote;

@@ -5,7 +5,7 @@ use header::CheckError;
 use validator::Refusal;
 use wire::{Author, Coin, Message};
 
-/// A move of a cluster.
+/// A move of a cluster: something that is done with one of its nodes.
 #[derive(Debug, Drop)]
 pub enum Move {
     /// A node's output, named by the number under which the node put it out, is given to another node as a message from the first one.

@@ -54,7 +54,7 @@ pub enum Call {
     Wrote {
         /// The place of the first byte that was written.
         place: u64,
-        /// What was written.
+        /// The bytes that were written.
         bytes: KeptBytes,
     },
     /// The disk was cut to this length.
@@ -68,13 +68,13 @@ pub enum Call {
 /// A kind of call that can be set to fail.
 #[derive(Clone, Copy, Debug, PartialEq, Eq)]
 pub enum CallKind {
-    /// `read_at`.
+    /// A call of `read_at`, which reads bytes.
     Read,
-    /// `write_at`.
+    /// A call of `write_at`, which writes bytes.
     Write,
-    /// `cut`.
+    /// A call of `cut`, which shortens the disk.
     Cut,
-    /// `sync`.
+    /// A call of `sync`, which makes everything durable.
     Sync,
 }
 

@@ -13,7 +13,7 @@ use wire::Author;
 pub struct Node<S: Sign> {
     /// The node's number in the committee.
     pub own: Author,
-    /// The committee.
+    /// The node's committee.
     pub committee: Committee,
     /// The signer of the node's own messages.
     pub signer: S,

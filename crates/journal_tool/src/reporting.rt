@@ -7,7 +7,7 @@ use wire::Digest;
 /// The value of a column. A missing value is shown as a dash, or in JSON as null.
 #[derive(Clone, Copy)]
 pub(crate) enum Column<'a> {
-    /// A number.
+    /// A number in decimal digits, or a missing one.
     Number(Option<u64>),
     /// A word. It contains no quote and no backslash, so that it needs no escaping.
     Word(&'a str),

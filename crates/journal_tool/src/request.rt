@@ -144,7 +144,7 @@ fn words_of(rest: &[String]) -> Result<Words<'_>, Ending> {
     }
 }
 
-// Reads one more argument.
+// Reads one more argument of the command line.
 fn with_word<'a>(words: Words<'a>, word: &'a str) -> Result<Words<'a>, Ending> {
     match words.awaits {
         Awaits::Any => with_option(words, word),

@@ -98,7 +98,7 @@ pub struct Sum {
 }
 
 impl Sum {
-    /// No outputs yet.
+    /// The state before the first output.
     pub fn new() -> Sum {
         Sum { count: 0, value: 0 }
     }

@@ -8,7 +8,7 @@ use sim_script::OWN;
 use std::alloc::Global;
 use wire::{Author, Batch, BatchAck, MAX_TRANSACTION_BYTES, Message, OpenBatch, encode};
 
-/// How many such messages are made.
+/// How many messages of one form are made; a benchmark uses them in turn.
 pub const RING: u64 = 16;
 
 /// The member whose batches are made.

@@ -44,7 +44,7 @@ pub enum Step {
     All,
 }
 
-/// A kind of work.
+/// A kind of work that the benchmark measures.
 #[derive(Clone, Copy)]
 pub enum Kind {
     /// Compressions of SHA-256, with whose cost all other work is compared.

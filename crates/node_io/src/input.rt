@@ -15,7 +15,7 @@ use wire_read::FrameReader;
 /// How many bytes are read from the stream at once, at most.
 const PIECE_BYTES: usize = 1_048_576;
 
-/// Why no more frames come.
+/// Why no more frames come from the input.
 #[derive(Clone, Copy, Debug, PartialEq, Eq)]
 pub enum End {
     /// The stream has ended after a whole frame.

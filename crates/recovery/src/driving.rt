@@ -22,7 +22,7 @@ use thiserror::Error;
 use validator::Config;
 use wire_write::WriteError;
 
-/// A command that drives a node.
+/// A command of a script, which drives a node.
 #[derive(Debug, Drop)]
 pub enum Command {
     /// An event comes in, which passed the checks of the node's committee.

@@ -5,7 +5,7 @@ use header::Event;
 /// A command of a script to a node.
 #[derive(Drop)]
 pub enum Command {
-    /// An event comes in.
+    /// An event reaches the node.
     Event(Event),
     /// The longest prefix of the pending records that fits a group is settled.
     Flush,

@@ -3,7 +3,7 @@ use Rattle.std.specs.Prelude.{ℕ, ◌+◌, if◌then◌else◌}
 use Rattle.diskmodel.specs.declared.memory.MemDisk.{MemDisk}
 use Rattle.sim_run.specs.declared.stopping.StoppingDisk.{StoppingDisk}
 
--- the disk in memory under it
+-- the disk in memory on which a `StoppingDisk` stands
 abbrev pub memory_of : StoppingDisk → MemDisk
 memory_of stopping = stopping.disk
 

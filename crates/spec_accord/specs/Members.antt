@@ -156,7 +156,7 @@ pub record WasVoted (party : Party) (member : ℕ) (digest : Digest) : Type 0 wh
   pub voted : HasVote party member body
   pub is : (digest ≡ header_digest body) ⊎ (digest ≡ certificate_digest body)
 
--- What is assumed further, of headers.
+-- What is assumed in addition, for laws on headers: how stakes compare, that no header is forged, and what an honest member signs.
 pub record HasHeaders (party : Party) (signed : ℕ → Digest → Bool) : Type 0 where
   -- an honest member and the members who aren't honest weigh together less than a quorum, as they do if stakes are equal
   pub others : (member : ℕ) → party.honest member ≡ true

@@ -21,7 +21,7 @@ pub struct Fault {
 }
 
 impl Fault {
-    /// No call fails.
+    /// The choice that no device call of the rewriting fails.
     pub fn none() -> Fault {
         Fault {
             kind: CallKind::Sync,

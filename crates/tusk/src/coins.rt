@@ -36,7 +36,7 @@ impl Model for Coins {
 }
 
 impl Coins {
-    /// No coins.
+    /// The coins before the coin of the first wave: none.
     pub fn new(alloc: Global) -> Coins
         ensures { result ≡ [] }
     {

@@ -25,7 +25,7 @@ pub struct HeaderBody {
 /// A proposal, with its author's signature of the header's digest.
 #[derive(Clone, Debug, Drop)]
 pub struct Header {
-    /// What is proposed.
+    /// The content of the header: its author, round, batches and parents.
     pub body: HeaderBody,
     /// The author's signature of the header digest.
     pub signature: Signature,

@@ -44,7 +44,7 @@ impl SharedBytes {
         Ok(SharedBytes { items })
     }
 
-    /// The bytes.
+    /// The shared bytes, borrowed.
     pub fn as_slice(&self) -> &[u8]
         ensures { result.now ≡ self.now }
     {

@@ -126,7 +126,8 @@ pub fn decode(alloc: Global, bytes: &[u8]) -> Result<Message, WireError>
     ensures found { IfOk result (λ message. Spells message bytes.now) }
     // If these bytes are the encoding of a message, that message is the result, unless an allocation fails.
     ensures only { (message : Message) → Spells message bytes.now → Gives (λ found. found) result (Ok message) }
-    // Otherwise the result is this fault.
+    // If the bytes are no message's encoding, the result is the first fault that the definition of reading (`message_of`) finds, unless an
+    // allocation fails.
     ensures fault { Gives (λ message. message) result (message_of bytes.now) }
 {
     message_in(alloc, bytes)

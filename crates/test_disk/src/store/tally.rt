@@ -96,7 +96,7 @@ pub fn count(place: &mut u64) {
 }
 
 impl Tally {
-    /// All counts are 0.
+    /// The counts before the first step: all are 0.
     pub fn new() -> Tally {
         Tally {
             new: 0,

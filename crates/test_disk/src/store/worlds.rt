@@ -9,7 +9,7 @@ use std::alloc::Global;
 #[derive(Drop)]
 pub struct Worlds {
     alloc: Global,
-    /// Each command with its answer.
+    /// Each command that was played, with its answer.
     report: String,
 }
 

@@ -16,7 +16,7 @@ pub struct Made {
 }
 
 impl Made {
-    /// No headers.
+    /// The state before the first header.
     pub fn new(alloc: Global) -> Made {
         Made {
             labels: Labels::new(alloc),
