@@ -22,7 +22,7 @@ const NOTHING: Digest = Digest([0; 32]);
 /// A header to show or to vote for is drawn from this many of the last headers.
 const NEAR: u64 = 6;
 
-/// A delay of many rounds, after which the certificate of a face is shown to the nodes that got it late.
+/// A long delay, in rounds, before the certificate of a face is shown to a node.
 const LONG: u64 = 6;
 
 /// In the plan of a branch: the last round whose dishonest certificates reach the node apart later than the other nodes.

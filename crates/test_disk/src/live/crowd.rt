@@ -33,7 +33,7 @@ const ALL: u64 = 3_000;
 // How often the flushing thread flushes before it gives up, if not all batches are settled by then.
 const TURNS: u64 = 10_000_000;
 
-// On two disks a checkpoint is made each time that this many group commits were made. At least this many are made in all.
+// On two disks a checkpoint is made each time that this many flushes were made. At least this many are made in all.
 const EVERY: u64 = 20;
 
 // The member whose batches a thread submits, and the thread's seat.
@@ -228,7 +228,7 @@ fn flush_all<R: Wait>(
     }
 }
 
-// Makes a group commit, and after it a checkpoint if one is to be made.
+// Flushes once, and then makes a checkpoint if one is to be made.
 fn flush<R: Wait>(
     rt: &R,
     rounds: &mut Rounds<'_, '_, HashSign, MemDisk>,

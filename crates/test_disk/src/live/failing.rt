@@ -1,4 +1,4 @@
-//! Tests of group commits in which a call of the disk fails.
+//! Tests of flushes in which a call of the disk fails.
 
 ghost use Rattle.std.specs.Prelude.{◌≡◌};
 
@@ -17,26 +17,26 @@ use std::sync::Wait;
 use validator::Config;
 use wire::{Author, Round};
 
-// The greatest number of group commits that are tried for one kind of call.
+// The greatest number of flushes that are tried for one kind of call.
 const MOST: u64 = 10;
 
 // What happens to a node whose disk fails.
 #[derive(Clone, Copy)]
 enum Plan {
-    // A sync fails in a group commit, and then the node, which is down, is asked several things.
+    // A sync fails in a flush, and then the node, which is down, is asked several things.
     Down,
-    // In the group commit of one record the call of this kind with this number, counted from 1, fails.
+    // In the flush of one record the call of this kind with this number, counted from 1, fails.
     Call(CallKind, u64),
 }
 
-/// Shows what a node answers after a failed group commit took it down.
+/// Shows what a node answers after a failed flush took it down.
 pub fn go_down<R: Wait>(rt: &R, alloc: Global, answer: &mut String) -> Result<(), Ending> {
     carry_out(rt, alloc, Plan::Down, answer)?;
     Ok(())
 }
 
-/// Makes group commits of one record in which the first call of a kind fails, then the second, and so on, until none fails; `name` is the
-/// kind's name in the plural. Shows the answer to each group commit, and how many records are left by a stop after it that keeps everything
+/// Makes flushes of one record in which the first call of a kind fails, then the second, and so on, until none fails; `name` is the
+/// kind's name in the plural. Shows the answer to each flush, and how many records are left by a stop after it that keeps everything
 /// that was written, and by a stop that loses what isn't synced.
 pub fn fail_each<R: Wait>(
     rt: &R,
@@ -74,7 +74,7 @@ fn events_on(alloc: Global, disk: MemDisk) -> Result<u64, Ending> {
     Ok(count)
 }
 
-// Makes a group commit, shows whether its record was settled, and returns the disk.
+// Flushes once, shows whether its record was settled, and returns the disk.
 fn carry_out<R: Wait>(
     rt: &R,
     alloc: Global,
@@ -105,7 +105,7 @@ fn carry_out_on<R: Wait>(
     }
 }
 
-// Makes a group commit of this node, to which a caller submits the record, and shows whether the record was settled.
+// Flushes this node once, to which a caller submits the record, and shows whether the record was settled.
 fn play_with<'a, R: Wait>(
     rt: &R,
     alloc: Global,

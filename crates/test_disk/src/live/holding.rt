@@ -83,15 +83,15 @@ impl Gate for Held<'_> {
     }
 }
 
-// What is held up: a group commit, or a checkpoint.
+// What is held up: a flush, or a checkpoint.
 #[derive(Clone, Copy)]
 enum Kind {
     Round,
     Checkpoint,
 }
 
-/// Submits a header, and two more headers while a group commit of the first one, or a checkpoint, is held before its sync. Then lets the
-/// flusher go on to its next sync, and then to the end. The next group commit has the other two headers.
+/// Submits a header, and two more headers while a flush of the first one, or a checkpoint, is held before its sync. Then lets the
+/// flusher go on to its next sync, and then to the end. The next flush has the other two headers.
 pub fn hold<R>(rt: &R, alloc: Global, name: &str, answer: &mut String) -> Result<(), Ending>
 where
     R: Threads + Wait + Sync,
@@ -139,7 +139,7 @@ where
     flush_rest(rt, rounds, &mut caller, answer)
 }
 
-// Makes a group commit in which no sync is held.
+// Flushes once, with no sync held.
 fn flush_rest<R: Wait, D: Disk + Drop>(
     rt: &R,
     mut rounds: Rounds<'_, '_, HashSign, D>,
