@@ -74,7 +74,7 @@ fn events_on(alloc: Global, disk: MemDisk) -> Result<u64, Ending> {
     Ok(count)
 }
 
-// Flushes once, shows whether its record was settled, and returns the disk.
+// Flushes once, shows whether the record was settled, and returns the disk.
 fn carry_out<R: Wait>(
     rt: &R,
     alloc: Global,
@@ -105,7 +105,7 @@ fn carry_out_on<R: Wait>(
     }
 }
 
-// Flushes this node once, to which a caller submits the record, and shows whether the record was settled.
+// A caller submits the record to this node, and the node flushes once; shows whether the record was settled.
 fn play_with<'a, R: Wait>(
     rt: &R,
     alloc: Global,
