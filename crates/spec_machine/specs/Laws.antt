@@ -199,7 +199,7 @@ pub record IsEnoughAfter (node : Node) (state : State) (event : Event) (low : �
   pub afterwards : HoldsFrom (floor_in node (after node state event)) held (after node state event).slots
 
 -- `IsEnoughAfter` holds of the certificates of a sound state from some round on, at or below its floor, with the certificate that a new
--- event adds new event adds
+-- event adds
 abbrev pub HeldIsEnoughAfter : Type 0
 HeldIsEnoughAfter = (node : Node) (state : State) (event : Event) (low : ℕ) (held : Slots) → IsNode node → IsSound node state → IsTaken node event
     → IsTrue (is_new (answered node state event)) → low ≤ floor_in node state → HoldsFrom low held (grown node state event.message).slots
