@@ -29,10 +29,10 @@ is_written spans place = list_any (λ span. holds span place) spans
 pub record State : Type 0 where
   -- the bytes at the last successful sync
   pub durable : List ℕ
-  -- the smallest and the greatest length since that sync
+  -- the smallest and the greatest length since the last successful sync
   pub smallest : ℕ
   pub greatest : ℕ
-  -- the places that were written since that sync
+  -- the places that were written since the last successful sync
   pub spans : List Span
   -- the bytes that a read gives
   pub content : List ℕ

@@ -30,7 +30,8 @@ pub record Follows (graph : DagView) (previous : Option (ℕ × Author)) (leader
   pub all : (c : Certificate) → slots_in graph leader.0 leader.1.0 ≡ Some c → HasAllOf graph (leader_held graph previous) c
   pub marked : IsMarkedBefore graph (leader.0 - graph.charter.depth) (leader_held graph previous)
 
--- each leader of a chain is such a leader, if exactly what the leader before the first one reaches is marked
+-- in a chain of linked leaders `Follows` holds of each leader and the one before it, if exactly what the leader before the first one
+-- reaches is marked
 abbrev pub EachFollows : Type 0
 EachFollows = (graph : DagView) (previous : Option (ℕ × Author)) (front rest : List (ℕ × Author)) (leader : ℕ × Author) → IsGraph graph
     → AreLinked graph previous (front ++ leader ∷ rest) → IsMarkedFor graph previous (front ++ leader ∷ rest) → Follows graph (last_or previous front) leader

@@ -58,9 +58,9 @@ pub record IsOfOrder {S : Type 0} (scheme : Scheme S) (node : NodeView S) (view 
   pub collected : (start : ℕ) (digests : List Digest) → IsPutOutBy scheme node view (output.Order start digests) → StandFrom whole start digests
   pub read : (from : ℕ) (digests : List Digest) → IsReadBy scheme node view from digests → StandFrom whole from digests
 
--- There is one such order for a seat: that of any legal history that starts with one leading to the node's base and then has all events that
--- the seat knows as settled. So seats of one run or of several runs collect and read pieces of one order, if one such history has the events
--- of all.
+-- There is one such order for a seat: that of any legal history that starts with one leading to the node's base and then has all events
+-- that the seat knows as settled. So seats of one run or of several runs collect and read pieces of one order, if one such history has the
+-- events of all.
 abbrev pub CollectedOrdersAgree : Type 0 → Type 0
 CollectedOrdersAgree S = (scheme : Scheme S) (node : NodeView S) (began left : History) (view : View)
     → KeepsBase scheme node began → IsLegal (node_of scheme node.setting) left → Begins (began ++ events view.durable) left

@@ -30,10 +30,10 @@ pub record GaveIt (cluster : Cluster) (worlds : Worlds) (member : ℕ) (digests 
   pub is : order_given (order (cluster.node member) given.history) given.outgoing ≡ Some digests
 
 pub record AreAgreed (cluster : Cluster) (worlds : Worlds) : Type 0 where
-  -- of one author and round, all such certificates have the same header
+  -- the certificates of one author and round that honest members held at settled histories have the same header
   pub certificates : (member also : ℕ) (one other : Certificate) → HeldIt cluster worlds member one → HeldIt cluster worlds also other
       → one.header.author ≡ other.header.author → one.header.round ≡ other.header.round → one.header ≡ other.header
-  -- of any two such orders, one is a prefix of the other
+  -- of any two orders that honest members gave out, one is a prefix of the other
   pub orders : (member also : ℕ) (one other : List Digest) → GaveIt cluster worlds member one → GaveIt cluster worlds also other → Agree one other
 
 -- Agreement. Take any cluster whose faulty members weigh no more than is tolerated, whichever messages reach whom (as long as the premises

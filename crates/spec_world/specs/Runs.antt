@@ -62,7 +62,7 @@ RunsBeginWithWhatStands = (node : Node) (moves : List Move) (world : World) (fou
     → IsRecovered node world history → StandsFor node found (kept node history)
     → (next : World) × IsStep node world (restart found) next × (next.began ≡ history) × (next.given ≡ world.given) × (is_some next.spare ≡ is_some world.spare)
 
--- a new run can begin at each state that what the stop left is read as
+-- a new run can begin at each state that is read from what the stop left
 abbrev pub RunsBeginAtStates : Type 0
 RunsBeginAtStates = (node : Node) (moves : List Move) (world : World) (found : Areas) (state_found : State) → IsNode node → IsRun node moves world → MayStop world found
     → StandsFor node found state_found

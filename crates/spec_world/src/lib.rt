@@ -39,7 +39,7 @@ pub fn runs_begin_with_what_stands()
     ensures { RunsBeginWithWhatStands }
 {}
 
-/// After a stop a new run can begin at each state that what the stop left is read as.
+/// After a stop a new run can begin at each state that is read from what the stop left.
 pub fn runs_begin_at_states()
     ensures { RunsBeginAtStates }
 {}

@@ -12,7 +12,7 @@ abbrev pub has_one_header : Slots → Slots → ℕ → ℕ → Bool
 has_one_header one other round author =
     option_map_or (λ c. option_map_or (λ d. same_header c.header d.header) (other round author) true) (one round author) true
 
--- the same for each round and author that the certificates of the left history fill
+-- for each certificate of the first list: the second list has no certificate of the same round and author with another header
 abbrev pub have_one_header : List Certificate → List Certificate → Bool
 have_one_header one other =
     list_all (λ c. has_one_header (slots_of one) (slots_of other) c.header.round c.header.author.0) one
