@@ -68,7 +68,7 @@ abbrev pub next_durable : Phase → ℕ → ℕ
 next_durable gate_opened durable = durable + 1
 next_durable _ durable = durable
 
--- the world once this was given out, while the accepted events made up this history; nothing else has changed
+-- the world once this was given out, noted with this history (see `Given`); nothing else has changed
 abbrev pub with_given : World → Outgoing → History → World
 with_given world outgoing history = record world { given = world.given ++ record { outgoing = outgoing; history = history } ∷ [] }
 
