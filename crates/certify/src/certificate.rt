@@ -27,7 +27,8 @@ fn signature_with(places: &[Option<Signature>], vote: &Vote, member: usize) -> O
     }
 }
 
-/// Of the votes at these places, sorted by voter, the one with this number, from 0 on.
+/// One of the votes at these places, where each member that has voted has its signature at the member's number: of these votes, sorted by
+/// voter and counted from 0, the one with the number `place`. None if there are not so many.
 pub(crate) fn nth_vote(places: &[Option<Signature>], place: usize) -> Option<VoteEntry>
     requires { length places.now ≤ MAX_MEMBERS }
     ensures { result ≡ slice_get (votes_in places.now) place }

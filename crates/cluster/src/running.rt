@@ -120,7 +120,7 @@ fn workers_of<'a, S: Sign, D: StopDisk + Drop, G: Gate + Drop>(
     Ok(workers)
 }
 
-// The members as their threads gave them back, in the same order.
+// The members that the threads gave back, in the order of the threads; or the first error that a thread gave back in place of a member.
 fn all_members<'a, S: Sign, D: StopDisk + Drop>(
     alloc: Global,
     ended: Vec<Result<Member<'a, S, D>, AllocError>>,

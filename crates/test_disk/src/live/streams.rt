@@ -45,7 +45,7 @@ pub enum Step {
 pub struct Seen {
     pub output: Vec<u8>,
     pub errors: Vec<u8>,
-    /// How many of the first writes of outputs would block.
+    /// How many of the next writes of outputs answer `WouldBlock`.
     pub blocks: u64,
     /// Whether a write of output fails.
     pub is_broken: bool,
