@@ -14,7 +14,7 @@ use Rattle.node_seats.specs.Views.{events, events_by, mark, HasOwn, informed}
 use Rattle.node_seats.specs.declared.view.Marked.{Marked}
 use Rattle.node_seats.specs.declared.view.View.{View}
 use Rattle.node_seats.proofs.Marks.{by_same, events_push}
-use Rattle.node_seats.proofs.Same.{same_then, same_reported}
+use Rattle.node_seats.proofs.Same.{same_then, same_heard}
 use Rattle.node_shared.specs.Answers.{IsPutOutBy, Gives}
 use Rattle.node_shared.specs.Calls.{Looked, Learned, Brought, Stays}
 use Rattle.node_shared.specs.Home.{NodeView, IsBase}
@@ -26,7 +26,7 @@ own_stays before later stays own = (λ i. events_by (stays.same.number i) (stays
 
 -- what stays of a seat that was told something, and of one that read whether the node is down
 pub stays_informed : (before later : SeatView) (other : View) → later ≡ record before { view = informed before.view other } → Stays before later
-stays_informed before later other reported = record { same = same_reported before later other reported; seen = ap (λ s. s.view.seen) reported; durable = ap (λ s. s.view.durable) reported }
+stays_informed before later other reported = record { same = same_heard before later other reported; seen = ap (λ s. s.view.seen) reported; durable = ap (λ s. s.view.durable) reported }
 
 pub stays_read : (before later : SeatView) (down : Bool) → later ≡ record before { view = record before.view { down = down } } → (before.view.down ≡ true → down ≡ true) → Stays before later
 stays_read before later down is keeps = record {

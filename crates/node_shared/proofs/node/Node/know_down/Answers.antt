@@ -8,7 +8,7 @@ use Rattle.node_shared.proofs.node.Node.know_down.Goals as goal
 
 pub returns-then-read_down-clause-home : goal.returns-then-read_down-clause-home
 returns-then-read_down-clause-home g c =
-    let reported = c.inform-then-read_down.ensures.reported in
+    let reported = c.inform-then-read_down.ensures.heard in
     let knows = ap (λ s. s.view.down) c.read_down.ensures.down ∙ c.if-read_down.true in
     let first = ap (λ s. s) c.inform.ensures.same in
     let stays = subst (λ s. Stays s c.inform-then-read_down.new.to) first (stays_informed c.inform.new.from c.inform-then-read_down.new.to c.read_down.new.seat.view reported) in
@@ -23,12 +23,12 @@ returns-then-read_down-clause-book g c =
 pub returns-then-read_down-clause-stays_locked : goal.returns-then-read_down-clause-stays_locked
 returns-then-read_down-clause-stays_locked g c =
     subst (λ s. Stays s c.inform-then-read_down.new.to) c.inform.ensures.same
-    (stays_informed c.inform.new.from c.inform-then-read_down.new.to c.read_down.new.seat.view c.inform-then-read_down.ensures.reported)
+    (stays_informed c.inform.new.from c.inform-then-read_down.new.to c.read_down.new.seat.view c.inform-then-read_down.ensures.heard)
 
 pub returns-then-read_down-clause-stays : goal.returns-then-read_down-clause-stays
 returns-then-read_down-clause-stays g c =
     subst (λ s. Stays c.args.seat.now s) (sym c.inform-then-read_down.ensures.same)
-    (stays_then c.args.seat.now c.inform.new.to c.read_down.new.seat (stays_informed c.args.seat.now c.inform.new.to c.args.locked.now.seat.view c.inform.ensures.reported)
+    (stays_then c.args.seat.now c.inform.new.to c.read_down.new.seat (stays_informed c.args.seat.now c.inform.new.to c.args.locked.now.seat.view c.inform.ensures.heard)
     (stays_read c.inform.new.to c.read_down.new.seat c.read_down.result c.read_down.ensures.down c.read_down.ensures.stays))
 
 pub returns-else-read_down-clause-home : goal.returns-else-read_down-clause-home
@@ -38,7 +38,7 @@ pub returns-else-read_down-clause-book : goal.returns-else-read_down-clause-book
 returns-else-read_down-clause-book g c =
     let knows = ap (λ s. s.view.down) c.read_down.ensures.down ∙ c.if-read_down.false in
     let up : c.args.locked.now.book.down ≡ true → ⊥ = λ down.
-    let reported = ap (λ s. s.view.down) c.inform.ensures.reported ∙ or_second c.args.seat.now.view.down c.args.locked.now.seat.view.down (c.requires.home.down down) in
+    let reported = ap (λ s. s.view.down) c.inform.ensures.heard ∙ or_second c.args.seat.now.view.down c.args.locked.now.seat.view.down (c.requires.home.down down) in
     let bad : false ≡ true = sym c.if-read_down.false ∙ c.read_down.ensures.stays reported in cc in
     stays_up c.args.locked.now.book up ∙ ap (λ d. record c.args.locked.now.book { down = d }) (sym knows)
 
@@ -47,5 +47,5 @@ returns-else-read_down-clause-stays_locked g c = subst (λ s. Stays c.args.locke
 
 pub returns-else-read_down-clause-stays : goal.returns-else-read_down-clause-stays
 returns-else-read_down-clause-stays g c =
-    stays_then c.args.seat.now c.inform.new.to c.read_down.new.seat (stays_informed c.args.seat.now c.inform.new.to c.args.locked.now.seat.view c.inform.ensures.reported)
+    stays_then c.args.seat.now c.inform.new.to c.read_down.new.seat (stays_informed c.args.seat.now c.inform.new.to c.args.locked.now.seat.view c.inform.ensures.heard)
     (stays_read c.inform.new.to c.read_down.new.seat c.read_down.result c.read_down.ensures.down c.read_down.ensures.stays)
