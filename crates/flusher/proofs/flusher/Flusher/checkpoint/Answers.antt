@@ -8,7 +8,7 @@ use Rattle.diskmodel.specs.Disk.{AtEachMoment}
 use Rattle.journal.specs.Journal.{disk_of}
 use Rattle.journal.specs.Pairs.{areas_of, areas_with, spare_disk, rewritten_disk}
 use Rattle.node_seats.proofs.Beginnings.{begins_same, begins_trans}
-use Rattle.node_seats.proofs.Same.{same_then, same_reported, or_second}
+use Rattle.node_seats.proofs.Same.{same_then, same_heard, or_second}
 use Rattle.node_seats.specs.Sights.{SeatView}
 use Rattle.node_seats.specs.Views.{IsSame}
 use Rattle.node_seats.specs.declared.view.Marked.{Marked}
@@ -77,7 +77,7 @@ returns-in_err-generation-clause-reported g c =
     let is = c.in_err-generation.ensures.seat_err in
     let knows = ap (λ (s : SeatView). s.view.down) is ∙ or_second mid.view.down c.rewrite.new.self.seat.seat.view.down c.in_err-generation.ensures.reported_err in
     record {
-      same = same_then before mid c.rewrite.new.seat looked.same (same_reported mid c.rewrite.new.seat c.rewrite.new.self.seat.seat.view is);
+      same = same_then before mid c.rewrite.new.seat looked.same (same_heard mid c.rewrite.new.seat c.rewrite.new.self.seat.seat.view is);
       more = subst (λ s. Begins before.view.seen s.view.seen) (sym is) looked.more;
       more_durable = subst (λ s. Begins before.view.durable s.view.durable) (sym is) (subst (λ l. Begins before.view.durable l) (sym looked.durable) (begins_same before.view.durable));
       no_change = search rules;

@@ -3,7 +3,7 @@ use Rattle.wire.specs.Lists.{Begins}
 use Rattle.node_seats.specs.Views.{IsSame}
 use Rattle.node_seats.specs.Sights.{SeatView}
 use Rattle.node_seats.proofs.Beginnings.{begins_same, begins_trans}
-use Rattle.node_seats.proofs.Same.{same_then, same_reported, or_second}
+use Rattle.node_seats.proofs.Same.{same_then, same_heard, or_second}
 use Rattle.node_shared.specs.Home.{IsFlushOf, taken_by}
 use Rattle.flusher.specs.Rounds.{areas_at, IsFlusherOf, HoldsAfter, HoldsEither, KeepsEarlier, records_after}
 use Rattle.flusher.specs.declared.flusher.Flusher.{Flusher}
@@ -124,7 +124,7 @@ returns-in_err-count-in-Some-clause-reported g c =
     let is = c.in_err-count-in-Some.ensures.seat_err in
     let knows = ap (λ (s : SeatView). s.view.down) is ∙ or_second mid.view.down c.add.new.self.seat.seat.view.down c.in_err-count-in-Some.ensures.reported_err in
     record {
-      same = same_then before mid c.add.new.seat looked.same (same_reported mid c.add.new.seat c.add.new.self.seat.seat.view is);
+      same = same_then before mid c.add.new.seat looked.same (same_heard mid c.add.new.seat c.add.new.self.seat.seat.view is);
       more = subst (λ s. Begins before.view.seen s.view.seen) (sym is) looked.more;
       more_durable = subst (λ s. Begins before.view.durable s.view.durable) (sym is) (subst (λ l. Begins before.view.durable l) (sym looked.durable) (begins_same before.view.durable));
       no_change = search rules;
