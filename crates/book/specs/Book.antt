@@ -22,7 +22,7 @@ use Rattle.spec_world.specs.Steps.{ticketed}
 use Rattle.validator.specs.Standing as validator
 use Rattle.book.specs.declared.book.TheConstants.{MAX_ACCEPTED}
 use Rattle.book.specs.declared.reached.Reached.{Reached}
-use Rattle.book.specs.Queue.{length_at, TicketsRise, settled_head}
+use Rattle.book.specs.Queue.{length_at, TicketsRise, settled_head, settled_front}
 
 -- what contracts see of a book
 pub record BookView (S : Type 0) : Type 0 where
@@ -165,6 +165,10 @@ MayRefuse node run book event refusal = answered node (state_in node run) event 
 -- the output that may leave now, if there is one
 abbrev pub releasable : {S : Type 0} → BookView S → Option Output
 releasable book = if book.down then None else settled_head book.settled book.queue
+
+-- the outputs that may leave now, oldest first, at most `room` of them
+abbrev pub releasable_within : {S : Type 0} → ℕ → BookView S → List Output
+releasable_within room book = if book.down then [] else take room (settled_front book.settled book.queue)
 
 -- These records are a checkpoint of a state: the node's configuration in the second version, and the records of the state, as a node
 -- writes them.

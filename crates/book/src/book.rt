@@ -8,7 +8,7 @@ ghost use Rattle.book.specs.Book.{settled_to};
 ghost use Rattle.book.specs.declared.book.TheConstants.{MAX_ACCEPTED};
 
 use crate::pending::Pending;
-use crate::queue::{Queued, dequeue, enqueue, has_settled_head};
+use crate::queue::{Queued, dequeue, enqueue, has_settled_head, move_settled};
 use crate::reached::{Reached, leave_to, note_order};
 use crate::record::record_len;
 use committee::Committee;
@@ -76,11 +76,10 @@ impl<'a, S: Sign> Drop for Book<'a, S> {
 }
 
 impl<'a, S: Sign> Model for Book<'a, S> {
-    ghost use Rattle.std.specs.Prelude.{◌≡◌, ◌+◌, ◌≤◌, All, length};
+    ghost use Rattle.std.specs.Prelude.{◌≡◌, ◌+◌, ◌≤◌, length};
     ghost use Rattle.std.specs.Coded.{codes};
     ghost use Rattle.votebook.specs.contracts.book.VoteBook as votes;
     ghost use Rattle.book.specs.Book.{BookView};
-    ghost use Rattle.book.specs.Queue.{HasOutput};
     ghost use Rattle.book.specs.declared.book.TheConstants.{MAX_ACCEPTED};
 
     ghost Value = { BookView S };
@@ -91,11 +90,11 @@ impl<'a, S: Sign> Model for Book<'a, S> {
 
     ghost view = { shown_of };
 
-    ghost invariant = { λ b. (b.accepted ≤ MAX_ACCEPTED) × (b.taken + length b.pending ≡ b.accepted) × All HasOutput b.queue.items };
+    ghost invariant = { λ b. (b.accepted ≤ MAX_ACCEPTED) × (b.taken + length b.pending ≡ b.accepted) };
 }
 
 impl<'a, S: Sign> Book<'a, S> {
-    ghost use Rattle.std.specs.Prelude.{◌≢◌, ◌⊎◌, ◌∷◌, [], ◌++◌, ◌+◌, ◌≤◌, true, false, length, map, take, drop, IsTrue, IsNone, Some, None, is_some, Ok, IfOk, IfErr, IfSome, OnErr, IsErrOf, ◌↔◌, if◌then◌else◌, List, ℕ};
+    ghost use Rattle.std.specs.Prelude.{◌≢◌, ◌⊎◌, ◌∷◌, [], ◌++◌, ◌+◌, ◌-◌, ◌≤◌, true, false, length, map, take, drop, All, IsTrue, IsNone, Some, None, is_some, Ok, IfOk, IfErr, IfSome, OnErr, IsErrOf, ◌↔◌, if◌then◌else◌, List, ℕ};
     ghost use Rattle.checkpoint.specs.Describes.{Describes};
     ghost use Rattle.header.specs.Checks.{fault_of, accepts_all};
     ghost use Rattle.spec_machine.specs.Machine.{round_in};
@@ -104,7 +103,7 @@ impl<'a, S: Sign> Book<'a, S> {
     ghost use Rattle.validator.specs.Standing.{AreAtSound};
     ghost use Rattle.book.specs.Pending.{IsLongestBeginning};
     ghost use Rattle.book.specs.Checkpoints.{CanBeWritten};
-    ghost use Rattle.book.specs.Book.{Run, Stands, StandsAsBefore, run_on, state_in, settled_in, with_taken, with_all_taken, TakesNew, TakesKnown, MayRefuse, IsFull, HasPlace, releasable, IsCheckpointOfAll, Settles, SettlesNext, settled_by, settled_to, GoesOutSettled};
+    ghost use Rattle.book.specs.Book.{Run, Stands, StandsAsBefore, run_on, state_in, settled_in, with_taken, with_all_taken, TakesNew, TakesKnown, MayRefuse, IsFull, HasPlace, releasable, releasable_within, IsCheckpointOfAll, Settles, SettlesNext, settled_by, settled_to, GoesOutSettled};
 
     /// A book over this validator that has accepted nothing.
     pub fn new(alloc: Global, validator: Validator<'a, S>) -> Book<'a, S>
@@ -303,6 +302,28 @@ impl<'a, S: Sign> Book<'a, S> {
             return None;
         }
         dequeue(&mut self.queue)
+    }
+
+    /// Moves the outputs that may leave to the end of `outputs`, oldest first, as many as it has room for. The call allocates no memory.
+    pub fn release_into(&mut self, outputs: &mut VecDeque<Output>)
+        // No deque is longer than its capacity.
+        ensures outputs { let room = deque_capacity outputs.old - deque_len outputs.old in
+            outputs.new.items ≡ outputs.old.items ++ releasable_within room self.old }
+        ensures queue { let room = deque_capacity outputs.old - deque_len outputs.old in
+            self.new ≡ record self.old { queue = drop (length (releasable_within room self.old)) self.old.queue } }
+        ensures capacity { deque_capacity outputs.new ≡ deque_capacity outputs.old }
+        // Unless the deque is full then, no output is left that may leave.
+        ensures all { deque_len outputs.new < deque_capacity outputs.new → releasable self.new ≡ None }
+        ensures stands { let node = node_of S.scheme self.old.validator.setting in StandsAsBefore node self.old self.new }
+        // Each may be given out after the settled events.
+        ensures goes_out { let node = node_of S.scheme self.old.validator.setting in let room = deque_capacity outputs.old - deque_len outputs.old in
+            (run : Run) → Stands node run self.old → All (GoesOutSettled node run) (releasable_within room self.old) }
+    {
+        spec_laws::given_grows();
+        if self.down {
+            return;
+        }
+        move_settled(&mut self.queue, self.settled, outputs);
     }
 
     /// Takes the book down, because a device call failed or the journal is full. From now on it accepts and releases nothing.
