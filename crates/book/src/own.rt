@@ -11,6 +11,7 @@ use header::Checked;
 use journal::{Group, Journal, JournalError, Synced};
 use sigface::Sign;
 use std::alloc::{AllocError, Global};
+use std::collections::VecDeque;
 use std::marker::Model;
 use validator::{Refusal, Validator};
 use wire::{Digest, Output};
@@ -43,7 +44,8 @@ impl<'a, S: Sign> Model for OwnBook<'a, S> {
 }
 
 impl<'a, S: Sign> OwnBook<'a, S> {
-    ghost use Rattle.std.specs.Prelude.{◌≡◌, ◌≢◌, ◌⊎◌, ◌↔◌, ◌+◌, ◌<◌, ◌≤◌, ◌==◌, ◌&&◌, not, drop, false, is_some, if◌then◌else◌, IsNone, ◌++◌, ◌∷◌, [], List, ℕ, length, true, Some, None, Ok, IfOk, IfErr, IfSome, IsSome, OnOk, OnErr, IsErrOf, IsTrue};
+    ghost use Rattle.std.specs.Prelude.{◌≡◌, ◌≢◌, ◌⊎◌, ◌↔◌, ◌+◌, ◌-◌, ◌<◌, ◌≤◌, ◌==◌, ◌&&◌, not, drop, false, is_some, if◌then◌else◌, All, IsNone, ◌++◌, ◌∷◌, [], List, ℕ, length, true, Some, None, Ok, IfOk, IfErr, IfSome, IsSome, OnOk, OnErr, IsErrOf, IsTrue};
+    ghost use Rattle.std.specs.VecDeque.{deque_len, deque_capacity};
     ghost use Rattle.diskmodel.specs.Disk.{AtEachMoment, ReportsFault};
     ghost use Rattle.header.specs.Checks.{fault_of, accepts_all};
     ghost use Rattle.journal.specs.Areas.{reports};
@@ -52,7 +54,7 @@ impl<'a, S: Sign> OwnBook<'a, S> {
     ghost use Rattle.journal.specs.declared.layout.TheConstants.{CLOSED};
     ghost use Rattle.validator.specs.Setting.{node_of};
     ghost use Rattle.validator.specs.Standing.{AreAtSound};
-    ghost use Rattle.book.specs.Book.{Run, Stands, StandsAsBefore, run_on, Settles, SettlesNext, settled_by, settled_to, TakesNew, TakesKnown, MayRefuse, GoesOutSettled, releasable, state_in, settled_in};
+    ghost use Rattle.book.specs.Book.{Run, Stands, StandsAsBefore, run_on, Settles, SettlesNext, settled_by, settled_to, TakesNew, TakesKnown, MayRefuse, GoesOutSettled, releasable, releasable_within, state_in, settled_in};
     ghost use Rattle.book.specs.declared.book.TheConstants.{MAX_ACCEPTED};
     ghost use Rattle.spec_machine.specs.Machine.{round_in};
     ghost use Rattle.spec_model.specs.States.{State};
@@ -144,6 +146,24 @@ impl<'a, S: Sign> OwnBook<'a, S> {
         ensures setting { self.new.validator.setting ≡ self.old.validator.setting }
     {
         self.book.release()
+    }
+
+    /// Moves the outputs that may leave to the end of `outputs`, as `Book::release_into` does.
+    pub fn release_into(&mut self, outputs: &mut VecDeque<Output>)
+        ensures outputs { let room = deque_capacity outputs.old - deque_len outputs.old in
+            outputs.new.items ≡ outputs.old.items ++ releasable_within room self.old }
+        ensures queue { let room = deque_capacity outputs.old - deque_len outputs.old in
+            self.new ≡ record self.old { queue = drop (length (releasable_within room self.old)) self.old.queue } }
+        ensures capacity { deque_capacity outputs.new ≡ deque_capacity outputs.old }
+        ensures all { deque_len outputs.new < deque_capacity outputs.new → releasable self.new ≡ None }
+        ensures stands { let node = node_of S.scheme self.old.validator.setting in StandsAsBefore node self.old self.new }
+        ensures goes_out { let node = node_of S.scheme self.old.validator.setting in let room = deque_capacity outputs.old - deque_len outputs.old in
+            (run : Run) → Stands node run self.old → All (GoesOutSettled node run) (releasable_within room self.old) }
+        ensures way { let node = node_of S.scheme self.old.validator.setting in (groups : List (List (List ℕ))) → AreInFlight node self.old groups
+            → AreInFlight node self.new groups }
+        ensures setting { self.new.validator.setting ≡ self.old.validator.setting }
+    {
+        self.book.release_into(outputs);
     }
 
     /// Takes the book down. From now on it accepts and releases nothing.

@@ -9,7 +9,7 @@ use std::collections::VecDeque;
 use wire::Output;
 
 /// The outputs of an event: the first one, and the others, oldest first. They may leave once as many records are settled as the ticket
-/// says. Nearly every event has one output, so that nothing is allocated here.
+/// says. Nearly all events have one output, and `rest` then has no buffer.
 #[derive(Drop)]
 pub struct Queued {
     pub ticket: u64,

@@ -1,12 +1,13 @@
 //! What a thread uses to call a node.
 
 ghost use Rattle.std.specs.Prelude.{◌≡◌, ◌⊎◌, ◌↔◌, None, drop, length, IsNone, IsOk, IsTrue, IsErrOf, IfOk, IfErr, IfSome};
+ghost use Rattle.std.specs.VecDeque.{deque_capacity};
 ghost use Rattle.header.specs.Checks.{fault_of, accepts_all};
 ghost use Rattle.spec_machine.specs.Machine.{is_ready, proposed, round_in};
 ghost use Rattle.spec_model.specs.States.{State};
 ghost use Rattle.validator.specs.Setting.{node_of};
 ghost use Rattle.validator.specs.Standing.{StandSomewhere};
-ghost use Rattle.node_shared.specs.Answers.{Submits, Gives};
+ghost use Rattle.node_shared.specs.Answers.{Submits, Gives, GivesAll};
 ghost use Rattle.node_shared.specs.Calls.{Looked, Learned, Brought, IsBeside};
 ghost use Rattle.node_shared.specs.Home.{IsBase, IsOf, seen_in, durable_in};
 ghost use Rattle.node.specs.Callers.{StaysWith};
@@ -15,6 +16,7 @@ use header::Checked;
 use node_shared::{Node, Receipt, Refusal, Seat};
 use sigface::Sign;
 use std::alloc::AllocError;
+use std::collections::VecDeque;
 use std::marker::Model;
 use std::sync::Wait;
 use validator::Config;
@@ -105,6 +107,17 @@ impl<'n, 'a, S: Sign> Caller<'n, 'a, S> {
         ensures gives { IfSome result (λ output. Gives S.scheme self.old.node self.new.seat output) }
     {
         self.node.collect(rt, &mut self.seat)
+    }
+
+    /// Moves the outputs that may leave to the end of `outputs`, oldest first, as many as it has room for. None where the node is down.
+    pub fn collect_into<R: Wait>(&mut self, rt: &R, outputs: &mut VecDeque<Output>)
+        ensures stays { StaysWith self.old self.new }
+        ensures learned { Learned S.scheme self.old.node self.old.seat self.new.seat }
+        ensures down { IsTrue self.new.seat.view.down → outputs.new.items ≡ outputs.old.items }
+        ensures capacity { deque_capacity outputs.new ≡ deque_capacity outputs.old }
+        ensures gives { GivesAll S.scheme self.old.node self.new.seat outputs.old.items outputs.new.items }
+    {
+        self.node.collect_into(rt, &mut self.seat, outputs);
     }
 
     /// The order after the settled events, from this place on.

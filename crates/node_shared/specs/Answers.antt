@@ -1,5 +1,5 @@
 -- What a call of a shared node answers.
-use Rattle.std.specs.Prelude.{◌≡◌, ◌≤◌, ◌<◌, ◌⊎◌, ⊤, ℕ, true, false, List, [], ◌∷◌, ◌++◌, length, take, IsTrue, Result, IfOk, IfErr}
+use Rattle.std.specs.Prelude.{◌≡◌, ◌≤◌, ◌<◌, ◌⊎◌, ⊤, ℕ, true, false, List, [], ◌∷◌, ◌++◌, length, take, All, IsTrue, Result, IfOk, IfErr}
 use Rattle.spec_machine.specs.After.{after_all}
 use Rattle.spec_machine.specs.Machine.{answered}
 use Rattle.spec_model.specs.Admitting.{is_new, IsLegal}
@@ -81,3 +81,9 @@ pub record Gives {S : Type 0} (scheme : Scheme S) (node : NodeView S) (seat : Se
   pub may : (base : State) (history : History) → IsBase scheme node base → IsLegal (node_of scheme node.setting) history → kept (node_of scheme node.setting) history ≡ base
       → MayGive (node_of scheme node.setting) (history ++ events seat.view.durable) output
   pub put_out : IsPutOutBy scheme node seat.view output
+
+-- outputs were added to a list, each of which may be given out
+pub record GivesAll {S : Type 0} (scheme : Scheme S) (node : NodeView S) (seat : SeatView) (before later : List Output) : Type 0 where
+  pub outputs : List Output
+  pub each : All (Gives scheme node seat) outputs
+  pub added : later ≡ before ++ outputs

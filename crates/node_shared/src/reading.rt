@@ -1,13 +1,14 @@
 //! What a node can be asked, and what it gives out.
 
-ghost use Rattle.std.specs.Prelude.{◌≡◌, ◌⊎◌, ◌↔◌, ◌||◌, None, drop, length, is_some, if◌then◌else◌, IsNone, IsTrue, IsErrOf, IfOk, IfErr, IfSome};
-ghost use Rattle.book.specs.Book.{releasable};
+ghost use Rattle.std.specs.Prelude.{◌≡◌, ◌⊎◌, ◌↔◌, ◌-◌, ◌<◌, ◌++◌, ◌||◌, None, drop, length, is_some, if◌then◌else◌, IsNone, IsTrue, IsErrOf, IfOk, IfErr, IfSome};
+ghost use Rattle.std.specs.VecDeque.{deque_len, deque_capacity};
+ghost use Rattle.book.specs.Book.{releasable, releasable_within};
 ghost use Rattle.header.specs.Checks.{fault_of, accepts_all};
 ghost use Rattle.wire.specs.Lists.{Begins};
 ghost use Rattle.spec_machine.specs.Machine.{is_ready, proposed, round_in};
 ghost use Rattle.spec_model.specs.States.{State};
 ghost use Rattle.validator.specs.Setting.{node_of};
-ghost use Rattle.node_shared.specs.Answers.{Gives};
+ghost use Rattle.node_shared.specs.Answers.{Gives, GivesAll};
 ghost use Rattle.node_shared.specs.Calls.{Looked, Learned, Stays};
 ghost use Rattle.node_shared.specs.Home.{IsBase, IsOf, IsAtHome, seen_in, durable_in};
 
@@ -18,6 +19,7 @@ use header::Checked;
 use node_seats::Seat;
 use sigface::Sign;
 use std::alloc::AllocError;
+use std::collections::VecDeque;
 use std::marker::Brand;
 use std::sync::Wait;
 use wire::{Author, Digest, Header, Output, Round};
@@ -126,6 +128,22 @@ impl<'a, S: Sign> Node<'a, S> {
         output
     }
 
+    /// Moves the outputs that may leave to the end of `outputs`, oldest first, as many as it has room for, in one hold of the lock. All that
+    /// they rest on is settled, which the seat then knows; each was put out by an event, and may be given out. Moves none where the node is
+    /// down, which the seat then knows. The call allocates no memory.
+    pub fn collect_into<R: Wait>(&self, rt: &R, seat: &mut Seat, outputs: &mut VecDeque<Output>)
+        requires of { IsOf self.now seat.old }
+        ensures learned { Learned S.scheme self.now seat.old seat.new }
+        ensures down { IsTrue seat.new.view.down → outputs.new.items ≡ outputs.old.items }
+        ensures capacity { deque_capacity outputs.new ≡ deque_capacity outputs.old }
+        ensures gives { GivesAll S.scheme self.now seat.new outputs.old.items outputs.new.items }
+    {
+        let (turn, mut home) = self.lock.acquire(rt);
+        let locked = &mut *home;
+        self.give_into(rt, locked, seat, outputs);
+        self.lock.release(turn, home);
+    }
+
     // Gives the next output that may be given out, under the lock.
     fn give<R: Wait>(&self, rt: &R, locked: &mut Locked<'a, S>, seat: &mut Seat) -> Option<Output>
         requires home { IsAtHome S.scheme self.now locked.old.seat locked.old.book }
@@ -141,6 +159,34 @@ impl<'a, S: Sign> Node<'a, S> {
         self.know_all(rt, locked, seat);
         self.know_down(locked, seat);
         locked.book.release()
+    }
+
+    // Moves the outputs that may be given out to the end of `outputs`, as many as it has room for, under the lock.
+    fn give_into<R: Wait>(
+        &self,
+        rt: &R,
+        locked: &mut Locked<'a, S>,
+        seat: &mut Seat,
+        outputs: &mut VecDeque<Output>,
+    )
+        requires home { IsAtHome S.scheme self.now locked.old.seat locked.old.book }
+        requires of { IsOf self.now seat.old }
+        ensures home { IsAtHome S.scheme self.now locked.new.seat locked.new.book }
+        ensures learned { Learned S.scheme self.now seat.old seat.new }
+        ensures down { IsTrue seat.new.view.down → outputs.new.items ≡ outputs.old.items }
+        ensures capacity { deque_capacity outputs.new ≡ deque_capacity outputs.old }
+        ensures gives { GivesAll S.scheme self.now seat.new outputs.old.items outputs.new.items }
+        // Unless the node is down, these are the book's next outputs, which leave the book.
+        ensures next { let room = deque_capacity outputs.old - deque_len outputs.old in
+            outputs.new.items ≡ outputs.old.items ++ releasable_within room (record locked.old.book { down = seat.new.view.down }) }
+        ensures queue { let room = deque_capacity outputs.old - deque_len outputs.old in
+            locked.new.book.queue ≡ drop (length (releasable_within room (record locked.old.book { down = seat.new.view.down }))) locked.old.book.queue }
+        // Unless the deque is full then, the book has no output left that may leave.
+        ensures all { deque_len outputs.new < deque_capacity outputs.new → releasable locked.new.book ≡ None }
+    {
+        self.know_all(rt, locked, seat);
+        self.know_down(locked, seat);
+        locked.book.release_into(outputs);
     }
 
     /// The order after the settled events, which the seat then knows, from this place on: the digests of the ordered certificates. The list
