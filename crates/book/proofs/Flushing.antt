@@ -239,10 +239,11 @@ rise_on zero queue rising = rising
 rise_on (suc count) [] rising = tt
 rise_on (suc count) (first ∷ rest) rising = rise_on count rest rising.1
 
-pub stands_moved : {S : Type 0} (node : Node) (run : Run) (before later : BookView S) (count : ℕ) → later ≡ record before { queue = drop count before.queue }
-    → Stands node run before → Stands node run later
-stands_moved node run before later count same at =
-    stands_left node run before later (drop count before.queue) same (All-drop (IsDue node run) count before.queue at.due) (rise_on count before.queue at.rising) at
+pub stands_moved : {S : Type 0} (node : Node) (run : Run) (before : BookView S) (count : ℕ) (rest : List Waiting) → rest ≡ drop count before.queue
+    → Stands node run before → Stands node run (record before { queue = rest })
+stands_moved node run before count rest left at =
+    stands_left node run before (record before { queue = rest }) rest refl (subst (All (IsDue node run)) (sym left) (All-drop (IsDue node run) count before.queue at.due))
+    (subst TicketsRise (sym left) (rise_on count before.queue at.rising)) at
 
 -- at first
 pub stands_first : {S : Type 0} (node : Node) (base : State) (book : BookView S) → IsNode node → AreAtSound node book.validator.tables base

@@ -1,5 +1,5 @@
 -- What leaves a book, and what is read of it.
-use Rattle.std.proofs.Common.{◌≡◌, ◌⊎◌, ℕ, ◌-◌, ◌≤◌, ◌<◌, min, List, [], ◌∷◌, ◌++◌, length, take, drop, true, false, refl, sym, ap, ◌∙◌, subst, inl, inr, arith, append_assoc}
+use Rattle.std.proofs.Common.{◌≡◌, ◌⊎◌, ℕ, ◌-◌, ◌≤◌, ◌<◌, min, List, [], ◌∷◌, ◌++◌, length, take, drop, true, false, refl, sym, ap, ◌∙◌, subst, inl, inr, arith, append_assoc, append-nil}
 use Rattle.std.specs.Prelude.{All, Option, Some, None, is_some, MatchOption, if◌then◌else◌}
 use Rattle.std.proofs.lemmas.Bool.{true≢false}
 use Rattle.std.proofs.lemmas.List.{take-append-drop, take-append-le, take_at, drop-append-le, nil_from_length, length-drop}
@@ -51,6 +51,12 @@ module _ {S : Type 0} (book : BookView S) (room : ℕ) where
 
   pub front_within : book.down ≡ false → releasable_within room book ≡ take room (settled_front book.settled book.queue)
   front_within up = ap (λ d. if d then [] else take room (settled_front book.settled book.queue)) up
+
+  pub adds_none : (before : List Output) → book.down ≡ true → before ≡ before ++ releasable_within room book
+  adds_none before down = sym (append-nil before) ∙ ap (λ (l : List Output). before ++ l) (sym (none_within down))
+
+  pub adds_front : (before after : List Output) → book.down ≡ false → after ≡ before ++ take room (settled_front book.settled book.queue) → after ≡ before ++ releasable_within room book
+  adds_front before after up added = added ∙ ap (λ (l : List Output). before ++ l) (sym (front_within up))
 
   pub unmoved : book.down ≡ true → book ≡ record book { queue = drop (length (releasable_within room book)) book.queue }
   unmoved down = ap (λ (l : List Output). record book { queue = drop (length l) book.queue }) (sym (none_within down))

@@ -1,5 +1,5 @@
-use Rattle.std.proofs.Common.{◌≡◌, ◌-◌, ◌<◌, ℕ, List, ◌++◌, length, take, drop, refl, sym, ap, ◌∙◌, subst, arith, append-nil, length-append}
-use Rattle.std.specs.Prelude.{All, None}
+use Rattle.std.proofs.Common.{◌≡◌, ◌-◌, ◌<◌, List, ◌++◌, length, take, drop, sym, ap, subst, arith, length-append}
+use Rattle.std.specs.Prelude.{All}
 use Rattle.std.specs.VecDeque.{deque_len, deque_capacity}
 use Rattle.std.proofs.lemmas.List.Elements.{All-nil}
 use Rattle.spec_model.specs.Nodes.{Node}
@@ -7,9 +7,9 @@ use Rattle.spec_model.specs.Words.{Output}
 use Rattle.validator.specs.Setting.{node_of}
 use Rattle.book.specs.Queue.{queue_of, settled_front}
 use Rattle.book.specs.Showing.{shown_of}
-use Rattle.book.specs.Book.{BookView, Run, Stands, releasable, releasable_within, GoesOutSettled}
+use Rattle.book.specs.Book.{BookView, Run, Stands, releasable_within, GoesOutSettled}
 use Rattle.book.proofs.Flushing.{stands_moved}
-use Rattle.book.proofs.Releasing.{all_go_out, front_within, moved, none_left, none_within, unmoved}
+use Rattle.book.proofs.Releasing.{adds_front, adds_none, all_go_out, front_within, moved, none_left, none_within, unmoved}
 use Rattle.book.proofs.book.Book.release_into.Goals as goal
 
 pub returns-then-self-clause-outputs : goal.returns-then-self-clause-outputs
@@ -17,7 +17,7 @@ returns-then-self-clause-outputs g c =
     let outputs = c.args.outputs.now in
     let room = deque_capacity outputs - deque_len outputs in
     subst (λ (s : BookView g.row.S.Denot). outputs.items ≡ outputs.items ++ releasable_within room s) c.self.view_is
-    (sym (append-nil outputs.items) ∙ ap (λ (l : List Output). outputs.items ++ l) (sym (none_within (shown_of c.self.inside) room c.if-self.true)))
+    (adds_none (shown_of c.self.inside) room outputs.items c.if-self.true)
 
 pub returns-then-self-clause-queue : goal.returns-then-self-clause-queue
 returns-then-self-clause-queue g c =
@@ -38,7 +38,7 @@ returns-clause-outputs g c =
     let outputs = c.args.outputs.now in
     let room = deque_capacity outputs - deque_len outputs in
     subst (λ (s : BookView g.row.S.Denot). c.move_settled.new.outputs.items ≡ outputs.items ++ releasable_within room s) c.self.view_is
-    (c.move_settled.ensures.outputs ∙ ap (λ (l : List Output). outputs.items ++ l) (sym (front_within (shown_of c.self.inside) room c.if-self.false)))
+    (adds_front (shown_of c.self.inside) room outputs.items c.move_settled.new.outputs.items c.if-self.false c.move_settled.ensures.outputs)
 
 pub returns-clause-queue : goal.returns-clause-queue
 returns-clause-queue g c =
@@ -64,10 +64,11 @@ pub returns-clause-stands : goal.returns-clause-stands
 returns-clause-stands g c =
     let room = deque_capacity c.args.outputs.now - deque_len c.args.outputs.now in
     let before : BookView g.row.S.Denot = shown_of c.self.inside in
-    let later : BookView g.row.S.Denot = record before { queue = queue_of c.move_settled.new.queue.items } in
+    let left = queue_of c.move_settled.new.queue.items in
+    let later : BookView g.row.S.Denot = record before { queue = left } in
     let count = length (take room (settled_front before.settled before.queue)) in
     subst (λ (s : BookView g.row.S.Denot). (run : Run) → Stands (node_of g.S.Sign.scheme s.validator.setting) run s → Stands (node_of g.S.Sign.scheme s.validator.setting) run later) c.self.view_is
-    (λ run at. stands_moved (node_of g.S.Sign.scheme before.validator.setting) run before later count (ap (λ q. record before { queue = q }) c.move_settled.ensures.queue) at)
+    (λ run at. stands_moved (node_of g.S.Sign.scheme before.validator.setting) run before count left c.move_settled.ensures.queue at)
 
 pub returns-clause-goes_out : goal.returns-clause-goes_out
 returns-clause-goes_out g c =
