@@ -109,9 +109,9 @@ all_moved settled (suc room) (first ∷ rest) few = by_test (all_moved settled r
 -- what holds of those that wait with a settled ticket holds of each
 pub each_at_front : (P : Waiting → Type 0) (Q : Output → Type 0) (settled : ℕ) → ((one : Waiting) → P one → one.ticket ≤ settled → Q one.output) → (queue : List Waiting)
     → All P queue → All Q (settled_front settled queue)
-each_at_front P Q settled told [] each = All-nil Q
-each_at_front P Q settled told (first ∷ rest) each =
-    by_test (told first (All-head P first rest each)) (each_at_front P Q settled told rest (All-tail P first rest each)) (nat_le first.ticket settled) refl
+each_at_front P Q settled holds [] each = All-nil Q
+each_at_front P Q settled holds (first ∷ rest) each =
+    by_test (holds first (All-head P first rest each)) (each_at_front P Q settled holds rest (All-tail P first rest each)) (nat_le first.ticket settled) refl
   where
     by_test : (first.ticket ≤ settled → Q first.output) → All Q (settled_front settled rest) → (b : Bool) → nat_le first.ticket settled ≡ b
         → All Q (if b then first.output ∷ settled_front settled rest else [])

@@ -52,13 +52,13 @@ pub returns-clause-all : goal.returns-clause-all
 returns-clause-all g c = λ less.
     let outputs = c.args.outputs.now in
     let later = c.move_settled.new.outputs in
-    let told = c.move_settled.ensures in
+    let moves = c.move_settled.ensures in
     let room = deque_capacity outputs - deque_len outputs in
     let before : BookView g.row.S.Denot = shown_of c.self.inside in
     let front = take room (settled_front before.settled before.queue) in
     let few : length front < room =
-    omega (arith, less, ap length told.outputs, length-append outputs.items front, later.ok.0, outputs.ok.0, told.capacity) in
-    none_left before room (queue_of c.move_settled.new.queue.items) c.if-self.false told.queue few
+    omega (arith, less, ap length moves.outputs, length-append outputs.items front, later.ok.0, outputs.ok.0, moves.capacity) in
+    none_left before room (queue_of c.move_settled.new.queue.items) c.if-self.false moves.queue few
 
 pub returns-clause-stands : goal.returns-clause-stands
 returns-clause-stands g c =

@@ -19,14 +19,14 @@ returns-clause-learned g c =
 
 pub returns-clause-gives : goal.returns-clause-gives
 returns-clause-gives g c =
-    let told = c.know_down.ensures in
+    let reported = c.know_down.ensures in
     let outputs = c.args.outputs.now in
     let book = c.know_down.new.locked.book in
-    let durable = told.stays.durable ∙ c.know_all.ensures.durable ∙ ap (λ l. l.seat.view.durable) (sym c.know_all.ensures.locked) ∙ sym told.stays_locked.durable in
+    let durable = reported.stays.durable ∙ c.know_all.ensures.durable ∙ ap (λ l. l.seat.view.durable) (sym c.know_all.ensures.locked) ∙ sym reported.stays_locked.durable in
     let out = releasable_within (deque_capacity outputs - deque_len outputs) book in
     record {
       outputs = out;
-      each = all_given c.args.self.now g.S.Sign.scheme c.know_down.new.locked.seat c.know_down.new.seat book told.home durable out c.release_into.ensures.goes_out;
+      each = all_given c.args.self.now g.S.Sign.scheme c.know_down.new.locked.seat c.know_down.new.seat book reported.home durable out c.release_into.ensures.goes_out;
       added = c.release_into.ensures.outputs;
     }
 
