@@ -6,6 +6,14 @@ use Rattle.node_shared.proofs.Readings.{all_given, with_down, moves_next, moves_
 use Rattle.node_shared.proofs.Standing.{home_where}
 use Rattle.node_shared.proofs.node.Node.give_into.Goals as goal
 
+pub returns-clause-next : goal.returns-clause-next
+returns-clause-next g c =
+    let outputs = c.args.outputs.now in
+    let down = c.know_down.new.seat.view.down in
+    let is = with_down c.args.locked.now.book c.know_all.new.locked.book c.know_down.new.locked.book down (ap (λ l. l.book) c.know_all.ensures.locked) c.know_down.ensures.book in
+    moves_next c.args.locked.now.book c.know_down.new.locked.book (deque_capacity outputs - deque_len outputs) down is outputs.items
+    c.release_into.new.outputs.items c.release_into.ensures.outputs
+
 pub returns-clause-home : goal.returns-clause-home
 returns-clause-home g c =
     let is = c.release_into.ensures.queue in
@@ -29,14 +37,6 @@ returns-clause-gives g c =
       each = all_given c.args.self.now g.S.Sign.scheme c.know_down.new.locked.seat c.know_down.new.seat book reported.home durable out c.release_into.ensures.goes_out;
       added = c.release_into.ensures.outputs;
     }
-
-pub returns-clause-next : goal.returns-clause-next
-returns-clause-next g c =
-    let outputs = c.args.outputs.now in
-    let down = c.know_down.new.seat.view.down in
-    let is = with_down c.args.locked.now.book c.know_all.new.locked.book c.know_down.new.locked.book down (ap (λ l. l.book) c.know_all.ensures.locked) c.know_down.ensures.book in
-    moves_next c.args.locked.now.book c.know_down.new.locked.book (deque_capacity outputs - deque_len outputs) down is outputs.items
-    c.release_into.new.outputs.items c.release_into.ensures.outputs
 
 pub returns-clause-queue : goal.returns-clause-queue
 returns-clause-queue g c =
