@@ -1,5 +1,5 @@
 -- What becomes of certificates that wait, where they are due.
-use Rattle.std.specs.Prelude.{◌≡◌, ◌≢◌, ◌⊎◌, ◌<◌, ◌≤◌, ℕ, true, List, [], ◌∷◌, All, Contains, IsSome, None, Bool, Result}
+use Rattle.std.specs.Prelude.{◌≡◌, ◌≢◌, ◌⊎◌, ◌<◌, ◌≤◌, ℕ, true, false, List, [], ◌∷◌, ◌++◌, All, Contains, IsSome, None, Bool, Result}
 use Rattle.header.specs.Checks.{fault_of, accepts_all}
 use Rattle.header.specs.Digested.{certificate_digest_in}
 use Rattle.wire.specs.Lists.{Begins}
@@ -40,6 +40,23 @@ pub record WasAsked {S : Type 0} (scheme : Scheme S) (node : NodeView S) (before
   pub less : Begins looked later.seat.view.seen
   pub lacks : IsSome (certificate_digest_in event.message) → fault_of before.setting.charter accepts_all event ≡ None → (base : State) → IsBase scheme node base
       → is_missing_parents (answered (node_of scheme node.setting) (after_all (node_of scheme node.setting) base (events looked)) event) ≡ true
+
+-- A certificate that waits was asked about, and is ready: it lacked no parent, from each base, after the events that the caller had seen at
+-- some moment between these two.
+pub record WasReady {S : Type 0} (scheme : Scheme S) (node : NodeView S) (before later : CallerView S) (event : Event) : Type 0 where
+  pub looked : List Marked
+  pub more : Begins before.seat.view.seen looked
+  pub less : Begins looked later.seat.view.seen
+  pub has : (base : State) → IsBase scheme node base
+      → is_missing_parents (answered (node_of scheme node.setting) (after_all (node_of scheme node.setting) base (events looked)) event) ≡ false
+
+-- of these certificates, in the order in which they came, this is the first that is ready
+pub record IsFirstReady {S : Type 0} (scheme : Scheme S) (node : NodeView S) (before later : CallerView S) (waiting : List Event) (event : Event) : Type 0 where
+  pub front : List Event
+  pub back : List Event
+  pub stood : waiting ≡ front ++ event ∷ back
+  pub asked : All (WasAsked scheme node before later) front
+  pub ready : WasReady scheme node before later event
 
 -- each certificate of these rounds was asked about
 abbrev pub AsksEach : {S : Type 0} → Scheme S → NodeView S → ℕ → ℕ → WaitersView → CallerView S → CallerView S → Type 0

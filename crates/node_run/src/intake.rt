@@ -9,7 +9,7 @@ ghost use Rattle.node.specs.Callers.{StaysWith};
 ghost use Rattle.wire.specs.declared.message.Message.TheVariants as message;
 ghost use Rattle.waiter.specs.Rounds.{held, none_waits};
 ghost use Rattle.wire.specs.Lists.{Begins};
-ghost use Rattle.node_run.specs.Asked.{AsksEach, AsksWhatWasDue, GoesThrough, OnlyAsks, WasAsked};
+ghost use Rattle.node_run.specs.Asked.{AsksEach, AsksWhatWasDue, GoesThrough, IsFirstReady, OnlyAsks, WasAsked, WasReady};
 ghost use Rattle.node_run.specs.Asking.{IsDueAfter, IsTakenOut, TakesOne, nothing_due, first_due};
 ghost use Rattle.node_run.specs.Bringing.{Brings, BringsAgain, CantWait, Enters, own_batch};
 ghost use Rattle.node_run.specs.Ends.{reported_of_wait};
@@ -270,6 +270,7 @@ impl<'n, 'a, S: Sign> Intake<'n, 'a, S> {
     fn next_ready<R: Wait>(&mut self, rt: &R) -> Option<Checked>
         ensures idle { self.old.due.waiting ≡ Waiting.Nothing → (result ≡ None) × (self.new ≡ self.old) }
         ensures some { IfSome result (λ event. TakesOne event self.old.waiters self.new.waiters self.old.due self.new.due) }
+        ensures first { IfSome result (λ event. (round : ℕ) × IsFirstReady S.scheme self.old.caller.node self.old.caller self.new.caller (held self.old.waiters round) event) }
         ensures none { IfNone result ((self.new.waiters ≡ self.old.waiters) × (self.new.due.waiting ≡ Waiting.Nothing)) }
         ensures count { IfSome result (λ _. self.new.waiters.count + 1 ≡ self.old.waiters.count) }
         ensures asks { AsksWhatWasDue S.scheme self.old.caller.node self.old.due.waiting self.new.due.waiting self.old.waiters self.old.caller self.new.caller }
@@ -310,6 +311,7 @@ impl<'n, 'a, S: Sign> Intake<'n, 'a, S> {
     fn ready_outside<R: Wait>(&mut self, rt: &R, round: u64, low: u64, end: u64) -> Option<Checked>
         ensures due { self.new.due ≡ self.old.due }
         ensures some { IfSome result (λ event. IsTakenOut event round self.old.waiters self.new.waiters) }
+        ensures first { IfSome result (λ event. IsFirstReady S.scheme self.old.caller.node self.old.caller self.new.caller (held self.old.waiters round) event) }
         ensures none { IfNone result (self.new.waiters ≡ self.old.waiters) }
         ensures count { IfSome result (λ _. self.new.waiters.count + 1 ≡ self.old.waiters.count) }
         ensures asked { IfNone result ((low ≤ round → round < end → ⊥) → IfSome (slice_get (held self.old.waiters round) 0) (WasAsked S.scheme self.old.caller.node self.old.caller self.new.caller)) }
@@ -331,6 +333,7 @@ impl<'n, 'a, S: Sign> Intake<'n, 'a, S> {
         ensures some { IfSome result (λ found. IsTakenOut found.1 found.0 self.old.waiters self.new.waiters × (low ≤ found.0) × (found.0 < end)) }
         ensures none { IfNone result (self.new.waiters ≡ self.old.waiters) }
         ensures count { IfSome result (λ _. self.new.waiters.count + 1 ≡ self.old.waiters.count) }
+        ensures first { IfSome result (λ found. IsFirstReady S.scheme self.old.caller.node self.old.caller self.new.caller (held self.old.waiters found.0) found.1) }
         ensures passed { IfSome result (λ found. AsksEach S.scheme self.old.caller.node low found.0 self.old.waiters self.old.caller self.new.caller) }
         ensures asked { IfNone result (AsksEach S.scheme self.old.caller.node low end self.old.waiters self.old.caller self.new.caller) }
         ensures only { OnlyAsks self.old.caller self.new.caller }
@@ -348,6 +351,7 @@ impl<'n, 'a, S: Sign> Intake<'n, 'a, S> {
     fn ready_of<R: Wait>(&mut self, rt: &R, round: u64) -> Option<Checked>
         ensures due { self.new.due ≡ self.old.due }
         ensures some { IfSome result (λ event. IsTakenOut event round self.old.waiters self.new.waiters) }
+        ensures first { IfSome result (λ event. IsFirstReady S.scheme self.old.caller.node self.old.caller self.new.caller (held self.old.waiters round) event) }
         ensures none { IfNone result (self.new.waiters ≡ self.old.waiters) }
         ensures count { IfSome result (λ _. self.new.waiters.count + 1 ≡ self.old.waiters.count) }
         ensures asked { IfNone result (All (WasAsked S.scheme self.old.caller.node self.old.caller self.new.caller) (held self.old.waiters round)) }
@@ -366,6 +370,7 @@ impl<'n, 'a, S: Sign> Intake<'n, 'a, S> {
     fn is_ready_at<R: Wait>(&mut self, rt: &R, round: u64, place: usize) -> bool
         ensures same { self.new ≡ record self.old { caller = self.new.caller } }
         ensures only { OnlyAsks self.old.caller self.new.caller }
+        ensures ready { result ≡ true → IfSome (slice_get (held self.old.waiters round) place) (WasReady S.scheme self.old.caller.node self.old.caller self.new.caller) }
         ensures asked { result ≡ false → IfSome (slice_get (held self.old.waiters round) place) (WasAsked S.scheme self.old.caller.node self.old.caller self.new.caller) }
     {
         match self.waiters.nth_of(round, place) {
