@@ -56,11 +56,25 @@ pub record MayGo {S : Type 0} (scheme : Scheme S) (node : NodeView S) (view : Vi
   pub within : count ≤ length settled
   pub put_out : (base : State) → IsBase scheme node base → GoesOutAfter (node_of scheme node.setting) base (events (take count settled)) output
 
--- an output that may go out was written
+-- The frames of some outputs, in their order. As long as nothing has failed the writer gets all of them. Where it fails, or an allocation
+-- fails, it gets those of the first ones; only if the writer failed may the last be cut short. After a failure it gets nothing. No other
+-- fault is reported.
+pub record PutsAll (outputs : List Output) (before later : Faults) (old new : Option (List ℕ)) : Type 0 where
+  pub over : is_over before ≡ true → Keeps old new
+  pub broken : before.output ≡ true → later.output ≡ true
+  pub memory : before.memory ≡ true → later.memory ≡ true
+  pub put : List Output
+  pub begins : Begins put outputs
+  pub whole : is_over later ≡ false → put ≡ outputs
+  pub written : later.output ≡ false → Appends old new (flat_map frame_of put)
+  pub some : AppendsSome old new (flat_map frame_of put)
+  pub others : later ≡ record before { output = later.output; memory = later.memory }
+
+-- outputs that may go out were written
 pub record WritesNext (May : Output → Type 0) (before later : Faults) (old new : Option (List ℕ)) : Type 0 where
-  pub output : Output
-  pub may : May output
-  pub puts : Puts (frame_of output) before later old new
+  pub outputs : List Output
+  pub each : All May outputs
+  pub puts : PutsAll outputs before later old new
 
 -- The writer got only frames of outputs that may go out; only if it failed may the last be cut short. After a failure it got nothing. No
 -- fault is reported but the writer's and a failed allocation.

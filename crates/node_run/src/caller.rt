@@ -9,7 +9,7 @@ ghost use Rattle.spec_machine.specs.Machine.{answered, is_missing_parents};
 ghost use Rattle.spec_model.specs.States.{State};
 ghost use Rattle.node_seats.specs.Views.{IsSame};
 ghost use Rattle.node_io.specs.declared.rejection.Rejection.TheVariants.{Refused};
-ghost use Rattle.node_shared.specs.Answers.{Gives};
+ghost use Rattle.node_shared.specs.Answers.{GivesAll};
 ghost use Rattle.node_shared.specs.Calls.{Learned};
 ghost use Rattle.node_shared.specs.Home.{IsBase, seen_in};
 ghost use Rattle.sigface.specs.Pair.{is_pair_signature};
@@ -23,6 +23,7 @@ use node::{Refusal, Rounds};
 use node_io::Rejection;
 use sigface::{HashVerify, Sign};
 use std::alloc::AllocError;
+use std::collections::VecDeque;
 use std::marker::Model;
 use std::sync::Wait;
 use validator::Config;
@@ -178,13 +179,13 @@ impl<'n, 'a, S: Sign> Caller<'n, 'a, S> {
         rounds.cover(rt, &mut self.node);
     }
 
-    /// The next output that may leave.
-    pub(crate) fn collect<R: Wait>(&mut self, rt: &R) -> Option<Output>
+    /// Moves the outputs that may leave to the end of `outputs`, oldest first, as many as it has room for.
+    pub(crate) fn collect_into<R: Wait>(&mut self, rt: &R, outputs: &mut VecDeque<Output>)
         ensures stays { StaysWith self.old self.new }
         ensures learned { Learned S.scheme self.old.node self.old.seat self.new.seat }
-        ensures gives { IfSome result (λ output. Gives S.scheme self.old.node self.new.seat output) }
+        ensures gives { GivesAll S.scheme self.old.node self.new.seat outputs.old.items outputs.new.items }
     {
-        self.node.collect(rt)
+        self.node.collect_into(rt, outputs);
     }
 }
 

@@ -187,7 +187,7 @@ impl<'n, 'a, 'e, S: Sign, I: Read + Drop, W: Write + Drop, E: Write> Desks<'n, '
             },
             writing: Writing {
                 caller: Caller::new(rounds.caller(config)?),
-                sink: Sink::new(alloc, buffered(alloc, writer)?),
+                sink: Sink::new(alloc, buffered(alloc, writer)?)?,
                 settled: &bells.settled,
             },
             bells,
