@@ -349,18 +349,20 @@ impl<'a> Dag<'a> {
         (place as usize, header.author)
     }
 
-    // The authors of those parents of a certificate that are held.
+    // The authors of those parents of a certificate that are in the DAG. All parents are held.
     fn held_parents(&self, certificate: &Certificate) -> MemberSet
-        requires { 0 < certificate.now.header.round }
+        requires positive { 0 < certificate.now.header.round }
+        requires held { all_held (slots_in self.now) self.now.floor certificate.now.header ≡ true }
         ensures { (author : ℕ) → has result author ≡ has_below (slots_in self.now) certificate.now author }
     {
         let header = &certificate.header;
-        rows::authors_of(
-            &self.rows,
-            self.floor,
-            header.round.number() - 1,
-            header.parents.as_slice(),
-        )
+        let below = header.round.number() - 1;
+        let parents = header.parents.as_slice();
+        // Parents at or below a floor above 0 count as held, whether they are in the DAG or not. All others are in it.
+        if is_under(self.floor, below) {
+            return rows::authors_of(&self.rows, self.floor, below, parents);
+        }
+        rows::authors(parents)
     }
 
     /// The certificate in a slot.

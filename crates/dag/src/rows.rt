@@ -159,6 +159,18 @@ pub(crate) fn authors_of(
     authors
 }
 
+/// The authors of these parents.
+pub(crate) fn authors(parents: &[ParentReference]) -> MemberSet
+    requires { All (λ parent. parent.author.0 < MAX_MEMBERS) parents.now }
+    ensures { (author : ℕ) → has result author ≡ list_any (λ parent. author == parent.author.0) parents.now }
+{
+    let mut authors = MemberSet::none();
+    for parent in parents {
+        authors.insert(parent.author);
+    }
+    authors
+}
+
 /// Whether all parents are in the round below.
 pub(crate) fn are_there(
     rows: &VecDeque<Row>,
