@@ -4,6 +4,7 @@ use Rattle.std.specs.FinMap as finmap
 use Rattle.std.specs.List.Sorted.{IsStrictlySortedBy}
 use Rattle.std.specs.Map.{keys_of, values_of}
 use Rattle.committee.specs.Charter.{Charter}
+use Rattle.sigface.specs.Seeds.{seed_of}
 use Rattle.batchstore.specs.Kept.{IsUnderItsDigest}
 use Rattle.certify.specs.Assembled.{AssemblyView, is_on, restored}
 use Rattle.spec_machine.specs.Sound.{IsSound}
@@ -66,7 +67,7 @@ pub record IsKeptOf (node : Node) (state : State) (kept : Kept) : Type 0 where
   pub node_is : IsNode node
   pub sound : IsSound node state
   pub digested : All IsUnderItsDigest kept.batches.items
-  pub batches : HasBatches node state (record { charter = node.charter; own = node.own.0; held = values_of kept.batches.items })
+  pub batches : HasBatches node state (record { charter = node.charter; own = node.own.0; seed = seed_of node.sign; held = values_of kept.batches.items })
   pub votes_rise : IsStrictlySortedBy slot_cmp (keys_of kept.votes.items)
   pub votes : HasVotes node state (finmap.from_entries kept.votes.items)
   pub voted : AreVotedBy node.charter node.own.0 kept.headers.items

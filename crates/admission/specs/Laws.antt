@@ -3,6 +3,7 @@ use Rattle.std.specs.Prelude.{◌≡◌, ℕ, ◌==◌, false, true, []}
 use Rattle.std.specs.FinMap as map
 use Rattle.std.specs.Option.{option_map_or}
 use Rattle.wire.specs.declared.message.Message.TheVariants as message
+use Rattle.sigface.specs.Seeds.{seed_of}
 use Rattle.spec_model.specs.Nodes.{Node}
 use Rattle.spec_model.specs.Proposing as proposing
 use Rattle.spec_model.specs.States.{State, has_own_batch, floor_in}
@@ -56,7 +57,7 @@ VoteIsKept = (node : Node) (state : State) (event : Event) (header : Header) (vo
 
 -- an empty store and an empty book of votes agree with the fresh state
 pub record HasNothing (node : Node) : Type 0 where
-  pub batches : HasBatches node (fresh node) (record { charter = node.charter; own = node.own.0; held = [] })
+  pub batches : HasBatches node (fresh node) (record { charter = node.charter; own = node.own.0; seed = seed_of node.sign; held = [] })
   pub votes : HasVotes node (fresh node) map.empty
 
 abbrev pub StartsEmpty : Type 0

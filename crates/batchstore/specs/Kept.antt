@@ -5,8 +5,14 @@ use Rattle.std.specs.Ordering.{nat_cmp}
 use Rattle.std.specs.declared.cmp.Ordering.{Ordering}
 use Rattle.wire.specs.declared.keys.Digest.{Digest}
 use Rattle.wire.specs.declared.references.BatchReference.{BatchReference}
+use Rattle.sigface.specs.declared.seed.TableSeed.{TableSeed}
 use Rattle.batchstore.specs.Stock.{BatchStoreView, IsStock, digest_of, nameable}
 use Rattle.batchstore.specs.declared.held.Held.{Held}
+
+-- the table of a store's batches: the seed with which it hashes, and the batches in the order of acceptance
+pub record TableView : Type 0 where
+  pub seed : TableSeed
+  pub held : List Held
 
 -- the order of digests
 abbrev pub compared : Digest → Digest → Ordering

@@ -10,13 +10,15 @@ use Rattle.wire.specs.declared.keys.Digest.{Digest}
 use Rattle.wire.specs.declared.references.BatchReference.{BatchReference}
 use Rattle.committee.specs.Charter.{Charter, IsCharter, weight, quorum_of}
 use Rattle.committee.specs.Sets.{has}
+use Rattle.sigface.specs.declared.seed.TableSeed.{TableSeed}
 use Rattle.batchstore.specs.declared.held.Held.{Held}
 
--- a store: the committee, the validator's own number, and the batches in the order of acceptance, each with the members who acknowledged it
--- and whether an own header named it
+-- a store: the committee, the validator's own number, the seed with which its table hashes, and the batches in the order of acceptance, each
+-- with the members who acknowledged it and whether an own header named it
 pub record BatchStoreView : Type 0 where
   pub charter : Charter
   pub own : ℕ
+  pub seed : TableSeed
   pub held : List Held
 
 -- ---- look-ups by the digest
@@ -82,9 +84,13 @@ as_reference batch = record { digest = digest_of batch; worker = batch.worker }
 abbrev pub to_name : Charter → ℕ → Held → Option BatchReference
 to_name charter own held = if may_be_named charter own held then Some (as_reference held.batch) else None
 
+-- the references of those of these batches that may be named, sorted by digest
+abbrev pub nameable_among : Charter → ℕ → List Held → List BatchReference
+nameable_among charter own batches = fold placed [] (filter_map (to_name charter own) batches)
+
 -- the references of all batches that may be named, sorted by digest
 abbrev pub nameable : BatchStoreView → List BatchReference
-nameable stock = fold placed [] (filter_map (to_name stock.charter stock.own) stock.held)
+nameable stock = nameable_among stock.charter stock.own stock.held
 
 -- ---- the invariant of every store
 

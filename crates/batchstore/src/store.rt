@@ -9,7 +9,7 @@ ghost use Rattle.committee.specs.Sets.{has};
 ghost use Rattle.committee.specs.declared.members.TheConstants.{MAX_MEMBERS};
 ghost use Rattle.batchstore.specs.declared.held.Held.{Held};
 ghost use Rattle.batchstore.specs.Kept.{IsUnderItsDigest, compared, reference_of};
-ghost use Rattle.batchstore.specs.Stock.{is_quorate, may_be_named, BatchStoreView, IsStock, digest_of, held_at, batch_in, has_with, has_own, holds, is_available, was_named, nameable};
+ghost use Rattle.batchstore.specs.Stock.{is_quorate, may_be_named, BatchStoreView, IsStock, digest_of, held_at, batch_in, has_with, has_own, holds, is_available, was_named, nameable, nameable_among};
 ghost use Rattle.batchstore.specs.Answer.{is_member, is_known, is_clash, is_new, is_full, answer, with_batch, with_ack, with_names};
 
 use crate::answers::{Acked, Put};
@@ -23,12 +23,12 @@ use std::collections::BTreeMap;
 use std::marker::Model;
 use wire::{Author, Batch, BatchReference, Digest, MAX_BATCHES, batch_digest};
 
-/// The batches that one member of a committee holds. Contracts see the committee, the member's number, and the batches in the order of
-/// acceptance, each with the other members who acknowledged it and whether an own header named it.
+/// The batches that one member of a committee holds. Contracts see the committee, the member's number, the seed with which its table hashes,
+/// and the batches in the order of acceptance, each with the other members who acknowledged it and whether an own header named it.
 pub struct BatchStore<'a> {
     committee: &'a Committee,
     own: Author,
-    held: Table,
+    table: Table,
     // The batches that may be named: the worker of each, by the batch's digest.
     nameable: BTreeMap<Digest, u16>,
 }
@@ -38,7 +38,7 @@ impl<'a> Drop for BatchStore<'a> {
         let BatchStore {
             committee: _,
             own: _,
-            held: _,
+            table: _,
             nameable: _,
         } = self;
     }
@@ -50,9 +50,9 @@ impl<'a> Model for BatchStore<'a> {
 
     ghost Value = { BatchStoreView };
 
-    ghost view = { λ s. record { charter = s.committee.now; own = s.own.0; held = s.held } };
+    ghost view = { λ s. record { charter = s.committee.now; own = s.own.0; seed = s.table.seed; held = s.table.held } };
 
-    ghost invariant = { λ s. IsKept (record { charter = s.committee.now; own = s.own.0; held = s.held }) s.nameable.entries };
+    ghost invariant = { λ s. IsKept (record { charter = s.committee.now; own = s.own.0; seed = s.table.seed; held = s.table.held }) s.nameable.entries };
 }
 
 // Whether the own member together with these others weighs a quorum.
@@ -132,7 +132,7 @@ fn nameable_among(
     requires member { own.0 < MAX_MEMBERS }
     requires digested { All IsUnderItsDigest batches.now }
     requires distinct { AllPairs (λ one other. one ≢ other) (map (λ held. digest_of held.batch) (values_of batches.now)) }
-    ensures { IfOk result (λ listed. map reference_of listed.entries ≡ nameable (record { charter = committee.now; own = own.0; held = values_of batches.now })) }
+    ensures { IfOk result (λ listed. map reference_of listed.entries ≡ nameable_among committee.now own.0 (values_of batches.now)) }
 {
     let mut nameable = BTreeMap::new(alloc);
     for entry in batches {
@@ -150,13 +150,13 @@ impl<'a> BatchStore<'a> {
         seed: TableSeed,
     ) -> BatchStore<'a>
         requires { own.0 < length committee.now.keys }
-        ensures { result ≡ record { charter = committee.now; own = own.0; held = [] } }
+        ensures { result ≡ record { charter = committee.now; own = own.0; seed = seed; held = [] } }
     {
         committee.limits_hold();
         BatchStore {
             committee,
             own,
-            held: Table::new(alloc, seed),
+            table: Table::new(alloc, seed),
             nameable: BTreeMap::new(alloc),
         }
     }
@@ -171,16 +171,16 @@ impl<'a> BatchStore<'a> {
         batches: Vec<(Digest, Held)>,
     ) -> Result<BatchStore<'a>, AllocError>
         requires digested { All IsUnderItsDigest batches.items }
-        requires stock { IsStock (record { charter = committee.now; own = own.0; held = values_of batches.items }) }
-        ensures { IfOk result (λ store. store ≡ record { charter = committee.now; own = own.0; held = values_of batches.items }) }
+        requires stock { IsStock (record { charter = committee.now; own = own.0; seed = seed; held = values_of batches.items }) }
+        ensures { IfOk result (λ store. store ≡ record { charter = committee.now; own = own.0; seed = seed; held = values_of batches.items }) }
     {
         committee.limits_hold();
         let nameable = nameable_among(alloc, committee, own, batches.as_slice())?;
-        let held = Table::restore(alloc, seed, batches)?;
+        let table = Table::restore(alloc, seed, batches)?;
         Ok(BatchStore {
             committee,
             own,
-            held,
+            table,
             nameable,
         })
     }
@@ -252,7 +252,7 @@ impl<'a> BatchStore<'a> {
     pub fn is_full(&self) -> bool
         ensures { result ≡ is_full self.now }
     {
-        self.held.len() >= self.committee.batches() as usize
+        self.table.len() >= self.committee.batches() as usize
     }
 
     /// Adds a new batch with this digest. On `AllocError` an allocation failed, and nothing has changed.
@@ -267,7 +267,7 @@ impl<'a> BatchStore<'a> {
             acknowledged: MemberSet::none(),
             named: false,
         };
-        self.held.push(digest, held)?;
+        self.table.push(digest, held)?;
         Ok(())
     }
 
@@ -286,7 +286,7 @@ impl<'a> BatchStore<'a> {
         ensures held { option_map (λ found. found.1.now) result ≡ held_at self.now digest.now }
         ensures place { IfSome result (λ found. slice_get self.now.held found.0 ≡ Some found.1.now) }
     {
-        self.held.find(digest)
+        self.table.find(digest)
     }
 
     /// Whether the batch with this digest is held, with this worker.
@@ -368,7 +368,7 @@ impl<'a> BatchStore<'a> {
         ensures err { OnErr result (self.new ≡ self.old) }
         ensures memory { IfErr result (λ error. error ≡ StoreRefusal.Memory) }
     {
-        let Some(held) = self.held.at(place) else {
+        let Some(held) = self.table.at(place) else {
             return Ok(());
         };
         let worker = held.batch.worker();
@@ -377,7 +377,7 @@ impl<'a> BatchStore<'a> {
         if becomes_nameable(self.committee, self.own, held, &acknowledged) {
             self.nameable.insert(*digest, worker)?;
         }
-        self.held.set_members(place, acknowledged);
+        self.table.set_members(place, acknowledged);
         Ok(())
     }
 
@@ -415,7 +415,7 @@ impl<'a> BatchStore<'a> {
             return;
         }
         self.nameable.remove(&reference.digest);
-        self.held.set_mark(place);
+        self.table.set_mark(place);
     }
 
     /// Whether an own header has named the batch with this digest.
@@ -447,7 +447,7 @@ impl<'a> BatchStore<'a> {
     pub fn batch_at(&self, place: usize) -> Option<&Batch>
         ensures { option_copied result ≡ option_map (λ (held : Held). held.batch) (slice_get self.now.held place) }
     {
-        match self.held.at(place) {
+        match self.table.at(place) {
             Some(held) => Some(&held.batch),
             None => None,
         }
@@ -457,7 +457,7 @@ impl<'a> BatchStore<'a> {
     pub fn nth(&self, place: usize) -> Option<&Held>
         ensures { option_copied result ≡ slice_get self.now.held place }
     {
-        self.held.at(place)
+        self.table.at(place)
     }
 
     /// The same with the batch's digest, which costs no hash.
@@ -465,14 +465,14 @@ impl<'a> BatchStore<'a> {
         ensures held { option_map (λ entry. entry.1.now) result ≡ slice_get self.now.held place }
         ensures digested { IfSome result (λ entry. entry.0.now ≡ digest_of entry.1.now.batch) }
     {
-        self.held.entry(place)
+        self.table.entry(place)
     }
 
     /// How many batches are held.
     pub fn len(&self) -> usize
         ensures { result ≡ length self.now.held }
     {
-        self.held.len()
+        self.table.len()
     }
 
     /// What holds of every store: its committee is sound and has the own member, no digest occurs twice, there are no more batches than may
@@ -480,6 +480,6 @@ impl<'a> BatchStore<'a> {
     pub fn limits_hold(&self)
         ensures { IsStock self.now }
     {
-        let _ = &self.held;
+        let _ = &self.table;
     }
 }

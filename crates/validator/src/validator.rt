@@ -19,6 +19,7 @@ ghost use Rattle.spec_checkpoint.specs.Data.{Checkpoint};
 ghost use Rattle.spec_checkpoint.specs.Loading.{load_fault};
 ghost use Rattle.spec_checkpoint.specs.Meaning.{state_in};
 ghost use Rattle.spec_checkpoint.specs.Reading.{checkpoint_read};
+ghost use Rattle.sigface.specs.Seeds.{seed_of};
 ghost use Rattle.validator.specs.Setting.{node_of};
 ghost use Rattle.validator.specs.Standing.{AreAtSound, GoesOn, IsNewThere, StandSomewhere};
 ghost use Rattle.wire.specs.declared.round.TheConstants.Round.{MAX};
@@ -40,7 +41,7 @@ use std::marker::Model;
 use wire::{Author, Digest, Header, Round};
 
 /// A validator without a disk. It answers events, keeps the state that it needs for that, and orders certificates. Contracts see its
-/// configuration and its tables, which always hold a sound state.
+/// configuration and its tables, which always hold a sound state and hash with its signer's seed.
 pub struct Validator<'a, S: Sign> {
     alloc: Global,
     config: &'a Config<S>,
@@ -77,6 +78,8 @@ impl<'a, S: Sign> Validator<'a, S> {
     pub fn new(alloc: Global, config: &'a Config<S>) -> Result<Validator<'a, S>, AllocError>
         ensures setting { IfOk result (λ made. made.setting ≡ config.now) }
         ensures at { let node = node_of S.scheme config.now in IfOk result (λ made. AreAtSound node made.tables (fresh node)) }
+        // Its table of batches hashes with its signer's seed.
+        ensures seed { IfOk result (λ made. made.tables.batches.seed ≡ seed_of (S.scheme.signature_of config.now.signer)) }
     {
         spec_machine::fresh_is_sound();
         config.limits_hold();
@@ -98,6 +101,7 @@ impl<'a, S: Sign> Validator<'a, S> {
         requires { let node = node_of S.scheme config.now in (state : State) × IsKeptOf node state kept }
         ensures setting { IfOk result (λ made. made.setting ≡ config.now) }
         ensures at { let node = node_of S.scheme config.now in IfOk result (λ made. (state : State) → IsKeptOf node state kept → AreAtSound node made.tables state) }
+        ensures seed { IfOk result (λ made. made.tables.batches.seed ≡ seed_of (S.scheme.signature_of config.now.signer)) }
     {
         let seed = TableSeed::of(config.signer());
         let tables = Tables::restore(alloc, config.committee(), config.own(), seed, kept)?;
@@ -136,10 +140,12 @@ impl<'a, S: Sign> Validator<'a, S> {
         &self.tables
     }
 
-    /// What holds of every validator: its setting is a node's, and its tables hold a sound state. The call does nothing.
+    /// What holds of every validator: its setting is a node's, its tables hold a sound state, and they hash with its signer's seed. The call
+    /// does nothing.
     pub fn limits_hold(&self)
         ensures node { IsNode (node_of S.scheme self.now.setting) }
         ensures sound { StandSomewhere (node_of S.scheme self.now.setting) self.now.tables }
+        ensures seed { self.now.tables.batches.seed ≡ seed_of (S.scheme.signature_of self.now.setting.signer) }
     {
         self.config.limits_hold();
     }
