@@ -1,4 +1,4 @@
-//! The batches of a store, found by their digests.
+//! The table in which a store finds its batches by their digests.
 
 ghost use Rattle.std.specs.Prelude.{◌≡◌, ◌≢◌, ◌<◌, All, AllPairs, IfOk, map, [], ◌∷◌, ◌++◌, true, None, Some, IfSome, OnOk, OnErr, length, option_copied, option_map, slice_get, slice_set};
 ghost use Rattle.indexmap.specs.IndexMap.{values, hasher_of, set_value_at};
@@ -18,7 +18,7 @@ use wire::Digest;
 /// The batches of a store, in the order of acceptance. Contracts see this list, and the seed with which the table hashes.
 #[derive(Drop)]
 pub(crate) struct Table {
-    // By the batches' digests, in the order of acceptance.
+    // The batches' entries by digest. The map keeps the order in which they were added, which is the order of acceptance.
     batches: IndexMap<Digest, Held, TableSeed>,
 }
 
@@ -34,7 +34,7 @@ impl Model for Table {
     ghost invariant = { λ t. All IsUnderItsDigest t.batches.entries };
 }
 
-// Sets the members who acknowledged the batch at this place.
+// Replaces the set of members who acknowledged the batch at this place.
 fn write_members(batches: &mut IndexMap<Digest, Held, TableSeed>, place: usize, members: MemberSet)
     ensures entries { (before : Held) → slice_get (values batches.old) place ≡ Some before → batches.new.entries ≡ set_value_at batches.old.entries place (record before { acknowledged = members }) }
     ensures hasher { hasher_of batches.new ≡ hasher_of batches.old }
@@ -44,7 +44,7 @@ fn write_members(batches: &mut IndexMap<Digest, Held, TableSeed>, place: usize, 
     }
 }
 
-// Marks the batch at this place.
+// Marks the batch at this place as named by an own header.
 fn write_mark(batches: &mut IndexMap<Digest, Held, TableSeed>, place: usize)
     ensures entries { (before : Held) → slice_get (values batches.old) place ≡ Some before → batches.new.entries ≡ set_value_at batches.old.entries place (record before { named = true }) }
     ensures hasher { hasher_of batches.new ≡ hasher_of batches.old }
@@ -63,7 +63,7 @@ impl Table {
         }
     }
 
-    // The table of these batches, no two of which have the same digest.
+    // The table that holds these batches, no two of which have the same digest. On `AllocError` an allocation failed.
     pub(crate) fn restore(
         alloc: Global,
         seed: TableSeed,
@@ -84,7 +84,7 @@ impl Table {
         self.batches.len()
     }
 
-    // What is held of the batch at this place in the order of acceptance, counted from 0.
+    // The entry of the batch at this place in the order of acceptance, counted from 0.
     pub(crate) fn at(&self, place: usize) -> Option<&Held>
         ensures { option_copied result ≡ slice_get self.now.held place }
     {
@@ -94,7 +94,7 @@ impl Table {
         }
     }
 
-    // The same with the batch's digest.
+    // The digest and the entry of the batch at this place in the order of acceptance, counted from 0.
     pub(crate) fn entry(&self, place: usize) -> Option<(&Digest, &Held)>
         ensures held { option_map (λ entry. entry.1.now) result ≡ slice_get self.now.held place }
         ensures digested { IfSome result (λ entry. entry.0.now ≡ digest_of entry.1.now.batch) }
@@ -105,7 +105,7 @@ impl Table {
         }
     }
 
-    // What is held of the batch with this digest, and its place.
+    // The place and the entry of the batch with this digest.
     pub(crate) fn find(&self, digest: &Digest) -> Option<(usize, &Held)>
         ensures held { option_map (λ it. it.1.now) result ≡ found digest.now self.now.held }
         ensures place { IfSome result (λ it. slice_get self.now.held it.0 ≡ Some it.1.now) }
@@ -116,7 +116,7 @@ impl Table {
         }
     }
 
-    // Adds a batch at the end. No other has its digest.
+    // Adds a batch at the end of the order of acceptance. The table has no other batch with its digest.
     pub(crate) fn push(&mut self, digest: Digest, held: Held) -> Result<(), AllocError>
         requires digested { digest ≡ digest_of held.batch }
         requires new { found digest self.old.held ≡ None }
@@ -127,7 +127,7 @@ impl Table {
         Ok(())
     }
 
-    // Sets the members who acknowledged the batch at this place.
+    // Replaces the set of members who acknowledged the batch at this place.
     pub(crate) fn set_members(&mut self, place: usize, members: MemberSet)
         requires { place < length self.old.held }
         ensures { (before : Held) → slice_get self.old.held place ≡ Some before → self.new ≡ record self.old { held = slice_set self.old.held place (record before { acknowledged = members }) } }
@@ -135,7 +135,7 @@ impl Table {
         write_members(&mut self.batches, place, members);
     }
 
-    // Marks the batch at this place.
+    // Marks the batch at this place as named by an own header.
     pub(crate) fn set_mark(&mut self, place: usize)
         requires { place < length self.old.held }
         ensures { (before : Held) → slice_get self.old.held place ≡ Some before → self.new ≡ record self.old { held = slice_set self.old.held place (record before { named = true }) } }
