@@ -78,7 +78,7 @@ impl<'a, S: Sign> Validator<'a, S> {
     pub fn new(alloc: Global, config: &'a Config<S>) -> Result<Validator<'a, S>, AllocError>
         ensures setting { IfOk result (λ made. made.setting ≡ config.now) }
         ensures at { let node = node_of S.scheme config.now in IfOk result (λ made. AreAtSound node made.tables (fresh node)) }
-        // Its table of batches hashes with its signer's seed.
+        // The table of batches hashes with the seed of the validator's signer.
         ensures seed { IfOk result (λ made. made.tables.batches.seed ≡ seed_of (S.scheme.signature_of config.now.signer)) }
     {
         spec_machine::fresh_is_sound();
@@ -133,7 +133,7 @@ impl<'a, S: Sign> Validator<'a, S> {
         loading.finish()
     }
 
-    /// The tables.
+    /// The tables of the validator: its batches, votes, own headers and certificates.
     pub fn tables(&self) -> &Tables<'a>
         ensures { result.now ≡ self.now.tables }
     {
@@ -173,8 +173,8 @@ impl<'a, S: Sign> Validator<'a, S> {
         ensures setting { self.new.setting ≡ self.old.setting }
         // A validator has no disk and is never down.
         ensures never_down { IfErr result (λ refusal. refusal ≢ Refusal.Down) }
-        // The same for legal histories: if the tables hold the state kept of a history, the answer is admission's, and after a new event
-        // they hold the state kept of the longer history, whose order has the earlier one as a prefix.
+        // For histories: if the tables hold the state kept of a legal history, the answer is admission's, and after a new event they hold
+        // the state kept of the longer history, whose order has the earlier order as a prefix.
         ensures admits { let node = node_of S.scheme self.old.setting in (history : History) → IsLegal node history
             → AreAtSound node self.old.tables (kept node history)
             → IsAnswer (admit node history event) result }
@@ -214,8 +214,8 @@ impl<'a, S: Sign> Validator<'a, S> {
         self.tables.sequencer().round()
     }
 
-    /// The floor: certificates of lower rounds are dropped, and if it is above 0, no header, vote or certificate of a round up to it is
-    /// taken.
+    /// The floor, which is the garbage-collection round: certificates of lower rounds are dropped. If the floor is above 0, no header, vote
+    /// or certificate of a round up to it is taken.
     pub fn floor(&self) -> Round
         ensures at { let node = node_of S.scheme self.now.setting in (state : State) → AreAtSound node self.now.tables state
             → result ≡ floor_in node state }
@@ -295,7 +295,7 @@ impl<'a, S: Sign> Validator<'a, S> {
         )
     }
 
-    /// The records of its checkpoint: its configuration, and those of its state. On `AllocError` an allocation failed.
+    /// The records of the validator's checkpoint: its configuration, and those of its state. On `AllocError` an allocation failed.
     pub fn kept_records(&self) -> Result<Vec<Vec<u8>>, AllocError>
         ensures { let node = node_of S.scheme self.now.setting in IfOk result (λ rows. Describes node self.now.tables (contents rows.items)) }
     {
@@ -303,7 +303,7 @@ impl<'a, S: Sign> Validator<'a, S> {
         checkpoint::kept_records(self.alloc, self.config.own(), &self.tables)
     }
 
-    /// The validator's checkpoint as a journal writes it, with the same records. On `AllocError` an allocation failed.
+    /// The validator's checkpoint in the form in which a journal writes it; it has the same records. On `AllocError` an allocation failed.
     pub fn snapshot(&self) -> Result<Snapshot, AllocError>
         ensures { let node = node_of S.scheme self.now.setting in IfOk result (λ snapshot. Describes node self.now.tables snapshot) }
     {
