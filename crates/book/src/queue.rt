@@ -8,8 +8,8 @@ ghost use Rattle.book.specs.Queue.{queue_of, settled_head, settled_front};
 use std::collections::VecDeque;
 use wire::Output;
 
-/// The outputs of an event: the first one, and the others, oldest first. They may leave once as many records are settled as the ticket
-/// says. Nearly all events have one output, and `rest` then has no buffer.
+/// The outputs of one event: the first output, and the rest, oldest first. They may leave once as many records are settled as the ticket
+/// says. Nearly all events have one output, and then `rest` has no buffer.
 #[derive(Drop)]
 pub struct Queued {
     pub ticket: u64,
@@ -34,7 +34,8 @@ pub(crate) fn enqueue(queue: &mut VecDeque<Queued>, ticket: u64, outputs: Vec<Ou
     });
 }
 
-// The same outputs. If there are none, their buffer is freed here, by the thread that submits, and not by the one that collects.
+// The same outputs. If there are none, their buffer is freed here, by the thread that hands in the event, and not by the thread that writes
+// outputs.
 fn without_spare(outputs: VecDeque<Output>) -> VecDeque<Output>
     ensures { result.items ≡ outputs.items }
 {
@@ -65,7 +66,7 @@ pub(crate) fn dequeue(queue: &mut VecDeque<Queued>) -> Option<Output>
     Some(first)
 }
 
-/// Whether there is a first output, and its ticket is among this many settled records.
+/// Whether an output waits, and the ticket of the first one is at most this many settled records.
 pub(crate) fn has_settled_head(queue: &VecDeque<Queued>, settled: u64) -> bool
     ensures { result ≡ is_some (settled_head settled (queue_of queue.now.items)) }
 {
@@ -75,7 +76,7 @@ pub(crate) fn has_settled_head(queue: &VecDeque<Queued>, settled: u64) -> bool
     }
 }
 
-/// Moves the outputs whose tickets are settled to the end of `outputs`, oldest first, as many as it has room for.
+/// Moves the outputs whose tickets are settled to the end of `outputs`, oldest first, as many as that has room for.
 pub(crate) fn move_settled(
     queue: &mut VecDeque<Queued>,
     settled: u64,
@@ -95,7 +96,7 @@ pub(crate) fn move_settled(
     }
 }
 
-// Takes the first output out, if its ticket is settled.
+// Takes out the first output of the queue, if its ticket is settled.
 fn next_settled(queue: &mut VecDeque<Queued>, settled: u64) -> Option<Output>
     ensures output { result ≡ settled_head settled (queue_of queue.old.items) }
     ensures queue { queue_of queue.new.items ≡ (if is_some result then drop 1 (queue_of queue.old.items) else queue_of queue.old.items) }
