@@ -1,4 +1,4 @@
-//! The thread that writes the outputs.
+//! The writing thread, which writes the outputs that may leave.
 
 ghost use Rattle.std.specs.Prelude.{◌≡◌, [], true, false, IfOk};
 ghost use Rattle.std.specs.Io.Buffered.{writer_contents};
@@ -20,20 +20,22 @@ use std::sync::Wait;
 use wire::Output;
 use wire_write::{WriteError, write_output};
 
-// The most outputs that are taken out of the node in one hold of its lock.
+// How many outputs are taken out of the node at most in one hold of its lock.
 const MAX_COLLECTED: usize = 256;
 
-/// Where outputs go. Once one couldn't be written, or an allocation for it failed, no more are written, so what was written has no gap.
+/// Where outputs are written. Once an output couldn't be written, or an allocation for it failed, no further output is written. So what was
+/// written has no gap.
 #[derive(Drop)]
 pub(crate) struct Sink<W: Write + Drop> {
     alloc: Global,
     writer: BufWriter<W>,
-    // The outputs that were taken out of the node and aren't written yet.
+    // The outputs that were taken out of the node and that aren't written yet.
     collected: VecDeque<Output>,
     faults: Faults,
 }
 
-/// Writes a frame for each output that may leave, each time that the bell is rung, until the bell is closed and all are written.
+/// The work of the writing thread: writes a frame for each output that may leave, each time that the bell is rung, until the bell is closed
+/// and all of them are written.
 pub(crate) fn write_outputs<S: Sign, W: Write + Drop, R: Wait>(
     rt: &R,
     caller: &mut Caller<'_, '_, S>,
@@ -74,7 +76,7 @@ fn write_due<S: Sign, W: Write + Drop, R: Wait>(
     unreachable!()
 }
 
-// Writes the next outputs that may leave, at most `MAX_COLLECTED`, oldest first. Gives whether there was one.
+// Takes the next outputs that may leave, at most `MAX_COLLECTED`, and writes them, oldest first. Gives whether there was one.
 fn write_next<S: Sign, W: Write + Drop, R: Wait>(
     rt: &R,
     caller: &mut Caller<'_, '_, S>,
@@ -109,7 +111,8 @@ impl<W: Write + Drop> Sink<W> {
         })
     }
 
-    /// Gives back the writer, with everything that was put, and the faults. Where the writer failed it may lack the last bytes.
+    /// Gives back the writer, to which all frames that were put have gone, and the faults. If the writer failed, the last bytes may be
+    /// missing.
     pub(crate) fn finish(self) -> (Faults, W)
         ensures faults { result.0 ≡ record self.faults { output = result.0.output } }
         ensures broken { self.faults.output ≡ true → result.0.output ≡ true }
@@ -132,7 +135,7 @@ impl<W: Write + Drop> Sink<W> {
         }
     }
 
-    // Puts the frames of the collected outputs after what was written, in their order, and drops the outputs.
+    // Writes the frames of the outputs that were taken out, in their order, and drops these outputs.
     fn put_collected(&mut self)
         ensures { PutsAll self.old.collected.items self.old.faults self.new.faults (writer_contents W.contents self.old.writer) (writer_contents W.contents self.new.writer) }
     {
@@ -144,7 +147,7 @@ impl<W: Write + Drop> Sink<W> {
         }
     }
 
-    // Puts the frame of an output after what was written, and drops the output.
+    // Writes the frame of an output, and drops the output.
     fn put(&mut self, output: Output)
         ensures { Puts (frame_of output) self.old.faults self.new.faults (writer_contents W.contents self.old.writer) (writer_contents W.contents self.new.writer) }
     {
