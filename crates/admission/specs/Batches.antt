@@ -15,8 +15,8 @@ use Rattle.batchstore.specs.declared.refusal.StoreRefusal.TheVariants as store
 use Rattle.admission.specs.declared.step.Step.{Step}
 use Rattle.admission.specs.Answers.{IsAnswer, RefusesAs}
 
--- a store has the batches of a node's state, in its order, each with who acknowledged it and whether an own header named it; its table hashes
--- with the seed of the node's signer
+-- a store has the batches of a node's state, in its order, each with who acknowledged it and whether an own header named it; its table
+-- hashes with the seed of the node's signer
 pub record HasBatches (node : Node) (state : State) (stock : BatchStoreView) : Type 0 where
   pub charter : stock.charter ≡ node.charter
   pub own : stock.own ≡ node.own.0

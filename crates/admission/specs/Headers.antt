@@ -93,7 +93,7 @@ pub record IsWith (old new : AssembliesView) (round : ℕ) (held : Option Assemb
   pub own : new.own ≡ old.own
   pub rounds : (other : ℕ) → assembly_at new other ≡ (if other == round then held else assembly_at old other)
 
--- the later table is the earlier one without the rounds up to this one
+-- the later table is the earlier one without the headers of this round and of lower rounds
 pub record IsForgotten (old new : AssembliesView) (round : ℕ) : Type 0 where
   pub charter : new.charter ≡ old.charter
   pub own : new.own ≡ old.own

@@ -54,7 +54,7 @@ impl<'a> Drop for Tables<'a> {
 }
 
 impl<'a> Tables<'a> {
-    /// The tables of a member that has taken no event: they hold the genesis certificates. Look-ups by digest hash with this seed. On
+    /// The tables of a member that has taken no event: they hold the genesis certificates. The table of batches hashes with this seed. On
     /// `AllocError` an allocation failed.
     pub fn new(
         alloc: Global,
@@ -76,7 +76,7 @@ impl<'a> Tables<'a> {
         })
     }
 
-    /// The tables of a member in the sound state that has these parts. Look-ups by digest hash with this seed. On `AllocError` an
+    /// The tables of a member in the sound state that has these parts. The table of batches hashes with this seed. On `AllocError` an
     /// allocation failed.
     pub fn restore(
         alloc: Global,
@@ -160,10 +160,10 @@ impl<'a> Tables<'a> {
         self.sequencer.dag().floor()
     }
 
-    // Drops the votes and the own headers of rounds up to the floor, if the floor isn't the earlier one any more. The call allocates no
+    // Drops the votes and the own headers of rounds up to the floor, if the floor has moved since it was `before`. The call allocates no
     // memory.
     pub(crate) fn trim(&mut self, before: Round)
-        // If none was kept up to the earlier floor, then none is kept up to the present one.
+        // If no vote and no own header was kept of the rounds up to `before`, then none is kept of the rounds up to the present floor.
         ensures votes { ForgetsTo before self.old.votes self.old.votes → ForgetsTo self.old.sequencer.graph.floor self.old.votes self.new.votes }
         ensures headers { IsForgotten self.old.headers self.old.headers before → IsForgotten self.old.headers self.new.headers self.old.sequencer.graph.floor }
         ensures own { self.new.own ≡ self.old.own }

@@ -13,8 +13,8 @@ use Rattle.committee.specs.Sets.{has}
 use Rattle.sigface.specs.declared.seed.TableSeed.{TableSeed}
 use Rattle.batchstore.specs.declared.held.Held.{Held}
 
--- a store: the committee, the validator's own number, the seed with which its table hashes, and the batches in the order of acceptance, each
--- with the members who acknowledged it and whether an own header named it
+-- a store: the committee, the validator's own number, the seed with which its table hashes, and the batches in the order of acceptance,
+-- each with the members who acknowledged it and whether an own header named it
 pub record BatchStoreView : Type 0 where
   pub charter : Charter
   pub own : ℕ

@@ -23,8 +23,8 @@ use std::collections::BTreeMap;
 use std::marker::Model;
 use wire::{Author, Batch, BatchReference, Digest, MAX_BATCHES, batch_digest};
 
-/// The batches that one member of a committee holds. Contracts see the committee, the member's number, the seed with which its table hashes,
-/// and the batches in the order of acceptance, each with the other members who acknowledged it and whether an own header named it.
+/// The batches that one member of a committee holds. Contracts see the committee, the member's number, the seed with which its table
+/// hashes, and the batches in the order of acceptance, each with the other members who acknowledged it and whether an own header named it.
 pub struct BatchStore<'a> {
     committee: &'a Committee,
     own: Author,
@@ -441,7 +441,7 @@ impl<'a> BatchStore<'a> {
         first_references(alloc, &self.nameable)
     }
 
-    /// The committee.
+    /// The committee of the member whose store this is.
     pub fn committee(&self) -> &Committee
         ensures { result.now ≡ self.now.charter }
     {

@@ -20,7 +20,7 @@ pub record IsLongestBeginning (records group rest : List (List ℕ)) : Type 0 wh
   pub fits : FitsGroup group
   pub longest : (next : List ℕ) (others : List (List ℕ)) → rest ≡ next ∷ others → FitsGroup (group ++ next ∷ []) → ⊥
 
--- this group has no room for the first record of the next group; nothing holds of a group that is followed by an empty one
+-- the next group isn't empty, and this group has no room for the first record of it
 abbrev pub IsFullBefore : List (List ℕ) → List (List ℕ) → Type 0
 IsFullBefore group [] = ⊥
 IsFullBefore group (first ∷ others) = FitsGroup (group ++ first ∷ []) → ⊥

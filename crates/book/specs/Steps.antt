@@ -1,4 +1,4 @@
--- When a book belongs to a world, and that what the book does is then a step of the world.
+-- When a book belongs to a world, and the laws that what the book does is then a step of that world.
 use Rattle.std.specs.Prelude.{◌≡◌, ◌⊎◌, ◌↔◌, ℕ, ◌+◌, ◌≤◌, ◌<◌, ◌^◌, List, [], ◌∷◌, ◌++◌, length, map, drop, Option, Some, None, All, Contains}
 use Rattle.spec_model.specs.Admitting.{IsLegal}
 use Rattle.spec_model.specs.Giving.{kept}

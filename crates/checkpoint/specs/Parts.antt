@@ -8,7 +8,7 @@ use Rattle.spec_model.specs.Words.{Certificate, Digest}
 use Rattle.dag.specs.Graph.{DagView, certificates_in}
 use Rattle.certify.specs.Assembled.{AssemblyView, Places, is_on, votes_in}
 
--- the vote is another member's than this one's
+-- the vote is by another member than this one
 abbrev pub is_other : ℕ → VoteEntry → Bool
 is_other own entry = not (entry.voter.0 == own)
 

@@ -71,7 +71,7 @@ pub fn configuration_record(
     ensures bytes { IfOk result (λ bytes. bytes.items ≡ configuration_of version committee.now own) }
     ensures len { IfOk result (λ bytes. length bytes.items ≡ size_in version (length committee.now.keys)) }
     ensures shape { IfOk result (λ bytes. shaped_version bytes.items ≡ Some version) }
-    // The record and a head fit in one group.
+    // The record fits in one group together with a head, which is the record of a generation.
     ensures packs { IfOk result (λ bytes. CanPack (bytes.items ∷ [])) }
 {
     committee.limits_hold();

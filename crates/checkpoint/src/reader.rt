@@ -97,7 +97,7 @@ impl<'a, S: Sign> CheckpointReader<'a, S> {
             }
             Some(_) => {
                 let Some(count) = self.count.checked_add(1) else {
-                    // No memory has so many records.
+                    // This is never reached: no memory holds so many records.
                     return Err(LoadError::Memory);
                 };
                 if self.so_far.is_cut_short(kind_of(bytes)) {

@@ -14,7 +14,7 @@ pub trait RecordSink {
     // The records that were added so far.
     ghost records: { Self → List (List ℕ) };
 
-    // Which records can be added, for example those that fit a group.
+    // Which records can be added: any to a plain list, and to the draft of a snapshot those that fit a group by themselves.
     ghost fits: { List ℕ → Type 0 };
 
     /// Adds a record that is given in parts. On `AllocError` an allocation failed.

@@ -82,7 +82,7 @@ abbrev pub reaches_in : DagView → ℕ → ℕ → ℕ → ℕ → Bool
 reaches_in graph round author below other =
     option_map_or (λ start. option_map_or (reaches (size_in graph) (slots_in graph) start) (slots_in graph below other) false) (slots_in graph round author) false
 
--- some certificate of this round whose author passes has the certificate in this slot of the round below as a parent
+-- some certificate of this round, by an author for whom `passes` holds, has the certificate in this slot of the round below as a parent
 abbrev pub is_parent_of : DagView → ℕ → ℕ → (ℕ → Bool) → ℕ → Bool
 is_parent_of graph round below passes other =
     list_any (λ author. passes author && has_parent_in graph round author below other) (numbers (size_in graph))
@@ -91,7 +91,7 @@ is_parent_of graph round below passes other =
 abbrev pub references_at : DagView → ℕ → ℕ → ℕ
 references_at graph round author = option_map_or (λ c. length c.header.parents) (slots_in graph round author) 0
 
--- how many references to parents the certificates of a round have whose authors pass
+-- how many references to parents the certificates of a round have that are by authors for whom `passes` holds
 abbrev pub references_of : DagView → ℕ → (ℕ → Bool) → ℕ
 references_of graph round passes = sum_by (λ author. cond (passes author) (references_at graph round author) 0) (numbers (size_in graph))
 

@@ -438,7 +438,7 @@ impl<'a> Dag<'a> {
         self.base
     }
 
-    /// The committee.
+    /// The committee whose certificates the DAG holds.
     pub fn committee(&self) -> &'a Committee
         ensures { result.now ≡ self.now.charter }
     {

@@ -16,7 +16,7 @@ use wire::Author;
 #[derive(Drop)]
 pub struct Row {
     slots: Vec<Option<Entry>>,
-    // The authors whose certificates aren't marked.
+    // The authors whose certificates in this row aren't marked.
     unmarked: MemberSet,
 }
 

@@ -13,8 +13,8 @@ use Rattle.opening.specs.Stages.{IsDecodedThroughout}
 use Rattle.opening.specs.Decoded.{decoded_in, Reports}
 use Rattle.spec_model.specs.Nodes.{Node}
 
--- The result of opening a node's journal and then making some value, for which an allocation may fail. The disks are in that value; after
--- an error they are handed back.
+-- What is reported, and what is left on the disks, when a node's journal is opened and then some value is made, for which an allocation may
+-- fail. The value holds the disks; after an error they are handed back.
 pub record IsStartingOn {T D : Type 0} (node : Node) (device : Disks D) (disks_in : T → Store D) (store : Store D) (result : Result T (Failed JournalError (Store D))) : Type 0 where
   -- any error other than Memory, Device and Full is the one to which the areas decode
   pub reports : IfErr result (λ failed. failed.error ≢ Device → failed.error ≢ Full → Reports failed.error (decoded_in node (areas_in device store)))

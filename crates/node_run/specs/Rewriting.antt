@@ -46,7 +46,7 @@ pub record Point (D : Type 0) : Type 0 where
   pub journal : Journal D
   pub settled : List Marked
 
--- the point at which a flusher is
+-- the point of a run at which this flusher is
 abbrev pub point_of : {D : Type 0} → Flusher D → Point D
 point_of flusher = record { journal = journal_of flusher; settled = settled_in flusher }
 
@@ -95,16 +95,17 @@ pub record HasCheckpoint {S D : Type 0} (scheme : Scheme S) (device : Device D) 
   pub checkpoint : IsCheckpointAfter scheme node point.settled records
   pub content : device.content (disk_of point.journal) ≡ OPEN ∷ bytes_for (generation_in point.journal) records
 
--- A checkpoint follows a round exactly if one is due. Afterwards the other area is read, all that was settled still is, and the point meets
--- `Made`, which says what a checkpoint leaves. A checkpoint that is due is skipped only if `memory` says that an allocation failed.
+-- A checkpoint follows a round exactly if one is due, unless it is skipped, which it is only if `memory` says that an allocation failed.
+-- After a checkpoint the other area is read, all that was settled still is, and the point meets `Made`, which says what a checkpoint
+-- leaves.
 abbrev pub FollowsWhereDue : {D : Type 0} → Device D → (Point D → Type 0) → Rule → Bool → Point D → Followed D → Type 0
 FollowsWhereDue device Made rule memory grown none_due = IsDue rule (length_in device grown.journal) → ⊥
 FollowsWhereDue device Made rule memory grown (made point) =
     IsDue rule (length_in device grown.journal) × HaveChangedPlaces grown.journal point.journal × Begins grown.settled point.settled × Made point
 FollowsWhereDue device Made rule memory grown skipped = IsDue rule (length_in device grown.journal) × (memory ≡ true)
 
--- A step: one round adds the records of what it settles to the area that is read, as one group, and leaves the other area as it was. A
--- checkpoint follows exactly if one is due.
+-- A step of a run: one round adds the records of what it settles to the area that is read, as one group, and leaves the other area as it
+-- was. A checkpoint follows where one is due.
 pub record IsStep {D : Type 0} (device : Device D) (Made : Point D → Type 0) (rule : Rule) (memory : Bool) (first : Point D) (step : Step D) : Type 0 where
   pub adds : device.content (disk_of step.grown.journal) ≡ file_with (device.content (disk_of first.journal)) (records_after first.settled step.grown.settled)
   pub same_area : spare_of step.grown.journal ≡ spare_of first.journal

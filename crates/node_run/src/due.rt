@@ -10,7 +10,6 @@ use wire::{Author, Message, Round};
 pub(crate) enum Waiting {
     /// No round.
     Nothing,
-    /// Each round from `low` on that is below `end`; this may be no round. A waiting certificate of another round is ready only where the
     /// All rounds from `low` on and below `end`, which may be none. A certificate that waits in another round can have become ready only if
     /// the floor has risen over the lowest round in which one waits.
     Rounds {
@@ -81,10 +80,10 @@ impl Due {
     }
 }
 
-/// Which questions are due after a new event of this member's node. A question that isn't due has the same answer as before the event. No
-/// waiting certificates are due where no certificate entered the DAG and the floor did not move. The proposal isn't due where no round, no
-/// availability of a batch and no own header changed. A certificate that enters the DAG makes the waiting certificates of its round due,
-/// since its slot is filled now, and those of the next round, since it may be their parent.
+/// Which questions are due after a new event of this member's node. A question that isn't due has the same answer as before the event. If
+/// no waiting certificates are due, no certificate entered the DAG and the floor did not move. If the proposal isn't due, neither the
+/// node's round nor the availability of a batch nor an own header changed. A certificate that enters the DAG makes the waiting certificates
+/// of its round due, since its slot is filled now, and those of the next round, since it may be their parent.
 pub(crate) fn due_after(own: Author, message: &Message) -> Due
     ensures left { Leaves own message.now result }
 {

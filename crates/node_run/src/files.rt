@@ -15,7 +15,8 @@ use std::rt::Files;
 /// gate before it and the gate after it.
 const FRONT_BYTES: u64 = (LENGTH_BYTES + MAX_GROUP_BYTES) as u64 + 2;
 
-/// How many bytes are enough to hold the first group of any file that can be read: the configuration of 31 members and a head.
+/// How many bytes are enough to hold the first group of any file that can be read. At most this is the configuration of 31 members, and a
+/// head with the generation.
 const FIRST_GROUP_BYTES: u64 = 4_096;
 
 /// Opens the two files of a journal. The first file is at this path; the name of the second has `.2` added. A file that doesn't exist is

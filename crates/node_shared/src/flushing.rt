@@ -157,7 +157,7 @@ impl<'a, S: Sign> Node<'a, S> {
     }
 
     // After this call the flush seat knows what the book's own seat does. The result is whether the flush seat counts as many taken and
-    // settled events as the book. If it doesn't, it never will.
+    // settled events as the book. If it doesn't, it never will, since only calls with the flush seat change the book's counts.
     fn tie<R: Wait>(&self, rt: &R, locked: &mut Locked<'a, S>, flush: &mut FlushSeat) -> bool
         requires home { IsAtHome S.scheme self.now locked.old.seat locked.old.book }
         requires of { IsOf self.now flush.old.seat }

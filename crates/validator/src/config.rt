@@ -62,21 +62,21 @@ impl<S: Sign> Config<S> {
         &self.node
     }
 
-    /// The committee.
+    /// The committee whose member the validator is.
     pub fn committee(&self) -> &Committee
         ensures { result.now ≡ self.now.charter }
     {
         &self.node.committee
     }
 
-    /// The member's number.
+    /// The member's number in its committee.
     pub fn own(&self) -> Author
         ensures { result ≡ self.now.own }
     {
         self.node.own
     }
 
-    /// The signer.
+    /// The signer with which the member signs headers and votes.
     pub fn signer(&self) -> &S
         ensures { result.now ≡ self.now.signer }
     {

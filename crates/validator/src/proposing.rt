@@ -53,7 +53,7 @@ fn header_for<S: Sign>(
 {
     let batches = batches.least_nameable(alloc)?;
     let parents = parents_of(alloc, dag, below(round))?;
-    // All parents are of members, so they are as few as a header may have.
+    // No two parents are by the same member, so that there are no more of them than a header may have.
     dag.limits_hold();
     signed(alloc, signer, own, round, &batches, &parents)
 }

@@ -1,4 +1,4 @@
-//! The validator.
+//! The validator, which answers events and has no disk.
 
 ghost use Rattle.std.specs.Prelude.{◌≡◌, ◌≢◌, ◌+◌, ◌≤◌, true, false, not, drop, None, Ok, IfOk, IfErr, IfSome, OnOk};
 ghost use Rattle.header.specs.Checks.{fault_of, accepts_all};
@@ -112,7 +112,7 @@ impl<'a, S: Sign> Validator<'a, S> {
         })
     }
 
-    /// The validator of these records of a checkpoint: its configuration, and those of its state.
+    /// Loads a validator from the records of a checkpoint: its configuration, and those of its state.
     ///
     /// # Errors
     /// `Unsound` with the first record at fault, `UnsoundWhole` where only the whole is at fault; `Memory` where an allocation failed.
@@ -140,8 +140,8 @@ impl<'a, S: Sign> Validator<'a, S> {
         &self.tables
     }
 
-    /// What holds of every validator: its setting is a node's, its tables hold a sound state, and they hash with its signer's seed. The call
-    /// does nothing.
+    /// What holds of every validator: its setting is a node's, its tables hold a sound state, and they hash with its signer's seed. The
+    /// call does nothing.
     pub fn limits_hold(&self)
         ensures node { IsNode (node_of S.scheme self.now.setting) }
         ensures sound { StandSomewhere (node_of S.scheme self.now.setting) self.now.tables }
@@ -150,7 +150,7 @@ impl<'a, S: Sign> Validator<'a, S> {
         self.config.limits_hold();
     }
 
-    /// The committee.
+    /// The committee whose member the validator is.
     pub fn committee(&self) -> &Committee
         ensures { result.now ≡ self.now.setting.charter }
     {

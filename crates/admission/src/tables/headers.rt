@@ -46,7 +46,7 @@ pub(crate) fn alone(alloc: Global, output: Output) -> Result<Vec<Output>, AllocE
 }
 
 impl<'a> Tables<'a> {
-    // Whether the validator itself is the author.
+    // Whether this author is the validator itself.
     pub(crate) fn is_own(&self, author: Author) -> bool
         ensures { result ≡ is_own_of self.now author }
     {

@@ -42,14 +42,14 @@ fn has_kept<S: Sign>(node: &Node<S>, read: &ReadHeader, voter: u16) -> bool
     voter == node.own.0 || has_vote_of(read.votes.as_slice(), voter)
 }
 
-/// Whether for one of these votes the other votes on an own header weigh less than a quorum.
+/// Whether one of these votes is needed: without it the votes on an own header weigh less than a quorum.
 pub fn is_one_needed<S: Sign>(node: &Node<S>, read: &ReadHeader, votes: &[VoteEntry]) -> bool
     ensures { let seen = node_view S.scheme node.now in result ≡ list_any (λ entry. nat_lt (weight seen.charter (λ voter. faults.has_kept seen read.now voter && not (voter == entry.voter.0))) (quorum seen)) votes.now }
 {
     votes.iter().any(|entry| is_needed(node, read, entry))
 }
 
-/// Whether the votes on an own header without this vote weigh less than a quorum.
+/// Whether this vote is needed: without it the votes on an own header weigh less than a quorum.
 fn is_needed<S: Sign>(node: &Node<S>, read: &ReadHeader, entry: &VoteEntry) -> bool
     ensures { let seen = node_view S.scheme node.now in result ≡ nat_lt (weight seen.charter (λ voter. faults.has_kept seen read.now voter && not (voter == entry.now.voter.0))) (quorum seen) }
 {

@@ -27,7 +27,7 @@ pub fn read_vote_of(
     Ok((Slot { round, author }, header))
 }
 
-/// Whether this slot comes after those of the votes before it.
+/// Whether this slot comes, by round and then author, after those of the votes that were read before it.
 fn vote_may_follow(before: &[(Slot, Digest)], round: u64, author: u16) -> bool
     ensures { result ≡ vote_may_follow (map vote_of before.now) round author }
 {
