@@ -29,8 +29,8 @@ pub struct BatchStore<'a> {
     committee: &'a Committee,
     own: Author,
     table: Table,
-    // The worker of each batch that a header may still name, by the batch's digest. It is computed from the table, so that contracts don't
-    // see it.
+    // The worker of each batch that a header may still name, by the batch's digest. Contracts don't see it, since it follows from the
+    // table.
     nameable: BTreeMap<Digest, u16>,
 }
 

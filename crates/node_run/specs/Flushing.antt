@@ -29,7 +29,7 @@ pub record FlushesOnce {S D : Type 0} (scheme : Scheme S) (device : Device D) (r
   pub down : GoesDown before.flusher later.flusher result
   pub cause : ReportsFault errors.Device (faults_in device (store_of (journal_of before.flusher))) (faults_in device (store_of (journal_of later.flusher))) result
   pub full : IsErrOf result errors.Full → HasNoPlace scheme device before.node later.flusher
-  -- if nothing was pending, all events that were accepted by then are settled, as far as one more group could take them
+  -- if nothing was pending, a further group would be empty: no accepted event is left that fits one after the settled events
   pub nothing : result ≡ Ok 0 → TakesLongest before.seat.view.seen (settled_in later.flusher) (settled_in later.flusher)
   -- If an allocation of the round fails, the journal is unchanged, and nothing is taken that isn't settled. If only an allocation of the
   -- checkpoint fails, the result is no error.

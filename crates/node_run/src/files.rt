@@ -22,8 +22,8 @@ const FIRST_GROUP_BYTES: u64 = 4_096;
 /// Opens the two files of a journal. The first file is at this path; the name of the second has `.2` added. A file that doesn't exist is
 /// created, and both are locked.
 ///
-/// The newer file is kept in memory as a whole; of the older one only what an opening reads. Which file is newer is told by the files'
-/// first bytes, which are read before the files are locked. Only the use of memory rests on this: if the older file had to be read after
+/// The newer file is kept in memory as a whole, and of the other file only what an opening reads. Which file is newer is told by the files'
+/// first bytes, which are read before the files are locked. Only the use of memory rests on this: if the other file had to be read after
 /// all, the opening would fail.
 ///
 /// # Errors
