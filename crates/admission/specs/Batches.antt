@@ -49,7 +49,7 @@ abbrev pub IsNewFrom : BatchStoreView → Message → Bool → Type 0
 IsNewFrom stock came result = (node : Node) (state : State) (event : Event) → event.message ≡ came → HasBatches node state stock
     → result ≡ is_new (answered node state event)
 
--- if the earlier store has the batches of a state, the later store has those of the state after a new event with this message
+-- if the earlier store has the batches of a state, the later store has those of the state after any event with this message
 abbrev pub GoesOn : BatchStoreView → BatchStoreView → Message → Type 0
 GoesOn before later came = (node : Node) (state : State) (event : Event) → event.message ≡ came → HasBatches node state before
     → HasBatches node (after node state event) later

@@ -66,7 +66,7 @@ pub(crate) fn unmarked(rows: &VecDeque<Row>, floor: Round, round: u64) -> Member
     }
 }
 
-// This many rows, whose slots hold nothing.
+// A list of this many rows, whose slots hold nothing. On `AllocError` an allocation failed.
 fn empty_rows(alloc: Global, size: usize, count: usize) -> Result<VecDeque<Row>, AllocError>
     ensures { IfOk result (λ rows. rows.items ≡ replicate count (replicate size None)) }
 {
