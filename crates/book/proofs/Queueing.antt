@@ -72,11 +72,13 @@ moved_one settled left room (first ∷ rest) later before after output more is g
     front b = if b then first.output ∷ settled_front settled rest else []
 
     by_test : (b : Bool) → Some output ≡ (if b then Some first.output else None)
-        → (after ++ take left (settled_front settled later) ≡ before ++ take room (front b)) × (drop (length (take left (settled_front settled later))) later ≡ drop (length (take room (front b))) (first ∷ rest))
+        → (after ++ take left (settled_front settled later) ≡ before ++ take room (front b))
+        × (drop (length (take left (settled_front settled later))) later ≡ drop (length (take room (front b))) (first ∷ rest))
     by_test false is = absurd cc
     by_test true is =
         let same : output ≡ first.output = same_Some output first.output is in
-        let whole : take room (first.output ∷ settled_front settled rest) ≡ first.output ∷ take left (settled_front settled rest) = ap (λ n. take n (first.output ∷ settled_front settled rest)) more in (
+        let whole : take room (first.output ∷ settled_front settled rest) ≡ first.output ∷ take left (settled_front settled rest) =
+        ap (λ n. take n (first.output ∷ settled_front settled rest)) more in (
           ap (λ l. l ++ take left (settled_front settled later)) pushed ∙ append_assoc before (output ∷ []) (take left (settled_front settled later))
               ∙ ap (λ l. before ++ l) ((λ i. same i ∷ take left (settled_front settled (gone i))) ∙ sym whole),
           (λ i. drop (length (take left (settled_front settled (gone i)))) (gone i)) ∙ ap (λ l. drop (length l) (first ∷ rest)) (sym whole),
