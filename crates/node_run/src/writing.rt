@@ -1,33 +1,41 @@
-//! The thread that writes the outputs.
+//! The writing thread, which writes the outputs that may leave.
 
-ghost use Rattle.std.specs.Prelude.{◌≡◌, [], true, false};
+ghost use Rattle.std.specs.Prelude.{◌≡◌, [], true, false, IfOk};
 ghost use Rattle.std.specs.Io.Buffered.{writer_contents};
 ghost use Rattle.std.specs.Io.KnownBytes.{Keeps};
 ghost use Rattle.wire.specs.Lists.{Begins};
 ghost use Rattle.node_seats.specs.Views.{IsSame};
 ghost use Rattle.node.specs.Callers.{StaysWith};
 ghost use Rattle.wire.specs.Outputs.{frame_of};
-ghost use Rattle.node_run.specs.Writing.{no_faults, HoldsPart, Puts, MayGo, WritesNext, WritesOnly};
+ghost use Rattle.node_run.specs.Writing.{no_faults, HoldsPart, Puts, PutsAll, MayGo, WritesNext, WritesOnly};
 
 use crate::bell::Bell;
 use crate::caller::Caller;
 use node_io::Faults;
 use sigface::Sign;
-use std::alloc::Global;
+use std::alloc::{AllocError, Global};
+use std::collections::VecDeque;
 use std::io::{BufWriter, Write};
 use std::sync::Wait;
 use wire::Output;
 use wire_write::{WriteError, write_output};
 
-/// Where outputs go. Once one couldn't be written, or an allocation for it failed, no more are written, so what was written has no gap.
+// How many outputs are taken out of the node at most in one hold of its lock.
+const MAX_COLLECTED: usize = 256;
+
+/// Where outputs are written. Once an output couldn't be written, or an allocation for it failed, no further output is written. So what was
+/// written has no gap.
 #[derive(Drop)]
 pub(crate) struct Sink<W: Write + Drop> {
     alloc: Global,
     writer: BufWriter<W>,
+    // The outputs that were taken out of the node and that aren't written yet.
+    collected: VecDeque<Output>,
     faults: Faults,
 }
 
-/// Writes a frame for each output that may leave, each time that the bell is rung, until the bell is closed and all are written.
+/// The work of the writing thread: writes a frame for each output that may leave, each time that the bell is rung, until the bell is closed
+/// and all of them are written.
 pub(crate) fn write_outputs<S: Sign, W: Write + Drop, R: Wait>(
     rt: &R,
     caller: &mut Caller<'_, '_, S>,
@@ -68,7 +76,7 @@ fn write_due<S: Sign, W: Write + Drop, R: Wait>(
     unreachable!()
 }
 
-// Writes the next output that may leave. Gives whether there was one.
+// Takes the next outputs that may leave, at most `MAX_COLLECTED`, and writes them, oldest first. Gives whether there was one.
 fn write_next<S: Sign, W: Write + Drop, R: Wait>(
     rt: &R,
     caller: &mut Caller<'_, '_, S>,
@@ -78,31 +86,33 @@ fn write_next<S: Sign, W: Write + Drop, R: Wait>(
     ensures same { IsSame caller.old.seat caller.new.seat }
     ensures more { Begins caller.old.seat.view.durable caller.new.seat.view.durable }
     ensures next { result ≡ true → WritesNext (MayGo S.scheme caller.old.node caller.new.seat.view) sink.old.faults sink.new.faults (writer_contents W.contents sink.old.writer) (writer_contents W.contents sink.new.writer) }
-    ensures none { result ≡ false → sink.new ≡ sink.old }
+    ensures none { result ≡ false → (sink.new.faults ≡ sink.old.faults) × (sink.new.writer ≡ sink.old.writer) }
 {
-    match caller.collect(rt) {
-        Some(output) => {
-            sink.put(output);
-            true
-        }
-        None => false,
+    sink.collected.clear();
+    caller.collect_into(rt, &mut sink.collected);
+    if sink.collected.is_empty() {
+        return false;
     }
+    sink.put_collected();
+    true
 }
 
 impl<W: Write + Drop> Sink<W> {
-    /// A sink in which nothing has failed yet.
-    pub(crate) fn new(alloc: Global, writer: BufWriter<W>) -> Sink<W>
-        ensures faults { result.faults ≡ no_faults }
-        ensures writer { result.writer ≡ writer }
+    /// A sink in which nothing has failed yet. On `AllocError` an allocation failed.
+    pub(crate) fn new(alloc: Global, writer: BufWriter<W>) -> Result<Sink<W>, AllocError>
+        ensures faults { IfOk result (λ sink. sink.faults ≡ no_faults) }
+        ensures writer { IfOk result (λ sink. sink.writer ≡ writer) }
     {
-        Sink {
+        Ok(Sink {
             alloc,
             writer,
+            collected: VecDeque::with_capacity(alloc, MAX_COLLECTED)?,
             faults: Faults::none(),
-        }
+        })
     }
 
-    /// Gives back the writer, with everything that was put, and the faults. Where the writer failed it may lack the last bytes.
+    /// Gives back the writer, to which all frames that were put have gone, and the faults. If the writer failed, the last bytes may be
+    /// missing.
     pub(crate) fn finish(self) -> (Faults, W)
         ensures faults { result.0 ≡ record self.faults { output = result.0.output } }
         ensures broken { self.faults.output ≡ true → result.0.output ≡ true }
@@ -112,6 +122,7 @@ impl<W: Write + Drop> Sink<W> {
         let Sink {
             alloc: _,
             writer,
+            collected: _,
             mut faults,
         } = self;
         match writer.into_inner() {
@@ -124,7 +135,19 @@ impl<W: Write + Drop> Sink<W> {
         }
     }
 
-    // Puts the frame of an output after what was written, and drops the output.
+    // Writes the frames of the outputs that were taken out, in their order, and drops these outputs.
+    fn put_collected(&mut self)
+        ensures { PutsAll self.old.collected.items self.old.faults self.new.faults (writer_contents W.contents self.old.writer) (writer_contents W.contents self.new.writer) }
+    {
+        for _ in 0..self.collected.len() {
+            let Some(output) = self.collected.pop_front() else {
+                return;
+            };
+            self.put(output);
+        }
+    }
+
+    // Writes the frame of an output, and drops the output.
     fn put(&mut self, output: Output)
         ensures { Puts (frame_of output) self.old.faults self.new.faults (writer_contents W.contents self.old.writer) (writer_contents W.contents self.new.writer) }
     {
