@@ -24,8 +24,8 @@ const TAKEN: u64 = 1;
 const WANTED: u64 = 2;
 
 // How often a thread tries to get the value before it sleeps. It pauses twice as long before each next try. A pause takes 4 nanoseconds on
-// some processors and 50 on others, so all tries together take 1 to 13 microseconds. With ten tries, three threads that submit took a
-// fourth more of the processors' time than with eight, and were no faster. With six, a node that read a stream took a tenth more of it.
+// some processors and 50 on others, so all tries together take 1 to 13 microseconds. With ten tries, three threads that submit took up
+// to a fourth more of the processors' time than with eight, and were no faster. With six, a node that read a stream took about a tenth more.
 const TRIES: u32 = 8;
 
 fn pause(times: u32) {
