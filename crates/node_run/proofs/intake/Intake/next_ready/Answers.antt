@@ -49,6 +49,9 @@ returns-clause-asks g c =
     (one_ready scheme old.caller.node low end lowest at old.waiters old.caller later.caller c.in-Some.ensures.least
     (subst (λ n. AsksEach scheme old.caller.node n at old.waiters old.caller later.caller) c.max.ensures each))
 
+pub returns-in-Some-ready_outside-clause-first : goal.returns-in-Some-ready_outside-clause-first
+returns-in-Some-ready_outside-clause-first g c = (c.in-Some.lowest, c.in-Some-ready_outside.ensures.first)
+
 pub returns-clause-first : goal.returns-clause-first
 returns-clause-first g c =
     let old = c.args.self.now in

@@ -32,8 +32,8 @@ returns-clause-asked g c =
     all_whole (WasAsked g.S.Sign.scheme old.caller.node old.caller c.loop-place.self.caller) (held old.waiters c.args.round) c.loop-place.place
     (omega (arith, c.loop-place-test.false, c.count_of-place-end.ensures)) c.loop-place.invariant.asked
 
-pub returns-then-clause-first : goal.returns-then-clause-first
-returns-then-clause-first g c =
+pub returns-then-is_ready_at-clause-first : goal.returns-then-is_ready_at-clause-first
+returns-then-is_ready_at-clause-first g c =
     let scheme = g.S.Sign.scheme in
     let old = c.args.self.now in
     let mid = c.loop-place.self in
@@ -43,6 +43,6 @@ returns-then-clause-first g c =
     let round = c.args.round in
     let place = c.loop-place.place in
     let same : later.waiters ≡ mid.waiters = ap (λ (i : Intake g.row.S.Denot). i.waiters) said.same in
-    some_more c.take_of.result (λ event taken. first_taken scheme old.caller mid.caller later.caller old.waiters mid.waiters round place event (held c.take_of.new.waiters round)
+    some_more c.take_of.result (λ event taken. first_taken scheme old.caller mid.caller later.caller old.waiters mid.waiters round place event (held c.take_of.new.self round)
     so_far.only said.only so_far.waiters so_far.asked
-    (subst (λ (w : WaitersView). IsTakenAt (held w round) place event (held c.take_of.new.waiters round)) same taken) (said.ready c.if-is_ready_at.true)) c.take_of.ensures.taken
+    (subst (λ (w : WaitersView). IsTakenAt (held w round) place event (held c.take_of.new.self round)) same taken) (said.ready c.if-is_ready_at.true)) c.take_of.ensures.taken
