@@ -1,5 +1,5 @@
 -- What the writer of a running node gets.
-use Rattle.std.specs.Prelude.{◌≤◌, length, take, ◌≡◌, ◌⊎◌, ◌||◌, ℕ, Bool, true, false, List, ◌++◌, Option, None, Some, ⊤, All}
+use Rattle.std.specs.Prelude.{◌≤◌, length, take, ◌≡◌, ◌≢◌, ◌⊎◌, ◌||◌, ℕ, Bool, true, false, List, [], ◌++◌, Option, None, Some, ⊤, All}
 use Rattle.std.specs.List.{flat_map}
 use Rattle.std.specs.Io.KnownBytes.{Keeps, Appends}
 use Rattle.wire.specs.Lists.{Begins}
@@ -70,9 +70,10 @@ pub record PutsAll (outputs : List Output) (before later : Faults) (old new : Op
   pub some : AppendsSome old new (flat_map frame_of put)
   pub others : later ≡ record before { output = later.output; memory = later.memory }
 
--- outputs that may go out were taken out of the node and put
+-- at least one output that may go out was taken out of the node, and all that were are put
 pub record WritesNext (May : Output → Type 0) (before later : Faults) (old new : Option (List ℕ)) : Type 0 where
   pub outputs : List Output
+  pub some : outputs ≢ []
   pub each : All May outputs
   pub puts : PutsAll outputs before later old new
 

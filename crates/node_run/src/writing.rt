@@ -1,6 +1,6 @@
 //! The writing thread, which writes the outputs that may leave.
 
-ghost use Rattle.std.specs.Prelude.{◌≡◌, [], true, false, IfOk};
+ghost use Rattle.std.specs.Prelude.{◌≡◌, [], true, false};
 ghost use Rattle.std.specs.Io.Buffered.{writer_contents};
 ghost use Rattle.std.specs.Io.KnownBytes.{Keeps};
 ghost use Rattle.wire.specs.Lists.{Begins};
@@ -13,15 +13,15 @@ use crate::bell::Bell;
 use crate::caller::Caller;
 use node_io::Faults;
 use sigface::Sign;
-use std::alloc::{AllocError, Global};
+use std::alloc::Global;
 use std::collections::VecDeque;
 use std::io::{BufWriter, Write};
 use std::sync::Wait;
 use wire::Output;
 use wire_write::{WriteError, write_output};
 
-// How many outputs are taken out of the node at most in one hold of its lock.
-const MAX_COLLECTED: usize = 256;
+/// How many outputs are taken out of the node at most in one hold of its lock.
+pub(crate) const MAX_COLLECTED: usize = 256;
 
 /// Where outputs are written. Once an output couldn't be written, or an allocation for it failed, no further output is written. So what was
 /// written has no gap.
@@ -29,17 +29,16 @@ const MAX_COLLECTED: usize = 256;
 pub(crate) struct Sink<W: Write + Drop> {
     alloc: Global,
     writer: BufWriter<W>,
-    // The outputs that were taken out of the node and that aren't written yet.
-    collected: VecDeque<Output>,
     faults: Faults,
 }
 
 /// The work of the writing thread: writes a frame for each output that may leave, each time that the bell is rung, until the bell is closed
-/// and all of them are written.
+/// and all of them are written. Between the node and the sink the outputs stand in `collected`.
 pub(crate) fn write_outputs<S: Sign, W: Write + Drop, R: Wait>(
     rt: &R,
     caller: &mut Caller<'_, '_, S>,
     sink: &mut Sink<W>,
+    collected: &mut VecDeque<Output>,
     settled: &Bell,
 )
     ensures stays { StaysWith caller.old caller.new }
@@ -49,7 +48,7 @@ pub(crate) fn write_outputs<S: Sign, W: Write + Drop, R: Wait>(
 {
     for _ in rt.forever() {
         let may_go_on = settled.wait(rt);
-        write_due(rt, caller, sink);
+        write_due(rt, caller, sink, collected);
         if !may_go_on {
             return;
         }
@@ -62,6 +61,7 @@ fn write_due<S: Sign, W: Write + Drop, R: Wait>(
     rt: &R,
     caller: &mut Caller<'_, '_, S>,
     sink: &mut Sink<W>,
+    collected: &mut VecDeque<Output>,
 )
     ensures stays { StaysWith caller.old caller.new }
     ensures same { IsSame caller.old.seat caller.new.seat }
@@ -69,46 +69,46 @@ fn write_due<S: Sign, W: Write + Drop, R: Wait>(
     ensures only { WritesOnly (MayGo S.scheme caller.old.node caller.new.seat.view) sink.old.faults sink.new.faults (writer_contents W.contents sink.old.writer) (writer_contents W.contents sink.new.writer) }
 {
     for _ in rt.forever() {
-        if !write_next(rt, caller, sink) {
+        if !write_next(rt, caller, sink, collected) {
             return sink.flush();
         }
     }
     unreachable!()
 }
 
-// Takes the next outputs that may leave, at most `MAX_COLLECTED`, and writes them, oldest first. Gives whether there was one.
+// Takes the next outputs that may leave, as many as `collected` has room for, and writes them, oldest first. Gives whether there was one.
 fn write_next<S: Sign, W: Write + Drop, R: Wait>(
     rt: &R,
     caller: &mut Caller<'_, '_, S>,
     sink: &mut Sink<W>,
+    collected: &mut VecDeque<Output>,
 ) -> bool
     ensures stays { StaysWith caller.old caller.new }
     ensures same { IsSame caller.old.seat caller.new.seat }
     ensures more { Begins caller.old.seat.view.durable caller.new.seat.view.durable }
     ensures next { result ≡ true → WritesNext (MayGo S.scheme caller.old.node caller.new.seat.view) sink.old.faults sink.new.faults (writer_contents W.contents sink.old.writer) (writer_contents W.contents sink.new.writer) }
-    ensures none { result ≡ false → (sink.new.faults ≡ sink.old.faults) × (sink.new.writer ≡ sink.old.writer) }
+    ensures none { result ≡ false → sink.new ≡ sink.old }
 {
-    sink.collected.clear();
-    caller.collect_into(rt, &mut sink.collected);
-    if sink.collected.is_empty() {
+    collected.clear();
+    caller.collect_into(rt, collected);
+    if collected.is_empty() {
         return false;
     }
-    sink.put_collected();
+    sink.put_all(collected);
     true
 }
 
 impl<W: Write + Drop> Sink<W> {
-    /// A sink in which nothing has failed yet. On `AllocError` an allocation failed.
-    pub(crate) fn new(alloc: Global, writer: BufWriter<W>) -> Result<Sink<W>, AllocError>
-        ensures faults { IfOk result (λ sink. sink.faults ≡ no_faults) }
-        ensures writer { IfOk result (λ sink. sink.writer ≡ writer) }
+    /// A sink in which nothing has failed yet.
+    pub(crate) fn new(alloc: Global, writer: BufWriter<W>) -> Sink<W>
+        ensures faults { result.faults ≡ no_faults }
+        ensures writer { result.writer ≡ writer }
     {
-        Ok(Sink {
+        Sink {
             alloc,
             writer,
-            collected: VecDeque::with_capacity(alloc, MAX_COLLECTED)?,
             faults: Faults::none(),
-        })
+        }
     }
 
     /// Gives back the writer, to which all frames that were put have gone, and the faults. If the writer failed, the last bytes may be
@@ -122,7 +122,6 @@ impl<W: Write + Drop> Sink<W> {
         let Sink {
             alloc: _,
             writer,
-            collected: _,
             mut faults,
         } = self;
         match writer.into_inner() {
@@ -135,14 +134,11 @@ impl<W: Write + Drop> Sink<W> {
         }
     }
 
-    // Writes the frames of the outputs that were taken out, in their order, and drops these outputs.
-    fn put_collected(&mut self)
-        ensures { PutsAll self.old.collected.items self.old.faults self.new.faults (writer_contents W.contents self.old.writer) (writer_contents W.contents self.new.writer) }
+    // Writes the frames of these outputs, in their order, and drops the outputs.
+    fn put_all(&mut self, outputs: &mut VecDeque<Output>)
+        ensures { PutsAll outputs.old.items self.old.faults self.new.faults (writer_contents W.contents self.old.writer) (writer_contents W.contents self.new.writer) }
     {
-        for _ in 0..self.collected.len() {
-            let Some(output) = self.collected.pop_front() else {
-                return;
-            };
+        while let Some(output) = outputs.pop_front() {
             self.put(output);
         }
     }

@@ -53,9 +53,8 @@ returns-then-not-write_next-clause-only g c =
     let old = writer_contents g.W.Write.contents c.args.sink.now.writer in
     let so_far = weaker (MayGo scheme node c.loop.caller.seat.view) (MayGo scheme node later) c.args.sink.now.faults c.loop.sink.faults old (writer_contents g.W.Write.contents c.loop.sink.writer)
     (may_go_yet scheme node c.loop.caller.seat.view later c.write_next.ensures.more) c.loop.invariant.5 in
-    let none = c.write_next.ensures.none c.if-not-write_next.true in
-    let so_far_now = subst (λ faults. WritesOnly (MayGo scheme node later) c.args.sink.now.faults faults old (writer_contents g.W.Write.contents c.write_next.new.sink.writer)) (sym none.0)
-    (subst (λ writer. WritesOnly (MayGo scheme node later) c.args.sink.now.faults c.loop.sink.faults old (writer_contents g.W.Write.contents writer)) (sym none.1) so_far) in
+    let so_far_now = subst (λ sink. WritesOnly (MayGo scheme node later) c.args.sink.now.faults sink.faults old (writer_contents g.W.Write.contents sink.writer))
+    (sym (c.write_next.ensures.none c.if-not-write_next.true)) so_far in
     no_more (MayGo scheme node later) c.args.sink.now.faults c.write_next.new.sink.faults c.flush.new.self.faults old
     (writer_contents g.W.Write.contents c.write_next.new.sink.writer) (writer_contents g.W.Write.contents c.flush.new.self.writer)
     so_far_now c.flush.ensures.broken c.flush.ensures.faults c.flush.ensures.bytes
