@@ -24,7 +24,7 @@ use Rattle.waiter.specs.Rounds.{WaitersView, held}
 use Rattle.waiter.specs.Waiting.{IsTakenAt}
 use Rattle.node_run.specs.Asked.{AsksEach, AsksWhatWasDue, GoesThrough, IsDue, IsFirstReady, OnlyAsks, WasAsked, WasReady, WasSubmitted}
 use Rattle.node_run.specs.Bringing.{BringsAgain}
-use Rattle.node_run.specs.Asking.{IsDueAfter, IsTakenOut, TakesOne, both_due, both_waiting}
+use Rattle.node_run.specs.Asking.{IsDueAfter, IsTakenOut, TakesOne, both_waiting}
 use Rattle.node_run.specs.declared.due.Due.{Due}
 use Rattle.node_run.specs.declared.due.Waiting.{Waiting}
 use Rattle.node_run.specs.declared.due.Waiting.TheVariants.{Nothing, Rounds}

@@ -1,5 +1,4 @@
-use Rattle.std.proofs.Common.{◌≡◌, sym, ap, subst, ◌∙◌, arith, take}
-use Rattle.std.specs.Prelude.{IfSome}
+use Rattle.std.proofs.Common.{◌≡◌, ap, subst, ◌∙◌, arith, take}
 use Rattle.waiter.specs.Rounds.{WaitersView, held}
 use Rattle.waiter.specs.Waiting.{IsTakenAt}
 use Rattle.node_run.specs.Asked.{WasAsked}

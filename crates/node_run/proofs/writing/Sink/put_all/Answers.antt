@@ -21,7 +21,7 @@ loop-output-preserved g c =
     let output = c.in-Some.output in
     record {
       done = so_far.done ++ output ∷ [];
-      parts = so_far.parts ∙ ap (λ (l : List Output). so_far.done ++ l) c.in-Some.ensures.items ∙ sym (append_assoc so_far.done (output ∷ []) c.pop_front.new.self.items);
+      parts = so_far.parts ∙ ap (λ (l : List Output). so_far.done ++ l) c.in-Some.ensures.items ∙ sym (append_assoc so_far.done (output ∷ []) _);
       puts = put_more so_far.done output old.faults mid.faults later.faults (contents old.writer) (contents mid.writer) (contents later.writer) so_far.puts c.put.ensures;
     }
 
