@@ -207,8 +207,8 @@ pub record GoesOutAfterPrefix (node : Node) (base : State) (settled : History) (
   pub goes_out : GoesOutAfter node base events output
 
 -- These outputs rest on events that are on the disks that a run leaves. There are settled events such that each output goes out after a
--- prefix of them, from the state on to which the disks decoded at the start. Whatever a stop at the end leaves of the disks decodes to the
--- state after all these events, and perhaps after more.
+-- prefix of them, beginning at the state to which the disks decoded at the start. Whatever a stop at the end leaves of the disks decodes to
+-- the state after all these events, and perhaps after more.
 pub record AreOnDisk {D : Type 0} (node : Node) (disks : Device D) (store left : Store D) (outputs : List Output) : Type 0 where
   pub base : State
   pub is_read : decoded_in node (areas_in disks store) ≡ Ok base
