@@ -1,38 +1,38 @@
-//! The parts from which a validator's tables are restored.
+//! What a validator's tables are restored from.
 
 use batchstore::Held;
 use sequencer::Coins;
 use votebook::Slot;
 use wire::{Author, Certificate, Digest, Header, Round, Vote, VoteEntry};
 
-/// An own header, with the validator's own vote on it and the votes of other members.
+/// An own header, with the own vote on it and the votes of other members.
 #[derive(Drop)]
 pub struct VotedHeader {
     /// The header.
     pub header: Header,
-    /// The validator's own vote on the header.
+    /// The own vote.
     pub vote: Vote,
-    /// The votes of other members on the header.
+    /// The votes of other members.
     pub votes: Vec<VoteEntry>,
 }
 
-/// All parts from which a validator's tables are restored, as a checkpoint has them.
+/// What a validator's tables are restored from.
 #[derive(Drop)]
 pub struct Kept {
-    /// The batches in the order of acceptance, each with its digest.
+    /// The batches in the order of acceptance, each beside its digest.
     pub batches: Vec<(Digest, Held)>,
-    /// The slots of other members' headers for which the validator voted, each with the header's digest, sorted by round and then author.
+    /// The votes for the headers of other members, rising by round and then by author.
     pub votes: Vec<(Slot, Digest)>,
-    /// The own headers with the votes on them, sorted by round.
+    /// The own headers, rising by round.
     pub headers: Vec<VotedHeader>,
-    /// The floor: the lowest round whose certificates are kept.
+    /// The lowest round of which certificates are held.
     pub floor: Round,
-    /// The round and author of the last committed leader, if a leader is committed.
+    /// The slot of the last committed leader.
     pub last: Option<(Round, Author)>,
-    /// The certificates above the genesis, each with its digest, sorted by round and then author.
+    /// The certificates above the genesis, rising by round and then by author, each beside its digest.
     pub certificates: Vec<(Certificate, Digest)>,
-    /// The values of the coins, by wave.
+    /// The coins.
     pub coins: Coins,
-    /// The order: the digests of the ordered certificates.
+    /// The order.
     pub order: Vec<Digest>,
 }

@@ -1,12 +1,12 @@
-//! The result for an event that isn't refused.
+//! What comes of an event that is accepted.
 
 use wire::Output;
 
-/// The result for an event that isn't refused, with the outputs that are put out for it, in their order.
+/// What comes of an event that isn't refused, with what it puts out, in its order.
 #[derive(Debug, Drop)]
 pub enum Step {
-    /// The event is new: it is accepted now.
+    /// It is accepted from now on.
     New(Vec<Output>),
-    /// The event is known: it was accepted before, and changes nothing.
+    /// It was accepted before, and changes nothing.
     Known(Vec<Output>),
 }

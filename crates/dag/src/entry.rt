@@ -3,13 +3,12 @@
 use committee::MemberSet;
 use wire::{Certificate, Digest};
 
-/// A certificate with its digest, its parents' authors, and its mark: whether a committed leader reaches it.
+/// A certificate with its digest, its parents' authors, and its mark: whether it lies in the history of a committed leader.
 #[derive(Drop)]
 pub struct Entry {
     pub(crate) certificate: Certificate,
     pub(crate) digest: Digest,
-    // The authors of the certificate's parents in the round below. In the floor's round this isn't used, since nothing below the floor is
-    // held.
+    // The authors of its parents in the round below. This isn't used at the floor, below which nothing is held.
     pub(crate) parents: MemberSet,
     pub(crate) marked: bool,
 }

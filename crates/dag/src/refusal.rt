@@ -15,13 +15,13 @@ pub enum DagRefusal {
     /// The certificate's round is 0, or at or below a floor above 0.
     #[error("2 TooOld")]
     TooOld,
-    /// The certificate's slot holds a certificate with another digest.
+    /// A certificate of another digest is held in its slot.
     #[error("3 CertConflict")]
     CertConflict,
-    /// The certificate's slot holds a certificate with the same digest and another header.
+    /// A certificate of the same digest with another header is held in its slot.
     #[error("4 DigestClash")]
     DigestClash,
-    /// A parent of the certificate isn't held.
+    /// A parent isn't held.
     #[error("5 MissingParents")]
     MissingParents,
 }

@@ -1,37 +1,36 @@
-//! Laws on how a table of own headers agrees with a node's state. Each function does nothing: its contract is the law.
+//! What ties a table of own headers to a node's state. The calls do nothing: each one's contract is a law.
 
 ghost use Rattle.admission.specs.HeaderLaws.{StartsFresh, VotesAgree, HeaderComes, VoteComes, OthersCome};
 
 use spec_machine::floors_agree;
 
-/// A table without headers agrees with the fresh state, in which no event was taken.
+/// A table with no header is at the fresh state.
 pub fn starts_fresh()
     ensures { StartsFresh }
 {}
 
-/// If a table agrees with a sound state, it has for each own header the digest that the node voted for, and the same counted votes as the
-/// state.
+/// A table at a sound state has for each own header the digest that has the node's vote, and tells whose votes count.
 pub fn votes_agree()
     ensures { VotesAgree }
 {}
 
-/// When a new own header comes, its round has none yet. With this header and the node's vote on it added, and the rounds up to the floor
-/// dropped, the table agrees with the state after the event.
+/// A new own header may be held with the node's vote, since its round is free. The table that holds it so, and from which the rounds up to
+/// the floor are dropped, is at the state after the header.
 pub fn header_comes()
     ensures { HeaderComes }
 {
     floors_agree();
 }
 
-/// When a new vote comes, it is counted. If it completes a certificate in the node's state, it completes the same one in the table. With
-/// the vote counted and the rounds up to the floor dropped, the table agrees with the state after the event.
+/// A new vote is counted, and if it completes a certificate at the state, it completes the same one at the table. The table in which it is
+/// counted, and from which the rounds up to the floor are dropped, is at the state after the vote.
 pub fn vote_comes()
     ensures { VoteComes }
 {
     floors_agree();
 }
 
-/// When any other new event comes, the table without the rounds up to the floor agrees with the state after the event.
+/// With any other new event, and with the rounds up to the floor forgotten, a table is at the state after it.
 pub fn others_come()
     ensures { OthersCome }
 {

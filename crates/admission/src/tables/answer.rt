@@ -1,4 +1,4 @@
-//! What the tables decide about a message, before they change.
+//! What a message comes to before anything is changed for it.
 
 ghost use Rattle.std.specs.Prelude.{◌≡◌, Ok, Err, IfOk, IfErr};
 ghost use Rattle.header.specs.declared.refusal.Refusal.TheVariants.{Memory};
@@ -10,16 +10,16 @@ use header::Refusal;
 use std::alloc::AllocError;
 use wire::Output;
 
-/// The decision about a message that isn't refused.
+/// What a message that isn't refused comes to.
 #[derive(Clone, Copy, Debug, PartialEq, Eq)]
 pub enum Answer {
-    /// The message is new: it will be accepted.
+    /// It will be accepted.
     New,
-    /// The message was accepted before.
+    /// It was accepted before.
     Known,
 }
 
-/// The result for a new event with these outputs; `Memory` where an allocation for them failed.
+/// What comes of a new event that puts this out, if memory allows it.
 pub(crate) fn new_step(made: Result<Vec<Output>, AllocError>) -> Result<Step, Refusal>
     ensures ok { IfOk made (λ outputs. result ≡ Ok (step.New outputs)) }
     ensures err { IfErr made (λ _. result ≡ Err Memory) }
@@ -30,7 +30,7 @@ pub(crate) fn new_step(made: Result<Vec<Output>, AllocError>) -> Result<Step, Re
     }
 }
 
-/// The result for a known event with these outputs; `Memory` where an allocation for them failed.
+/// What comes of one that was accepted before and puts this out, if memory allows it.
 pub(crate) fn known_step(made: Result<Vec<Output>, AllocError>) -> Result<Step, Refusal>
     ensures ok { IfOk made (λ outputs. result ≡ Ok (step.Known outputs)) }
     ensures err { IfErr made (λ _. result ≡ Err Memory) }
@@ -41,14 +41,14 @@ pub(crate) fn known_step(made: Result<Vec<Output>, AllocError>) -> Result<Step, 
     }
 }
 
-/// Whether the decision about a message is that a parent is missing.
+/// Whether a message lacks a parent.
 pub(crate) fn lacks_parents(decision: &Result<Answer, Refusal>) -> bool
     ensures { result ≡ lacks_parents decision.now }
 {
     matches!(decision, Err(Refusal::MissingParents))
 }
 
-/// Whether the decision about a message is that it is new.
+/// Whether a message will be accepted.
 pub(crate) fn is_new(decision: &Result<Answer, Refusal>) -> bool
     ensures { result ≡ is_new_decision decision.now }
 {

@@ -1,4 +1,4 @@
-//! Laws on the tables. Each function does nothing: its contract is the law.
+//! Laws. The calls do nothing: each one's contract is a law.
 
 ghost use Rattle.admission.specs.After.{OthersStay};
 ghost use Rattle.admission.specs.Standing.{OthersAreReady, OneState};
@@ -6,7 +6,7 @@ ghost use Rattle.admission.specs.Standing.{OthersAreReady, OneState};
 use crate::assemblies::others_come;
 use crate::facts::{batches_stay, votes_stay};
 
-/// A message that is neither a header nor a certificate names no parents, and so is always ready.
+/// A message without parents lacks none.
 pub fn others_are_ready()
     ensures { OthersAreReady }
 {}
@@ -16,8 +16,7 @@ pub fn one_state()
     ensures { OneState }
 {}
 
-// An event that adds neither a certificate nor a coin leaves the tables in agreement with the state after it, except for the table of the
-// event's own kind.
+// An event that adds neither a certificate nor a coin leaves the tables at the state after it, but for what it is.
 pub(crate) fn others_stay()
     ensures { OthersStay }
 {
