@@ -100,6 +100,10 @@ class World:
         else:
             self.counts['held back'] += 1
 
+    def release_some(self):
+        for _ in range(self.draws.below(4)):
+            self.release()
+
     def beside(self):
         self.accept()
         self.release()
@@ -505,8 +509,10 @@ def main(count, steps, start):
             move = draws.below(16)
             if move < 8:
                 world.accept()
-            elif move < 12:
+            elif move < 11:
                 world.release()
+            elif move < 12:
+                world.release_some()
             elif move < 15:
                 world.flush()
             else:

@@ -17,7 +17,7 @@ use Rattle.admission.specs.Votes.{HasVotes, is_peers_header}
 use Rattle.admission.specs.Standing.{AreAt}
 use Rattle.admission.specs.declared.tables.Tables.{Tables}
 
--- at a sound state nothing of a low round is held, so dropping the rounds up to its floor changes nothing
+-- at a sound state nothing is kept of a low round, so dropping the votes and own headers of rounds up to the floor changes nothing
 pub record NothingIsLow (node : Node) (state : State) (tables : Tables) : Type 0 where
   pub votes : ForgetsTo (floor_in node state) tables.votes tables.votes
   pub headers : IsForgotten tables.headers tables.headers (floor_in node state)
@@ -31,7 +31,7 @@ pub record IsBeside (node : Node) (state : State) (event : Event) (tables : Tabl
   pub votes : is_peers_header node event.message ≡ false → HasVotes node (after node state event) tables.votes
   pub headers : is_other node event.message ≡ true → headers.IsAt node (after node state event) tables.headers
 
--- for any event that is new at a sound state: what it leaves unchanged, and what happens to each part of the tables
+-- laws for an event that is new at a sound state: what it leaves unchanged, and what happens to each part of the tables
 pub record OthersStay : Type 0 where
   pub beside : (node : Node) (state : State) (event : Event) (tables : Tables) → Comes node state event → AreAt node state tables
       → certificate_of node state event.message ≡ None → as_coin event.message ≡ None → IsBeside node state event tables

@@ -25,7 +25,7 @@ use Rattle.admission.specs.declared.tables.Tables.{Tables}
 use Rattle.admission.specs.declared.tables.answer.Answer.{Answer}
 use Rattle.admission.specs.declared.tables.answer.Answer.TheVariants.{New, Known}
 
--- the answer of admission for a decision: a new event has the first outputs, a known one the second
+-- admission's answer for a decision of the tables: a new event has the first list of outputs, a known one the second
 abbrev pub reported : List Output → List Output → Result Answer Refusal → Admission
 reported new known (Ok New) = admission.New new
 reported new known (Ok Known) = admission.Known known
@@ -42,13 +42,13 @@ is_new_decision (Ok New) = true
 is_new_decision (Ok Known) = false
 is_new_decision (Err refusal) = false
 
--- an author is the validator itself
+-- this author is the validator itself
 abbrev pub is_own_of : Tables → Author → Bool
 is_own_of tables author = author.0 == tables.own.0
 
 -- ---- headers
 
--- the digest that the validator voted for in a slot; in its own slots that of its own header
+-- the digest of the header that the validator voted for in a slot; in a slot of its own this is the digest of its own header
 abbrev pub voted_by : Tables → Author → ℕ → Option Digest
 voted_by tables author round = if is_own_of tables author then digest_in tables.headers round else voted_in tables.votes author round
 
@@ -93,11 +93,11 @@ known_header_outputs tables sign header =
 
 -- ---- votes
 
--- the decision where an own certificate of the vote's round is held
+-- the decision about a vote, where this certificate stands in the own slot of the vote's round
 abbrev pub certified_decision : Certificate → Vote → Result Answer Refusal
 certified_decision held vote = if same_digest (header_digest held.header) vote.header then Ok Known else Err CertConflict
 
--- the decision where no own certificate of the vote's round is held
+-- the decision about a vote on the own header of its round, where no certificate stands in the own slot of that round
 abbrev pub open_decision : Tables → Vote → Result Answer Refusal
 open_decision tables vote = if has_voted_in tables.headers vote.round vote.voter.0 then Ok Known else Ok New
 
@@ -127,7 +127,7 @@ as_refusal dag.CertConflict = CertConflict
 as_refusal dag.DigestClash = DigestClash
 as_refusal dag.MissingParents = MissingParents
 
--- the decision for an answer of the DAG
+-- the decision about a certificate, for the answer of the DAG
 abbrev pub as_decision : Result Added DagRefusal → Result Answer Refusal
 as_decision (Ok added.New) = Ok New
 as_decision (Ok added.Known) = Ok Known
@@ -138,7 +138,7 @@ certificate_decision tables certificate = as_decision (answer tables.sequencer.g
 
 -- ---- coins
 
--- the decision where the wave has this value already
+-- the decision about a coin whose wave has this value already
 abbrev pub taken_decision : ℕ → Coin → Result Answer Refusal
 taken_decision taken coin = if taken == coin.value then Ok Known else Err CoinConflict
 
@@ -146,7 +146,7 @@ taken_decision taken coin = if taken == coin.value then Ok Known else Err CoinCo
 abbrev pub is_full_in : Tables → ℕ → Bool
 is_full_in tables round = nat_le (quorum_of tables.sequencer.graph.charter) (stake_in tables.sequencer.graph round)
 
--- the decision where the wave has no value yet
+-- the decision about a coin whose wave has no value yet
 abbrev pub next_decision : Tables → Coin → Result Answer Refusal
 next_decision tables coin =
     if not (coin.wave == length tables.sequencer.coins + 1) then Err CoinOutOfTurn

@@ -30,13 +30,13 @@ VotesAgree = (node : Node) (state : State) (headers : AssembliesView) → IsSoun
 
 -- ---- after an event
 
--- once the rounds up to the floor are dropped, a table agrees with the state after an event
+-- the table agrees with the state after the event, once the rounds up to the floor are dropped from it
 abbrev pub IsTableAfter : Node → State → Event → AssembliesView → Type 0
 IsTableAfter node state event headers =
     (later : AssembliesView) → IsForgotten headers later (floor_in node (after node state event)) → IsAt node (after node state event) later
 
--- a new own header: it is the validator's, with the validator's own vote on it, and its round has none yet. With both added the table is
--- that after the event
+-- when a new own header comes: the author is the validator, the own vote is on this header, and the round has no own header yet. With the
+-- header and the vote added the table agrees with the state after the event
 pub record HeaderComesTo (node : Node) (state : State) (event : Event) (header : Header) (before : AssembliesView) : Type 0 where
   pub author : header.body.author.0 ≡ before.own
   pub on : is_on header.body (own_vote node header.body) ≡ true
@@ -49,13 +49,13 @@ abbrev pub HeaderComes : Type 0
 HeaderComes = (node : Node) (state : State) (event : Event) (header : Header) (before : AssembliesView) → Comes node state event → IsAt node state before
     → event.message ≡ message.Header header → is_own node header.body.author ≡ true → HeaderComesTo node state event header before
 
--- the answer to a new vote, by the certificate that it completes, if any
+-- the table's answer to a new vote: Complete with the certificate that the vote completes, or Counted if it completes none
 abbrev pub added_by : Option Certificate → Added
 added_by None = Counted
 added_by (Some certificate) = Complete certificate
 
--- a new vote: it is counted, and completes exactly the certificate that it completes in the node's state; with the vote added the table is
--- that after the event
+-- when a new vote comes: it is counted, and completes a certificate in the table exactly if it does in the node's state, and the same one.
+-- With the vote added the table agrees with the state after the event
 pub record VoteComesTo (node : Node) (state : State) (event : Event) (vote : Vote) (before : AssembliesView) : Type 0 where
   pub answer : answer_in before vote ≡ added_by (certificate_of node state event.message)
   pub counted : answer_in before vote ≡ Counted → certificate_of node state event.message ≡ None
@@ -67,13 +67,13 @@ abbrev pub VoteComes : Type 0
 VoteComes = (node : Node) (state : State) (event : Event) (vote : Vote) (before : AssembliesView) → Comes node state event → IsHeaders before → IsAt node state before
     → event.message ≡ message.Vote vote → VoteComesTo node state event vote before
 
--- a message is neither a vote nor an own header
+-- the message is neither a vote nor an own header, so that it changes no own header and no vote on one
 abbrev pub is_other : Node → Message → Bool
 is_other node (message.Vote vote) = false
 is_other node (message.Header header) = not (is_own node header.body.author)
 is_other node _ = true
 
--- any other event leaves the table unchanged, except that the rounds up to the floor are dropped
+-- any other new event leaves the table in agreement with the state after it, once the rounds up to the floor are dropped
 abbrev pub OthersCome : Type 0
 OthersCome = (node : Node) (state : State) (event : Event) (before : AssembliesView) → Comes node state event → IsAt node state before
     → is_other node event.message ≡ true → IsTableAfter node state event before

@@ -4,6 +4,7 @@ use Rattle.std.specs.FinMap as finmap
 use Rattle.std.specs.List.Sorted.{IsStrictlySortedBy}
 use Rattle.std.specs.Map.{keys_of, values_of}
 use Rattle.committee.specs.Charter.{Charter}
+use Rattle.sigface.specs.Seeds.{seed_of}
 use Rattle.batchstore.specs.Kept.{IsUnderItsDigest}
 use Rattle.certify.specs.Assembled.{AssemblyView, is_on, restored}
 use Rattle.spec_machine.specs.Sound.{IsSound}
@@ -21,11 +22,11 @@ use Rattle.admission.specs.declared.kept.VotedHeader.{VotedHeader}
 
 -- ---- own headers
 
--- the entry of an own header in the table: its round, and its assembly with the votes on it
+-- the entry of an own header in the table: its round, and its assembly, which is the header with the votes on it
 abbrev pub entry_of : Charter → VotedHeader → ℕ × AssemblyView
 entry_of charter voted = (voted.header.body.round, restored charter voted.header voted.vote voted.votes.items)
 
--- the table of these own headers
+-- the table that is restored from these own headers
 abbrev pub table_of : Charter → ℕ → List VotedHeader → AssembliesView
 table_of charter own voted = record { charter = charter; own = own; rounds = map (entry_of charter) voted }
 
@@ -41,7 +42,7 @@ pub record AreVotedBy (charter : Charter) (own : ℕ) (voted : List VotedHeader)
   pub rising : AllPairs (λ one other. one.header.body.round < other.header.body.round) voted
   pub each : All (λ one. IsVotedBy charter own one.header one.vote one.votes.items) voted
 
--- a table has the same as another one in each round
+-- two tables of own headers are equal: they have the same committee and owner, and the same assembly in each round
 pub record IsSameTable (one other : AssembliesView) : Type 0 where
   pub charter : one.charter ≡ other.charter
   pub own : one.own ≡ other.own
@@ -49,7 +50,7 @@ pub record IsSameTable (one other : AssembliesView) : Type 0 where
 
 -- ---- all tables
 
--- the parts of the sequencer
+-- the parts from which the sequencer is restored: the certificates, the coins and the order
 abbrev pub parts_of : Charter → Kept → Parts
 parts_of charter kept = record {
   charter = charter;
@@ -60,20 +61,20 @@ parts_of charter kept = record {
   order = kept.order.items;
 }
 
--- what is kept is what a node's sound state has: its batches; the votes for others, sorted by slot; the own headers with the votes on them,
--- sorted by round; the certificates, sorted by slot; the coins and the order
+-- these parts are those of a sound state of the node: its batches; its votes for other members' headers, sorted by slot; the own headers
+-- with the votes on them, sorted by round; the certificates, sorted by slot; the coins and the order
 pub record IsKeptOf (node : Node) (state : State) (kept : Kept) : Type 0 where
   pub node_is : IsNode node
   pub sound : IsSound node state
   pub digested : All IsUnderItsDigest kept.batches.items
-  pub batches : HasBatches node state (record { charter = node.charter; own = node.own.0; held = values_of kept.batches.items })
+  pub batches : HasBatches node state (record { charter = node.charter; own = node.own.0; seed = seed_of node.sign; held = values_of kept.batches.items })
   pub votes_rise : IsStrictlySortedBy slot_cmp (keys_of kept.votes.items)
   pub votes : HasVotes node state (finmap.from_entries kept.votes.items)
   pub voted : AreVotedBy node.charter node.own.0 kept.headers.items
   pub headers : headers.IsAt node state (table_of node.charter node.own.0 kept.headers.items)
   pub parts : ArePartsOf node state (parts_of node.charter kept)
 
--- these tables were kept from some sound state of this member of the committee
+-- these are the parts of some sound state of this member of the committee
 abbrev pub IsKept : Charter → Author → Kept → Type 0
 IsKept charter own kept =
     (node : Node) × (state : State) × (node.charter ≡ charter) × (node.own ≡ own) × IsKeptOf node state kept

@@ -3,6 +3,7 @@ use Rattle.std.specs.Prelude.{◌≡◌, ℕ, ◌==◌, false, true, []}
 use Rattle.std.specs.FinMap as map
 use Rattle.std.specs.Option.{option_map_or}
 use Rattle.wire.specs.declared.message.Message.TheVariants as message
+use Rattle.sigface.specs.Seeds.{seed_of}
 use Rattle.spec_model.specs.Nodes.{Node}
 use Rattle.spec_model.specs.Proposing as proposing
 use Rattle.spec_model.specs.States.{State, has_own_batch, floor_in}
@@ -17,7 +18,7 @@ use Rattle.admission.specs.Votes.{HasVotes, with_vote, is_peers_header}
 
 -- ---- batches
 
--- each look-up in the store gives what the state has
+-- each look-up in a store of batches gives what the state has
 pub record ReadsAlike (node : Node) (state : State) (stock : BatchStoreView) : Type 0 where
   pub same_batch : (digest : Digest) → batch_in stock digest ≡ states.batch_in state digest
   pub same_own : (digest : Digest) → has_own stock digest ≡ has_own_batch node state digest
@@ -28,11 +29,11 @@ pub record ReadsAlike (node : Node) (state : State) (stock : BatchStoreView) : T
 abbrev pub BatchesRead : Type 0
 BatchesRead = (node : Node) (state : State) (stock : BatchStoreView) → HasBatches node state stock → ReadsAlike node state stock
 
--- a store lists the batches that the state allows a header to name
+-- a store that has a state's batches lists exactly those that the state allows a header to name
 abbrev pub NameableAgrees : Type 0
 NameableAgrees = (node : Node) (state : State) (stock : BatchStoreView) → IsStock stock → HasBatches node state stock → nameable stock ≡ proposing.nameable node state
 
--- a message that doesn't change batches leaves a store that agrees with the state after the event
+-- if an event's message changes no batches, a store with the batches of the state before it has those of the state after it
 abbrev pub BatchesStay : Type 0
 BatchesStay = (node : Node) (state : State) (event : Event) (stock : BatchStoreView) → HasBatches node state stock → changes_batches node event.message ≡ false
     → HasBatches node (after node state event) stock
@@ -54,9 +55,9 @@ VoteIsKept = (node : Node) (state : State) (event : Event) (header : Header) (vo
 
 -- ---- the beginning
 
--- an empty store and an empty book of votes agree with the fresh state
+-- an empty store of batches and an empty book of votes agree with the fresh state, in which no event was taken
 pub record HasNothing (node : Node) : Type 0 where
-  pub batches : HasBatches node (fresh node) (record { charter = node.charter; own = node.own.0; held = [] })
+  pub batches : HasBatches node (fresh node) (record { charter = node.charter; own = node.own.0; seed = seed_of node.sign; held = [] })
   pub votes : HasVotes node (fresh node) map.empty
 
 abbrev pub StartsEmpty : Type 0

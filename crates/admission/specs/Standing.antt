@@ -1,4 +1,4 @@
--- When a validator's tables hold a state.
+-- When a validator's tables hold a state, and when what they answer is right for it.
 use Rattle.std.specs.Prelude.{◌≡◌, IsTrue, Bool, true, false, Result}
 use Rattle.std.specs.Global.{Vec}
 use Rattle.wire.specs.declared.message.Message.TheVariants as message
@@ -35,59 +35,61 @@ pub record Meets (node : Node) (state : State) (event : Event) (tables : Tables)
   pub message : event.message ≡ came
   pub at : AreAt node state tables
 
--- there are a node, a state and an event for which these tables and this message are so
+-- there are a node, a sound state and an event such that these tables hold the state, and the event has this message and can be taken
 abbrev pub MeetSome : Tables → Message → Type 0
 MeetSome tables came = (node : Node) × (state : State) × (event : Event) × Meets node state event tables came
 
--- an event with this message, which the node can take and which is new, comes to tables that hold a sound state of the node
+-- there are a node, a sound state and a new event such that these tables hold the state, and the event has this message and can be taken
 abbrev pub MeetNew : Tables → Message → Type 0
 MeetNew tables came =
     (node : Node) × (state : State) × (event : Event) × Meets node state event tables came × IsTrue (is_new (answered node state event))
 
--- a premise about a node and an event, under which a fact is stated
+-- a condition on a node and an event. It turns a fact into the statement that if the condition is met, the fact holds
 abbrev pub Premise : Type 1
 Premise = Node → Event → Type 0 → Type 0
 
--- no premise
+-- the empty condition: the fact holds in any case
 abbrev pub always : Premise
 always node event fact = fact
 
--- the premise that the event is from this sender
+-- the condition that the event is from this sender
 abbrev pub from_sender : Author → Premise
 from_sender sender node event fact = event.sender ≡ sender → fact
 
--- the premise that the node gives these signatures
+-- the condition that the node's signatures are these: sign gives the signature of each digest
 abbrev pub with_signatures : (Digest → Signature) → Premise
 with_signatures sign node event fact = node.sign ≡ sign → fact
 
--- a fact holds for each node, state and event that meet the tables so, under a premise
+-- a fact holds for each node, sound state and event such that the tables hold the state and the event has this message, if the premise's
+-- condition is met
 abbrev pub ForEach : Premise → Tables → Message → (Node → State → Event → Type 0) → Type 0
 ForEach premise tables came fact =
     (node : Node) (state : State) (event : Event) → Meets node state event tables came → premise node event (fact node state event)
 
--- the result for a message is the state's answer to the event
+-- the result for a message is right: at each sound state that the tables hold, it is the answer to any event with this message, or Memory
 abbrev pub Answers : Premise → Tables → Message → Result Step Refusal → Type 0
 Answers premise tables came result = ForEach premise tables came (λ node state event. IsAnswer (answered node state event) result)
 
--- where the state refuses the event, the result is the same refusal, however much memory there is
+-- where a sound state that the tables hold refuses an event with this message, the result is the same refusal, whether or not memory runs
+-- out
 abbrev pub Refuses : Premise → Tables → Message → Result Step Refusal → Type 0
 Refuses premise tables came result = ForEach premise tables came (λ node state event. RefusesAs (answered node state event) result)
 
--- where the event is new, these are its outputs
+-- where an event with this message is new, these are its outputs
 abbrev pub PutsOut : Tables → Message → Vec Output → Type 0
 PutsOut tables came outputs =
     ForEach always tables came (λ node state event. IsTrue (is_new (answered node state event)) → answered node state event ≡ New outputs.items)
 
--- if the event is new, the later tables hold the state after it
+-- where an event with this message is new at the state of the earlier tables, the later tables hold the state after it
 abbrev pub GoOn : Premise → Tables → Tables → Message → Type 0
 GoOn premise before later came =
     ForEach premise before came (λ node state event. IsTrue (is_new (answered node state event)) → AreAt node (after node state event) later)
 
--- the flag says whether the event is ready
+-- the flag says whether an event with this message is ready: its answer isn't that a parent is missing
 abbrev pub IsReady : Tables → Message → Bool → Type 0
 IsReady tables came result = ForEach always tables came (λ node state event. result ≡ is_ready node state event)
 
--- the flag says whether the event is new
+-- the flag says whether an event with this message would be new
 abbrev pub IsNew : Premise → Tables → Message → Bool → Type 0
 IsNew premise tables came result = ForEach premise tables came (λ node state event. result ≡ is_new (answered node state event))
 
@@ -99,7 +101,7 @@ has_parents (message.Header header) = true
 has_parents (message.Certificate certificate) = true
 has_parents _ = false
 
--- a message without parents never lacks one
+-- an event without parents is always ready, since it lacks none
 abbrev pub OthersAreReady : Type 0
 OthersAreReady = (node : Node) (state : State) (event : Event) → has_parents event.message ≡ false → is_ready node state event ≡ true
 

@@ -10,17 +10,17 @@ use Rattle.spec_model.specs.Words.{Author, HeaderBody, Message}
 use Rattle.votebook.specs.Slot.{slot_of}
 use Rattle.votebook.specs.Votes.{Votes, voted_in}
 
--- a book has the votes of a node's state in all slots of others; in the node's own slots it has none, since its own headers stand for its
--- votes
+-- the book has the state's votes in all slots of other members. In the node's own slots it has none: there an own header stands for the
+-- vote
 pub record HasVotes (node : Node) (state : State) (votes : Votes) : Type 0 where
   pub others : (author : Author) (round : ℕ) → author.0 ≢ node.own.0 → voted_in votes author round ≡ state.votes round author.0
   pub own : (author : Author) (round : ℕ) → author.0 ≡ node.own.0 → voted_in votes author round ≡ None
 
--- the book with the vote for a header
+-- the book to which the vote for this header is added
 abbrev pub with_vote : Votes → HeaderBody → Votes
 with_vote votes header = map.insert votes (slot_of header.author header.round) (header_digest header)
 
--- a message is a header of another member
+-- the message is a header of another member
 abbrev pub is_peers_header : Node → Message → Bool
 is_peers_header node (message.Header header) = not (is_own node header.body.author)
 is_peers_header node _ = false

@@ -1,4 +1,4 @@
-//! The table of own headers.
+//! The table of a validator's own headers, with the votes on them.
 
 mod facts;
 
@@ -18,8 +18,8 @@ use std::collections::BTreeMap;
 use std::marker::Model;
 use wire::{Author, Digest, Header, Round, Vote, VoteEntry};
 
-/// A validator's own headers, by round, each with the votes that count on it. Contracts see the committee, the validator's
-/// number, and of each round that has a header its assembly.
+/// A validator's own headers, by round, each with the counted votes on it. Contracts see the committee, the validator's number, and for
+/// each round that has an own header its assembly: the header with its votes.
 pub struct Assemblies<'a> {
     committee: &'a Committee,
     own: Author,
@@ -47,7 +47,7 @@ impl<'a> Model for Assemblies<'a> {
 }
 
 impl<'a> Assemblies<'a> {
-    /// A table with no header, of a member of the committee.
+    /// A table with no header, for this member of the committee.
     pub fn new(alloc: Global, committee: &'a Committee, own: Author) -> Assemblies<'a>
         requires { own.0 < length committee.now.keys }
         ensures { result ≡ empty committee.now own.0 }
@@ -60,7 +60,7 @@ impl<'a> Assemblies<'a> {
         }
     }
 
-    /// A table with these own headers of a member of the committee, whose rounds rise. `AllocError` where an allocation failed.
+    /// A table with these own headers of this member of the committee, which are sorted by round. On `AllocError` an allocation failed.
     pub fn restore(
         alloc: Global,
         committee: &'a Committee,
@@ -82,8 +82,8 @@ impl<'a> Assemblies<'a> {
         Ok(made)
     }
 
-    // Holds an own header with the own vote and those of others on it. `AllocError` where an allocation failed: nothing has
-    // changed then.
+    // Adds an own header with the validator's own vote and these votes of other members on it. On `AllocError` an allocation failed, and
+    // nothing has changed.
     fn bring(
         &mut self,
         alloc: Global,
@@ -104,8 +104,8 @@ impl<'a> Assemblies<'a> {
         Ok(())
     }
 
-    /// The own header with the votes on it that is at a place, from 0 on, in the order of the rounds. None from the number of
-    /// own headers on. It takes time in proportion to the place.
+    /// The own header at this place in the order of rounds, counted from 0, with the votes on it. None where there are fewer. The call
+    /// takes time in proportion to the place.
     pub fn nth(&self, place: usize) -> Option<&Assembly<'a>>
         ensures { option_copied result ≡ slice_get (map (λ entry. entry.1) self.now.rounds) place }
     {
@@ -145,7 +145,8 @@ impl<'a> Assemblies<'a> {
         }
     }
 
-    /// Whether the votes on the own header of a round have made its certificate. False where the round has no own header.
+    /// Whether the votes on the own header of a round weigh a quorum, so that its certificate is complete. False where the round has no own
+    /// header.
     pub(crate) fn is_complete(&self, round: Round) -> bool
         ensures { result ≡ is_complete_in self.now round }
     {
@@ -155,8 +156,8 @@ impl<'a> Assemblies<'a> {
         }
     }
 
-    /// Holds an own header with the own vote on it, for a round that has none. `AllocError` where an allocation failed:
-    /// nothing has changed then.
+    /// Adds an own header with the validator's own vote on it, to a round that has none. On `AllocError` an allocation failed, and nothing
+    /// has changed.
     pub fn hold(&mut self, alloc: Global, header: Header, vote: Vote) -> Result<(), AllocError>
         requires own { header.body.author.0 ≡ self.old.own }
         requires ours { IsTrue (is_on header.body vote) }
@@ -174,7 +175,8 @@ impl<'a> Assemblies<'a> {
         Ok(())
     }
 
-    /// What comes of a vote. `AllocError` where an allocation for the certificate failed.
+    /// The answer to a vote, before anything is changed: whether it would be counted, and the certificate that it would complete. On
+    /// `AllocError` an allocation for the certificate failed.
     pub fn answer(&self, vote: &Vote) -> Result<Added, AllocError>
         ensures { IfOk result (λ added. added ≡ answer_in self.now vote.now) }
     {
@@ -184,9 +186,10 @@ impl<'a> Assemblies<'a> {
         }
     }
 
-    /// Counts a vote whose answer counts it. It takes no memory.
+    /// Counts a vote to which the answer was that it is counted. The flag says whether it completes the certificate. The call allocates no
+    /// memory.
     pub fn count(&mut self, vote: Vote, complete: bool)
-        // The votes make the certificate with it, or they don't yet.
+        // The flag is what the answer to the vote said.
         requires { completion_of (answer_in self.old vote) ≡ Some complete }
         ensures { IsWith self.old self.new vote.round (counted_in (answer_in self.old vote) self.old vote) }
     {
@@ -196,7 +199,7 @@ impl<'a> Assemblies<'a> {
         }
     }
 
-    /// Forgets the rounds at or below this one. It takes no memory.
+    /// Drops the headers of all rounds up to this one. The call allocates no memory.
     pub fn forget_to(&mut self, round: Round)
         ensures { IsForgotten self.old self.new round }
     {
@@ -209,7 +212,7 @@ impl<'a> Assemblies<'a> {
         }
     }
 
-    /// What holds of each table: its rounds rise, and each has an own header of that round, with votes of the committee. The
+    /// What holds of each table: it is sorted by round, and each of its rounds has an own header of that round with votes of members. The
     /// call does nothing.
     pub fn limits_hold(&self)
         ensures { IsHeaders self.now }

@@ -1,4 +1,4 @@
-//! What batches, acknowledgements and own headers come to.
+//! How a store of batches answers batches, acknowledgements and own headers.
 
 ghost use Rattle.std.specs.Prelude.{◌≡◌, ◌<◌, true, false, length, None, Ok, IfOk};
 ghost use Rattle.std.specs.List.{list_all};
@@ -18,7 +18,7 @@ use header::Refusal;
 use std::alloc::{AllocError, Global};
 use wire::{Author, Batch, BatchAck, BatchReference, Digest, Header, Output};
 
-// What a batch of this digest puts out: an own one goes to all, and of another one its author learns that it is held.
+// The outputs for a batch with this digest: an own batch goes to all members; for another member's, the acknowledgement goes to its author.
 fn batch_outputs(
     alloc: Global,
     own: Author,
@@ -44,7 +44,7 @@ fn batch_outputs(
     Ok(outputs)
 }
 
-// What a batch comes to that is held already.
+// The result for a batch that is held already: Known, with the outputs for the held batch.
 fn known_batch(alloc: Global, own: Author, digest: &Digest, held: &Batch) -> Result<Step, Refusal>
     requires { digest.now ≡ digest_of held.now }
     ensures answer { (node : Node) → node.own ≡ own → IsAnswer (Known (outputs_of node held.now)) result }
@@ -56,7 +56,7 @@ fn known_batch(alloc: Global, own: Author, digest: &Digest, held: &Batch) -> Res
     }
 }
 
-// Holds a new batch.
+// Adds a new batch with this digest to the store. The result is New, with the outputs for the batch.
 fn new_batch(
     alloc: Global,
     own: Author,
@@ -80,11 +80,11 @@ fn new_batch(
     }
 }
 
-/// Takes a batch of this digest into the store of the member of this number. A known one puts out what the held one did.
+/// Takes a batch with this digest into the store of the member with this number. A known batch gives the same outputs as a new one.
 ///
 /// # Errors
-/// `DigestClash` where another batch is held under its digest, `StoreFull` where it is new and as many are held as the
-/// committee allows, `Memory` where an allocation failed. They change nothing.
+/// `DigestClash` where another batch is held under this digest; `StoreFull` where the batch is new and as many are held as the committee
+/// allows; `Memory` where an allocation failed. None changes anything.
 pub fn take_batch(
     alloc: Global,
     own: Author,
@@ -106,7 +106,7 @@ pub fn take_batch(
     }
 }
 
-/// Whether a batch of this digest would be new: none is held under it, and there is room. It takes no memory.
+/// Whether a batch with this digest would be new: none is held under the digest, and there is room. The call allocates no memory.
 pub fn is_new_batch(batches: &BatchStore, digest: &Digest) -> bool
     ensures { (batch : BatchView) → digest.now ≡ digest_of batch → IsNewFrom batches.now (message.Batch batch) result }
 {
@@ -116,10 +116,10 @@ pub fn is_new_batch(batches: &BatchStore, digest: &Digest) -> bool
     }
 }
 
-/// Takes an acknowledgement by a member into the store.
+/// Takes a member's acknowledgement of a batch into the store.
 ///
 /// # Errors
-/// `NotOurs` where no own batch of the digest is held, `Memory` where an allocation failed. They change nothing.
+/// `NotOurs` where no own batch with the digest is held; `Memory` where an allocation failed. Neither changes anything.
 pub fn take_ack(alloc: Global, batches: &mut BatchStore, ack: &BatchAck) -> Result<Step, Refusal>
     requires { ack.now.author.0 < length batches.old.charter.keys }
     ensures answer { AnswersFrom batches.old (message.BatchAck ack.now) result }
@@ -134,15 +134,15 @@ pub fn take_ack(alloc: Global, batches: &mut BatchStore, ack: &BatchAck) -> Resu
     }
 }
 
-/// Whether an acknowledgement would be new: an own batch of the digest is held, and its member isn't counted. It takes no
-/// memory.
+/// Whether an acknowledgement would be new: an own batch with its digest is held, and its sender isn't counted yet as a holder of the
+/// batch. The call allocates no memory.
 pub fn is_new_ack(batches: &BatchStore, ack: &BatchAck) -> bool
     ensures { IsNewFrom batches.now (message.BatchAck ack.now) result }
 {
     batches.acked(ack.author, &ack.batch) == Some(false)
 }
 
-// A store's refusal, as admission says it.
+// The refusal by which admission reports a refusal of the store.
 fn refusal_of(refusal: StoreRefusal) -> Refusal
     ensures { result ≡ as_refusal refusal }
 {
@@ -154,7 +154,7 @@ fn refusal_of(refusal: StoreRefusal) -> Refusal
     }
 }
 
-// Whether a header of this author may name a batch.
+// Whether a header of this author may name a batch: the batch is held with the named worker, and for an own header it is also available.
 fn may_name(batches: &BatchStore, own: Author, author: Author, named: &BatchReference) -> bool
     requires { own.0 ≡ batches.now.own }
     ensures { result ≡ may_name_by batches.now author named.now }
@@ -178,7 +178,7 @@ fn may_name_each(
         .all(|named| may_name(batches, own, author, named))
 }
 
-/// Whether a header may name all its batches: each is held with that worker, and for an own header available.
+/// Whether a header may name all its batches: each is held with the named worker, and for an own header each is also available.
 pub fn may_name_all(batches: &BatchStore, own: Author, header: &Header) -> bool
     requires { own.0 ≡ batches.now.own }
     ensures { result ≡ list_all (may_name_by batches.now header.now.body.author) header.now.body.batches }
@@ -187,7 +187,8 @@ pub fn may_name_all(batches: &BatchStore, own: Author, header: &Header) -> bool
     may_name_each(batches, own, header.body.author, named)
 }
 
-/// Marks the batches that a header names. For a new own header the store is then at the state after it. It takes no memory.
+/// Marks the own batches that a header names. After a new own header, the store then agrees with the node's state. The call allocates no
+/// memory.
 pub fn name_all(batches: &mut BatchStore, header: &Header)
     ensures named { batches.new ≡ with_names batches.old header.now.body.batches }
     ensures goes_on { GoesOnWithOwn batches.old batches.new header.now }

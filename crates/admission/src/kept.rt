@@ -1,38 +1,38 @@
-//! What a validator's tables are restored from.
+//! The parts from which a validator's tables are restored.
 
 use batchstore::Held;
 use sequencer::Coins;
 use votebook::Slot;
 use wire::{Author, Certificate, Digest, Header, Round, Vote, VoteEntry};
 
-/// An own header, with the own vote on it and the votes of other members.
+/// An own header, with the validator's own vote on it and the votes of other members.
 #[derive(Drop)]
 pub struct VotedHeader {
     /// The header.
     pub header: Header,
-    /// The own vote.
+    /// The validator's own vote on the header.
     pub vote: Vote,
-    /// The votes of other members.
+    /// The votes of other members on the header.
     pub votes: Vec<VoteEntry>,
 }
 
-/// What a validator's tables are restored from.
+/// All parts from which a validator's tables are restored, as a checkpoint has them.
 #[derive(Drop)]
 pub struct Kept {
-    /// The batches in the order of acceptance, each beside its digest.
+    /// The batches in the order of acceptance, each with its digest.
     pub batches: Vec<(Digest, Held)>,
-    /// The votes for the headers of other members, rising by round and then by author.
+    /// The slots of other members' headers for which the validator voted, each with the header's digest, sorted by round and then author.
     pub votes: Vec<(Slot, Digest)>,
-    /// The own headers, rising by round.
+    /// The own headers with the votes on them, sorted by round.
     pub headers: Vec<VotedHeader>,
-    /// The lowest round of which certificates are held.
+    /// The floor: the lowest round whose certificates are kept.
     pub floor: Round,
-    /// The slot of the last committed leader.
+    /// The round and author of the last committed leader, if a leader is committed.
     pub last: Option<(Round, Author)>,
-    /// The certificates above the genesis, rising by round and then by author, each beside its digest.
+    /// The certificates above the genesis, each with its digest, sorted by round and then author.
     pub certificates: Vec<(Certificate, Digest)>,
-    /// The coins.
+    /// The values of the coins, by wave.
     pub coins: Coins,
-    /// The order.
+    /// The order: the digests of the ordered certificates.
     pub order: Vec<Digest>,
 }

@@ -1,6 +1,5 @@
-//! A validator's tables, and what each event comes to there: the batches, the votes for the headers of others, the own
-//! headers with the votes on them, the certificates with the coins and the order. What is right is the machine that the
-//! contracts name.
+//! A validator's tables, and how they answer each event. The tables hold the batches, the votes for other members' headers, the own headers
+//! with the votes on them, and the certificates with the coins and the order. Which answer is right, the contracts say by `spec_machine`.
 #![tactic(auto)]
 
 mod assemblies;

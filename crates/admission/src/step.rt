@@ -1,12 +1,12 @@
-//! What comes of an event that is accepted.
+//! The result for an event that isn't refused.
 
 use wire::Output;
 
-/// What comes of an event that isn't refused, with what it puts out, in its order.
+/// The result for an event that isn't refused, with the outputs that are put out for it, in their order.
 #[derive(Debug, Drop)]
 pub enum Step {
-    /// It is accepted from now on.
+    /// The event is new: it is accepted now.
     New(Vec<Output>),
-    /// It was accepted before, and changes nothing.
+    /// The event is known: it was accepted before, and changes nothing.
     Known(Vec<Output>),
 }

@@ -1,4 +1,4 @@
-//! The tables.
+//! The tables of a validator.
 
 mod answer;
 mod batches;
@@ -9,6 +9,7 @@ mod headers;
 mod votes;
 
 ghost use Rattle.std.specs.Prelude.{◌≡◌, ◌<◌, length, IfOk};
+ghost use Rattle.sigface.specs.Seeds.{seed_of};
 ghost use Rattle.spec_model.specs.Nodes.{Node};
 ghost use Rattle.spec_model.specs.States.{State};
 ghost use Rattle.admission.specs.Kept.{IsKept, IsKeptOf};
@@ -30,8 +31,8 @@ use std::alloc::{AllocError, Global};
 use votebook::VoteBook;
 use wire::{Author, Digest, Round};
 
-/// What a validator keeps: the batches, the votes for the headers of others, the own headers with the votes on them, and
-/// the certificates with the coins and the order.
+/// A validator's tables: the batches, the votes for other members' headers, the own headers with the votes on them, and the certificates
+/// with the coins and the order.
 pub struct Tables<'a> {
     pub(crate) own: Author,
     pub(crate) batches: BatchStore<'a>,
@@ -53,8 +54,8 @@ impl<'a> Drop for Tables<'a> {
 }
 
 impl<'a> Tables<'a> {
-    /// Those of a member that has taken nothing: they hold the genesis. They begin their hashes at the seed.
-    /// `AllocError` where an allocation failed.
+    /// The tables of a member that has taken no event: they hold the genesis certificates. The table of batches hashes with this seed. On
+    /// `AllocError` an allocation failed.
     pub fn new(
         alloc: Global,
         committee: &'a Committee,
@@ -62,7 +63,7 @@ impl<'a> Tables<'a> {
         seed: TableSeed,
     ) -> Result<Tables<'a>, AllocError>
         requires { own.0 < length committee.now.keys }
-        ensures { IfOk result (λ made. (node : Node) → node.charter ≡ committee.now → node.own ≡ own → AreAt node (fresh node) made) }
+        ensures { IfOk result (λ made. (node : Node) → node.charter ≡ committee.now → node.own ≡ own → seed_of node.sign ≡ seed → AreAt node (fresh node) made) }
     {
         starts_empty();
         starts_fresh();
@@ -75,8 +76,8 @@ impl<'a> Tables<'a> {
         })
     }
 
-    /// Those of a member that is at a sound state of which these are the parts. They begin their hashes at the seed.
-    /// `AllocError` where an allocation failed.
+    /// The tables of a member in the sound state that has these parts. The table of batches hashes with this seed. On `AllocError` an
+    /// allocation failed.
     pub fn restore(
         alloc: Global,
         committee: &'a Committee,
@@ -85,7 +86,7 @@ impl<'a> Tables<'a> {
         kept: Kept,
     ) -> Result<Tables<'a>, AllocError>
         requires { IsKept committee.now own kept }
-        ensures { IfOk result (λ made. (node : Node) (state : State) → node.charter ≡ committee.now → node.own ≡ own → IsKeptOf node state kept → AreAt node state made) }
+        ensures { IfOk result (λ made. (node : Node) (state : State) → node.charter ≡ committee.now → node.own ≡ own → seed_of node.sign ≡ seed → IsKeptOf node state kept → AreAt node state made) }
     {
         let Kept {
             batches,
@@ -114,14 +115,14 @@ impl<'a> Tables<'a> {
         })
     }
 
-    /// The votes for the headers of other members.
+    /// The votes for other members' headers.
     pub fn votes(&self) -> &VoteBook
         ensures { result.now ≡ self.now.votes }
     {
         &self.votes
     }
 
-    /// The batches.
+    /// The store of batches.
     pub fn batches(&self) -> &BatchStore<'a>
         ensures { result.now ≡ self.now.batches }
     {
@@ -142,7 +143,7 @@ impl<'a> Tables<'a> {
         &self.sequencer
     }
 
-    /// The digest of the header of this author and round that the node has voted for. The node's own header counts as voted for.
+    /// The digest of the header that the validator voted for in this author's slot of this round. Its own header counts as voted for.
     pub fn voted(&self, author: Author, round: Round) -> Option<Digest>
         ensures { result ≡ voted_by self.now author round }
     {
@@ -152,16 +153,17 @@ impl<'a> Tables<'a> {
         self.votes.voted(author, round)
     }
 
-    /// The lowest round of which certificates are held.
+    /// The floor: the lowest round whose certificates are kept.
     pub fn floor(&self) -> Round
         ensures { result ≡ self.now.sequencer.graph.floor }
     {
         self.sequencer.dag().floor()
     }
 
-    // Forgets what the floor has come to since it was this. It takes no memory.
+    // Drops the votes and the own headers of rounds up to the floor, if the floor has moved since it was `before`. The call allocates no
+    // memory.
     pub(crate) fn trim(&mut self, before: Round)
-        // Where nothing up to the earlier floor was kept, nothing up to the present one is.
+        // If no vote and no own header was kept of the rounds up to `before`, then none is kept of the rounds up to the present floor.
         ensures votes { ForgetsTo before self.old.votes self.old.votes → ForgetsTo self.old.sequencer.graph.floor self.old.votes self.new.votes }
         ensures headers { IsForgotten self.old.headers self.old.headers before → IsForgotten self.old.headers self.new.headers self.old.sequencer.graph.floor }
         ensures own { self.new.own ≡ self.old.own }

@@ -1,4 +1,4 @@
-//! The votes for the headers of other members.
+//! The book of a validator's votes for other members' headers.
 
 ghost use Rattle.std.specs.Prelude.{◌≡◌, None, OnOk, OnErr};
 ghost use Rattle.spec_model.specs.Slots.{header_digest};
@@ -9,8 +9,8 @@ use std::alloc::AllocError;
 use votebook::VoteBook;
 use wire::{Digest, Header};
 
-/// Keeps the vote for a header of another member, whose author and round have none. `AllocError` where an allocation
-/// failed, which changes nothing.
+/// Notes in the book that the validator votes for this header of another member, in whose slot it has not voted yet. On `AllocError` an
+/// allocation failed, and nothing has changed.
 pub fn keep_vote(votes: &mut VoteBook, header: &Header, digest: Digest) -> Result<(), AllocError>
     requires digested { digest ≡ header_digest header.now.body }
     requires free { voted_in votes.old header.now.body.author header.now.body.round ≡ None }

@@ -6,9 +6,16 @@ use Rattle.std.specs.Str.{bytes_eq}
 use Rattle.indexmap.specs.IndexMap.{set_value_at}
 use Rattle.wire.specs.declared.keys.Digest.{Digest}
 use Rattle.batchstore.specs.Stock.{found}
-use Rattle.batchstore.specs.Kept.{IsUnderItsDigest}
+use Rattle.sigface.specs.declared.seed.TableSeed.{TableSeed}
+use Rattle.batchstore.specs.Kept.{IsUnderItsDigest, TableView}
 use Rattle.batchstore.specs.declared.held.Held.{Held}
 use Rattle.batchstore.proofs.Among.{digest_in, is_of}
+
+-- tables that hash with one seed and have the same batches are one
+pub table_is : {left right : TableSeed} {held batches : List Held} → left ≡ right → held ≡ batches
+    → ◌≡◌ {A = TableView} (record { seed = left; held = held }) (record { seed = right; held = batches })
+table_is {left} {right} {held} {batches} seed same =
+    ap (λ (s : TableSeed). record { seed = s; held = held }) seed ∙ ap (λ (l : List Held). record { seed = right; held = l }) same
 
 abbrev pub Keyed : List (Digest × Held) → Type 0
 Keyed entries = AllByRecursion IsUnderItsDigest entries

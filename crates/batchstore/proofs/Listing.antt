@@ -8,7 +8,7 @@ use Rattle.wire.specs.References.{placed}
 use Rattle.wire.specs.declared.keys.Digest.{Digest}
 use Rattle.wire.specs.declared.references.BatchReference.{BatchReference}
 use Rattle.committee.specs.Charter.{Charter}
-use Rattle.batchstore.specs.Stock.{as_reference, may_be_named, to_name}
+use Rattle.batchstore.specs.Stock.{as_reference, may_be_named, nameable_among, to_name}
 use Rattle.batchstore.specs.declared.held.Held.{Held}
 use Rattle.batchstore.proofs.Among.{digest_in, is_of, None_of}
 use Rattle.batchstore.proofs.Placed.{Absent, absent-append, absent-fold, one_among, without, without-absent, without-placed}
@@ -16,10 +16,6 @@ use Rattle.batchstore.proofs.Placed.{Absent, absent-append, absent-fold, one_amo
 -- those that may be named, in the order of acceptance
 abbrev pub named_among : Charter → ℕ → List Held → List BatchReference
 named_among charter own batches = filter_map (to_name charter own) batches
-
--- those that may be named, in their places
-abbrev pub listing : Charter → ℕ → List Held → List BatchReference
-listing charter own batches = fold placed [] (named_among charter own batches)
 
 -- what may not be named is no reference
 pub to_name-none : (charter : Charter) (own : ℕ) (held : Held) → may_be_named charter own held ≡ false → to_name charter own held ≡ None
@@ -47,39 +43,40 @@ around charter own digest front back before after =
 
 -- with one that may not be named in the middle, the list is that of the others
 middle-none : (charter : Charter) (own : ℕ) (front : List Held) (held : Held) (back : List Held) → to_name charter own held ≡ None
-    → listing charter own (front ++ held ∷ back) ≡ fold placed [] (named_among charter own front ++ named_among charter own back)
+    → nameable_among charter own (front ++ held ∷ back) ≡ fold placed [] (named_among charter own front ++ named_among charter own back)
 middle-none charter own front held back none =
     ap (fold placed []) (filter_map-append (to_name charter own) front (held ∷ back) ∙ ap (λ o. named_among charter own front ++ cons_option o (named_among charter own back)) none)
 
 -- with one that may be named it is in its place among them
 pub middle-some : (charter : Charter) (own : ℕ) (front : List Held) (held : Held) (back : List Held) → to_name charter own held ≡ Some (as_reference held.batch)
-    → None_of (digest_in held) back → listing charter own (front ++ held ∷ back) ≡ placed (fold placed [] (named_among charter own front ++ named_among charter own back)) (as_reference held.batch)
+    → None_of (digest_in held) back
+    → nameable_among charter own (front ++ held ∷ back) ≡ placed (fold placed [] (named_among charter own front ++ named_among charter own back)) (as_reference held.batch)
 middle-some charter own front held back some after =
     ap (fold placed []) (filter_map-append (to_name charter own) front (held ∷ back) ∙ ap (λ o. named_among charter own front ++ cons_option o (named_among charter own back)) some)
     ∙ one_among (named_among charter own front) (named_among charter own back) (as_reference held.batch) (absent-among charter own (digest_in held) back after)
 
 -- what may not be named isn't listed
 pub unlisted : (charter : Charter) (own : ℕ) (front : List Held) (held : Held) (back : List Held) → to_name charter own held ≡ None → None_of (digest_in held) front → None_of (digest_in held) back
-    → Absent (digest_in held) (listing charter own (front ++ held ∷ back))
+    → Absent (digest_in held) (nameable_among charter own (front ++ held ∷ back))
 unlisted charter own front held back none before after =
     subst (Absent (digest_in held)) (sym (middle-none charter own front held back none)) (around charter own (digest_in held) front back before after)
 
 -- what begins to be nameable is put in its place
 pub gains : (charter : Charter) (own : ℕ) (front : List Held) (old new : Held) (back : List Held) → to_name charter own old ≡ None → to_name charter own new ≡ Some (as_reference new.batch)
-    → None_of (digest_in new) back → listing charter own (front ++ new ∷ back) ≡ placed (listing charter own (front ++ old ∷ back)) (as_reference new.batch)
+    → None_of (digest_in new) back → nameable_among charter own (front ++ new ∷ back) ≡ placed (nameable_among charter own (front ++ old ∷ back)) (as_reference new.batch)
 gains charter own front old new back none some after =
     middle-some charter own front new back some after ∙ ap (λ l. placed l (as_reference new.batch)) (sym (middle-none charter own front old back none))
 
 -- what stays as it is to be named leaves the list
 pub stays : (charter : Charter) (own : ℕ) (front : List Held) (old new : Held) (back : List Held) → to_name charter own new ≡ to_name charter own old
-    → listing charter own (front ++ new ∷ back) ≡ listing charter own (front ++ old ∷ back)
+    → nameable_among charter own (front ++ new ∷ back) ≡ nameable_among charter own (front ++ old ∷ back)
 stays charter own front old new back same =
     ap (fold placed []) (
     filter_map-append (to_name charter own) front (new ∷ back) ∙ ap (λ o. named_among charter own front ++ cons_option o (named_among charter own back)) same
     ∙ sym (filter_map-append (to_name charter own) front (old ∷ back)))
 
 loses_by : (charter : Charter) (own : ℕ) (front : List Held) (old new : Held) (back : List Held) (may : Bool) → may_be_named charter own old ≡ may → to_name charter own new ≡ None
-    → None_of (digest_in old) front → None_of (digest_in old) back → without (digest_in old) (listing charter own (front ++ old ∷ back)) ≡ listing charter own (front ++ new ∷ back)
+    → None_of (digest_in old) front → None_of (digest_in old) back → without (digest_in old) (nameable_among charter own (front ++ old ∷ back)) ≡ nameable_among charter own (front ++ new ∷ back)
 loses_by charter own front old new back true may none before after =
     ap (without (digest_in old)) (middle-some charter own front old back (to_name-some charter own old may) after)
     ∙ without-placed (fold placed [] (named_among charter own front ++ named_among charter own back)) (as_reference old.batch) (around charter own (digest_in old) front back before after)
@@ -91,10 +88,11 @@ loses_by charter own front old new back false may none before after =
 
 -- what may not be named any more is taken out
 pub loses : (charter : Charter) (own : ℕ) (front : List Held) (old new : Held) (back : List Held) → to_name charter own new ≡ None
-    → None_of (digest_in old) front → None_of (digest_in old) back → without (digest_in old) (listing charter own (front ++ old ∷ back)) ≡ listing charter own (front ++ new ∷ back)
+    → None_of (digest_in old) front → None_of (digest_in old) back → without (digest_in old) (nameable_among charter own (front ++ old ∷ back)) ≡ nameable_among charter own (front ++ new ∷ back)
 loses charter own front old new back none before after = loses_by charter own front old new back (may_be_named charter own old) refl none before after
 
 -- one more after the others that may not be named
-pub push-none : (charter : Charter) (own : ℕ) (batches : List Held) (held : Held) → to_name charter own held ≡ None → listing charter own (batches ++ held ∷ []) ≡ listing charter own batches
+pub push-none : (charter : Charter) (own : ℕ) (batches : List Held) (held : Held) → to_name charter own held ≡ None
+    → nameable_among charter own (batches ++ held ∷ []) ≡ nameable_among charter own batches
 push-none charter own batches held none =
     middle-none charter own batches held [] none ∙ ap (fold placed []) (append-nil (named_among charter own batches))

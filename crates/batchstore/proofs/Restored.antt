@@ -11,12 +11,12 @@ use Rattle.indexmap.proofs.MapLemmas.{absent_from_lookup, insert_entry-absent}
 use Rattle.wire.specs.References.{placed}
 use Rattle.wire.specs.declared.keys.Digest.{Digest}
 use Rattle.committee.specs.Charter.{Charter}
-use Rattle.batchstore.specs.Stock.{as_reference, may_be_named}
+use Rattle.batchstore.specs.Stock.{as_reference, may_be_named, nameable_among}
 use Rattle.batchstore.specs.Kept.{compared, reference_of}
 use Rattle.batchstore.specs.declared.held.Held.{Held}
 use Rattle.batchstore.proofs.Among.{digest_in, is_of, None_of, Distinct, others}
 use Rattle.batchstore.proofs.Keyed.{Keyed, lookup-found, values-push}
-use Rattle.batchstore.proofs.Listing.{listing, named_among, absent-among, middle-some, push-none, to_name-none, to_name-some}
+use Rattle.batchstore.proofs.Listing.{named_among, absent-among, middle-some, push-none, to_name-none, to_name-some}
 use Rattle.batchstore.proofs.Placed.{Absent, absent-fold, inserted}
 
 -- an entry as the map has it
@@ -63,27 +63,27 @@ all_inserted front (e ∷ rest) keyed distinct =
 
 -- one more that may be named is put in its place
 push-some : (charter : Charter) (own : ℕ) (batches : List Held) (held : Held) → may_be_named charter own held ≡ true
-    → listing charter own (batches ++ held ∷ []) ≡ placed (listing charter own batches) (as_reference held.batch)
+    → nameable_among charter own (batches ++ held ∷ []) ≡ placed (nameable_among charter own batches) (as_reference held.batch)
 push-some charter own batches held may =
     middle-some charter own batches held [] (to_name-some charter own held may) tt
     ∙ ap (λ l. placed (fold placed [] l) (as_reference held.batch)) (append-nil (named_among charter own batches))
 
 more_by : (charter : Charter) (own : ℕ) (front : List Held) (e : Entry) (listed : List (Digest × ℕ)) (may : Bool) → may_be_named charter own e.1 ≡ may
-    → map reference_of listed ≡ listing charter own front → e.0 ≡ digest_in e.1 → None_of (digest_in e.1) front
-    → map reference_of (cond may (insert_entry compared listed e.0 e.1.batch.worker) listed) ≡ listing charter own (front ++ e.1 ∷ [])
+    → map reference_of listed ≡ nameable_among charter own front → e.0 ≡ digest_in e.1 → None_of (digest_in e.1) front
+    → map reference_of (cond may (insert_entry compared listed e.0 e.1.batch.worker) listed) ≡ nameable_among charter own (front ++ e.1 ∷ [])
 more_by charter own front e listed false may same mine none = same ∙ sym (push-none charter own front e.1 (to_name-none charter own e.1 may))
 more_by charter own front e listed true may same mine none =
     let absent : Absent e.0 (map reference_of listed) =
     subst (Absent e.0) (sym same) (absent-fold e.0 (named_among charter own front) (absent-among charter own e.0 front (subst (λ d. None_of d front) (sym mine) none))) in
     inserted listed e.0 e.1.batch.worker absent ∙ ap (λ l. placed l (reference_of (e.0, e.1.batch.worker))) same
-    ∙ ap (λ (d : Digest). placed (listing charter own front) (record { digest = d; worker = e.1.batch.worker })) mine
+    ∙ ap (λ (d : Digest). placed (nameable_among charter own front) (record { digest = d; worker = e.1.batch.worker })) mine
     ∙ sym (push-some charter own front e.1 may)
 
 -- what may be named is listed with one batch more
 pub listed_more : (charter : Charter) (own : ℕ) (batches : List Entry) (i : ℕ) (e : Entry) (listed after : List (Digest × ℕ)) → i < length batches → get_or batches i e ≡ e
-    → Keyed batches → Distinct (values_of batches) → map reference_of listed ≡ listing charter own (values_of (take i batches))
+    → Keyed batches → Distinct (values_of batches) → map reference_of listed ≡ nameable_among charter own (values_of (take i batches))
     → after ≡ cond (may_be_named charter own e.1) (insert_entry compared listed e.0 e.1.batch.worker) listed
-    → map reference_of after ≡ listing charter own (values_of (take (i + 1) batches))
+    → map reference_of after ≡ nameable_among charter own (values_of (take (i + 1) batches))
 listed_more charter own batches i e listed after within at keyed distinct same is =
     let front = take i batches in
     let rest = drop (suc i) batches in
@@ -92,4 +92,4 @@ listed_more charter own batches i e listed after within at keyed distinct same i
     let none = none_before front e rest (subst (λ l. Distinct (values_of l)) (sym parted) distinct) in
     ap (λ l. map reference_of l) is
     ∙ more_by charter own (values_of front) e listed (may_be_named charter own e.1) refl same mine none
-    ∙ ap (listing charter own) (sym (values-push front e.0 e.1) ∙ ap (λ x. values_of (front ++ x ∷ [])) (sym at) ∙ ap values_of (sym (take_more batches i e within)))
+    ∙ ap (nameable_among charter own) (sym (values-push front e.0 e.1) ∙ ap (λ x. values_of (front ++ x ∷ [])) (sym at) ∙ ap values_of (sym (take_more batches i e within)))

@@ -19,19 +19,20 @@ use Rattle.committee.specs.Sets.{has}
 use Rattle.committee.specs.declared.sets.MemberSet.{MemberSet}
 use Rattle.committee.proofs.Weights.{weight-same, weight-one, weight-within}
 use Rattle.std.specs.Option.{option_map_or}
-use Rattle.batchstore.specs.Stock.{BatchStoreView, IsStock, IsHeld, held_at, has_own, has_acked, holds, as_reference, holders, is_quorate, may_be_named}
+use Rattle.sigface.specs.declared.seed.TableSeed.{TableSeed}
+use Rattle.batchstore.specs.Stock.{BatchStoreView, IsStock, IsHeld, held_at, has_own, has_acked, holds, as_reference, holders, is_quorate, may_be_named, nameable_among}
 use Rattle.batchstore.specs.Answer.{with_member, acked_by, named_by}
 use Rattle.batchstore.specs.Kept.{IsKept, compared, reference_of}
 use Rattle.batchstore.specs.declared.held.Held.{Held}
 use Rattle.batchstore.proofs.Among.{digest_in, is_of, None_of, Distinct, same_digest, set_parted, parted, others, found_is, none_found, map-others}
 use Rattle.batchstore.proofs.Among.{map-one, all-one, digests-one, length-one, map-push, others_differ}
 use Rattle.batchstore.proofs.Placed.{Absent, inserted, removed, without}
-use Rattle.batchstore.proofs.Listing.{listing, to_name-none, to_name-some, unlisted, gains, stays, loses, push-none}
+use Rattle.batchstore.proofs.Listing.{to_name-none, to_name-some, unlisted, gains, stays, loses, push-none}
 use Rattle.batchstore.proofs.Members.{more_is}
 
--- the store of these batches
-abbrev pub stock_in : Charter → ℕ → List Held → BatchStoreView
-stock_in charter own batches = record { charter = charter; own = own; held = batches }
+-- the store of these batches, whose table hashes with this seed
+abbrev pub stock_in : TableSeed → Charter → ℕ → List Held → BatchStoreView
+stock_in seed charter own batches = record { charter = charter; own = own; seed = seed; held = batches }
 
 -- a batch of this digest stands at a place, and no other has it
 pub record Stands (batches : List Held) (digest : Digest) (place : ℕ) (held : Held) : Type 0 where
@@ -56,11 +57,11 @@ stands batches digest place held distinct found at =
     }
 
 -- what is kept, with another value at a place
-pub changed : (charter : Charter) (own : ℕ) (batches : List Held) (listed after : List (Digest × ℕ)) (digest : Digest) (place : ℕ) (old new : Held)
-    → IsKept (stock_in charter own batches) listed → Stands batches digest place old → digest_in new ≡ digest_in old
+pub changed : {seed : TableSeed} (charter : Charter) (own : ℕ) (batches : List Held) (listed after : List (Digest × ℕ)) (digest : Digest) (place : ℕ) (old new : Held)
+    → IsKept (stock_in seed charter own batches) listed → Stands batches digest place old → digest_in new ≡ digest_in old
     → (IsHeld charter own old → IsHeld charter own new)
-    → map reference_of after ≡ listing charter own (take place batches ++ new ∷ drop (suc place) batches)
-    → IsKept (stock_in charter own (slice_set batches place new)) after
+    → map reference_of after ≡ nameable_among charter own (take place batches ++ new ∷ drop (suc place) batches)
+    → IsKept (stock_in seed charter own (slice_set batches place new)) after
 changed charter own batches listed after digest place old new kept there same goes names =
     let front = take place batches in
     let back = drop (suc place) batches in
@@ -79,7 +80,7 @@ changed charter own batches listed after digest place old new kept there same go
         each = All-from_recursion (IsHeld charter own) (slice_set batches place new)
             (subst (AllByRecursion (IsHeld charter own)) (sym is) (all-one (IsHeld charter own) front old new back goes each));
       };
-      named = names ∙ ap (listing charter own) (sym is);
+      named = names ∙ ap (nameable_among charter own) (sym is);
     }
 
 -- ---- a new batch
@@ -91,10 +92,10 @@ alone charter own held is mine none =
     let shared = is.shared own 0 (omega (arith, is.staked)) in
     lt-leb (quorum_of charter) (weight charter (holders own held)) (omega (arith, same, weight-one charter own mine, shared))
 
-pub pushed : (charter : Charter) (own : ℕ) (batches : List Held) (listed : List (Digest × ℕ)) (digest : Digest) (new : Held)
-    → IsKept (stock_in charter own batches) listed → digest ≡ digest_in new → find (is_of digest) batches ≡ None → length batches < charter.batches
+pub pushed : {seed : TableSeed} (charter : Charter) (own : ℕ) (batches : List Held) (listed : List (Digest × ℕ)) (digest : Digest) (new : Held)
+    → IsKept (stock_in seed charter own batches) listed → digest ≡ digest_in new → find (is_of digest) batches ≡ None → length batches < charter.batches
     → ((member : ℕ) → has new.acknowledged member ≡ false) → new.named ≡ false
-    → IsKept (stock_in charter own (batches ++ new ∷ [])) listed
+    → IsKept (stock_in seed charter own (batches ++ new ∷ [])) listed
 pushed charter own batches listed digest new kept is none room empty unnamed =
     let apart : None_of (digest_in new) batches = subst (λ d. None_of d batches) is (none_found digest batches none) in
     let may : may_be_named charter own new ≡ false = ap (λ b. (new.batch.author.0 == own) && (b && not new.named))
@@ -118,10 +119,10 @@ pushed charter own batches listed digest new kept is none room empty unnamed =
 -- ---- the list beside it
 
 -- it lists those that may be named, the one at a place among them
-listed_around : (charter : Charter) (own : ℕ) (batches : List Held) (listed : List (Digest × ℕ)) (digest : Digest) (place : ℕ) (old : Held)
-    → IsKept (stock_in charter own batches) listed → Stands batches digest place old
-    → map reference_of listed ≡ listing charter own (take place batches ++ old ∷ drop (suc place) batches)
-listed_around charter own batches listed digest place old kept there = kept.named ∙ ap (listing charter own) there.stood
+listed_around : {seed : TableSeed} (charter : Charter) (own : ℕ) (batches : List Held) (listed : List (Digest × ℕ)) (digest : Digest) (place : ℕ) (old : Held)
+    → IsKept (stock_in seed charter own batches) listed → Stands batches digest place old
+    → map reference_of listed ≡ nameable_among charter own (take place batches ++ old ∷ drop (suc place) batches)
+listed_around charter own batches listed digest place old kept there = kept.named ∙ ap (nameable_among charter own) there.stood
 
 -- a change of the one batch of a digest
 pub at_place : (change : Held → Held) (batches : List Held) (digest : Digest) (place : ℕ) (old new : Held) → ((held : Held) → is_of digest held ≡ false → change held ≡ held) → change old ≡ new
@@ -171,10 +172,10 @@ still_held charter own old member members ours inside other more is = record {
   named = is.named;
 }
 
-pub acked_new : (charter : Charter) (own : ℕ) (batches : List Held) (listed : List (Digest × ℕ)) (digest : Digest) (place : ℕ) (old : Held) (member : ℕ) (members : MemberSet)
-    → IsKept (stock_in charter own batches) listed → Stands batches digest place old → old.batch.author.0 ≡ own → member < length charter.keys → member ≢ own
+pub acked_new : {seed : TableSeed} (charter : Charter) (own : ℕ) (batches : List Held) (listed : List (Digest × ℕ)) (digest : Digest) (place : ℕ) (old : Held) (member : ℕ) (members : MemberSet)
+    → IsKept (stock_in seed charter own batches) listed → Stands batches digest place old → old.batch.author.0 ≡ own → member < length charter.keys → member ≢ own
     → ((other : ℕ) → has members other ≡ (has old.acknowledged other || (other == member))) → begins charter own old members ≡ true
-    → IsKept (stock_in charter own (slice_set batches place (with_acks old members))) (insert_entry compared listed digest old.batch.worker)
+    → IsKept (stock_in seed charter own (slice_set batches place (with_acks old members))) (insert_entry compared listed digest old.batch.worker)
 acked_new charter own batches listed digest place old member members kept there ours inside other more begin =
     let front = take place batches in
     let back = drop (suc place) batches in
@@ -191,19 +192,19 @@ acked_new charter own batches listed digest place old member members kept there 
     let around = listed_around charter own batches listed digest place old kept there in
     let absent : Absent digest (map reference_of listed) =
     subst (Absent digest) (sym around)
-    (subst (λ d. Absent d (listing charter own (front ++ old ∷ back))) there.is
+    (subst (λ d. Absent d (nameable_among charter own (front ++ old ∷ back))) there.is
     (unlisted charter own front old back (to_name-none charter own old may_not) before following)) in
     let reference : ◌≡◌ {A = BatchReference} (reference_of (digest, old.batch.worker)) (as_reference old.batch) =
     ap (λ (d : Digest). record { digest = d; worker = old.batch.worker }) (sym there.is) in
     changed charter own batches listed (insert_entry compared listed digest old.batch.worker) digest place old new kept there refl
     (still_held charter own old member members ours inside other more)
-    (inserted listed digest old.batch.worker absent ∙ ap (λ l. placed l (reference_of (digest, old.batch.worker))) around ∙ ap (placed (listing charter own (front ++ old ∷ back))) reference
+    (inserted listed digest old.batch.worker absent ∙ ap (λ l. placed l (reference_of (digest, old.batch.worker))) around ∙ ap (placed (nameable_among charter own (front ++ old ∷ back))) reference
     ∙ sym (gains charter own front old new back (to_name-none charter own old may_not) (to_name-some charter own new may) following))
 
-pub acked_same : (charter : Charter) (own : ℕ) (batches : List Held) (listed : List (Digest × ℕ)) (digest : Digest) (place : ℕ) (old : Held) (member : ℕ) (members : MemberSet)
-    → IsKept (stock_in charter own batches) listed → Stands batches digest place old → old.batch.author.0 ≡ own → member < length charter.keys → member ≢ own
+pub acked_same : {seed : TableSeed} (charter : Charter) (own : ℕ) (batches : List Held) (listed : List (Digest × ℕ)) (digest : Digest) (place : ℕ) (old : Held) (member : ℕ) (members : MemberSet)
+    → IsKept (stock_in seed charter own batches) listed → Stands batches digest place old → old.batch.author.0 ≡ own → member < length charter.keys → member ≢ own
     → ((other : ℕ) → has members other ≡ (has old.acknowledged other || (other == member))) → begins charter own old members ≡ false
-    → IsKept (stock_in charter own (slice_set batches place (with_acks old members))) listed
+    → IsKept (stock_in seed charter own (slice_set batches place (with_acks old members))) listed
 acked_same charter own batches listed digest place old member members kept there ours inside other more begin =
     let front = take place batches in
     let back = drop (suc place) batches in
@@ -233,9 +234,9 @@ acked_view batches digest place old member members there more =
 abbrev pub with_mark : Held → Held
 with_mark held = record held { named = true }
 
-pub marked : (charter : Charter) (own : ℕ) (batches : List Held) (listed : List (Digest × ℕ)) (digest : Digest) (place : ℕ) (old : Held)
-    → IsKept (stock_in charter own batches) listed → Stands batches digest place old → old.batch.author.0 ≡ own
-    → IsKept (stock_in charter own (slice_set batches place (with_mark old))) (remove_entry (is_at (compared digest)) listed)
+pub marked : {seed : TableSeed} (charter : Charter) (own : ℕ) (batches : List Held) (listed : List (Digest × ℕ)) (digest : Digest) (place : ℕ) (old : Held)
+    → IsKept (stock_in seed charter own batches) listed → Stands batches digest place old → old.batch.author.0 ≡ own
+    → IsKept (stock_in seed charter own (slice_set batches place (with_mark old))) (remove_entry (is_at (compared digest)) listed)
 marked charter own batches listed digest place old kept there ours =
     let front = take place batches in
     let back = drop (suc place) batches in
@@ -246,7 +247,7 @@ marked charter own batches listed digest place old kept there ours =
     changed charter own batches listed (remove_entry (is_at (compared digest)) listed) digest place old (with_mark old) kept there refl
     (λ is. record { acknowledged = λ m there_is. (let may = is.acknowledged m there_is in record { ours = ours; inside = may.inside; other = may.other }); named = λ there_is. ours })
     (removed listed digest ∙ ap (without digest) (listed_around charter own batches listed digest place old kept there)
-    ∙ ap (λ d. without d (listing charter own (front ++ old ∷ back))) (sym there.is)
+    ∙ ap (λ d. without d (nameable_among charter own (front ++ old ∷ back))) (sym there.is)
     ∙ loses charter own front old (with_mark old) back (to_name-none charter own (with_mark old) may_not) before following)
 
 named_others : (own : ℕ) (reference : BatchReference) (held : Held) → is_of reference.digest held ≡ false → named_by own (reference ∷ []) held ≡ held

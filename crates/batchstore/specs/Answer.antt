@@ -1,4 +1,4 @@
--- What a store of batches answers, and what it holds after that.
+-- What a store of batches answers to a batch, and what it holds after a batch, an acknowledgement or an own header.
 use Rattle.std.specs.Prelude.{ℕ, ◌==◌, ◌&&◌, ◌++◌, ◌^◌, not, nat_lt, nat_le, Bool, true, false, List, [], ◌∷◌, length, map, is_none, Option, Some, None, Result, Ok, Err, if◌then◌else◌}
 use Rattle.std.specs.Prelude.{bit_or}
 use Rattle.std.specs.List.{list_any}
@@ -15,11 +15,11 @@ use Rattle.batchstore.specs.declared.refusal.StoreRefusal.TheVariants.{DigestCla
 
 -- ---- a batch comes in
 
--- this batch is held already
+-- the store holds this batch already: the batch under its digest has the same body
 abbrev pub is_known : BatchStoreView → BatchView → Bool
 is_known stock batch = option_map_or (λ held. bytes_eq (batch_body held.batch) (batch_body batch)) (held_at stock (digest_of batch)) false
 
--- another batch is held under this batch's digest
+-- the store holds a batch with another body under this batch's digest
 abbrev pub is_clash : BatchStoreView → BatchView → Bool
 is_clash stock batch = option_map_or (λ held. not (bytes_eq (batch_body held.batch) (batch_body batch))) (held_at stock (digest_of batch)) false
 
@@ -31,11 +31,11 @@ is_new stock batch = is_none (held_at stock (digest_of batch))
 abbrev pub is_full : BatchStoreView → Bool
 is_full stock = nat_le stock.charter.batches (length stock.held)
 
--- the answer to a batch under whose digest this one is held
+-- the answer to a batch under whose digest another entry is held: that entry's batch where the bodies are the same, else DigestClash
 abbrev pub held_answer : BatchView → BatchView → Result (Option BatchView) StoreRefusal
 held_answer held batch = if bytes_eq (batch_body held) (batch_body batch) then Ok (Some held) else Err DigestClash
 
--- the answer to a batch under whose digest none is held
+-- the answer to a batch under whose digest the store holds none: Full, or None where there is room for it
 abbrev pub free_answer : BatchStoreView → Result (Option BatchView) StoreRefusal
 free_answer stock = if is_full stock then Err Full else Ok None
 
@@ -43,7 +43,7 @@ free_answer stock = if is_full stock then Err Full else Ok None
 abbrev pub answer : BatchStoreView → BatchView → Result (Option BatchView) StoreRefusal
 answer stock batch = option_map_or (λ held. held_answer held batch) (batch_in stock (digest_of batch)) (free_answer stock)
 
--- the set of no member
+-- the set of members that has no member
 abbrev pub no_members : MemberSet
 no_members = record { bits = 0 }
 
@@ -53,11 +53,11 @@ with_batch stock batch = record stock { held = stock.held ++ record { batch = ba
 
 -- ---- a member acknowledges a batch
 
--- a number is that of a member
+-- this number is that of a member of the store's committee
 abbrev pub is_member : BatchStoreView → ℕ → Bool
 is_member stock member = nat_lt member (length stock.charter.keys)
 
--- a set with one member more
+-- the set of members with this member added
 abbrev pub with_member : MemberSet → ℕ → MemberSet
 with_member members member = record { bits = bit_or members.bits (2 ^ member) }
 

@@ -1,4 +1,4 @@
--- What a store of batches holds, and its invariant.
+-- What a store of batches holds, and what holds of every store.
 use Rattle.std.specs.Prelude.{◌≡◌, ◌≢◌, ℕ, ◌<◌, ◌≤◌, ◌==◌, ◌&&◌, ◌||◌, not, nat_le, Bool, true, false, List, [], length, map, find, fold, filter_map}
 use Rattle.std.specs.Prelude.{Option, Some, None, option_map, All, AllPairs, if◌then◌else◌}
 use Rattle.std.specs.Option.{option_map_or}
@@ -10,13 +10,15 @@ use Rattle.wire.specs.declared.keys.Digest.{Digest}
 use Rattle.wire.specs.declared.references.BatchReference.{BatchReference}
 use Rattle.committee.specs.Charter.{Charter, IsCharter, weight, quorum_of}
 use Rattle.committee.specs.Sets.{has}
+use Rattle.sigface.specs.declared.seed.TableSeed.{TableSeed}
 use Rattle.batchstore.specs.declared.held.Held.{Held}
 
--- a store: the committee, the validator's own number, and the batches in the order of acceptance, each with the members who acknowledged it
--- and whether an own header named it
+-- a store: the committee, the validator's own number, the seed with which its table hashes, and the batches in the order of acceptance,
+-- each with the members who acknowledged it and whether an own header named it
 pub record BatchStoreView : Type 0 where
   pub charter : Charter
   pub own : ℕ
+  pub seed : TableSeed
   pub held : List Held
 
 -- ---- look-ups by the digest
@@ -24,7 +26,7 @@ pub record BatchStoreView : Type 0 where
 abbrev pub digest_of : BatchView → Digest
 digest_of batch = record { 0 = batch_digest_of batch }
 
--- the entry of the batch with this digest, among these and in a store
+-- the entry of the batch with this digest: found looks in a list of entries, held_at in a store
 abbrev pub found : Digest → List Held → Option Held
 found digest batches = find (λ held. bytes_eq digest.0 (digest_of held.batch).0) batches
 
@@ -35,7 +37,7 @@ held_at stock digest = found digest stock.held
 abbrev pub batch_in : BatchStoreView → Digest → Option BatchView
 batch_in stock digest = option_map (λ held. held.batch) (held_at stock digest)
 
--- the batch of a digest is held, with this worker
+-- the batch with this digest is held, and is a batch of this worker
 abbrev pub has_with : BatchStoreView → Digest → ℕ → Bool
 has_with stock digest worker = option_map_or (λ held. held.batch.worker == worker) (held_at stock digest) false
 
@@ -62,7 +64,7 @@ is_available stock digest =
 
 -- ---- what a header may name
 
--- the members who hold the batch of this entry
+-- this member holds the batch of this entry: it is the validator itself, or it acknowledged the batch
 abbrev pub holders : ℕ → Held → ℕ → Bool
 holders own held member = (member == own) || has held.acknowledged member
 
@@ -70,7 +72,7 @@ holders own held member = (member == own) || has held.acknowledged member
 abbrev pub is_quorate : Charter → ℕ → Held → Bool
 is_quorate charter own held = nat_le (quorum_of charter) (weight charter (holders own held))
 
--- the batch may be named: it is an own one, available, and no own header has named it yet
+-- the next own header may name the batch: it is an own one, available, and no own header has named it yet
 abbrev pub may_be_named : Charter → ℕ → Held → Bool
 may_be_named charter own held = (held.batch.author.0 == own) && (is_quorate charter own held && not held.named)
 
@@ -82,19 +84,24 @@ as_reference batch = record { digest = digest_of batch; worker = batch.worker }
 abbrev pub to_name : Charter → ℕ → Held → Option BatchReference
 to_name charter own held = if may_be_named charter own held then Some (as_reference held.batch) else None
 
+-- the references of those of these batches that may be named, sorted by digest
+abbrev pub nameable_among : Charter → ℕ → List Held → List BatchReference
+nameable_among charter own batches = fold placed [] (filter_map (to_name charter own) batches)
+
 -- the references of all batches that may be named, sorted by digest
 abbrev pub nameable : BatchStoreView → List BatchReference
-nameable stock = fold placed [] (filter_map (to_name stock.charter stock.own) stock.held)
+nameable stock = nameable_among stock.charter stock.own stock.held
 
 -- ---- the invariant of every store
 
--- a member may have acknowledged this batch: the member is another one, and the batch is an own one
+-- this member may be one of those who acknowledged this batch: it is another member than the validator, and the batch is the validator's
+-- own
 pub record MayAck (charter : Charter) (own : ℕ) (held : Held) (member : ℕ) : Type 0 where
   pub ours : held.batch.author.0 ≡ own
   pub inside : member < length charter.keys
   pub other : member ≢ own
 
--- only other members have acknowledged a batch, and only an own batch has acknowledgements or a mark
+-- only other members have acknowledged a batch, and only an own batch has acknowledgements or is marked as named
 pub record IsHeld (charter : Charter) (own : ℕ) (held : Held) : Type 0 where
   pub acknowledged : (member : ℕ) → has held.acknowledged member ≡ true → MayAck charter own held member
   pub named : held.named ≡ true → held.batch.author.0 ≡ own

@@ -1,4 +1,4 @@
-//! What a store of batches answers.
+//! What a validator's store of batches answers to a batch and to an acknowledgement.
 
 /// The answer to a batch that is put into the store.
 #[derive(Clone, Copy, Debug, PartialEq, Eq)]

@@ -1,11 +1,11 @@
-//! What a store holds of a batch.
+//! The entry of one batch in a validator's store of batches.
 
 ghost use Rattle.std.specs.Prelude.{◌≡◌};
 
 use committee::MemberSet;
 use wire::Batch;
 
-/// A batch, the other members who acknowledged it, and whether an own header named it.
+/// A batch of the store, the other members who acknowledged it, and whether one of the validator's own headers named it.
 #[derive(Drop)]
 pub struct Held {
     pub(crate) batch: Batch,
@@ -14,7 +14,7 @@ pub struct Held {
 }
 
 impl Held {
-    /// A batch with the other members who acknowledged it, and whether an own header named it.
+    /// The entry of this batch, which these other members acknowledged. The flag says whether an own header named it.
     pub fn new(batch: Batch, acknowledged: MemberSet, named: bool) -> Held
         ensures { result ≡ record { batch = batch; acknowledged = acknowledged; named = named } }
     {

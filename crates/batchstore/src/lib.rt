@@ -1,5 +1,5 @@
-//! The batches that a validator holds, in the order of acceptance: each with the members who acknowledged it, and whether an own header
-//! named it.
+//! The store of the batches that a validator holds, in the order of acceptance: each with the members who acknowledged it, and whether an
+//! own header named it.
 #![tactic(auto)]
 
 mod answers;

@@ -15,7 +15,7 @@ pub enum StoreRefusal {
     /// Another batch is held under the same digest.
     #[error("2 DigestClash")]
     DigestClash,
-    /// As many batches are held as the committee allows.
+    /// The store holds as many batches as the committee allows.
     #[error("3 Full")]
     Full,
     /// No own batch with this digest is held, or whoever acknowledges it is no member.

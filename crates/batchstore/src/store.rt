@@ -1,4 +1,4 @@
-//! The store of batches.
+//! The store of the batches that a validator holds.
 
 ghost use Rattle.std.specs.Prelude.{◌≡◌, ◌≢◌, ℕ, ◌<◌, All, AllPairs, ◌==◌, ◌&&◌, ◌||◌, ◌⊎◌, [], ◌∷◌, true, false, Ok, Err, IsTrue, not, nat_le, ◌↔◌, length, take, map, Some, None, slice_get, if◌then◌else◌, IfOk, IfErr, IfSome, OnOk, OnErr, IsErrOf, option_copied, option_map};
 ghost use Rattle.std.specs.BTreeMap.{insert_entry};
@@ -9,7 +9,7 @@ ghost use Rattle.committee.specs.Sets.{has};
 ghost use Rattle.committee.specs.declared.members.TheConstants.{MAX_MEMBERS};
 ghost use Rattle.batchstore.specs.declared.held.Held.{Held};
 ghost use Rattle.batchstore.specs.Kept.{IsUnderItsDigest, compared, reference_of};
-ghost use Rattle.batchstore.specs.Stock.{is_quorate, may_be_named, BatchStoreView, IsStock, digest_of, held_at, batch_in, has_with, has_own, holds, is_available, was_named, nameable};
+ghost use Rattle.batchstore.specs.Stock.{is_quorate, may_be_named, BatchStoreView, IsStock, digest_of, held_at, batch_in, has_with, has_own, holds, is_available, was_named, nameable, nameable_among};
 ghost use Rattle.batchstore.specs.Answer.{is_member, is_known, is_clash, is_new, is_full, answer, with_batch, with_ack, with_names};
 
 use crate::answers::{Acked, Put};
@@ -23,13 +23,14 @@ use std::collections::BTreeMap;
 use std::marker::Model;
 use wire::{Author, Batch, BatchReference, Digest, MAX_BATCHES, batch_digest};
 
-/// The batches that one member of a committee holds. Contracts see the committee, the member's number, and the batches in the order of
-/// acceptance, each with the other members who acknowledged it and whether an own header named it.
+/// The batches that one member of a committee holds. Contracts see the committee, the member's number, the seed with which its table
+/// hashes, and the batches in the order of acceptance, each with the other members who acknowledged it and whether an own header named it.
 pub struct BatchStore<'a> {
     committee: &'a Committee,
     own: Author,
-    held: Table,
-    // The batches that may be named: the worker of each, by the batch's digest.
+    table: Table,
+    // The worker of each batch that a header may still name, by the batch's digest. Contracts don't see it, since it follows from the
+    // table.
     nameable: BTreeMap<Digest, u16>,
 }
 
@@ -38,7 +39,7 @@ impl<'a> Drop for BatchStore<'a> {
         let BatchStore {
             committee: _,
             own: _,
-            held: _,
+            table: _,
             nameable: _,
         } = self;
     }
@@ -50,12 +51,12 @@ impl<'a> Model for BatchStore<'a> {
 
     ghost Value = { BatchStoreView };
 
-    ghost view = { λ s. record { charter = s.committee.now; own = s.own.0; held = s.held } };
+    ghost view = { λ s. record { charter = s.committee.now; own = s.own.0; seed = s.table.seed; held = s.table.held } };
 
-    ghost invariant = { λ s. IsKept (record { charter = s.committee.now; own = s.own.0; held = s.held }) s.nameable.entries };
+    ghost invariant = { λ s. IsKept (record { charter = s.committee.now; own = s.own.0; seed = s.table.seed; held = s.table.held }) s.nameable.entries };
 }
 
-// Whether the own member together with these others weighs a quorum.
+// Whether the own member together with these other members weighs at least a quorum.
 fn is_quorum(committee: &Committee, own: Author, others: &MemberSet) -> bool
     requires { own.0 < MAX_MEMBERS }
     ensures { result ≡ nat_le (quorum_of committee.now) (weight committee.now (λ member. (member == own.0) || has others.now member)) }
@@ -65,7 +66,8 @@ fn is_quorum(committee: &Committee, own: Author, others: &MemberSet) -> bool
     committee.weight(&holders) >= committee.quorum()
 }
 
-// Whether an own batch may be named when these members hold it, and might not before.
+// Whether an own batch becomes nameable when its acknowledgements are these instead of the earlier ones: no header has named it, and its
+// holders weigh a quorum now and did not before.
 fn becomes_nameable(
     committee: &Committee,
     own: Author,
@@ -80,7 +82,7 @@ fn becomes_nameable(
         && is_quorum(committee, own, acknowledged)
 }
 
-// The first batches of a list, by digest, as many as a header may name.
+// The references to the batches of this map with the lowest digests, at most as many as a header may name.
 fn first_references(
     alloc: Global,
     nameable: &BTreeMap<Digest, u16>,
@@ -97,7 +99,7 @@ fn first_references(
         .collect(alloc)
 }
 
-// Whether a batch may be named.
+// Whether the next own header may name this batch: the batch is an own one and available, and no own header has named it yet.
 fn may_be_named(committee: &Committee, own: Author, held: &Held) -> bool
     requires { own.0 < MAX_MEMBERS }
     ensures { result ≡ may_be_named committee.now own.0 held.now }
@@ -105,7 +107,7 @@ fn may_be_named(committee: &Committee, own: Author, held: &Held) -> bool
     held.batch.author() == own && (is_quorum(committee, own, &held.acknowledged) && !held.named)
 }
 
-// Adds a batch with its worker to the list, if the batch may be named.
+// Adds a batch to the map of nameable batches, if an own header may name it.
 fn list_one(
     committee: &Committee,
     own: Author,
@@ -122,7 +124,7 @@ fn list_one(
     Ok(())
 }
 
-// The workers of those of these batches that may be named, by the batches' digests.
+// The nameable batches among these: the worker of each, by the batch's digest.
 fn nameable_among(
     alloc: Global,
     committee: &Committee,
@@ -132,7 +134,7 @@ fn nameable_among(
     requires member { own.0 < MAX_MEMBERS }
     requires digested { All IsUnderItsDigest batches.now }
     requires distinct { AllPairs (λ one other. one ≢ other) (map (λ held. digest_of held.batch) (values_of batches.now)) }
-    ensures { IfOk result (λ listed. map reference_of listed.entries ≡ nameable (record { charter = committee.now; own = own.0; held = values_of batches.now })) }
+    ensures { IfOk result (λ listed. map reference_of listed.entries ≡ nameable_among committee.now own.0 (values_of batches.now)) }
 {
     let mut nameable = BTreeMap::new(alloc);
     for entry in batches {
@@ -150,19 +152,19 @@ impl<'a> BatchStore<'a> {
         seed: TableSeed,
     ) -> BatchStore<'a>
         requires { own.0 < length committee.now.keys }
-        ensures { result ≡ record { charter = committee.now; own = own.0; held = [] } }
+        ensures { result ≡ record { charter = committee.now; own = own.0; seed = seed; held = [] } }
     {
         committee.limits_hold();
         BatchStore {
             committee,
             own,
-            held: Table::new(alloc, seed),
+            table: Table::new(alloc, seed),
             nameable: BTreeMap::new(alloc),
         }
     }
 
-    /// The store with these batches, in the order of acceptance, each with its digest. Its table hashes with this seed. On `AllocError` an
-    /// allocation failed.
+    /// The store that holds these batches. They stand in the order of acceptance, each with its digest. The store's table hashes with this
+    /// seed. On `AllocError` an allocation failed.
     pub fn restore(
         alloc: Global,
         committee: &'a Committee,
@@ -171,16 +173,16 @@ impl<'a> BatchStore<'a> {
         batches: Vec<(Digest, Held)>,
     ) -> Result<BatchStore<'a>, AllocError>
         requires digested { All IsUnderItsDigest batches.items }
-        requires stock { IsStock (record { charter = committee.now; own = own.0; held = values_of batches.items }) }
-        ensures { IfOk result (λ store. store ≡ record { charter = committee.now; own = own.0; held = values_of batches.items }) }
+        requires stock { IsStock (record { charter = committee.now; own = own.0; seed = seed; held = values_of batches.items }) }
+        ensures { IfOk result (λ store. store ≡ record { charter = committee.now; own = own.0; seed = seed; held = values_of batches.items }) }
     {
         committee.limits_hold();
         let nameable = nameable_among(alloc, committee, own, batches.as_slice())?;
-        let held = Table::restore(alloc, seed, batches)?;
+        let table = Table::restore(alloc, seed, batches)?;
         Ok(BatchStore {
             committee,
             own,
-            held,
+            table,
             nameable,
         })
     }
@@ -223,10 +225,12 @@ impl<'a> BatchStore<'a> {
         }
     }
 
-    /// The answer to a batch with this digest: the batch that is held already, or None where it is new.
+    /// The answer to a batch with this digest, before anything is changed: the same batch, where it is held already, or None where it is
+    /// new.
     ///
     /// # Errors
-    /// `DigestClash` where another batch is held under its digest; `Full` where none is, and as many are held as the committee allows.
+    /// `DigestClash` where another batch is held under this digest; `Full` where none is held under it, and as many are held as the
+    /// committee allows.
     pub fn answer(&self, digest: &Digest, batch: &Batch) -> Result<Option<&Batch>, StoreRefusal>
         requires { digest.now ≡ digest_of batch.now }
         ensures ok { IfOk result (λ held. answer self.now batch.now ≡ Ok (option_copied held)) }
@@ -252,7 +256,7 @@ impl<'a> BatchStore<'a> {
     pub fn is_full(&self) -> bool
         ensures { result ≡ is_full self.now }
     {
-        self.held.len() >= self.committee.batches() as usize
+        self.table.len() >= self.committee.batches() as usize
     }
 
     /// Adds a new batch with this digest. On `AllocError` an allocation failed, and nothing has changed.
@@ -267,11 +271,11 @@ impl<'a> BatchStore<'a> {
             acknowledged: MemberSet::none(),
             named: false,
         };
-        self.held.push(digest, held)?;
+        self.table.push(digest, held)?;
         Ok(())
     }
 
-    // What is held of the batch with this digest.
+    // The entry of the batch with this digest: the batch, who acknowledged it, and whether an own header named it.
     fn at(&self, digest: &Digest) -> Option<&Held>
         ensures { option_copied result ≡ held_at self.now digest.now }
     {
@@ -281,15 +285,15 @@ impl<'a> BatchStore<'a> {
         }
     }
 
-    // What is held of the batch with this digest, and its place.
+    // The entry of the batch with this digest, and its place in the order of acceptance, counted from 0.
     fn find(&self, digest: &Digest) -> Option<(usize, &Held)>
         ensures held { option_map (λ found. found.1.now) result ≡ held_at self.now digest.now }
         ensures place { IfSome result (λ found. slice_get self.now.held found.0 ≡ Some found.1.now) }
     {
-        self.held.find(digest)
+        self.table.find(digest)
     }
 
-    /// Whether the batch with this digest is held, with this worker.
+    /// Whether the batch with this digest is held, and is a batch of this worker.
     pub fn holds(&self, digest: &Digest, worker: u16) -> bool
         ensures { result ≡ has_with self.now digest.now worker }
     {
@@ -309,7 +313,7 @@ impl<'a> BatchStore<'a> {
         }
     }
 
-    /// Counts that a member holds the own batch with this digest.
+    /// Counts that this member holds the own batch with this digest, as its acknowledgement says.
     ///
     /// # Errors
     /// `NotOurs` where the author is no member or no own batch with the digest is held; `Memory` where an allocation failed. Neither
@@ -335,7 +339,8 @@ impl<'a> BatchStore<'a> {
         }
     }
 
-    /// Whether this member holds the own batch with this digest; None where no own batch with the digest is held.
+    /// Whether this member is already counted as a holder of the own batch with this digest; None where no own batch with the digest is
+    /// held.
     pub fn acked(&self, author: Author, digest: &Digest) -> Option<bool>
         ensures { result ≡ (if has_own self.now digest.now then Some (holds self.now digest.now author.0) else None) }
     {
@@ -345,7 +350,7 @@ impl<'a> BatchStore<'a> {
         }
     }
 
-    // As `acked`, with the place of the batch.
+    // The answer of `acked`, and the place of the batch in the order of acceptance.
     fn acked_at(&self, author: Author, digest: &Digest) -> Option<(usize, bool)>
         ensures acked { option_map (λ found. found.1) result ≡ (if has_own self.now digest.now then Some (holds self.now digest.now author.0) else None) }
         ensures place { IfSome result (λ found. slice_get self.now.held found.0 ≡ held_at self.now digest.now) }
@@ -358,7 +363,7 @@ impl<'a> BatchStore<'a> {
         Some((place, acked))
     }
 
-    // Counts one more member that holds the own batch with this digest, which is at this place.
+    // Counts one more member as a holder of the own batch with this digest. The batch stands at this place in the order of acceptance.
     fn count(&mut self, author: Author, digest: &Digest, place: usize) -> Result<(), StoreRefusal>
         requires member { author.0 < length self.old.charter.keys }
         requires ours { IsTrue (has_own self.old digest.now) }
@@ -368,7 +373,7 @@ impl<'a> BatchStore<'a> {
         ensures err { OnErr result (self.new ≡ self.old) }
         ensures memory { IfErr result (λ error. error ≡ StoreRefusal.Memory) }
     {
-        let Some(held) = self.held.at(place) else {
+        let Some(held) = self.table.at(place) else {
             return Ok(());
         };
         let worker = held.batch.worker();
@@ -377,7 +382,7 @@ impl<'a> BatchStore<'a> {
         if becomes_nameable(self.committee, self.own, held, &acknowledged) {
             self.nameable.insert(*digest, worker)?;
         }
-        self.held.set_members(place, acknowledged);
+        self.table.set_members(place, acknowledged);
         Ok(())
     }
 
@@ -394,7 +399,7 @@ impl<'a> BatchStore<'a> {
         }
     }
 
-    /// Marks the own batches that an own header names. The call allocates no memory.
+    /// Marks the own batches that an own header names, so that no later header names them again. The call allocates no memory.
     pub fn name(&mut self, batches: &[BatchReference])
         ensures { self.new ≡ with_names self.old batches.now }
     {
@@ -403,7 +408,7 @@ impl<'a> BatchStore<'a> {
         }
     }
 
-    // Marks the own batch that a header names.
+    // Marks the batch of this reference as named, if it is held and is an own one.
     fn name_one(&mut self, reference: &BatchReference)
         ensures { self.new ≡ with_names self.old (reference.now ∷ []) }
     {
@@ -415,7 +420,7 @@ impl<'a> BatchStore<'a> {
             return;
         }
         self.nameable.remove(&reference.digest);
-        self.held.set_mark(place);
+        self.table.set_mark(place);
     }
 
     /// Whether an own header has named the batch with this digest.
@@ -436,7 +441,7 @@ impl<'a> BatchStore<'a> {
         first_references(alloc, &self.nameable)
     }
 
-    /// The committee.
+    /// The committee of the member whose store this is.
     pub fn committee(&self) -> &Committee
         ensures { result.now ≡ self.now.charter }
     {
@@ -447,39 +452,40 @@ impl<'a> BatchStore<'a> {
     pub fn batch_at(&self, place: usize) -> Option<&Batch>
         ensures { option_copied result ≡ option_map (λ (held : Held). held.batch) (slice_get self.now.held place) }
     {
-        match self.held.at(place) {
+        match self.table.at(place) {
             Some(held) => Some(&held.batch),
             None => None,
         }
     }
 
-    /// What is held of the batch at this place in the order of acceptance, counted from 0; None where there are fewer.
+    /// The entry of the batch at this place in the order of acceptance, counted from 0; None where there are fewer.
     pub fn nth(&self, place: usize) -> Option<&Held>
         ensures { option_copied result ≡ slice_get self.now.held place }
     {
-        self.held.at(place)
+        self.table.at(place)
     }
 
-    /// The same with the batch's digest, which costs no hash.
+    /// The entry of the batch at this place in the order of acceptance, counted from 0, with the batch's digest, which isn't computed
+    /// again.
     pub fn entry(&self, place: usize) -> Option<(&Digest, &Held)>
         ensures held { option_map (λ entry. entry.1.now) result ≡ slice_get self.now.held place }
         ensures digested { IfSome result (λ entry. entry.0.now ≡ digest_of entry.1.now.batch) }
     {
-        self.held.entry(place)
+        self.table.entry(place)
     }
 
     /// How many batches are held.
     pub fn len(&self) -> usize
         ensures { result ≡ length self.now.held }
     {
-        self.held.len()
+        self.table.len()
     }
 
     /// What holds of every store: its committee is sound and has the own member, no digest occurs twice, there are no more batches than may
-    /// be held, and only own ones have acknowledgements or a mark. The call does nothing.
+    /// be held, and only own batches have acknowledgements or are marked as named. The call does nothing.
     pub fn limits_hold(&self)
         ensures { IsStock self.now }
     {
-        let _ = &self.held;
+        let _ = &self.table;
     }
 }

@@ -2,7 +2,7 @@
 use Rattle.std.proofs.Common.{◌≡◌, ℕ, zero, suc, ◌+◌, ◌≤◌, List, [], ◌∷◌, ◌++◌, length, take, drop, map, true, refl, sym, ap, ◌∙◌, subst, arith, append_assoc, append-nil, drop-drop}
 use Rattle.std.specs.Prelude.{All, Option, Some, None, IfSome}
 use Rattle.std.proofs.lemmas.List.{take_all, nil_from_length, drop_at, take_at, take-map, drop-take, take-append-le, take-append-drop, length-take-le, length-append, drop-map, length-map, length-drop}
-use Rattle.std.proofs.lemmas.List.Elements.{All-nil, All-weaker, All-tail}
+use Rattle.std.proofs.lemmas.List.Elements.{All-nil, All-weaker, All-tail, All-drop}
 use Rattle.spec_machine.specs.After.{after_all}
 use Rattle.spec_machine.proofs.AfterAll.{after_none, legal_none}
 use Rattle.spec_model.specs.Histories.{History}
@@ -205,28 +205,45 @@ stands_down {S} node run before later same at = subst (Stands node run) (sym sam
   tickets = at.tickets;
 })
 
--- and so does one whose first output left
+-- and so does one whose first outputs left
+stands_left : {S : Type 0} (node : Node) (run : Run) (before later : BookView S) (rest : List Waiting) → later ≡ record before { queue = rest }
+    → All (IsDue node run) rest → TicketsRise rest → Stands node run before → Stands node run later
+stands_left {S} node run before later rest same due rising at = subst (Stands node run) (sym same) (record {
+  legal = at.legal;
+  at = at.at;
+  taken_begins = at.taken_begins;
+  settled_begins = at.settled_begins;
+  pending = at.pending;
+  accepted = at.accepted;
+  taken = at.taken;
+  settled = at.settled;
+  rewriting = at.rewriting;
+  due = due;
+  rising = rising;
+  ordered = at.ordered;
+  lengths = at.lengths;
+  tickets = at.tickets;
+})
+
+-- the first one
 pub stands_released : {S : Type 0} (node : Node) (run : Run) (before later : BookView S) (first : Waiting) (rest : List Waiting) → before.queue
     ≡ first ∷ rest → later ≡ record before { queue = rest } → Stands node run before → Stands node run later
-stands_released {S} node run before later first rest parts same at =
+stands_released node run before later first rest parts same at =
     let due : All (IsDue node run) (first ∷ rest) = subst (All (IsDue node run)) parts at.due in
     let rising : TicketsRise (first ∷ rest) = subst TicketsRise parts at.rising in
-    subst (Stands node run) (sym same) (record {
-      legal = at.legal;
-      at = at.at;
-      taken_begins = at.taken_begins;
-      settled_begins = at.settled_begins;
-      pending = at.pending;
-      accepted = at.accepted;
-      taken = at.taken;
-      settled = at.settled;
-      rewriting = at.rewriting;
-      due = All-tail (IsDue node run) first rest due;
-      rising = rising.1;
-      ordered = at.ordered;
-      lengths = at.lengths;
-      tickets = at.tickets;
-    })
+    stands_left node run before later rest same (All-tail (IsDue node run) first rest due) rising.1 at
+
+-- or some of them
+rise_on : (count : ℕ) (queue : List Waiting) → TicketsRise queue → TicketsRise (drop count queue)
+rise_on zero queue rising = rising
+rise_on (suc count) [] rising = tt
+rise_on (suc count) (first ∷ rest) rising = rise_on count rest rising.1
+
+pub stands_moved : {S : Type 0} (node : Node) (run : Run) (before : BookView S) (count : ℕ) (rest : List Waiting) → rest ≡ drop count before.queue
+    → Stands node run before → Stands node run (record before { queue = rest })
+stands_moved node run before count rest left at =
+    stands_left node run before (record before { queue = rest }) rest refl (subst (All (IsDue node run)) (sym left) (All-drop (IsDue node run) count before.queue at.due))
+    (subst TicketsRise (sym left) (rise_on count before.queue at.rising)) at
 
 -- at first
 pub stands_first : {S : Type 0} (node : Node) (base : State) (book : BookView S) → IsNode node → AreAtSound node book.validator.tables base

@@ -1,60 +1,14 @@
--- The first output of a queue.
-use Rattle.std.proofs.Common.{◌≡◌, ◌≢◌, ℕ, List, [], ◌∷◌, ◌++◌, zero, suc, ◌<◌, ◌≤◌, get_or, length, Bool, true, false, refl, sym, ap, ◌∙◌, subst, arith}
-use Rattle.std.specs.Prelude.{All, MatchOption, Option, Some, None, IsSome, is_some, ◌↔◌, nat_le, if◌then◌else◌}
-use Rattle.std.specs.Option.{option_to_list}
-use Rattle.std.proofs.lemmas.List.Elements.{All-cons, All-head, All-tail}
+-- The first outputs of a queue.
+use Rattle.std.proofs.Common.{◌≡◌, ℕ, List, [], ◌∷◌, ◌++◌, zero, suc, ◌<◌, ◌≤◌, get_or, length, take, drop, Bool, true, false, refl, sym, ap, ◌∙◌, subst, arith, append_assoc}
+use Rattle.std.specs.Prelude.{All, MatchOption, Option, Some, None, is_some, nat_le, if◌then◌else◌}
+use Rattle.std.proofs.lemmas.List.Elements.{All-nil, All-cons, All-head, All-tail}
 use Rattle.std.proofs.lemmas.List.{nil_from_length}
-use Rattle.std.proofs.lemmas.Bool.{eq-eqb, eqb-true, true≢false, leb-true}
-use Rattle.std.proofs.Math.Dec.{eqb}
+use Rattle.std.proofs.lemmas.Bool.{true≢false, leb-true}
+use Rattle.std.proofs.lemmas.Option.{same_Some}
 use Rattle.spec_model.specs.Words.{Output}
-use Rattle.spec_world.specs.Steps.{ticketed}
 use Rattle.book.specs.declared.queue.Queued.{Queued}
 use Rattle.spec_world.specs.World.{Waiting}
-use Rattle.book.specs.Queue.{queue_of, HasOutput, settled_head}
-
--- where the first event goes on having an output, its first one is taken out
-pub dequeued : (old new rest : List Queued) (first left : Queued) (r : Option Output) → old ≡ first ∷ rest → new ≡ left ∷ rest → left.ticket ≡ first.ticket
-    → first.outputs.items ≡ option_to_list r ++ left.outputs.items → (r ≡ None → first.outputs.items ≡ []) → All HasOutput old
-    → MatchOption r (queue_of old ≡ []) (λ output. (ticket : ℕ) × (queue_of old ≡ record { ticket = ticket; output = output } ∷ queue_of new))
-dequeued old new rest first left None was is ticket outputs none each = absurd (All-head HasOutput first rest (subst (All HasOutput) was each) (none refl))
-dequeued old new rest first left (Some output) was is ticket outputs none each = (
-  first.ticket,
-  ap queue_of was ∙ ap (λ l. ticketed first.ticket l ++ queue_of rest) outputs
-      ∙ ap (λ l. record { ticket = first.ticket; output = output } ∷ l) (ap (λ n. ticketed n left.outputs.items ++ queue_of rest) (sym ticket) ∙ ap queue_of (sym is)),
-)
-
--- and each event still has one
-pub each_stays : (old new rest : List Queued) (first left : Queued) → old ≡ first ∷ rest → new ≡ left ∷ rest → HasOutput left → All HasOutput old → All HasOutput new
-each_stays old new rest first left was is some each =
-    subst (All HasOutput) (sym is) (All-cons HasOutput left rest some (All-tail HasOutput first rest (subst (All HasOutput) was each)))
-
--- ---- what a queue's tests tell
-
-nobody : (X : Type 0) → IsSome {T = X} None → ⊥
-nobody X some = absurd cc
-
-pub none_there : {X : Type 0} (r : Option X) (items : List X) (len : ℕ) → len ≡ length items → (IsSome r ↔ (0 < len)) → r ≡ None → items ≡ []
-none_there {X} r items len long some none = nil_from_length items (here (length items) len (sym long) (λ more. nobody X (subst IsSome none (some.1 more))))
-  where
-    here : (a len : ℕ) → a ≡ len → (0 < len → ⊥) → a ≡ 0
-    here a zero same none = same
-    here a (suc n) same none = absurd (none (omega arith))
-
-pub some_left : {X : Type 0} (items : List X) (len : ℕ) (empty : Bool) → len ≡ length items → empty ≡ eqb len 0 → empty ≡ false → items ≢ []
-some_left items len empty long is not none = absurd (true≢false (sym (is ∙ eq-eqb len 0 (long ∙ ap length none)) ∙ not))
-
-pub none_left : {X : Type 0} (items : List X) (len : ℕ) (empty : Bool) → len ≡ length items → empty ≡ eqb len 0 → empty ≡ true → items ≡ []
-none_left items len empty long is none = nil_from_length items (sym long ∙ eqb-true len 0 (sym is ∙ none))
-
--- where the first event has no other output, it leaves with it
-pub last_out : (old rest : List Queued) (first : Queued) (left : List Output) (r : Option Output) → old ≡ first ∷ rest → first.outputs.items ≡ option_to_list r ++ left → left ≡ []
-    → (r ≡ None → first.outputs.items ≡ []) → All HasOutput old
-    → MatchOption r (queue_of old ≡ []) (λ output. (ticket : ℕ) × (queue_of old ≡ record { ticket = ticket; output = output } ∷ queue_of rest))
-last_out old rest first left None was outputs gone none each = absurd (All-head HasOutput first rest (subst (All HasOutput) was each) (none refl))
-last_out old rest first left (Some output) was outputs gone none each = (
-  first.ticket,
-  ap queue_of was ∙ ap (λ l. ticketed first.ticket l ++ queue_of rest) (outputs ∙ ap (λ l. output ∷ l) gone),
-)
+use Rattle.book.specs.Queue.{queue_of, settled_head, settled_front}
 
 -- ---- the head
 
@@ -64,23 +18,18 @@ front_is [] first some is = absurd (omega (arith, some))
 front_is (x ∷ rest) first some is = (rest, ap (λ q. q ∷ rest) (sym is))
 
 -- its first output decides
-head_decides : (first : Queued) (rest : List Queued) (settled : ℕ) → HasOutput first → is_some (settled_head settled (queue_of (first ∷ rest))) ≡ nat_le first.ticket settled
-head_decides first rest settled some = by_outputs first.outputs.items some
+head_decides : (first : Queued) (rest : List Queued) (settled : ℕ) → is_some (settled_head settled (queue_of (first ∷ rest))) ≡ nat_le first.ticket settled
+head_decides first rest settled = chosen (nat_le first.ticket settled)
   where
-    by_outputs : (outputs : List Output) → outputs ≢ [] → is_some (settled_head settled (ticketed first.ticket outputs ++ queue_of rest)) ≡ nat_le first.ticket settled
-    by_outputs [] none = absurd (none refl)
-    by_outputs (output ∷ outputs) there = chosen (nat_le first.ticket settled)
-      where
-        chosen : (b : Bool) → is_some (if b then Some output else None) ≡ b
-        chosen true = refl
-        chosen false = refl
+    chosen : (b : Bool) → is_some (if b then Some first.first else None) ≡ b
+    chosen true = refl
+    chosen false = refl
 
-pub settled_first : (items : List Queued) (first : Queued) (settled len : ℕ) → len ≡ length items → 0 < len → first ≡ get_or items 0 first → All HasOutput items
+pub settled_first : (items : List Queued) (first : Queued) (settled len : ℕ) → len ≡ length items → 0 < len → first ≡ get_or items 0 first
     → nat_le first.ticket settled ≡ is_some (settled_head settled (queue_of items))
-settled_first items first settled len long some is each =
+settled_first items first settled len long some is =
     let front = front_is items first (omega (arith, long, some)) is in
-    let here : HasOutput first = All-head HasOutput first front.0 (subst (All HasOutput) front.1 each) in
-    sym (head_decides first front.0 settled here) ∙ ap (λ l. is_some (settled_head settled (queue_of l))) (sym front.1)
+    sym (head_decides first front.0 settled) ∙ ap (λ l. is_some (settled_head settled (queue_of l))) (sym front.1)
 
 pub nothing_first : (items : List Queued) (settled len : ℕ) → len ≡ length items → (0 < len → ⊥) → false ≡ is_some (settled_head settled (queue_of items))
 nothing_first items settled len long none = ap (λ l. is_some (settled_head settled (queue_of l))) (sym (nil_from_length items (sym long ∙ zero_of len none)))
@@ -108,3 +57,65 @@ ticket_settled settled ticket output later some = leb-true ticket settled (taken
     taken : (b : Bool) → is_some (if b then Some output else None) ≡ true → b ≡ true
     taken true is = refl
     taken false is = absurd (true≢false (sym is))
+
+-- ---- the front
+
+-- one output more was moved
+pub moved_one : (settled left room : ℕ) (queue later : List Waiting) (before after : List Output) (output : Output) → room ≡ suc left → Some output ≡ settled_head settled queue
+    → later ≡ drop 1 queue → after ≡ before ++ output ∷ []
+    → (after ++ take left (settled_front settled later) ≡ before ++ take room (settled_front settled queue))
+    × (drop (length (take left (settled_front settled later))) later ≡ drop (length (take room (settled_front settled queue))) queue)
+moved_one settled left room [] later before after output more is gone pushed = absurd cc
+moved_one settled left room (first ∷ rest) later before after output more is gone pushed = by_test (nat_le first.ticket settled) is
+  where
+    front : Bool → List Output
+    front b = if b then first.output ∷ settled_front settled rest else []
+
+    by_test : (b : Bool) → Some output ≡ (if b then Some first.output else None)
+        → (after ++ take left (settled_front settled later) ≡ before ++ take room (front b))
+        × (drop (length (take left (settled_front settled later))) later ≡ drop (length (take room (front b))) (first ∷ rest))
+    by_test false is = absurd cc
+    by_test true is =
+        let same : output ≡ first.output = same_Some output first.output is in
+        let whole : take room (first.output ∷ settled_front settled rest) ≡ first.output ∷ take left (settled_front settled rest) =
+        ap (λ n. take n (first.output ∷ settled_front settled rest)) more in (
+          ap (λ l. l ++ take left (settled_front settled later)) pushed ∙ append_assoc before (output ∷ []) (take left (settled_front settled later))
+              ∙ ap (λ l. before ++ l) ((λ i. same i ∷ take left (settled_front settled (gone i))) ∙ sym whole),
+          (λ i. drop (length (take left (settled_front settled (gone i)))) (gone i)) ∙ ap (λ l. drop (length l) (first ∷ rest)) (sym whole),
+        )
+
+-- where the first one isn't settled, none are
+pub none_at_front : (settled : ℕ) (queue : List Waiting) → None ≡ settled_head settled queue → settled_front settled queue ≡ []
+none_at_front settled [] none = refl
+none_at_front settled (first ∷ rest) none = by_test (nat_le first.ticket settled) none
+  where
+    by_test : (b : Bool) → None ≡ (if b then Some first.output else None) → (if b then first.output ∷ settled_front settled rest else []) ≡ []
+    by_test false none = refl
+    by_test true none = absurd cc
+
+-- where fewer were moved than there was room for, no other is settled
+pub all_moved : (settled room : ℕ) (queue : List Waiting) → length (take room (settled_front settled queue)) < room
+    → settled_head settled (drop (length (take room (settled_front settled queue))) queue) ≡ None
+all_moved settled zero queue few = absurd (omega (arith, few))
+all_moved settled (suc room) [] few = refl
+all_moved settled (suc room) (first ∷ rest) few = by_test (all_moved settled room rest) (nat_le first.ticket settled) refl few
+  where
+    front : Bool → List Output
+    front b = if b then first.output ∷ settled_front settled rest else []
+
+    by_test : (length (take room (settled_front settled rest)) < room → settled_head settled (drop (length (take room (settled_front settled rest))) rest) ≡ None)
+        → (b : Bool) → nat_le first.ticket settled ≡ b → length (take (suc room) (front b)) < suc room → settled_head settled (drop (length (take (suc room) (front b))) (first ∷ rest)) ≡ None
+    by_test others true le few = others (omega (arith, few))
+    by_test others false not few = ap (λ b. if b then Some first.output else None) not
+
+-- what holds of those that wait with a settled ticket holds of each
+pub each_at_front : (P : Waiting → Type 0) (Q : Output → Type 0) (settled : ℕ) → ((one : Waiting) → P one → one.ticket ≤ settled → Q one.output) → (queue : List Waiting)
+    → All P queue → All Q (settled_front settled queue)
+each_at_front P Q settled holds [] each = All-nil Q
+each_at_front P Q settled holds (first ∷ rest) each =
+    by_test (holds first (All-head P first rest each)) (each_at_front P Q settled holds rest (All-tail P first rest each)) (nat_le first.ticket settled) refl
+  where
+    by_test : (first.ticket ≤ settled → Q first.output) → All Q (settled_front settled rest) → (b : Bool) → nat_le first.ticket settled ≡ b
+        → All Q (if b then first.output ∷ settled_front settled rest else [])
+    by_test here others true le = All-cons Q first.output (settled_front settled rest) (here (leb-true first.ticket settled le)) others
+    by_test here others false not = All-nil Q

@@ -1,9 +1,9 @@
 -- What leaves a book, and what is read of it.
-use Rattle.std.proofs.Common.{◌≡◌, ◌⊎◌, ℕ, ◌-◌, ◌≤◌, ◌<◌, min, List, [], ◌∷◌, ◌++◌, length, take, drop, true, false, refl, sym, ap, ◌∙◌, subst, inl, inr, arith, append_assoc}
-use Rattle.std.specs.Prelude.{All, Option, Some, None, is_some, MatchOption}
+use Rattle.std.proofs.Common.{◌≡◌, ◌⊎◌, ℕ, ◌-◌, ◌≤◌, ◌<◌, min, List, [], ◌∷◌, ◌++◌, length, take, drop, true, false, refl, sym, ap, ◌∙◌, subst, inl, inr, arith, append_assoc, append-nil}
+use Rattle.std.specs.Prelude.{All, Option, Some, None, is_some, MatchOption, if◌then◌else◌}
 use Rattle.std.proofs.lemmas.Bool.{true≢false}
 use Rattle.std.proofs.lemmas.List.{take-append-drop, take-append-le, take_at, drop-append-le, nil_from_length, length-drop}
-use Rattle.std.proofs.lemmas.List.Elements.{All-head}
+use Rattle.std.proofs.lemmas.List.Elements.{All-head, All-take}
 use Rattle.spec_laws.specs.Laws.{GivenGrows}
 use Rattle.wire.specs.Lists.{Begins}
 use Rattle.spec_machine.specs.After.{after_all, IsLegalAfter}
@@ -15,11 +15,11 @@ use Rattle.spec_model.specs.Nodes.{Node}
 use Rattle.spec_model.specs.States.{State}
 use Rattle.spec_model.specs.Words.{Digest, Output}
 use Rattle.spec_world.specs.World.{Waiting}
-use Rattle.book.specs.Queue.{settled_head}
-use Rattle.book.specs.Book.{BookView, Run, IsDue, Stands, state_in, settled_in, GoesOutSettled}
+use Rattle.book.specs.Queue.{settled_head, settled_front}
+use Rattle.book.specs.Book.{BookView, Run, IsDue, Stands, state_in, settled_in, releasable, releasable_within, GoesOutSettled}
 use Rattle.book.proofs.Due.{begins_length}
 use Rattle.book.proofs.Lengths.{cases_le}
-use Rattle.book.proofs.Queueing.{ticket_settled}
+use Rattle.book.proofs.Queueing.{all_moved, each_at_front, ticket_settled}
 
 pub none_of : (o : Option Output) → is_some o ≡ false → None ≡ o
 none_of None is = refl
@@ -44,6 +44,33 @@ head_out settled queue later (Some output) some head = record {
   within = ticket_settled settled head.0 output later (subst (λ q. is_some (settled_head settled q) ≡ true) head.1 some);
 }
 
+-- what leaves all at once, if the book is down and if it isn't
+module _ {S : Type 0} (book : BookView S) (room : ℕ) where
+  pub none_within : book.down ≡ true → releasable_within room book ≡ []
+  none_within down = ap (λ d. if d then [] else take room (settled_front book.settled book.queue)) down
+
+  pub front_within : book.down ≡ false → releasable_within room book ≡ take room (settled_front book.settled book.queue)
+  front_within up = ap (λ d. if d then [] else take room (settled_front book.settled book.queue)) up
+
+  pub adds_none : (before : List Output) → book.down ≡ true → before ≡ before ++ releasable_within room book
+  adds_none before down = sym (append-nil before) ∙ ap (λ (l : List Output). before ++ l) (sym (none_within down))
+
+  pub adds_front : (before after : List Output) → book.down ≡ false → after ≡ before ++ take room (settled_front book.settled book.queue) → after ≡ before ++ releasable_within room book
+  adds_front before after up added = added ∙ ap (λ (l : List Output). before ++ l) (sym (front_within up))
+
+  pub unmoved : book.down ≡ true → book ≡ record book { queue = drop (length (releasable_within room book)) book.queue }
+  unmoved down = ap (λ (l : List Output). record book { queue = drop (length l) book.queue }) (sym (none_within down))
+
+  pub moved : (later : List Waiting) → book.down ≡ false → later ≡ drop (length (take room (settled_front book.settled book.queue))) book.queue
+      → record book { queue = later } ≡ record book { queue = drop (length (releasable_within room book)) book.queue }
+  moved later up is = ap (λ (q : List Waiting). record book { queue = q }) (is ∙ ap (λ l. drop (length l) book.queue) (sym (front_within up)))
+
+  -- what is left may not leave, where fewer left than there was room for
+  pub none_left : (later : List Waiting) → book.down ≡ false → later ≡ drop (length (take room (settled_front book.settled book.queue))) book.queue
+      → length (take room (settled_front book.settled book.queue)) < room → releasable (record book { queue = later }) ≡ None
+  none_left later up is few =
+      ap (λ d. if d then None else settled_head book.settled later) up ∙ ap (settled_head book.settled) is ∙ all_moved book.settled room book.queue few
+
 module _ {S : Type 0} (node : Node) (run : Run) (book : BookView S) (at : Stands node run book) where
   -- what is settled is a beginning of what was accepted
   accepted_is : run.accepted ≡ run.settled ++ (at.settled_begins.rest ++ at.taken_begins.rest)
@@ -62,11 +89,10 @@ module _ {S : Type 0} (node : Node) (run : Run) (book : BookView S) (at : Stands
       let same : take ticket run.accepted ≡ take ticket run.settled = ap (take ticket) accepted_is ∙ take-append-le ticket run.settled (at.settled_begins.rest ++ at.taken_begins.rest) within in
       sym (take-append-drop ticket run.settled) ∙ ap (λ (l : History). l ++ drop ticket run.settled) (sym same)
 
-  pub goes_out_settled : GivenGrows → (ticket : ℕ) (output : Output) (later : List Waiting) → book.queue
-      ≡ record { ticket = ticket; output = output } ∷ later → ticket ≤ book.settled → GoesOutSettled node run output
-  goes_out_settled grows ticket output later parts within =
-      let first : Waiting = record { ticket = ticket; output = output } in
-      let due : IsDue node run first = All-head (IsDue node run) first later (subst (All (IsDue node run)) parts at.due) in
+  -- what is due goes out where its ticket is settled
+  goes_out : GivenGrows → (waiting : Waiting) → IsDue node run waiting → waiting.ticket ≤ book.settled → GoesOutSettled node run waiting.output
+  goes_out grows waiting due within =
+      let ticket = waiting.ticket in
       let low : ticket ≤ length run.settled = omega (arith, within, at.settled) in
       record {
         ticket = ticket;
@@ -76,9 +102,20 @@ module _ {S : Type 0} (node : Node) (run : Run) (book : BookView S) (at : Stands
             let longer : IsLegal node (history ++ run.settled) = legal_again node history run.settled legal (subst (λ (s : State). IsLegalAfter node s run.settled) (sym keeps) legal_parts.0) in
             let is : history ++ run.settled ≡ (history ++ take ticket run.accepted) ++ drop ticket run.settled =
             ap (λ (l : History). history ++ l) (to_settled ticket low) ∙ sym (append_assoc history (take ticket run.accepted) (drop ticket run.settled)) in
-            subst (λ (h : History). MayGive node h output) (sym is)
-            (grows node (history ++ take ticket run.accepted) (drop ticket run.settled) output (subst (IsLegal node) is longer) (due.goes_out.may history legal keeps));
+            subst (λ (h : History). MayGive node h waiting.output) (sym is)
+            (grows node (history ++ take ticket run.accepted) (drop ticket run.settled) waiting.output (subst (IsLegal node) is longer) (due.goes_out.may history legal keeps));
       }
+
+  pub goes_out_settled : GivenGrows → (ticket : ℕ) (output : Output) (later : List Waiting) → book.queue
+      ≡ record { ticket = ticket; output = output } ∷ later → ticket ≤ book.settled → GoesOutSettled node run output
+  goes_out_settled grows ticket output later parts within =
+      let first : Waiting = record { ticket = ticket; output = output } in
+      goes_out grows first (All-head (IsDue node run) first later (subst (All (IsDue node run)) parts at.due)) within
+
+  pub all_go_out : GivenGrows → (room : ℕ) → All (GoesOutSettled node run) (take room (settled_front book.settled book.queue))
+  all_go_out grows room =
+      All-take (GoesOutSettled node run) room (settled_front book.settled book.queue)
+      (each_at_front (IsDue node run) (GoesOutSettled node run) book.settled (goes_out grows) book.queue at.due)
 
   -- what is read of the whole order, up to where it is settled
   pub reads : (whole : List Digest) (from end start : ℕ) → whole ≡ (state_in node run).order → end ≡ min (length whole) book.ordered → start ≡ min end from

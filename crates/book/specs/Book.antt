@@ -22,7 +22,7 @@ use Rattle.spec_world.specs.Steps.{ticketed}
 use Rattle.validator.specs.Standing as validator
 use Rattle.book.specs.declared.book.TheConstants.{MAX_ACCEPTED}
 use Rattle.book.specs.declared.reached.Reached.{Reached}
-use Rattle.book.specs.Queue.{length_at, TicketsRise, settled_head}
+use Rattle.book.specs.Queue.{length_at, TicketsRise, settled_head, settled_front}
 
 -- what contracts see of a book
 pub record BookView (S : Type 0) : Type 0 where
@@ -36,29 +36,29 @@ pub record BookView (S : Type 0) : Type 0 where
   pub accepted : ℕ
   pub taken : ℕ
   pub settled : ℕ
-  -- the rewriting in flight, if there is one, by how many of the accepted records it settles
+  -- how many of the accepted records the rewriting in flight settles; None where none is in flight
   pub rewriting : Option ℕ
-  -- the length of the order after the settled records; and each greater length that it gets by later records, with the ticket from which on
-  -- it has that length
+  -- the length of the order after the settled records; and each greater length that later accepted records give it, with the ticket from
+  -- which on it has that length
   pub ordered : ℕ
   pub reached : List Reached
-  -- whether the book is down, for example because a device call failed
+  -- whether the book is down, because a device call failed or the journal is full
   pub down : Bool
 
 -- ---- runs
 
--- a run: the state with which it began (its base), and the events that it accepted, took for the disk and settled
+-- a run: the state with which it began (its base), and the events that it accepted, took for the disk and settled, oldest first
 pub record Run : Type 0 where
   pub base : State
   pub accepted : History
   pub taken : History
   pub settled : History
 
--- a run that has accepted nothing
+-- the run that begins with this state and has accepted nothing
 abbrev pub run_on : State → Run
 run_on base = record { base = base; accepted = []; taken = []; settled = [] }
 
--- the state after all events that a run accepted, after the first `count` of them, and after the settled ones
+-- the state after all events that a run accepted; after the first `count` of them; and after those that are settled
 abbrev pub state_in : Node → Run → State
 state_in node run = after_all node run.base run.accepted
 
@@ -68,7 +68,7 @@ state_to node count run = after_all node run.base (take count run.accepted)
 abbrev pub settled_in : Node → Run → State
 settled_in node run = after_all node run.base run.settled
 
--- the same run with one more event accepted; with the first `count` accepted events taken; or settled
+-- the run with one more event accepted; with the next `count` accepted events taken; and with the next `count` taken events settled
 abbrev pub with_accepted : Run → Event → Run
 with_accepted run event = record run { accepted = run.accepted ++ event ∷ [] }
 
@@ -78,30 +78,31 @@ with_taken run count = record run { taken = take (length run.taken + count) run.
 abbrev pub with_settled : Run → ℕ → Run
 with_settled run count = record run { settled = take (length run.settled + count) run.taken }
 
--- the same run with all accepted events taken
+-- the run with all accepted events taken
 abbrev pub with_all_taken : Run → Run
 with_all_taken run = record run { taken = run.accepted }
 
--- the same run with all accepted events taken and settled
+-- the run with all accepted events taken and settled
 abbrev pub with_all_settled : Run → Run
 with_all_settled run = record run { taken = run.accepted; settled = run.accepted }
 
--- an output goes out after legal events from a base on: the events put it out, and it may be given out at each legal history that keeps the
--- base, followed by these events
+-- an output goes out after these events, which are legal after a base: the events put the output out, and it may be given out after each
+-- legal history that keeps the base, followed by these events
 pub record GoesOutAfter (node : Node) (base : State) (events : History) (output : Output) : Type 0 where
   pub legal : IsLegalAfter node base events
   pub put : WasPutOutAfter node base events output
   pub may : (history : History) → IsLegal node history → kept node history ≡ base → MayGive node (history ++ events) output
 
--- a waiting output may go out after the accepted events that its ticket counts
+-- an output that waits may go out after as many accepted events as its ticket counts
 pub record IsDue (node : Node) (run : Run) (waiting : Waiting) : Type 0 where
   pub within : waiting.ticket ≤ length run.accepted
   pub goes_out : GoesOutAfter node run.base (take waiting.ticket run.accepted) waiting.output
 
--- A book stands at a run: its contents are those that the run gives. The settled events are a prefix of the taken ones, these of the
--- accepted ones, all legal after the base. The validator holds the state after them; the pending records are those of accepted events that
--- aren't taken; the numbers are the lengths of these lists. A rewriting settles at least what is settled, and at most what is taken. Each
--- output may go out after the events that its ticket counts, and tickets never fall. The lengths of the order are the true ones.
+-- A book stands at a run: what is in the book is what the run gives. The settled events are a prefix of the taken events, and the taken
+-- events of the accepted ones. All are legal after the base. The validator holds the state after the accepted events, and the pending
+-- records are those of accepted events that aren't taken. The three numbers are the lengths of the three lists. A rewriting in flight
+-- settles at least the settled events, and at most the taken ones. Each output may go out after the events that its ticket counts, and
+-- tickets never fall. The lengths of the order are the true ones.
 pub record Stands {S : Type 0} (node : Node) (run : Run) (book : BookView S) : Type 0 where
   pub legal : IsLegalAfter node run.base run.accepted
   pub at : validator.AreAtSound node book.validator.tables (state_in node run)
@@ -120,7 +121,7 @@ pub record Stands {S : Type 0} (node : Node) (run : Run) (book : BookView S) : T
 
 -- ---- what an event changes
 
--- a new event is accepted: its record is pending, and its outputs wait for it
+-- the book accepts a new event: the event's record is pending, and its outputs wait until the record is settled
 pub record TakesNew {S : Type 0} (node : Node) (before later : BookView S) (event : Event) : Type 0 where
   pub taken_by : IsTaken node event
   pub outputs : List Output
@@ -134,7 +135,7 @@ pub record TakesNew {S : Type 0} (node : Node) (before later : BookView S) (even
   pub rewriting : later.rewriting ≡ before.rewriting
   pub down : later.down ≡ before.down
 
--- a known event changes nothing, but its outputs wait until all accepted events are settled
+-- the book answers a known event: nothing changes, except that the event's outputs wait until all records accepted so far are settled
 pub record TakesKnown {S : Type 0} (node : Node) (before later : BookView S) (event : Event) : Type 0 where
   pub taken_by : IsTaken node event
   pub outputs : List Output
@@ -142,11 +143,11 @@ pub record TakesKnown {S : Type 0} (node : Node) (before later : BookView S) (ev
   pub stands : (run : Run) → Stands node run before → Stands node run later
   pub is : later ≡ record before { queue = before.queue ++ ticketed before.accepted outputs }
 
--- the event would be new, but the run has accepted as many as it may
+-- the event would be new, but the run has accepted as many records as it may
 abbrev pub IsFull : {S : Type 0} → Node → Run → BookView S → Event → Type 0
 IsFull node run book event = IsTrue (is_new (answered node (state_in node run) event)) × (book.accepted ≡ MAX_ACCEPTED)
 
--- the run may accept more events, or this one isn't new at the state that the validator holds
+-- the run may accept more records, or the event isn't new at the state that the validator holds
 abbrev pub HasPlace : {S : Type 0} → Node → BookView S → Event → Type 0
 HasPlace node book event = (book.accepted < MAX_ACCEPTED) ⊎ IsOld
   where
@@ -162,12 +163,16 @@ MayRefuse node run book event refusal = answered node (state_in node run) event 
 
 -- ---- what goes out
 
--- the output that may leave now, if there is one
+-- the output that may leave the book now, if there is one: none while the book is down
 abbrev pub releasable : {S : Type 0} → BookView S → Option Output
 releasable book = if book.down then None else settled_head book.settled book.queue
 
--- These records are a checkpoint of a state: the node's configuration in the second version, and the records of the state, as a node
--- writes them.
+-- the outputs that may leave the book now, oldest first, at most `room` of them
+abbrev pub releasable_within : {S : Type 0} → ℕ → BookView S → List Output
+releasable_within room book = if book.down then [] else take room (settled_front book.settled book.queue)
+
+-- These records are a checkpoint of this state: the node's configuration in the second version, followed by the records that the node
+-- writes of the state.
 pub record IsCheckpoint (node : Node) (state : State) (records : List (List ℕ)) : Type 0 where
   pub kept : Checkpoint
   pub written : IsWritten node kept
@@ -178,18 +183,18 @@ pub record IsCheckpoint (node : Node) (state : State) (records : List (List ℕ)
 abbrev pub IsCheckpointOfAll : {S : Type 0} → Node → BookView S → List (List ℕ) → Type 0
 IsCheckpointOfAll node book records = (run : Run) → Stands node run book → IsCheckpoint node (state_in node run) records
 
--- what these records settle in a run: those of a group are the first that are taken and not settled; those of a rewriting are a checkpoint
--- of the state after as many events as it settles
+-- these records are what the next settling in a run is about. Without a rewriting they are the first records that are taken and not
+-- settled; with one, they are a checkpoint of the state after as many events as the rewriting settles
 abbrev pub Settles : Node → Run → Option ℕ → List (List ℕ) → Type 0
 Settles node run None records = Begins records (map record_of (drop (length run.settled) run.taken))
 Settles node run (Some count) records = IsCheckpoint node (state_to node count run) records
 
--- the run after a group of this many records is settled, or after a rewriting is, which settles what was taken when it began
+-- the run after the next settling: of a group of this many records; or of a rewriting, which settles all that was taken when it began
 abbrev pub settled_by : Run → Option ℕ → ℕ → Run
 settled_by run None count = with_settled run count
 settled_by run (Some all) count = record run { settled = take all run.taken }
 
--- how many records are settled then: with a rewriting, all up to its number
+-- how many records are settled after the next settling: the given number, or with a rewriting all that it settles
 abbrev pub settled_to : Option ℕ → ℕ → ℕ
 settled_to None count = count
 settled_to (Some all) count = all
@@ -198,14 +203,14 @@ settled_to (Some all) count = all
 abbrev pub SettlesNext : {S : Type 0} → Node → BookView S → List (List ℕ) → Type 0
 SettlesNext node book records = (run : Run) × Stands node run book × Settles node run book.rewriting records
 
--- an output goes out after the settled events that its ticket counts, and may be given out at each legal history that keeps the base,
--- followed by all settled events
+-- an output goes out after the events that its ticket counts, all of which are settled. It may be given out after each legal history that
+-- keeps the run's base, followed by all settled events
 pub record GoesOutSettled (node : Node) (run : Run) (output : Output) : Type 0 where
   pub ticket : ℕ
   pub settled : ticket ≤ length run.settled
   pub goes_out : GoesOutAfter node run.base (take ticket run.accepted) output
   pub may : (history : History) → IsLegal node history → kept node history ≡ run.base → MayGive node (history ++ run.settled) output
 
--- a book stands at each run at which the earlier book stood
+-- the later book stands at each run at which the earlier book stood
 abbrev pub StandsAsBefore : {S : Type 0} → Node → BookView S → BookView S → Type 0
 StandsAsBefore node before later = (run : Run) → Stands node run before → Stands node run later

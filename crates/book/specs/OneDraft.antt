@@ -9,7 +9,7 @@ use Rattle.journal.specs.OneGroup.{same_body}
 use Rattle.book.specs.Pending.{IsDraft}
 
 module _ (bytes : List ℕ) (count : ℕ) where
-  -- what `IsDraft` says of the records and of the bytes before them
+  -- what `IsDraft` says of some records, and of the bytes of the room before their body
   abbrev Said : List (List ℕ) × List ℕ → Type 0
   Said parts = (length parts.0 ≤ MAX_GROUP_RECORDS) × (body_len parts.0 ≤ MAX_GROUP_BYTES) × (length parts.1 ≡ LENGTH_BYTES) × (bytes ≡ parts.1 ++ body_bytes parts.0) × (count ≡ length parts.0)
 
@@ -22,7 +22,7 @@ module _ (bytes : List ℕ) (count : ℕ) where
   made_once : (a b : List (List ℕ) × List ℕ) → a ≡ b → (p : Said a) (q : Said b) → made a p ≡ made b q
   made_once a b same p q = subst (λ (r : List (List ℕ) × List ℕ). (s : Said r) → made a p ≡ made r s) same (λ s. ap (made a) (said_once a p s)) q
 
-  -- the draft's records are the ones from which its bytes were made
+  -- a draft's records are those from which its bytes were made
   pub records_of_draft : (draft : IsDraft bytes count) (records : List (List ℕ)) (front : List ℕ) → body_len records ≤ MAX_GROUP_BYTES → length front
       ≡ LENGTH_BYTES → bytes ≡ front ++ body_bytes records → draft.records ≡ records
   records_of_draft draft records front short room written =
@@ -33,7 +33,7 @@ module _ (bytes : List ℕ) (count : ℕ) where
   same_front : (one other : List ℕ) (a b : List ℕ) → length one ≡ LENGTH_BYTES → length other ≡ LENGTH_BYTES → one ++ a ≡ other ++ b → one ≡ other
   same_front one other a b long also same = sym (take_at one a LENGTH_BYTES long) ∙ ap (take LENGTH_BYTES) same ∙ take_at other b LENGTH_BYTES also
 
-  -- at most one list of records has these bytes
+  -- there is at most one way in which bytes are a draft: they have one list of records
   pub one_draft : IsProp (IsDraft bytes count)
   one_draft x y =
       let records = records_of_draft x y.records y.front y.not_long y.room y.written in

@@ -1,4 +1,4 @@
-//! The book: the value under a node's lock.
+//! The book: what a node keeps under its lock.
 
 ghost use Rattle.std.specs.Prelude.{◌≡◌, ◌+◌, ◌≤◌, ◌<◌, ◌^◌, ◌++◌, ◌∷◌, [], None, length, IfErr, OnOk, OnErr};
 ghost use Rattle.std.specs.VecDeque.{deque_len, deque_capacity};
@@ -8,7 +8,7 @@ ghost use Rattle.book.specs.Book.{settled_to};
 ghost use Rattle.book.specs.declared.book.TheConstants.{MAX_ACCEPTED};
 
 use crate::pending::Pending;
-use crate::queue::{Queued, dequeue, enqueue, has_settled_head};
+use crate::queue::{Queued, dequeue, enqueue, has_settled_head, move_settled};
 use crate::reached::{Reached, leave_to, note_order};
 use crate::record::record_len;
 use committee::Committee;
@@ -21,26 +21,27 @@ use std::marker::Model;
 use validator::{Refusal, Step, Validator};
 use wire::{Digest, Output};
 
-/// How many records one run may accept.
+/// The greatest number of records that a node accepts in one run.
 pub const MAX_ACCEPTED: u64 = 1 << 48;
 
-/// The limit of a run, as a number.
+/// The greatest number of records of a run is 2^48. The call does nothing: its contract is this law.
 pub fn limits_in_numbers()
     ensures accepted { MAX_ACCEPTED ≡ 2 ^ 48 }
 {}
 
-/// The answer to an event that was accepted, or was known.
+/// The answer to an event that isn't refused.
 #[derive(Clone, Copy, Debug, PartialEq, Eq)]
 pub struct Receipt {
     /// How many records were accepted in this run, this event's included if it is new. The event's outputs may leave once that many are
     /// settled.
     pub ticket: u64,
-    /// Whether the event is new; else it is known.
+    /// Whether the event is new; otherwise it is known.
     pub new: bool,
 }
 
-/// The value under the lock: a validator, and how many records it accepted since the run's start, how many of these were taken, and how
-/// many are settled. The records that weren't taken are pending.
+/// A node without its disk: the validator, the records that aren't taken for the disk yet, and the outputs that wait. It counts how many
+/// records it accepted since the run began, how many of these were taken, and how many are settled. The records that weren't taken are
+/// pending.
 pub struct Book<'a, S: Sign> {
     alloc: Global,
     validator: Validator<'a, S>,
@@ -50,9 +51,9 @@ pub struct Book<'a, S: Sign> {
     accepted: u64,
     taken: u64,
     settled: u64,
-    // The length of the order after the settled records.
+    // The length of the order after the settled events.
     ordered: u64,
-    // How many of the accepted records the rewriting in flight settles, if there is one.
+    // How many of the accepted records the rewriting in flight settles; None where none is in flight.
     rewriting: Option<u64>,
     down: bool,
 }
@@ -76,11 +77,10 @@ impl<'a, S: Sign> Drop for Book<'a, S> {
 }
 
 impl<'a, S: Sign> Model for Book<'a, S> {
-    ghost use Rattle.std.specs.Prelude.{◌≡◌, ◌+◌, ◌≤◌, All, length};
+    ghost use Rattle.std.specs.Prelude.{◌≡◌, ◌+◌, ◌≤◌, length};
     ghost use Rattle.std.specs.Coded.{codes};
     ghost use Rattle.votebook.specs.contracts.book.VoteBook as votes;
     ghost use Rattle.book.specs.Book.{BookView};
-    ghost use Rattle.book.specs.Queue.{HasOutput};
     ghost use Rattle.book.specs.declared.book.TheConstants.{MAX_ACCEPTED};
 
     ghost Value = { BookView S };
@@ -91,11 +91,11 @@ impl<'a, S: Sign> Model for Book<'a, S> {
 
     ghost view = { shown_of };
 
-    ghost invariant = { λ b. (b.accepted ≤ MAX_ACCEPTED) × (b.taken + length b.pending ≡ b.accepted) × All HasOutput b.queue.items };
+    ghost invariant = { λ b. (b.accepted ≤ MAX_ACCEPTED) × (b.taken + length b.pending ≡ b.accepted) };
 }
 
 impl<'a, S: Sign> Book<'a, S> {
-    ghost use Rattle.std.specs.Prelude.{◌≢◌, ◌⊎◌, ◌∷◌, [], ◌++◌, ◌+◌, ◌≤◌, true, false, length, map, take, drop, IsTrue, IsNone, Some, None, is_some, Ok, IfOk, IfErr, IfSome, OnErr, IsErrOf, ◌↔◌, if◌then◌else◌, List, ℕ};
+    ghost use Rattle.std.specs.Prelude.{◌≢◌, ◌⊎◌, ◌∷◌, [], ◌++◌, ◌+◌, ◌-◌, ◌≤◌, true, false, length, map, take, drop, All, IsTrue, IsNone, Some, None, is_some, Ok, IfOk, IfErr, IfSome, OnErr, IsErrOf, ◌↔◌, if◌then◌else◌, List, ℕ};
     ghost use Rattle.checkpoint.specs.Describes.{Describes};
     ghost use Rattle.header.specs.Checks.{fault_of, accepts_all};
     ghost use Rattle.spec_machine.specs.Machine.{round_in};
@@ -104,9 +104,9 @@ impl<'a, S: Sign> Book<'a, S> {
     ghost use Rattle.validator.specs.Standing.{AreAtSound};
     ghost use Rattle.book.specs.Pending.{IsLongestBeginning};
     ghost use Rattle.book.specs.Checkpoints.{CanBeWritten};
-    ghost use Rattle.book.specs.Book.{Run, Stands, StandsAsBefore, run_on, state_in, settled_in, with_taken, with_all_taken, TakesNew, TakesKnown, MayRefuse, IsFull, HasPlace, releasable, IsCheckpointOfAll, Settles, SettlesNext, settled_by, settled_to, GoesOutSettled};
+    ghost use Rattle.book.specs.Book.{Run, Stands, StandsAsBefore, run_on, state_in, settled_in, with_taken, with_all_taken, TakesNew, TakesKnown, MayRefuse, IsFull, HasPlace, releasable, releasable_within, IsCheckpointOfAll, Settles, SettlesNext, settled_by, settled_to, GoesOutSettled};
 
-    /// A book over this validator that has accepted nothing.
+    /// A book over this validator, for a run that has accepted nothing.
     pub fn new(alloc: Global, validator: Validator<'a, S>) -> Book<'a, S>
         ensures stands { let node = node_of S.scheme validator.entry.setting in (base : State) → AreAtSound node validator.entry.tables base
             → Stands node (run_on base) result }
@@ -140,7 +140,7 @@ impl<'a, S: Sign> Book<'a, S> {
         &self.validator
     }
 
-    /// The committee of its validator.
+    /// The committee of the book's validator.
     pub fn committee(&self) -> &Committee
         ensures { result.now ≡ self.now.validator.setting.charter }
     {
@@ -148,7 +148,7 @@ impl<'a, S: Sign> Book<'a, S> {
     }
 
     /// Accepts an event, which passed the checks under the book's committee. A new event gets a record, which is pending from now on. The
-    /// outputs of a new or known event may leave once all records accepted so far are settled. A refusal changes nothing.
+    /// outputs of a new or known event may leave once all records accepted so far are settled. After an error the book is as before.
     pub fn accept(&mut self, event: Checked) -> Result<Receipt, Refusal>
         requires passed { fault_of self.old.validator.setting.charter accepts_all event ≡ None }
         // The error is Down exactly where the book is down.
@@ -170,7 +170,7 @@ impl<'a, S: Sign> Book<'a, S> {
             return Err(Refusal::StoreFull);
         }
         let len = record_len(&event);
-        // What can fail comes first.
+        // What can run out of memory comes first, so that an error changes nothing.
         make_room(
             &mut self.pending,
             &mut self.queue,
@@ -209,7 +209,7 @@ impl<'a, S: Sign> Book<'a, S> {
         }
     }
 
-    // Whether an event would be new although the run can accept no more.
+    // Whether the run has accepted as many records as it may, and this event would be new.
     fn has_no_place(&self, event: &Checked) -> bool
         requires passed { fault_of self.now.validator.setting.charter accepts_all event.now ≡ None }
         ensures full { let node = node_of S.scheme self.now.validator.setting in result ≡ true → (run : Run) → Stands node run self.now → IsFull node run self.now event.now }
@@ -219,7 +219,7 @@ impl<'a, S: Sign> Book<'a, S> {
         self.accepted == MAX_ACCEPTED && self.validator.is_new(event)
     }
 
-    /// Takes the longest prefix of the pending records that fits a group; `None` where nothing is pending. On `AllocError` an allocation
+    /// Takes the longest prefix of the pending records that fits a group; None where nothing is pending. On `AllocError` an allocation
     /// failed, and nothing was taken.
     pub fn take(&mut self) -> Result<Option<Group>, AllocError>
         ensures none { IfOk result (λ group. IsNone group ↔ (self.old.pending ≡ [])) }
@@ -227,7 +227,7 @@ impl<'a, S: Sign> Book<'a, S> {
         ensures taken { IfOk result (λ group. IfSome group (λ group. self.new ≡ record self.old { pending = self.new.pending; taken = self.old.taken + length group })) }
         ensures stands { let node = node_of S.scheme self.old.validator.setting in IfOk result (λ group. IfSome group (λ group. (run : Run) → Stands node run self.old
             → Stands node (with_taken run (length group)) self.new)) }
-        // The group has the records of exactly the events that are taken.
+        // The group has the records of exactly those events that the call adds to the taken ones.
         ensures records { IfOk result (λ group. IfSome group (λ group. (run : Run) → Stands (node_of S.scheme self.old.validator.setting) run self.old
             → group ≡ map record_of (drop (length run.taken) (with_taken run (length group)).taken))) }
         ensures nothing { IfOk result (λ group. IsNone group → self.new ≡ self.old) }
@@ -247,15 +247,15 @@ impl<'a, S: Sign> Book<'a, S> {
         !self.pending.is_empty()
     }
 
-    /// Takes all accepted records, for a checkpoint of the state after them, with which the journal is to be rewritten. The rewriting is in
-    /// flight until `settle` says that it is on the disk; groups may be taken meanwhile. On `AllocError` an allocation failed, and nothing
-    /// was taken.
+    /// Takes all accepted records at once, for a checkpoint of the state after them. The journal is to be rewritten to this checkpoint. The
+    /// rewriting is in flight until `settle` says that it is on the disk; groups may be taken meanwhile. On `AllocError` an allocation
+    /// failed, and nothing was taken.
     pub fn take_all(&mut self) -> Result<Snapshot, AllocError>
         // No group is in flight, and no other rewriting.
         requires free { self.old.taken ≡ self.old.settled }
         requires none { self.old.rewriting ≡ None }
         ensures snapshot { let node = node_of S.scheme self.old.validator.setting in IfOk result (λ snapshot. Describes node self.old.validator.tables snapshot) }
-        // At each run at which the book stands, this is a checkpoint of all accepted events.
+        // For each run at which the book stands, these records are a checkpoint of the state after all accepted events.
         ensures checkpoint { let node = node_of S.scheme self.old.validator.setting in IfOk result (λ snapshot. IsCheckpointOfAll node self.old snapshot) }
         ensures writable { IfOk result CanBeWritten }
         ensures taken { OnOk result (self.new ≡ record self.old { pending = []; taken = self.old.accepted; rewriting = Some self.old.accepted }) }
@@ -271,8 +271,8 @@ impl<'a, S: Sign> Book<'a, S> {
         Ok(snapshot)
     }
 
-    /// Says that records are on the disk: those of the rewriting in flight, which settles what was taken when it began; or, if there is
-    /// none, the first records that are taken and not settled.
+    /// Notes that records are durable. If a rewriting is in flight, they are those of its checkpoint, and what was taken when it began is
+    /// settled. Otherwise they are the first records that are taken and not settled, and are settled now.
     pub fn settle(&mut self, synced: Synced)
         requires { SettlesNext (node_of S.scheme self.old.validator.setting) self.old synced }
         ensures stands { let node = node_of S.scheme self.old.validator.setting in (run : Run) → Stands node run self.old
@@ -286,12 +286,12 @@ impl<'a, S: Sign> Book<'a, S> {
         self.ordered = leave_to(&mut self.reached, self.settled, self.ordered);
     }
 
-    /// The first output, if its ticket is settled and the book isn't down.
+    /// Takes out the first output that waits, if its ticket is settled and the book isn't down.
     pub fn release(&mut self) -> Option<Output>
         ensures output { result ≡ releasable self.old }
         ensures queue { self.new ≡ (if is_some result then record self.old { queue = drop 1 self.old.queue } else self.old) }
         ensures stands { let node = node_of S.scheme self.old.validator.setting in StandsAsBefore node self.old self.new }
-        // The output may be given out after the settled events.
+        // This output may be given out after the settled events.
         ensures goes_out { let node = node_of S.scheme self.old.validator.setting in IfSome result (λ output. (run : Run) → Stands node run self.old
             → GoesOutSettled node run output) }
     {
@@ -305,7 +305,30 @@ impl<'a, S: Sign> Book<'a, S> {
         dequeue(&mut self.queue)
     }
 
-    /// Takes the book down, because a device call failed or the journal is full. From now on it accepts and releases nothing.
+    /// Moves the outputs that may leave to the end of `outputs`, oldest first, as many as that has room for. The call allocates no memory.
+    pub fn release_into(&mut self, outputs: &mut VecDeque<Output>)
+        // A deque can't be longer than its capacity.
+        ensures outputs { let room = deque_capacity outputs.old - deque_len outputs.old in
+            outputs.new.items ≡ outputs.old.items ++ releasable_within room self.old }
+        ensures queue { let room = deque_capacity outputs.old - deque_len outputs.old in
+            self.new ≡ record self.old { queue = drop (length (releasable_within room self.old)) self.old.queue } }
+        ensures capacity { deque_capacity outputs.new ≡ deque_capacity outputs.old }
+        // If the deque isn't full afterwards, no output is left in the book that may leave.
+        ensures all { deque_len outputs.new < deque_capacity outputs.new → releasable self.new ≡ None }
+        ensures stands { let node = node_of S.scheme self.old.validator.setting in StandsAsBefore node self.old self.new }
+        // Each moved output may be given out after the settled events.
+        ensures goes_out { let node = node_of S.scheme self.old.validator.setting in let room = deque_capacity outputs.old - deque_len outputs.old in
+            (run : Run) → Stands node run self.old → All (GoesOutSettled node run) (releasable_within room self.old) }
+    {
+        spec_laws::given_grows();
+        if self.down {
+            return;
+        }
+        move_settled(&mut self.queue, self.settled, outputs);
+    }
+
+    /// Takes the book down, because a device call failed or the journal is full. From now on the book accepts no event and releases no
+    /// output.
     pub fn fail(&mut self)
         ensures down { self.new ≡ record self.old { down = true } }
         ensures stands { let node = node_of S.scheme self.old.validator.setting in StandsAsBefore node self.old self.new }
@@ -313,7 +336,7 @@ impl<'a, S: Sign> Book<'a, S> {
         self.down = true;
     }
 
-    /// Whether `fail` was called.
+    /// Whether the book is down: `fail` was called.
     pub fn is_down(&self) -> bool
         ensures { result ≡ self.now.down }
     {
@@ -342,7 +365,7 @@ impl<'a, S: Sign> Book<'a, S> {
         self.settled
     }
 
-    /// Whether a rewriting is in flight: `take_all` was called, and not settled.
+    /// Whether a rewriting is in flight: `take_all` was called, and the records that it took aren't settled yet.
     pub fn is_rewriting(&self) -> bool
         ensures { result ≡ is_some self.now.rewriting }
     {
@@ -357,8 +380,8 @@ impl<'a, S: Sign> Book<'a, S> {
         self.validator.round()
     }
 
-    /// The order after the settled records, from this place on: the digests of the ordered certificates. The list is empty where the place
-    /// is past the order's end.
+    /// The order after the settled events, from this place on: the digests of the ordered certificates. The list is empty where the place
+    /// is past the end.
     ///
     /// # Errors
     /// `Down` where the book is down, `Memory` where an allocation failed.
@@ -381,7 +404,7 @@ impl<'a, S: Sign> Book<'a, S> {
     }
 }
 
-// How many records are settled after this many more were written, or after the rewriting was.
+// How many records are settled once a rewriting, or otherwise a group of this many records, is settled.
 fn settled_with(rewriting: Option<u64>, settled: u64, records: u64) -> u64
     requires { rewriting ≡ None → settled + records < 2 ^ 64 }
     ensures { result ≡ settled_to rewriting (settled + records) }
@@ -392,7 +415,7 @@ fn settled_with(rewriting: Option<u64>, settled: u64, records: u64) -> u64
     }
 }
 
-// Adds the record of an event, and makes room for its outputs and for a new length of the order.
+// Adds the record of an event to the pending ones, and makes room for the event's outputs and for a new length of the order.
 fn make_room(
     pending: &mut Pending,
     queue: &mut VecDeque<Queued>,

@@ -1,4 +1,4 @@
-//! A group that is being filled.
+//! A draft: a group that is being filled with records.
 
 ghost use Rattle.std.specs.Prelude.{◌≡◌, ◌+◌, ◌≤◌, ◌++◌, vec_len, vec_capacity, drop, ◌∷◌, [], List, ℕ, length, IsTrue, IfOk, IfErr, OnOk, OnErr, ◌↔◌};
 ghost use Rattle.journal.specs.Format.{FitsGroup};
@@ -14,10 +14,10 @@ use journal::{CLOSED, Group, LENGTH_BYTES, MAX_GROUP_BYTES, MAX_GROUP_RECORDS};
 use std::alloc::{AllocError, Global};
 use std::marker::Model;
 
-/// Records that will be a group. Contracts see them.
+/// The records of a group that is being filled. Contracts see the records.
 #[derive(Drop)]
 pub(crate) struct Draft {
-    // Room for the length of the body, and then the body so far.
+    // Room for the length of the group's body, and then the body so far.
     bytes: Vec<u8>,
     count: u64,
     ghost drafted: { IsDraft bytes.items count } by { one_draft bytes.items count },
@@ -48,7 +48,7 @@ impl Draft {
         self.count == 0
     }
 
-    /// Whether a record of this length still fits.
+    /// Whether a record of this length, in bytes, still fits into the group.
     pub(crate) fn has_room(&self, len: usize) -> bool
         requires { LENGTH_BYTES + len ≤ MAX_GROUP_BYTES }
         ensures { (bytes : List ℕ) → length bytes ≡ len → (IsTrue result ↔ FitsGroup (self.now ++ bytes ∷ [])) }
@@ -56,11 +56,11 @@ impl Draft {
         if self.count == MAX_GROUP_RECORDS as u64 {
             return false;
         }
-        // The length field before the body is as long as the one before the record, so both cancel out.
+        // The room for the length of the body is as large as the length field of the record, so that the two cancel out in this sum.
         self.bytes.len() + len <= MAX_GROUP_BYTES
     }
 
-    /// Adds the record of an event, which has this length and fits. On `AllocError` an allocation failed, and nothing has changed.
+    /// Adds the record of an event. The record has this length, and fits. On `AllocError` an allocation failed, and nothing has changed.
     pub(crate) fn put(&mut self, event: &Checked, len: usize) -> Result<(), AllocError>
         requires len { len ≡ length (record_bytes event.now) }
         requires short { LENGTH_BYTES + len ≤ MAX_GROUP_BYTES }
@@ -81,7 +81,7 @@ impl Draft {
         }
     }
 
-    /// Takes the last record away, which has this length.
+    /// Removes the last record, which has this length.
     pub(crate) fn take_back(&mut self, len: usize)
         requires { (others : List (List ℕ)) × (last : List ℕ) × (self.old ≡ others ++ last ∷ []) × (length last ≡ len) }
         ensures { (others : List (List ℕ)) (last : List ℕ) → self.old ≡ others ++ last ∷ [] → self.new ≡ others }
@@ -90,7 +90,7 @@ impl Draft {
         self.count -= 1;
     }
 
-    /// The group of the draft's records, of which there is at least one. If an allocation fails, the draft is the error.
+    /// Makes the group of the draft's records, of which there is at least one. If an allocation fails, the error gives the draft back.
     pub(crate) fn close(self) -> Result<Group, Draft>
         requires { FitsGroup self }
         ensures ok { IfOk result (λ group. group ≡ self) }
@@ -107,7 +107,7 @@ impl Draft {
     }
 }
 
-// Writes the length of a body into the room before it.
+// Writes the length of a group's body into the room before the body.
 fn put_len(bytes: &mut Vec<u8>, len: u32)
     requires { LENGTH_BYTES ≤ vec_len bytes.old }
     ensures items { bytes.new.items ≡ to_be_bytes w32 len ++ drop LENGTH_BYTES bytes.old.items }

@@ -1,5 +1,5 @@
-//! The value under a node's lock: the validator, the records that were accepted and not yet taken, and the outputs, each with its ticket.
-//! The same for a node with one owner, which needs no lock.
+//! The book: what a node keeps under its lock. It has the validator, the records that were accepted and not yet taken, and the outputs that
+//! wait, each with its ticket. Beside it, the book of a node that has one owner and needs no lock.
 #![tactic(auto)]
 
 mod book;

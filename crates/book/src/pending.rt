@@ -1,4 +1,4 @@
-//! Records that were accepted and not yet taken, packed into groups.
+//! The records that were accepted and not yet taken, packed into groups.
 
 ghost use Rattle.std.specs.Prelude.{◌≡◌, ◌+◌, ◌≤◌, ◌++◌, ◌∷◌, [], true, false, List, ℕ, length, IsTrue, IsNone, IfOk, IfSome, OnOk, OnErr, ◌↔◌};
 ghost use Rattle.journal.specs.declared.layout.TheConstants.{LENGTH_BYTES, MAX_GROUP_BYTES};
@@ -12,7 +12,7 @@ use std::alloc::{AllocError, Global};
 use std::collections::VecDeque;
 use std::marker::Model;
 
-/// The pending records. Contracts see them without the groups: a group ends where the next record wouldn't fit.
+/// The pending records, packed into groups: a group ends where the next record wouldn't fit. Contracts see the records without the groups.
 #[derive(Drop)]
 pub(crate) struct Pending {
     alloc: Global,
@@ -31,7 +31,7 @@ impl Model for Pending {
 }
 
 impl Pending {
-    /// No pending records.
+    /// The list without a pending record.
     pub(crate) fn new(alloc: Global) -> Pending
         ensures { result ≡ [] }
     {
@@ -41,14 +41,14 @@ impl Pending {
         }
     }
 
-    /// Whether there is no record.
+    /// Whether no record is pending.
     pub(crate) fn is_empty(&self) -> bool
         ensures { IsTrue result ↔ (self.now ≡ []) }
     {
         self.drafts.is_empty()
     }
 
-    /// Adds the record of an event, which has this length. On `AllocError` an allocation failed, and nothing has changed.
+    /// Adds the record of an event as the last one. It has this length. On `AllocError` an allocation failed, and nothing has changed.
     pub(crate) fn put(&mut self, event: &Checked, len: usize) -> Result<(), AllocError>
         requires short { LENGTH_BYTES + len ≤ MAX_GROUP_BYTES }
         requires len { len ≡ length (record_of event.now) }
@@ -62,7 +62,7 @@ impl Pending {
         }
     }
 
-    /// Takes the last record away, which has this length.
+    /// Removes the last record, which has this length.
     pub(crate) fn take_back(&mut self, len: usize)
         requires { (others : List (List ℕ)) × (last : List ℕ) × (self.old ≡ others ++ last ∷ []) × (length last ≡ len) }
         ensures { (others : List (List ℕ)) (last : List ℕ) → self.old ≡ others ++ last ∷ [] → self.new ≡ others }
@@ -76,8 +76,8 @@ impl Pending {
         }
     }
 
-    /// Takes the longest prefix of the records that fits a group; `None` where there is no record. On `AllocError` an allocation failed,
-    /// and nothing has changed.
+    /// Takes the longest prefix of the pending records that fits a group; None where no record is pending. On `AllocError` an allocation
+    /// failed, and nothing has changed.
     pub(crate) fn take(&mut self) -> Result<Option<Group>, AllocError>
         ensures none { IfOk result (λ group. IsNone group ↔ (self.old ≡ [])) }
         ensures group { IfOk result (λ group. IfSome group (λ group. IsLongestBeginning self.old group self.new)) }
@@ -109,7 +109,7 @@ fn last_has_room(drafts: &VecDeque<Draft>, len: usize) -> bool
     }
 }
 
-// Adds the record of an event to the last group, which has room for its length. If an allocation fails, nothing has changed.
+// Adds the record of an event to the last group, which has room for it. On `AllocError` an allocation failed, and nothing has changed.
 fn put_into_last(
     drafts: &mut VecDeque<Draft>,
     event: &Checked,
@@ -129,7 +129,8 @@ fn put_into_last(
     put
 }
 
-// Adds the record of an event, which has this length, as the first of a new group. If an allocation fails, nothing has changed.
+// Adds the record of an event, which has this length, as the first one of a new group. On `AllocError` an allocation failed, and nothing
+// has changed.
 fn put_after(
     alloc: Global,
     drafts: &mut VecDeque<Draft>,

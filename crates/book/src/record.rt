@@ -1,4 +1,4 @@
-//! The records of events.
+//! The records of accepted events, as they stand in the journal.
 
 ghost use Rattle.std.specs.Prelude.{◌≡◌, ◌++◌, ◌+◌, ◌≤◌, List, ℕ, length, OnOk, OnErr};
 ghost use Rattle.journal.specs.Format.{record_bytes};
@@ -10,13 +10,13 @@ use std::alloc::AllocError;
 use wire::numbers::two_bytes;
 use wire::{encode_onto, encoded_len};
 
-/// The first byte of an event's record: its kind.
+/// The kind byte of an event's record, which is its first byte.
 pub const EVENT_RECORD: u8 = 1;
 
 /// The bytes of an event's record before its message: the kind and the sender.
 const EVENT_FRONT_BYTES: usize = 3;
 
-/// How long the record of an event is, in bytes.
+/// The length of an event's record, in bytes.
 pub(crate) fn record_len(event: &Checked) -> usize
     ensures len { result ≡ length (record_of event.now) }
     ensures fits { LENGTH_BYTES + result ≤ MAX_GROUP_BYTES }
@@ -24,8 +24,8 @@ pub(crate) fn record_len(event: &Checked) -> usize
     EVENT_FRONT_BYTES + encoded_len(event.message())
 }
 
-/// Adds the record of an event, after its length: its kind, the sender and the message. On `AllocError` an allocation failed, and a part of
-/// the record may have been added.
+/// Adds the length of an event's record, and then the record: its kind, the sender and the message. On `AllocError` an allocation failed,
+/// and a part of this may have been added.
 pub(crate) fn put_record(bytes: &mut Vec<u8>, event: &Checked, len: usize) -> Result<(), AllocError>
     requires len { len ≡ length (record_of event.now) }
     requires short { LENGTH_BYTES + len ≤ MAX_GROUP_BYTES }

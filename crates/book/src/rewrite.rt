@@ -1,4 +1,4 @@
-//! A book whose journal is rewritten to a checkpoint.
+//! How the journal of a book is rewritten to a checkpoint.
 
 ghost use Rattle.std.specs.Prelude.{◌≡◌, ◌⊎◌, ◌+◌, None, Some, true, IfOk, OnErr, IsSome, IsErrOf};
 ghost use Rattle.diskmodel.specs.Disk.{AtEachMoment, ReportsFault};
@@ -15,8 +15,8 @@ use diskmodel::Disk;
 use journal::{Journal, JournalError};
 use sigface::Sign;
 
-/// Takes all accepted records, rewrites a journal on two disks to a checkpoint of the state after them, and settles them. Gives the
-/// journal's new generation.
+/// Takes all accepted records, rewrites the journal, which is on two disks, to a checkpoint of the state after them, and settles them.
+/// Gives the journal's new generation.
 pub(crate) fn rewrite_to_all<S: Sign, D: Disk>(
     book: &mut Book<'_, S>,
     journal: &mut Journal<D>,

@@ -1,47 +1,49 @@
-//! What a book does is a step of its world. Each law is what a function without a body ensures.
+//! Laws: what a book does is a step of the world, the model of a node over all its runs. Each function does nothing: its contract is the
+//! law.
 
 ghost use Rattle.book.specs.Steps.{AcceptIsAStep, TakeIsAStep, SettleIsAStep, ReleaseIsAStep, FlushIsSteps, FailIsAStep, TakeAllIsAStep, CheckpointIsSteps};
 
 use sigface::Sign;
 
-/// An event that a book accepts, new or known, is accepted in the book's world.
+/// When a book accepts an event, new or known, the book's world accepts it.
 pub fn accept_is_a_step<S: Sign>()
     ensures { AcceptIsAStep S }
 {}
 
-/// A group that a book takes is taken in the book's world, as the last one in flight, also where an earlier one isn't settled yet.
+/// When a book takes a group, the book's world takes it. It is then the last group in flight, even if an earlier one isn't settled yet.
 pub fn take_is_a_step<S: Sign>()
     ensures { TakeIsAStep S }
 {}
 
-/// A group or rewriting that a book settles is settled in the book's world, where it is the first in flight and is durable.
+/// When a book settles a group or a rewriting that is durable and the first in flight, the book's world settles it.
 pub fn settle_is_a_step<S: Sign>()
     ensures { SettleIsAStep S }
 {}
 
-/// An output that a book releases goes out in the book's world.
+/// When a book releases an output, it goes out in the book's world.
 pub fn release_is_a_step<S: Sign>()
     ensures { ReleaseIsAStep S }
 {}
 
-/// Where `OwnBook::flush` settles a group with no other in flight, the book's world takes that group, makes the four device calls and
-/// settles it.
+/// When `OwnBook::flush` settles a group and no other group is in flight, the book's world takes that group, makes its four device calls
+/// and settles it.
 pub fn flush_is_steps<S: Sign>()
     ensures { FlushIsSteps S }
 {}
 
-/// Where `OwnBook::flush` takes the book down, the book's world takes the group.
+/// When `OwnBook::flush` takes the book down, the book's world takes the group, which stays in flight.
 pub fn fail_is_a_step<S: Sign>()
     ensures { FailIsAStep S }
 {}
 
-/// Where a book takes all for a checkpoint, the book's world does too, also if the book goes down before that is settled.
+/// When a book takes all accepted records for a checkpoint, the book's world does so too. This holds also if the book goes down before the
+/// rewriting is settled.
 pub fn take_all_is_a_step<S: Sign>()
     ensures { TakeAllIsAStep S }
 {}
 
-/// Where `OwnBook::checkpoint` settles all with nothing else in flight, the book's world takes all, makes the eight device calls of a
-/// rewriting and settles it.
+/// When `OwnBook::checkpoint` settles all accepted records and no group is in flight, the book's world takes them all, makes the eight
+/// device calls of a rewriting and settles it.
 pub fn checkpoint_is_steps<S: Sign>()
     ensures { CheckpointIsSteps S }
 {

@@ -27,6 +27,8 @@ use Rattle.votebook.specs.Votes.{Votes}
 use Rattle.votebook.specs.declared.slot.Slot.{Slot}
 use Rattle.votebook.proofs.Lookups.{slots_total}
 use Rattle.sequencer.specs.Restored.{AreListed, HoldsListed}
+use Rattle.sigface.specs.Seeds.{seed_of}
+use Rattle.sigface.specs.declared.seed.TableSeed.{TableSeed}
 use Rattle.admission.specs.Batches.{HasBatches}
 use Rattle.admission.specs.Headers.{AssembliesView}
 use Rattle.admission.specs.Headers as headers
@@ -83,11 +85,12 @@ pub record AreRead (tables : Tables) (kept : Kept) : Type 0 where
 
 pub kept_of : (node : Node) (state : State) (tables : Tables) (kept : Kept) → IsNode node → IsSound node state → AreAt node state tables → AreRead tables kept → IsKeptOf node state kept
 kept_of node state tables kept node_is sound at read =
-    let stock : Charter → ℕ → List Held → BatchStoreView = λ c o l. record { charter = c; own = o; held = l } in
-    let batches : stock node.charter node.own.0 (values_of kept.batches.items) ≡ tables.batches =
-    ap (λ c. stock c node.own.0 (values_of kept.batches.items)) (sym at.batches.charter)
-    ∙ ap (λ o. stock tables.batches.charter o (values_of kept.batches.items)) (sym at.batches.own)
-    ∙ ap (stock tables.batches.charter tables.batches.own) read.held in
+    let stock : Charter → ℕ → TableSeed → List Held → BatchStoreView = λ c o s l. record { charter = c; own = o; seed = s; held = l } in
+    let batches : stock node.charter node.own.0 (seed_of node.sign) (values_of kept.batches.items) ≡ tables.batches =
+    ap (λ c. stock c node.own.0 (seed_of node.sign) (values_of kept.batches.items)) (sym at.batches.charter)
+    ∙ ap (λ o. stock tables.batches.charter o (seed_of node.sign) (values_of kept.batches.items)) (sym at.batches.own)
+    ∙ ap (λ s. stock tables.batches.charter tables.batches.own s (values_of kept.batches.items)) (sym at.batches.seed)
+    ∙ ap (stock tables.batches.charter tables.batches.own tables.batches.seed) read.held in
     let table : table_of node.charter node.own.0 kept.headers.items ≡ tables.headers =
     ap (λ c. table_of c node.own.0 kept.headers.items) (sym at.headers.charter)
     ∙ ap (λ o. table_of tables.headers.charter o kept.headers.items) (sym at.headers.own) ∙ read.table in

@@ -9,6 +9,7 @@ use Rattle.std.proofs.lemmas.Bool.{cases_Bool}
 use Rattle.std.proofs.lemmas.List.Elements.{All-contains, All-weaker}
 use Rattle.std.proofs.lemmas.Slice.Eq.{bytes_eq-Decides}
 use Rattle.admission.proofs.Reading.{bytes_eq-swap}
+use Rattle.sigface.specs.Seeds.{seed_of}
 use Rattle.admission.specs.Batches.{HasBatches}
 use Rattle.batchstore.specs.Stock.{BatchStoreView, digest_of, found}
 use Rattle.batchstore.specs.declared.held.Held.{Held}
@@ -76,9 +77,9 @@ same_batches [] = refl
 same_batches (one ∷ items) = ap (λ l. one.1.batch ∷ l) (same_batches items)
 
 module _ (node : Node) (state : State) (items : List (Digest × Held)) (node_is : IsNode node) (sound : AreBatches node state)
-    (has_them : HasBatches node state (record { charter = node.charter; own = node.own.0; held = values_of items })) where
+    (has_them : HasBatches node state (record { charter = node.charter; own = node.own.0; seed = seed_of node.sign; held = values_of items })) where
   abbrev stock : BatchStoreView
-  stock = record { charter = node.charter; own = node.own.0; held = values_of items }
+  stock = record { charter = node.charter; own = node.own.0; seed = seed_of node.sign; held = values_of items }
 
   few_members : (digest : Digest) (member : ℕ) → state.acked digest member ≡ true → member < MAX_MEMBERS
   few_members digest member is =

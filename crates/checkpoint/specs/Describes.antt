@@ -1,4 +1,4 @@
--- When records describe the tables of a validator.
+-- When the records of a checkpoint describe a validator's tables.
 use Rattle.std.specs.Prelude.{◌≡◌, ℕ, List, ◌∷◌, drop, All, Ok, None}
 use Rattle.journal.specs.declared.version.Version.TheVariants.{Second}
 use Rattle.spec_machine.specs.Sound.{IsSound}
@@ -15,8 +15,8 @@ use Rattle.wire.specs.Fields.{AreBytes}
 use Rattle.admission.specs.Standing.{AreAt}
 use Rattle.admission.specs.declared.tables.Tables.{Tables}
 
--- These are a node's configuration in the second version and then the records of a checkpoint that the node writes; the tables hold its
--- state, which is sound.
+-- the tables hold a sound state of the node. The records are the node's configuration in the second version, followed by those of a
+-- checkpoint that the node may write of this state
 pub record Describes (node : Node) (tables : Tables) (records : List (List ℕ)) : Type 0 where
   pub checkpoint : Checkpoint
   pub written : IsWritten node checkpoint
@@ -24,7 +24,7 @@ pub record Describes (node : Node) (tables : Tables) (records : List (List ℕ))
   pub at : AreAt node (state_in node checkpoint) tables
   pub are : records ≡ configuration_of Second node.charter node.own ∷ state_records checkpoint
 
--- The tables hold this sound state of a node with this number.
+-- the tables hold this sound state of a node with this number
 pub record StandFor (own : Author) (tables : Tables) (node : Node) (state : State) : Type 0 where
   pub number : node.own ≡ own
   pub node_is : IsNode node
@@ -33,8 +33,8 @@ pub record StandFor (own : Author) (tables : Tables) (node : Node) (state : Stat
 
 -- ---- laws
 
--- Records that describe tables have no fault, and are read as the sound state that the tables hold. So tables that are loaded from them
--- hold the same state.
+-- records that describe tables have no fault, and are read as the sound state that the tables hold. So tables that are loaded from them
+-- hold the same state
 abbrev pub KeptIsLoaded : Type 0
 KeptIsLoaded = (node : Node) (tables : Tables) (records : List (List ℕ)) → IsNode node → All AreBytes records → Describes node tables records
     → (load_fault node records ≡ None)

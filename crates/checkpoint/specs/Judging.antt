@@ -1,4 +1,4 @@
--- The tests of the records that were read, given the floor and the slots, and which of them fails first.
+-- The tests on the records of a checkpoint, given the floor and the slots, and which record fails first.
 use Rattle.std.specs.Prelude.{◌≡◌, ◌≢◌, ⊤, ℕ, ◌==◌, ◌&&◌, ◌||◌, not, nat_lt, nat_le, Bool, false, List, [], ◌∷◌, map, None, option_map, if◌then◌else◌}
 use Rattle.std.specs.List.{list_any, list_all, position_from}
 use Rattle.std.specs.Option.{option_map_or}
@@ -21,11 +21,11 @@ use Rattle.checkpoint.specs.declared.error.LoadError.TheVariants.{Memory}
 
 -- ---- the first record whose test fails
 
--- no test fails
+-- none of the tests of these records fails; the first of them is at this place
 abbrev pub NoneFails : ℕ → List Bool → Type 0
 NoneFails first tests = position_from not first tests ≡ None
 
--- an error, unless an allocation failed, reports the first test that fails; the first of all tests is that of the record at this place
+-- an error other than Memory names the place of the first record whose test fails; the first of these records is at the place `first`
 abbrev pub ReportsFirst : ℕ → List Bool → LoadError → Type 0
 ReportsFirst first tests error = error ≢ Memory → option_map at_record (position_from not first tests) ≡ fault_of error
 
@@ -54,7 +54,7 @@ is_header_sound_at node floor slots kept =
     && (list_all (λ entry. nat_lt entry.voter.0 (size_of node)) kept.votes
     && is_completed_well_at node slots kept)))
 
--- a certificate passes the checks; these don't depend on who sends it
+-- a certificate passes the checks, which don't depend on its sender
 abbrev pub passes_itself : Node → Certificate → Bool
 passes_itself node certificate = passes node node.own (message.Certificate certificate)
 
@@ -64,25 +64,25 @@ is_certificate_sound_at node floor slots certificate =
     && (passes_itself node certificate
     && all_held slots floor certificate.header)
 
--- a parent is a genesis certificate of a member
+-- a parent reference names the genesis certificate of a member
 abbrev pub is_of_genesis : Node → ParentReference → Bool
 is_of_genesis node parent =
     option_map_or (λ c. same_digest (certificate_digest c.header) parent.certificate) (slots_of (map genesis (numbers (size_of node))) 0 parent.author.0) false
 
 -- ---- what the reader keeps of what it read
 
--- what is held of a batch is what was read of it
+-- the store's entry for a batch has what was read: the batch, whether an own header named it, and who acknowledged it
 pub record IsHeldAs (kept : KeptBatch) (held : Held) : Type 0 where
   pub batch : held.batch ≡ kept.batch
   pub named : held.named ≡ kept.named
   pub acknowledged : (member : ℕ) → has held.acknowledged member ≡ list_any (λ one. one == member) kept.members
 
--- what is held of each batch is what was read of it, in order
+-- the store's entries for these batches, in the same order, have what was read of them
 abbrev pub AreHeldAs : List KeptBatch → List Held → Type 0
 AreHeldAs [] [] = ⊤
 AreHeldAs (kept ∷ batches) (held ∷ helds) = IsHeldAs kept held × AreHeldAs batches helds
 AreHeldAs _ _ = ⊥
 
--- the vote that is held with an own header is the node's own, signed again
+-- the own vote that is restored with an own header is the one that the node signs for it
 abbrev pub HasOwnVote : Node → VotedHeader → Type 0
 HasOwnVote node voted = voted.vote ≡ own_vote node voted.header.body

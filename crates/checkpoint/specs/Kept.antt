@@ -1,4 +1,4 @@
--- The checkpoint of what a validator's tables hold.
+-- The checkpoint that is written of what a validator's tables hold.
 use Rattle.std.specs.Prelude.{◌≡◌, ◌≢◌, ℕ, IsTrue, List, All, filter, map}
 use Rattle.committee.specs.Charter.{numbers}
 use Rattle.committee.specs.Sets.{has}
@@ -24,22 +24,23 @@ members_below set count = filter (has set) (numbers count)
 abbrev pub members_in : MemberSet → List ℕ
 members_in set = members_below set MAX_MEMBERS
 
--- a held batch as a checkpoint has it; its digest isn't written, since it can be computed
+-- what a checkpoint has of a batch; the batch's digest isn't written, since it can be computed
 abbrev pub keep_of : Held → KeptBatch
 keep_of held = record { named = held.named; members = members_in held.acknowledged; batch = held.batch }
 
 abbrev pub batch_of : Digest × Held → KeptBatch
 batch_of entry = keep_of entry.1
 
--- a vote for another member's header
+-- what a checkpoint has of the node's vote for another member's header: the header's slot and digest
 abbrev pub vote_of : Slot × Digest → KeptVote
 vote_of entry = record { author = entry.0.author; round = entry.0.round; header = entry.1 }
 
--- an own header with the others' votes. The node's own vote isn't written, since the node can sign it again
+-- what a checkpoint has of an own header: the header with the other members' votes. The node's own vote isn't written, since the node can
+-- sign it again
 abbrev pub header_of : VotedHeader → KeptHeader
 header_of voted = record { header = voted.header; votes = voted.votes.items }
 
--- a certificate as a checkpoint has it: its digest isn't written, since it can be computed
+-- what a checkpoint has of a certificate; the certificate's digest isn't written, since it can be computed
 abbrev pub certificate_of : Certificate × Digest → Certificate
 certificate_of entry = entry.0
 
@@ -53,15 +54,14 @@ checkpoint_of kept = record {
   coins = kept.coins;
 }
 
--- the votes on an own header are those of others, sorted by voter, and no voter occurs twice
+-- the votes kept with an own header, beside the node's own, are other members': they are sorted by voter, and no voter occurs twice
 pub record AreOfOthers (own : ℕ) (voted : VotedHeader) : Type 0 where
   pub rise : IsTrue (votes_rise voted.votes.items)
   pub others : All (λ entry. entry.voter.0 ≢ own) voted.votes.items
 
 -- ---- laws
 
--- Of what the tables hold of a sound state a checkpoint is made. It is one that a node may write, and the state that it is read as is that
--- same state.
+-- the checkpoint that is made of the parts of a sound state is one that a node may write, and it is read back as the same state
 abbrev pub CheckpointIsState : Type 0
 CheckpointIsState = (node : Node) (state : State) (kept : Kept) → IsKeptOf node state kept → All (AreOfOthers node.own.0) kept.headers.items
     → IsWritten node (checkpoint_of kept) × (state_in node (checkpoint_of kept) ≡ state)

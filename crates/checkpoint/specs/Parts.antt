@@ -8,7 +8,7 @@ use Rattle.spec_model.specs.Words.{Certificate, Digest}
 use Rattle.dag.specs.Graph.{DagView, certificates_in}
 use Rattle.certify.specs.Assembled.{AssemblyView, Places, is_on, votes_in}
 
--- a vote on a header is not this member's
+-- the vote is by another member than this one
 abbrev pub is_other : ℕ → VoteEntry → Bool
 is_other own entry = not (entry.voter.0 == own)
 
@@ -21,7 +21,7 @@ pub record IsCountedBy (own : ℕ) (assembled : AssemblyView) (vote : Vote) : Ty
   pub on : IsTrue (is_on assembled.header.body vote)
   pub counted : slice_index_or assembled.places own None ≡ Some vote.signature
 
--- these are the header of an assembly, the vote of this member on it, and the votes of the others
+-- these are the header of an assembly, this member's counted vote on it, and the counted votes of the other members
 pub record AreOf (own : ℕ) (assembled : AssemblyView) (its : Header) (mine : Vote) (others : List VoteEntry) : Type 0 where
   pub header : its ≡ assembled.header
   pub vote : IsCountedBy own assembled mine

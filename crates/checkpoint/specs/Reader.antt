@@ -14,14 +14,14 @@ use Rattle.spec_checkpoint.specs.Records.{state_records}
 use Rattle.checkpoint.specs.declared.error.LoadError.{LoadError}
 use Rattle.checkpoint.specs.declared.error.LoadError.TheVariants.{Memory, Unsound, UnsoundWhole}
 
--- a reader of a checkpoint: the node whose records they are, with its signer, and the records that came so far
+-- a reader of a checkpoint: the node whose records it reads, as number, committee and signer, and the records that came so far
 pub record ReaderView (S : Type 0) : Type 0 where
   pub own : Author
   pub charter : Charter
   pub signer : S
   pub records : List (List ℕ)
 
--- the reader's node, which signs as its signer does
+-- the node whose records the reader reads; it signs as the reader's signer does
 abbrev pub node_of : {S : Type 0} → Scheme S → ReaderView S → Node
 node_of scheme reader = record {
   own = reader.own;
@@ -30,17 +30,18 @@ node_of scheme reader = record {
   sign = scheme.signature_of reader.signer;
 }
 
--- the view of a reader of this node that has got these records
+-- the view of a reader for this node, to which these records came
 abbrev pub reader_of : {S : Type 0} → declared.Node S → List (List ℕ) → ReaderView S
 reader_of node records = record { own = node.own; charter = node.committee; signer = node.signer; records = records }
 
--- the records that came so far: the node's configuration, if its version is known, and then those of what was read
+-- the records that came so far: none before the configuration; then the configuration in this version, followed by the records of what was
+-- read
 abbrev pub records_so_far : Node → Option Version → Checkpoint → List (List ℕ)
 records_so_far node None so_far = []
 records_so_far node (Some version) so_far = configuration_of version node.charter node.own ∷ state_records so_far
 
--- What was read is canonical, so its records are the ones that came. The reader knows how many they are, and the first one is the
--- configuration.
+-- what the reader of these records keeps. What was read is canonical, so that its records are the ones that came. The reader knows how many
+-- they are, and the first one is the configuration
 pub record IsReading (node : Node) (version : Option Version) (count : ℕ) (so_far : Checkpoint) : Type 0 where
   pub node_is : IsNode node
   pub canonical : IsCanonical node so_far
@@ -51,7 +52,7 @@ pub record IsReading (node : Node) (version : Option Version) (count : ℕ) (so_
 
 -- ---- errors
 
--- the fault that an error reports; None for a failed allocation
+-- the fault that an error reports; none for Memory, which is no fault of the records
 abbrev pub fault_of : LoadError → Option LoadFault
 fault_of Memory = None
 fault_of (Unsound place) = Some (at_record place)

@@ -1,9 +1,9 @@
--- Parts of records, as they are read.
+-- The grammar of the parts of a checkpoint's records.
 use Rattle.std.specs.Prelude.{ℕ, List, Ok}
 use Rattle.wire.specs.Reading.{◌>>=◌, Read, header_at, votes_at}
 use Rattle.spec_checkpoint.specs.Data.{KeptHeader}
 
--- a header with its signature, and votes, whichever they are
+-- a header with its signature, followed by votes on it, whoever gave them
 unfoldable pub header_with_votes_at : List ℕ → Read KeptHeader
 header_with_votes_at bytes = do
   header ← header_at bytes

@@ -1,4 +1,4 @@
-//! The record of a member's configuration.
+//! The record of a member's configuration, with which every checkpoint begins.
 
 ghost use Rattle.std.specs.Prelude.{◌≡◌, ◌==◌, ◌+◌, ◌*◌, ◌++◌, ◌∷◌, [], length, flat_map, is_some, IfOk, IfSome, OnOk, Some};
 ghost use Rattle.std.specs.List.{list_all};
@@ -16,8 +16,8 @@ use std::alloc::{AllocError, Global};
 use wire::Author;
 use wire::numbers::two_bytes;
 
-/// The version of a member's configuration that these bytes are, if they are one. The second version can express every committee, the first
-/// one only those where each stake is 1. On `AllocError` an allocation failed.
+/// The version of the member's configuration that these bytes encode; None where they encode none. The second version can express every
+/// committee, the first version only committees where each stake is 1. On `AllocError` an allocation failed.
 pub fn version_of(
     alloc: Global,
     committee: &Committee,
@@ -60,8 +60,8 @@ fn are_stakes_one(committee: &Committee) -> bool
     true
 }
 
-/// The record of a member's configuration: kind, version, own number, depth, workers, batches, members, their keys, and
-/// their stakes where the version has them.
+/// The record of a member's configuration: kind, version, own number, depth, number of workers, greatest number of batches, number of
+/// members, the members' keys, and in the second version their stakes. On `AllocError` an allocation failed.
 pub fn configuration_record(
     alloc: Global,
     version: Version,
@@ -71,7 +71,7 @@ pub fn configuration_record(
     ensures bytes { IfOk result (λ bytes. bytes.items ≡ configuration_of version committee.now own) }
     ensures len { IfOk result (λ bytes. length bytes.items ≡ size_in version (length committee.now.keys)) }
     ensures shape { IfOk result (λ bytes. shaped_version bytes.items ≡ Some version) }
-    // The record fits a group together with a head.
+    // The record fits in one group together with a head, which is the record of a generation.
     ensures packs { IfOk result (λ bytes. CanPack (bytes.items ∷ [])) }
 {
     committee.limits_hold();
@@ -101,7 +101,7 @@ fn put_keys(bytes: &mut Vec<u8>, committee: &Committee) -> Result<(), AllocError
     Ok(())
 }
 
-/// Adds the members' stakes to the bytes, if the version has them.
+/// Adds the members' stakes to the bytes, if this version of the record has them.
 fn put_stakes(
     bytes: &mut Vec<u8>,
     version: Version,

@@ -17,8 +17,8 @@ use journal::Version;
 use std::alloc::{AllocError, Global};
 use wire::Author;
 
-/// The records of a member's tables: its configuration in the second version, and what the tables hold. Where that is a sound state of the
-/// member, a node that reads the records back is in the same state. On `AllocError` an allocation failed.
+/// The records of a member's tables: its configuration in the second version, and what the tables hold. If the tables hold a sound state of
+/// the member, a node that loads these records is in the same state. On `AllocError` an allocation failed.
 pub fn kept_records(alloc: Global, own: Author, tables: &Tables) -> Result<Vec<Vec<u8>>, AllocError>
     ensures { IfOk result (λ rows. (node : Node) (state : State) → node.own ≡ own → IsNode node → IsSound node state → AreAt node state tables.now
         → Describes node tables.now (contents rows.items)) }

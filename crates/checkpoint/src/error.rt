@@ -1,4 +1,4 @@
-//! Why records can't be loaded.
+//! Why the records of a checkpoint can't be loaded.
 
 ghost use Rattle.std.specs.Prelude.{◌≡◌};
 ghost use Rattle.checkpoint.specs.declared.error.LoadError.TheVariants.{Memory};
@@ -6,16 +6,16 @@ ghost use Rattle.checkpoint.specs.declared.error.LoadError.TheVariants.{Memory};
 use std::alloc::{AllocError, AllocFailed};
 use thiserror::Error;
 
-/// Why records can't be loaded. Printed as its number and its name.
+/// Why the records of a checkpoint can't be loaded. Printed as its number and its name.
 #[derive(Clone, Copy, Debug, PartialEq, Eq, Error)]
 pub enum LoadError {
     /// An allocation failed.
     #[error("1 Memory")]
     Memory,
-    /// The record at this place in the list, counted from 0, is the first at fault.
+    /// The record at this place in the list, counted from 0, is the first record at fault.
     #[error("2 Unsound")]
     Unsound(u64),
-    /// Each record is sound by itself, and the whole isn't.
+    /// Each record is sound by itself, but there is an order and no committed leader, or a committed leader and no order.
     #[error("3 UnsoundWhole")]
     UnsoundWhole,
 }

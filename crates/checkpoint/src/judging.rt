@@ -1,4 +1,5 @@
-//! Whether the records that were read are a sound state, and the parts from which tables are restored then.
+//! Whether the records of a checkpoint that were read are a sound state. If they are, this gives the parts from which a validator's tables
+//! are restored.
 
 mod batches;
 mod certificates;
@@ -32,10 +33,12 @@ use std::alloc::Global;
 use votes::test_votes;
 use wire::{Author, Digest, Round};
 
-/// The parts from which tables are restored, if what was read is a sound state. `count` records came, the configuration included.
+/// The parts from which a validator's tables are restored, if what was read is a sound state. `count` records came, the configuration
+/// included.
 ///
 /// # Errors
-/// `Unsound` with the first record that isn't sound, `UnsoundWhole` where each is and the whole isn't; `Memory` where an allocation failed.
+/// `Unsound` with the first record that isn't sound; `UnsoundWhole` where each record is sound and the whole isn't; `Memory` where an
+/// allocation failed.
 pub fn kept_of<S: Sign>(
     alloc: Global,
     node: &Node<S>,
@@ -85,7 +88,7 @@ pub fn kept_of<S: Sign>(
     })
 }
 
-/// Whether the order is empty exactly where there is no last leader.
+/// Whether the order is empty exactly if no leader is committed.
 fn is_whole_sound(order: &[Digest], last: &Option<(Round, Author)>) -> bool
     ensures { result ≡ (if length order.now == 0 then not (is_some last.now) else is_some last.now) }
 {

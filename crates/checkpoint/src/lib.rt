@@ -1,5 +1,5 @@
-//! Checkpoints. The state that a validator's tables hold is written as records, and records are read back to the parts from which tables
-//! are restored.
+//! Checkpoints: the state that a validator's tables hold is written as records, and such records are read back to the parts from which a
+//! validator's tables are restored.
 #![tactic(auto)]
 
 mod configuration;
@@ -24,13 +24,14 @@ pub use reader::CheckpointReader;
 pub use records::records_of;
 pub use snapshot::snapshot_of;
 
-/// Of what the tables hold of a sound state a checkpoint is made. It is one that a node may write, and the state that it is read as is that
-/// same state.
+/// The law that a checkpoint keeps the state. The checkpoint that is made of a sound state is one that a node may write, and it is read
+/// back as the same state. The call does nothing.
 pub fn checkpoint_is_state()
     ensures { CheckpointIsState }
 {}
 
-/// Records that describe tables have no fault, and tables that are loaded from them hold the same state.
+/// The law that a checkpoint can be loaded: records that describe a validator's tables have no fault, and tables that are loaded from them
+/// hold the same state. The call does nothing.
 pub fn kept_is_loaded()
     ensures { KeptIsLoaded }
 {

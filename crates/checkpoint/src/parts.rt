@@ -48,7 +48,7 @@ pub fn parts_of(alloc: Global, tables: &Tables) -> Result<Kept, AllocError>
     })
 }
 
-/// The coins.
+/// A copy of the values of the coins. On `AllocError` an allocation failed.
 fn coins_of(alloc: Global, coins: &Coins) -> Result<Coins, AllocError>
     ensures { IfOk result (λ found. found ≡ coins.now) }
 {

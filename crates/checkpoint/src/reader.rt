@@ -22,11 +22,11 @@ use std::alloc::Global;
 use std::marker::Model;
 
 /// Reads the records of a checkpoint one by one: the node's configuration, and those of its state. Contracts see the node and the records
-/// so far.
+/// that came so far.
 pub struct CheckpointReader<'a, S: Sign> {
     alloc: Global,
     node: &'a Node<S>,
-    // The version of the node's configuration, if that has come.
+    // The version of the configuration's record, once that has come.
     version: Option<Version>,
     // How many records have come.
     count: u64,
@@ -57,7 +57,7 @@ impl<'a, S: Sign> Model for CheckpointReader<'a, S> {
 }
 
 impl<'a, S: Sign> CheckpointReader<'a, S> {
-    /// A reader to which no record came yet.
+    /// A reader to which no record has come yet.
     pub fn new(alloc: Global, node: &'a Node<S>) -> CheckpointReader<'a, S>
         requires { IsNode (node_view S.scheme node.now) }
         ensures { result ≡ reader_of node.now [] }
@@ -75,9 +75,9 @@ impl<'a, S: Sign> CheckpointReader<'a, S> {
     /// Reads the next record; the first one has to be the node's configuration.
     ///
     /// # Errors
-    /// `Unsound` with the first record that doesn't follow the format: this one; or the one before it, if that is a piece which isn't full
-    /// and this is one more piece. Whatever records follow, loading the whole list gives the same error. `Memory` where an allocation
-    /// failed. After an error the reader is as before.
+    /// `Unsound` with the first record that doesn't follow the format. This is the given record; or the record before it, if that is a
+    /// piece of the order or of the coins which isn't full, and the given record is one more such piece. Whatever records follow, loading
+    /// the whole list gives the same error. `Memory` where an allocation failed. After an error the reader is as before.
     pub fn put(&mut self, bytes: &[u8]) -> Result<(), LoadError>
         ensures ok { OnOk result (self.new ≡ record self.old { records = self.old.records ++ bytes.now ∷ [] }) }
         ensures fault { IfErr result (λ error. error ≢ LoadError.Memory → (more : List (List ℕ)) → loading.load_fault (node_of S.scheme self.old) (self.old.records ++ bytes.now ∷ more) ≡ fault_of error) }
@@ -97,7 +97,7 @@ impl<'a, S: Sign> CheckpointReader<'a, S> {
             }
             Some(_) => {
                 let Some(count) = self.count.checked_add(1) else {
-                    // No memory has so many records.
+                    // This is never reached: no memory holds so many records.
                     return Err(LoadError::Memory);
                 };
                 if self.so_far.is_cut_short(kind_of(bytes)) {
@@ -115,8 +115,8 @@ impl<'a, S: Sign> CheckpointReader<'a, S> {
     /// The parts from which a validator's tables are restored, once all records have come.
     ///
     /// # Errors
-    /// `Unsound` where no record came, or with the first that isn't sound; `UnsoundWhole` where each is sound and the whole isn't; `Memory`
-    /// where an allocation failed.
+    /// `Unsound` where no record came, or with the first record that isn't sound; `UnsoundWhole` where each record is sound and the whole
+    /// isn't; `Memory` where an allocation failed.
     pub fn finish(self) -> Result<Kept, LoadError>
         ensures ok { OnOk result (loading.load_fault (node_of S.scheme self.entry) self.entry.records ≡ None) }
         ensures kept { IfOk result (λ kept. (checkpoint : Checkpoint) × (checkpoint_read (node_of S.scheme self.entry) (drop 1 self.entry.records) ≡ Ok checkpoint) × IsKeptOf (node_of S.scheme self.entry) (state_in (node_of S.scheme self.entry) checkpoint) kept) }

@@ -1,4 +1,4 @@
-//! What the records of a checkpoint's state decode to, one after the other.
+//! Reading the records of a checkpoint's state, one after the other, without judging whether they are sound.
 
 mod batch;
 mod certificate;
@@ -33,7 +33,7 @@ use votebook::Slot;
 use wire::{Certificate, Digest, WireError};
 use wire_read::Reader;
 
-/// What was read so far, as plain data. Contracts see it as a checkpoint.
+/// What the records of a checkpoint that were read so far decode to. Contracts see it as a checkpoint.
 #[derive(Drop)]
 pub struct ReadSoFar {
     /// The order.
@@ -61,7 +61,7 @@ impl Model for ReadSoFar {
 }
 
 impl ReadSoFar {
-    /// Nothing was read yet.
+    /// What was read before the first record: nothing.
     pub fn new(alloc: Global) -> ReadSoFar
         ensures { result ≡ blank }
     {
@@ -75,8 +75,8 @@ impl ReadSoFar {
         }
     }
 
-    /// Reads one more record, and gives whether it follows the format. On `AllocError` an allocation failed. A record that isn't read
-    /// changes nothing.
+    /// Reads one more record, and gives whether the record follows the format. On `AllocError` an allocation failed. A record that isn't
+    /// read changes nothing.
     #[tactic(auto, unfolding(spec_checkpoint::specs::Reading::with_record))]
     pub fn put<S: Sign>(
         &mut self,
@@ -105,7 +105,8 @@ impl ReadSoFar {
         }
     }
 
-    /// Whether the last record is a piece that isn't full, and a record of this kind would be one more piece.
+    /// Whether the last record is a piece of the order or of the coins that isn't full, and a record of this kind would be one more such
+    /// piece.
     pub fn is_cut_short(&self, kind: u8) -> bool
         ensures { result ≡ reading.is_cut_short self.now kind }
     {
@@ -119,7 +120,7 @@ impl ReadSoFar {
         }
     }
 
-    /// The kind of the last record, 0 where there is none.
+    /// The kind of the last record that was read, 0 where none was.
     #[tactic(auto, using(crate::proofs::LastKinds::kinds))]
     fn last_kind(&self) -> u8
         ensures { result ≡ reading.last_kind self.now }
@@ -141,7 +142,7 @@ impl ReadSoFar {
         }
     }
 
-    // Reads a record with a piece of the order.
+    // Reads a record with a piece of the order, and gives whether it follows the format.
     fn put_order(&mut self, alloc: Global, bytes: &[u8]) -> Result<bool, AllocError>
         ensures read { IfOk result (λ put. option_map (λ digests. record self.old { order = self.old.order ++ digests }) (reading.whole (digests_at bytes.now)) ≡ (if put then Some self.new else None)) }
         ensures same { IfOk result (λ put. put ≡ false → self.new ≡ self.old) }
@@ -158,7 +159,7 @@ impl ReadSoFar {
         }
     }
 
-    // Reads a record with a batch.
+    // Reads a record with a batch, and gives whether it follows the format.
     fn put_batch<S: Sign>(
         &mut self,
         alloc: Global,
@@ -180,7 +181,7 @@ impl ReadSoFar {
         }
     }
 
-    // Reads a record with a vote.
+    // Reads a record with a vote, and gives whether it follows the format.
     fn put_vote(&mut self, bytes: &[u8]) -> Result<bool, AllocError>
         ensures read { IfOk result (λ put. option_map (λ kept. record self.old { votes = self.old.votes ++ kept ∷ [] }) (reading.whole (kept_vote_at self.old.votes bytes.now)) ≡ (if put then Some self.new else None)) }
         ensures same { IfOk result (λ put. put ≡ false → self.new ≡ self.old) }
@@ -197,7 +198,7 @@ impl ReadSoFar {
         }
     }
 
-    // Reads a record with an own header.
+    // Reads a record with an own header, and gives whether it follows the format.
     fn put_header<S: Sign>(
         &mut self,
         alloc: Global,
@@ -219,7 +220,7 @@ impl ReadSoFar {
         }
     }
 
-    // Reads a record with a certificate.
+    // Reads a record with a certificate, and gives whether it follows the format.
     fn put_certificate(&mut self, alloc: Global, bytes: &[u8]) -> Result<bool, AllocError>
         ensures read { IfOk result (λ put. option_map (λ kept. record self.old { certificates = self.old.certificates ++ kept ∷ [] }) (reading.whole (kept_certificate_at self.old.certificates bytes.now)) ≡ (if put then Some self.new else None)) }
         ensures same { IfOk result (λ put. put ≡ false → self.new ≡ self.old) }
@@ -236,7 +237,7 @@ impl ReadSoFar {
         }
     }
 
-    // Reads a record with a piece of the coins.
+    // Reads a record with a piece of the coins, and gives whether it follows the format.
     fn put_coins(&mut self, alloc: Global, bytes: &[u8]) -> Result<bool, AllocError>
         ensures read { IfOk result (λ put. option_map (λ coins. record self.old { coins = self.old.coins ++ coins }) (reading.whole (coins_at bytes.now)) ≡ (if put then Some self.new else None)) }
         ensures same { IfOk result (λ put. put ≡ false → self.new ≡ self.old) }
@@ -264,7 +265,7 @@ pub fn kind_of(bytes: &[u8]) -> u8
     }
 }
 
-/// The value that was read, if the bytes follow the format and none is left.
+/// The value that was read, if the bytes follow the format and no byte is left after it. On `AllocError` an allocation failed.
 fn whole<T: Drop>(read: Result<T, WireError>, reader: &Reader) -> Result<Option<T>, AllocError>
     ensures { (text : Read T) → Gives (λ x. (x, reader.now)) read text → IfOk result (λ found. found ≡ reading.whole text) }
 {
@@ -280,7 +281,7 @@ fn whole<T: Drop>(read: Result<T, WireError>, reader: &Reader) -> Result<Option<
     }
 }
 
-/// The list that was read, if the bytes follow the format and none is left.
+/// The list that was read, if the bytes follow the format and no byte is left after it. On `AllocError` an allocation failed.
 fn whole_list<T: Drop>(
     read: Result<Vec<T>, WireError>,
     reader: &Reader,
@@ -299,7 +300,7 @@ fn whole_list<T: Drop>(
     }
 }
 
-/// The vote that was read, if the bytes follow the format and none is left.
+/// The vote that was read, if the bytes follow the format and no byte is left after it. On `AllocError` an allocation failed.
 fn whole_vote(
     read: Result<(Slot, Digest), WireError>,
     reader: &Reader,

@@ -1,4 +1,4 @@
-//! The records of a state, in the order of a checkpoint.
+//! Writing the records of a state, in the order that a checkpoint has.
 
 pub(crate) mod batch;
 pub(crate) mod messages;
@@ -20,8 +20,8 @@ use std::alloc::{AllocError, Global};
 use votebook::Slot;
 use wire::{Certificate, Digest};
 
-/// The records of a state: the order in pieces, the batches, the votes for others, the own headers, the certificates, the coins in pieces.
-/// On `AllocError` an allocation failed.
+/// The records of a state: the order in pieces, the batches, the votes for other members' headers, the own headers, the certificates, the
+/// coins in pieces. On `AllocError` an allocation failed.
 pub fn records_of(alloc: Global, kept: &Kept) -> Result<Vec<Vec<u8>>, AllocError>
     ensures { IfOk result (λ rows. contents rows.items ≡ records.state_records (checkpoint_of kept.now)) }
 {
@@ -30,7 +30,7 @@ pub fn records_of(alloc: Global, kept: &Kept) -> Result<Vec<Vec<u8>>, AllocError
     Ok(rows)
 }
 
-/// Adds the records of a state.
+/// Adds the records of a state to the sink.
 pub fn put_records<S: RecordSink>(
     alloc: Global,
     sink: &mut S,
@@ -47,7 +47,7 @@ pub fn put_records<S: RecordSink>(
     put_coins(alloc, sink, &kept.coins)
 }
 
-/// Adds the records of the pieces of the order.
+/// Adds to the sink the records of the pieces of the order.
 fn put_order<S: RecordSink>(alloc: Global, sink: &mut S, order: &[Digest]) -> Result<(), AllocError>
     requires { All S.fits (map records.order_record (records.cut ORDER_PIECE order.now)) }
     ensures { OnOk result (S.records sink.new ≡ S.records sink.old ++ map records.order_record (records.cut ORDER_PIECE order.now)) }
@@ -60,7 +60,7 @@ fn put_order<S: RecordSink>(alloc: Global, sink: &mut S, order: &[Digest]) -> Re
     Ok(())
 }
 
-/// Adds the records of batches.
+/// Adds to the sink the records of batches.
 fn put_batches<S: RecordSink>(
     alloc: Global,
     sink: &mut S,
@@ -75,7 +75,7 @@ fn put_batches<S: RecordSink>(
     Ok(())
 }
 
-/// Adds the records of votes for others.
+/// Adds to the sink the records of votes for other members' headers.
 fn put_votes<S: RecordSink>(
     alloc: Global,
     sink: &mut S,
@@ -91,7 +91,7 @@ fn put_votes<S: RecordSink>(
     Ok(())
 }
 
-/// Adds the records of own headers.
+/// Adds to the sink the records of own headers.
 fn put_headers<S: RecordSink>(
     alloc: Global,
     sink: &mut S,
@@ -107,7 +107,7 @@ fn put_headers<S: RecordSink>(
     Ok(())
 }
 
-/// Adds the records of certificates.
+/// Adds to the sink the records of certificates.
 fn put_certificates<S: RecordSink>(
     alloc: Global,
     sink: &mut S,
@@ -123,7 +123,7 @@ fn put_certificates<S: RecordSink>(
     Ok(())
 }
 
-/// Adds the records of the pieces of the coins.
+/// Adds to the sink the records of the pieces of the coins.
 fn put_coins<S: RecordSink>(alloc: Global, sink: &mut S, coins: &Coins) -> Result<(), AllocError>
     requires { All S.fits (map records.coins_record (records.cut COINS_PIECE coins.now)) }
     ensures { OnOk result (S.records sink.new ≡ S.records sink.old ++ map records.coins_record (records.cut COINS_PIECE coins.now)) }

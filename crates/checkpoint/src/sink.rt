@@ -1,4 +1,4 @@
-//! Where the records of a checkpoint go.
+//! A sink: where the records of a checkpoint are written to.
 
 ghost use Rattle.std.specs.Prelude.{◌≡◌, ◌++◌, ◌∷◌, [], IfOk, OnOk};
 ghost use Rattle.journal.specs.Drafts.{whole};
@@ -6,15 +6,15 @@ ghost use Rattle.journal.specs.Drafts.{whole};
 use journal::SnapshotDraft;
 use std::alloc::{AllocError, Global};
 
-/// Where the records of a checkpoint go, one after the other, each in parts. So a record can be written straight to its place, without a
-/// copy.
+/// Where the records of a checkpoint are written to, one after the other. A record is given in parts, so that it can be written straight to
+/// its place, without a copy.
 pub trait RecordSink {
     ghost use Rattle.std.specs.Prelude.{List, ℕ};
 
-    // The records so far.
+    // The records that were added so far.
     ghost records: { Self → List (List ℕ) };
 
-    // Which records can be added.
+    // Which records can be added: any to a plain list, and to the draft of a snapshot those that fit a group by themselves.
     ghost fits: { List ℕ → Type 0 };
 
     /// Adds a record that is given in parts. On `AllocError` an allocation failed.
@@ -61,7 +61,7 @@ fn joined(alloc: Global, parts: &[&[u8]]) -> Result<Vec<u8>, AllocError>
     Ok(bytes)
 }
 
-/// Adds a record that is given as one part.
+/// Adds to the sink a record that is given as one part.
 pub fn put_row<S: RecordSink>(alloc: Global, sink: &mut S, row: &[u8]) -> Result<(), AllocError>
     requires { S.fits row.now }
     ensures { OnOk result (S.records sink.new ≡ S.records sink.old ++ row.now ∷ []) }

@@ -1,4 +1,4 @@
-//! The checkpoint of a node's tables, as a journal writes it.
+//! The checkpoint of a node's tables, in the form in which a journal writes it.
 
 ghost use Rattle.std.specs.Prelude.{◌≡◌, IfOk};
 ghost use Rattle.spec_machine.specs.Sound.{IsSound};
@@ -16,8 +16,8 @@ use journal::{Snapshot, SnapshotDraft, Version};
 use std::alloc::{AllocError, Global};
 use wire::Author;
 
-/// The checkpoint of a member's tables: its configuration in the second version, and what the tables hold. Where that is a sound state of
-/// the member, a node that reads the checkpoint back is in the same state. On `AllocError` an allocation failed.
+/// The checkpoint of a member's tables: its configuration in the second version, and what the tables hold. If the tables hold a sound state
+/// of the member, a node that reads the checkpoint back is in the same state. On `AllocError` an allocation failed.
 pub fn snapshot_of(alloc: Global, own: Author, tables: &Tables) -> Result<Snapshot, AllocError>
     requires { (node : Node) × (state : State) × StandFor own tables.now node state }
     ensures { IfOk result (λ snapshot. (node : Node) (state : State) → node.own ≡ own → IsNode node → IsSound node state → AreAt node state tables.now

@@ -145,7 +145,7 @@ fn take_all<S: Sign, D: StopDisk, V: Verify>(
     Ok(())
 }
 
-// Gives a member one message. A member that is gone takes none.
+// Gives a member one message, if the message is for it. A member that is gone takes none.
 fn take_one<S: Sign, D: StopDisk, V: Verify>(
     member: &mut Member<'_, S, D>,
     verifier: &V,

@@ -1,8 +1,8 @@
 -- What is known of what is kept.
-use Rattle.std.proofs.Common.{◌≡◌, ℕ, ◌+◌, ◌-◌, ◌<◌, Bool, true, false, List, [], ◌∷◌, length, Option, Some, None, inl, inr, refl, ap, sym, ◌∙◌, subst, arith, slice_get}
+use Rattle.std.proofs.Common.{◌≡◌, ℕ, ◌+◌, ◌-◌, ◌<◌, ◌≤◌, Bool, true, false, List, [], ◌∷◌, length, Option, Some, None, inl, inr, refl, ap, sym, ◌∙◌, subst, arith, slice_get}
 use Rattle.std.proofs.Math.Path.{fun_ext}
 use Rattle.std.specs.Prelude.{nat_le, nat_lt, option_map, option_and_then, All, ◌==◌, ◌&&◌, ◌||◌}
-use Rattle.std.specs.List.{list_any, list_all}
+use Rattle.std.specs.List.{AllByRecursion, list_any, list_all}
 use Rattle.std.specs.Option.{option_map_or}
 use Rattle.std.proofs.lemmas.Bool.{cases_Bool, and_parts, and_from, eqb-true, eq-eqb}
 use Rattle.std.proofs.lemmas.Option.{same_Some, none-some, slice_get_within, get_or_from_slice_get}
@@ -148,6 +148,31 @@ pub all_named : (charter : Charter) (floor base : ℕ) (rows : Rows) → IsKept 
     ≡ list_all (is_held (slots_in (graph_of charter floor base rows)) floor round) parents
 all_named charter floor base rows kept round high parents =
     ap (λ (test : ParentReference → Bool). list_all test parents) (fun_ext (named_held charter floor base rows kept round high))
+
+-- where all parents pass a test, it may be asked of each besides another one
+pub any_besides : (test other : ParentReference → Bool) (parents : List ParentReference) → list_all test parents ≡ true
+    → list_any other parents ≡ list_any (λ p. test p && other p) parents
+any_besides test other [] all = refl
+any_besides test other (p ∷ parents) all =
+    let parts = and_parts (test p) (list_all test parents) all in
+    ap (λ rest. other p || rest) (any_besides test other parents parts.1) ∙ ap (λ b. (b && other p) || list_any (λ q. test q && other q) parents) (sym parts.0)
+
+-- the author of a parent that is there is a member
+named_within : (size floor : ℕ) (rows : Rows) (below : ℕ) → All (λ row. length row ≡ size) rows → (p : ParentReference)
+    → names (entry_at floor rows below p.author.0) p ≡ true → p.author.0 < size
+named_within size floor rows below full p named =
+    elim (given_or_none (entry_at floor rows below p.author.0)) [
+      | inl e ↦ author_within size floor rows below p.author.0 e.0 full e.1
+      | inr none ↦ let bad = rw none at named in absurd cc
+    ]
+
+pub all_within : (size most floor : ℕ) (rows : Rows) (below : ℕ) → size ≤ most → All (λ row. length row ≡ size) rows → (parents : List ParentReference)
+    → list_all (λ p. names (entry_at floor rows below p.author.0) p) parents ≡ true → AllByRecursion (λ p. p.author.0 < most) parents
+all_within size most floor rows below few full [] all = tt
+all_within size most floor rows below few full (p ∷ parents) all =
+    let parts = and_parts (names (entry_at floor rows below p.author.0) p) (list_all (λ q. names (entry_at floor rows below q.author.0) q) parents) all in
+    let within = named_within size floor rows below full p parts.0 in
+    (omega (arith, within, few), all_within size most floor rows below few full parents parts.1)
 
 -- those of a certificate's parents that are kept are held
 pub parent_bit : (charter : Charter) (floor base : ℕ) (rows : Rows) → IsKept charter floor base rows → (x : Certificate) → 0 < x.header.round → (author : ℕ)

@@ -11,14 +11,14 @@ use Rattle.dag.specs.declared.answers.Added.TheVariants.{New, Known}
 use Rattle.dag.specs.declared.refusal.DagRefusal.{DagRefusal}
 use Rattle.dag.specs.declared.refusal.DagRefusal.TheVariants.{TooOld, CertConflict, DigestClash, MissingParents}
 
--- the answer to a certificate whose slot holds one already
+-- the answer to a certificate whose slot holds this certificate already
 abbrev pub held_answer : Certificate → Certificate → Result Added DagRefusal
 held_answer held certificate =
     if not (same_digest (certificate_digest held.header) (certificate_digest certificate.header)) then Err CertConflict
     else if same_header held.header certificate.header then Ok Known
     else Err DigestClash
 
--- the answer to a certificate whose slot holds nothing
+-- the answer to a certificate whose slot holds none
 abbrev pub free_answer : DagView → Certificate → Result Added DagRefusal
 free_answer graph certificate = if not (all_held (slots_in graph) graph.floor certificate.header) then Err MissingParents else Ok New
 

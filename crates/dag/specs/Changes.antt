@@ -1,11 +1,11 @@
--- How a DAG changes.
+-- How a DAG changes when a certificate is added, when certificates are marked, and when rounds are dropped.
 use Rattle.std.specs.Prelude.{◌≡◌, ◌≤◌, ℕ, ◌+◌, ◌==◌, ◌&&◌, ◌||◌, nat_lt, max, Bool, false, [], ◌∷◌, is_some, None, if◌then◌else◌}
 use Rattle.std.specs.Option.{option_or}
 use Rattle.spec_model.specs.Slots.{slots_of}
 use Rattle.spec_model.specs.Words.{Certificate}
 use Rattle.dag.specs.Graph.{DagView, slots_in, marked_in, end_in}
 
--- a certificate was added without a mark, to a slot that held nothing; rows were added up to its round, which is at most one above the last
+-- the certificate was added without a mark, to a slot that held none. Rows were added up to its round, which is at most one above the last
 -- row
 pub record IsWith (before after : DagView) (certificate : Certificate) : Type 0 where
   pub charter : after.charter ≡ before.charter
@@ -25,7 +25,7 @@ pub record IsMarked (before after : DagView) (round : ℕ) (authors : ℕ → Bo
   pub marked : (r a : ℕ) → marked_in after r a ≡ (marked_in before r a || ((r == round) && (authors a && is_some (slots_in before r a))))
   pub end : end_in after ≡ end_in before
 
--- everything below a round was dropped
+-- all certificates below this round were dropped, and the floor was moved up to it
 pub record IsDropped (before after : DagView) (round : ℕ) : Type 0 where
   pub charter : after.charter ≡ before.charter
   pub floor : after.floor ≡ max before.floor round

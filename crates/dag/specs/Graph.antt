@@ -1,4 +1,4 @@
--- What a DAG holds.
+-- What a DAG holds, and what holds of every DAG.
 use Rattle.std.specs.Prelude.{◌≡◌, ℕ, ◌+◌, ◌-◌, ◌<◌, ◌≤◌, ◌&&◌, cond, nat_le, Bool, true, false, List, All, map, length, count_by, sum_by, Option, Some}
 use Rattle.std.specs.Prelude.{None, is_some, option_map, option_and_then, slice_get, if◌then◌else◌}
 use Rattle.std.specs.List.{list_any, filter_map, flat_map}
@@ -9,13 +9,13 @@ use Rattle.spec_model.specs.Holdings.{all_held}
 use Rattle.spec_model.specs.Slots.{Slots, certificate_digest, is_of_slot, is_parent, reaches}
 use Rattle.spec_model.specs.Words.{Author, Certificate, Digest, ParentReference}
 
--- a certificate in its slot, and its mark: whether it lies in the history of a committed leader
+-- the certificate of a slot, and its mark: whether a committed leader reaches it
 pub record Placed : Type 0 where
   pub certificate : Certificate
   pub marked : Bool
 
--- a DAG: the committee; the floor, which is the lowest round that is kept; its base, which is the round of the last committed leader, or 1
--- where there is none; and for each round from the floor on what its members' slots hold
+-- a DAG: the committee; the floor, which is the lowest round that is kept; the base, which is the round of the last committed leader, or 1
+-- where no leader is committed; and for each round from the floor on what the members' slots hold
 pub record DagView : Type 0 where
   pub charter : Charter
   pub floor : ℕ
@@ -26,7 +26,7 @@ pub record DagView : Type 0 where
 abbrev pub size_in : DagView → ℕ
 size_in graph = length graph.charter.keys
 
--- the entry at this round and author, in rows that begin with the floor's
+-- the entry of this round and author, in rows of which the first is that of the floor
 abbrev pub row_at : {X : Type 0} → ℕ → List (List (Option X)) → ℕ → ℕ → Option X
 row_at floor rounds round author =
     if nat_le floor round then option_and_then (λ row. option_and_then (λ held. held) (slice_get row author)) (slice_get rounds (round - floor)) else None
@@ -43,11 +43,11 @@ slots_in graph round author = option_map (λ placed. placed.certificate) (placed
 abbrev pub marked_in : DagView → ℕ → ℕ → Bool
 marked_in graph round author = option_map_or (λ placed. placed.marked) (placed_at graph round author) false
 
--- the entries of a row, sorted by author
+-- the entries of a row: what its slots hold, in the order of the authors
 abbrev pub held_in : {X : Type 0} → List (Option X) → List X
 held_in row = filter_map (λ slot. slot) row
 
--- the certificates, sorted by round and then author
+-- the certificates of the DAG, sorted by round and then author
 abbrev pub certificates_in : DagView → List Certificate
 certificates_in graph = map (λ placed. placed.certificate) (flat_map held_in graph.rounds)
 
@@ -82,7 +82,7 @@ abbrev pub reaches_in : DagView → ℕ → ℕ → ℕ → ℕ → Bool
 reaches_in graph round author below other =
     option_map_or (λ start. option_map_or (reaches (size_in graph) (slots_in graph) start) (slots_in graph below other) false) (slots_in graph round author) false
 
--- the certificate in a slot of the round below is a parent of some certificate of this round whose author passes
+-- some certificate of this round, by an author for whom `passes` holds, has the certificate in this slot of the round below as a parent
 abbrev pub is_parent_of : DagView → ℕ → ℕ → (ℕ → Bool) → ℕ → Bool
 is_parent_of graph round below passes other =
     list_any (λ author. passes author && has_parent_in graph round author below other) (numbers (size_in graph))
@@ -91,7 +91,7 @@ is_parent_of graph round below passes other =
 abbrev pub references_at : DagView → ℕ → ℕ → ℕ
 references_at graph round author = option_map_or (λ c. length c.header.parents) (slots_in graph round author) 0
 
--- how many references to parents the certificates of a round have whose authors pass
+-- how many references to parents the certificates of a round have that are by authors for whom `passes` holds
 abbrev pub references_of : DagView → ℕ → (ℕ → Bool) → ℕ
 references_of graph round passes = sum_by (λ author. cond (passes author) (references_at graph round author) 0) (numbers (size_in graph))
 

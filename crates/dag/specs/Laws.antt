@@ -1,4 +1,4 @@
--- How a DAG agrees with admission, and what doesn't change when a DAG changes.
+-- Laws on how a DAG agrees with admission, and on what stays the same when a DAG changes.
 use Rattle.std.specs.Prelude.{◌≡◌, ◌≤◌, ◌<◌, ℕ, true, [], Ok, Err, is_some}
 use Rattle.spec_model.specs.Admitting.{certificate_answer, order_outputs}
 use Rattle.spec_model.specs.Nodes.{Node}
@@ -12,7 +12,7 @@ use Rattle.dag.specs.Graph.{DagView, IsGraph, size_in, slots_in, reaches_in}
 use Rattle.dag.specs.declared.answers.Added.TheVariants.{New, Known}
 use Rattle.dag.specs.declared.refusal.DagRefusal.TheVariants.{TooOld, CertConflict, DigestClash, MissingParents}
 
--- a node's state answers this certificate as the DAG does
+-- the DAG's answer to a certificate, and admission's answer at a node's state, are the same
 pub record AnswersAlike (node : Node) (now later : State) (graph : DagView) (certificate : Certificate) : Type 0 where
   pub new : answer graph certificate ≡ Ok New → certificate_answer node now later certificate ≡ admission.New (order_outputs now later)
   pub known : answer graph certificate ≡ Ok Known → certificate_answer node now later certificate ≡ admission.Known []
@@ -21,7 +21,7 @@ pub record AnswersAlike (node : Node) (now later : State) (graph : DagView) (cer
   pub clash : answer graph certificate ≡ Err DigestClash → certificate_answer node now later certificate ≡ admission.Refused refusal.DigestClash
   pub missing : answer graph certificate ≡ Err MissingParents → certificate_answer node now later certificate ≡ admission.Refused refusal.MissingParents
 
--- a DAG with the floor and the certificates of a state answers as admission does
+-- a DAG that has the floor and the certificates of a state answers a certificate as admission does at that state
 abbrev pub AnswersAsAdmission : Type 0
 AnswersAsAdmission = (node : Node) (now later : State) (graph : DagView) (certificate : Certificate) → graph.floor ≡ floor_in node now → slots_in graph ≡ now.slots
     → AnswersAlike node now later graph certificate

@@ -3,8 +3,8 @@
 /// The answer to a certificate that isn't refused.
 #[derive(Clone, Copy, Debug, PartialEq, Eq)]
 pub enum Added {
-    /// It is held from now on.
+    /// The certificate is new: the DAG holds it from now on.
     New,
-    /// It was held already.
+    /// The DAG held the certificate already.
     Known,
 }

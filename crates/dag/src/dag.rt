@@ -1,4 +1,4 @@
-//! The DAG.
+//! The DAG of certificates that a validator holds.
 
 ghost use Rattle.std.specs.Prelude.{◌≡◌, ◌≢◌, ◌&&◌, nat_lt, ◌+◌, ◌-◌, ◌<◌, ◌≤◌, ◌^◌, ℕ, true, false, max, min, not, nat_le, length, map, [], None, Ok, Err, Some, is_some, IfOk, OnOk, OnErr, option_copied, slice_get, if◌then◌else◌};
 ghost use Rattle.committee.specs.Charter.{numbers};
@@ -33,15 +33,15 @@ use wire::{
     header_digest,
 };
 
-/// The certificates that a validator holds, by round and author, each with its parents' authors. What a certificate reaches further down is
-/// found by walking down from it. Nothing below the floor is held. Contracts see the committee, the floor, the round of the last committed
-/// leader, and what each slot holds, with its mark.
+/// The certificates that a validator holds, by round and author, each with its parents' authors. Which certificates one reaches in lower
+/// rounds is found by walking down from it. Nothing below the floor is held. Contracts see the committee, the floor, the round of the last
+/// committed leader, and what each slot holds: a certificate and whether it is marked.
 pub struct Dag<'a> {
     alloc: Global,
     committee: &'a Committee,
     floor: Round,
     base: Round,
-    // The first row is the floor's.
+    // The rows of consecutive rounds. The first row is that of the floor.
     rows: VecDeque<Row>,
 }
 
@@ -100,7 +100,7 @@ fn same_header(one: &HeaderBody, other: &HeaderBody) -> bool
             && one.parents.as_slice() == other.parents.as_slice())
 }
 
-// The answer to a certificate of this digest where its slot holds this entry.
+// The answer to a certificate with this digest whose slot holds this entry.
 fn held_answer(
     held: &Entry,
     certificate: &Certificate,
@@ -120,14 +120,14 @@ fn held_answer(
     }
 }
 
-// The empty set of members.
+// The set of members that has no member.
 fn nobody() -> MemberSet
     ensures { result ≡ nobody }
 {
     MemberSet::none()
 }
 
-// The genesis certificate of an author, as an entry.
+// The DAG's entry for the genesis certificate of this author.
 fn first_entry(alloc: Global, author: Author) -> Entry
     ensures { result ≡ first author.0 }
 {
@@ -174,7 +174,8 @@ impl<'a> Dag<'a> {
         })
     }
 
-    /// An empty DAG with a floor above 0. The round after the floor is taken as that of the last committed leader.
+    /// An empty DAG with this floor, which is above 0. Until a leader is noted, the round after the floor counts as that of the last
+    /// committed leader.
     pub fn above(alloc: Global, committee: &'a Committee, floor: Round) -> Dag<'a>
         requires positive { 0 < floor }
         requires limit { floor < MAX }
@@ -205,7 +206,7 @@ impl<'a> Dag<'a> {
         self.add_digested(certificate, digest)
     }
 
-    /// Adds a certificate with this digest, if it is new. It is of a member, and names at least one parent.
+    /// Adds a certificate with this digest, if it is new. Its author has to be a member, and it has to name at least one parent.
     ///
     /// # Errors
     /// The refusals of `answer`; or `Memory` where the answer would be New and an allocation failed. None changes anything.
@@ -233,9 +234,9 @@ impl<'a> Dag<'a> {
     /// The answer to a certificate with this digest: New, or Known where it is held already.
     ///
     /// # Errors
-    /// The first that applies: `TooOld` where its round is low, `CertConflict` where its slot holds a certificate of another
-    /// digest, `DigestClash` where it holds one of its digest with another header, `MissingParents` where a parent isn't
-    /// held. `Memory` never.
+    /// The first that applies: `TooOld` where the certificate's round is low, `CertConflict` where its slot holds a certificate with
+    /// another digest, `DigestClash` where its slot holds one with the same digest and another header, `MissingParents` where a parent
+    /// isn't held. The answer is never `Memory`.
     pub fn answer(&self, certificate: &Certificate, digest: &Digest) -> Result<Added, DagRefusal>
         requires { digest.now ≡ certificate_digest certificate.now.header }
         ensures { result ≡ answer self.now certificate.now }
@@ -250,7 +251,7 @@ impl<'a> Dag<'a> {
         }
     }
 
-    // The answer to a certificate with this header whose slot holds nothing.
+    // The answer to a certificate with this header, whose slot holds no certificate.
     fn free_answer(&self, header: &HeaderBody) -> Result<Added, DagRefusal>
         ensures { result ≡ (if not (all_held (slots_in self.now) self.now.floor header.now) then Err DagRefusal.MissingParents else Ok Added.New) }
     {
@@ -290,7 +291,7 @@ impl<'a> Dag<'a> {
         self.place(certificate, digest)
     }
 
-    /// Adds a certificate with this digest to a DAG that is being restored. Certificates come in the order of their rounds, so none of a
+    /// Adds a certificate with this digest to a DAG that is being restored. Certificates have to come sorted by round, so that none of a
     /// later round is held yet. Parents at or below a floor above 0 count as held. On `AllocError` an allocation failed, and nothing has
     /// changed.
     pub fn restore(&mut self, certificate: Certificate, digest: Digest) -> Result<(), AllocError>
@@ -309,7 +310,7 @@ impl<'a> Dag<'a> {
         self.place(certificate, digest)
     }
 
-    // Puts a certificate with this digest into a slot that holds nothing. Its parents are held, and no held certificate names it as a
+    // Puts a certificate with this digest into a slot that holds none. All its parents are held, and no held certificate names it as a
     // parent.
     fn place(&mut self, certificate: Certificate, digest: Digest) -> Result<(), AllocError>
         requires member { certificate.header.author.0 < length self.old.charter.keys }
@@ -337,7 +338,7 @@ impl<'a> Dag<'a> {
         Ok(())
     }
 
-    // The row of a certificate, counted from the floor's, and its author.
+    // The place of a certificate's row, counted from the floor's row, and the certificate's author.
     fn slot_of(&self, certificate: &Certificate) -> (usize, Author)
         requires { self.now.floor ≤ certificate.now.header.round }
         ensures value { result ≡ (certificate.now.header.round - self.now.floor, certificate.now.header.author) }
@@ -349,18 +350,21 @@ impl<'a> Dag<'a> {
         (place as usize, header.author)
     }
 
-    // The authors of those parents of a certificate that are held.
+    // The authors of those parents of a certificate that are in the DAG. All parents are held, but those at or below a floor above 0
+    // may be missing in the DAG.
     fn held_parents(&self, certificate: &Certificate) -> MemberSet
-        requires { 0 < certificate.now.header.round }
+        requires positive { 0 < certificate.now.header.round }
+        requires held { all_held (slots_in self.now) self.now.floor certificate.now.header ≡ true }
         ensures { (author : ℕ) → has result author ≡ has_below (slots_in self.now) certificate.now author }
     {
         let header = &certificate.header;
-        rows::authors_of(
-            &self.rows,
-            self.floor,
-            header.round.number() - 1,
-            header.parents.as_slice(),
-        )
+        let below = header.round.number() - 1;
+        let parents = header.parents.as_slice();
+        // Parents at or below a floor above 0 count as held, whether they are in the DAG or not. All others are in it.
+        if is_under(self.floor, below) {
+            return rows::authors_of(&self.rows, self.floor, below, parents);
+        }
+        rows::authors(parents)
     }
 
     /// The certificate in a slot.
@@ -373,7 +377,7 @@ impl<'a> Dag<'a> {
         }
     }
 
-    /// The certificate at a place, counted from 0, in the order of rounds and then authors. None from the number of certificates on.
+    /// The certificate at this place in the order of rounds and then authors, counted from 0. None where there are fewer.
     pub fn nth(&self, place: usize) -> Option<&Certificate>
         ensures { option_copied result ≡ slice_get (certificates_in self.now) place }
     {
@@ -393,7 +397,7 @@ impl<'a> Dag<'a> {
         }
     }
 
-    /// Whether a slot holds a certificate that is marked, as those are that a committed leader reaches.
+    /// Whether a slot holds a marked certificate: one that a committed leader reaches.
     pub fn is_marked(&self, round: Round, author: Author) -> bool
         ensures { result ≡ marked_in self.now round author.0 }
     {
@@ -420,21 +424,21 @@ impl<'a> Dag<'a> {
         self.floor.number() + self.rows.len() as u64
     }
 
-    /// The floor: the lowest round that is kept.
+    /// The floor: the lowest round whose certificates are kept.
     pub fn floor(&self) -> Round
         ensures { result ≡ self.now.floor }
     {
         self.floor
     }
 
-    /// The round of the last committed leader, or 1 where there is none.
+    /// The round of the last committed leader, or 1 where no leader is committed.
     pub fn base(&self) -> Round
         ensures { result ≡ self.now.base }
     {
         self.base
     }
 
-    /// The committee.
+    /// The committee whose certificates the DAG holds.
     pub fn committee(&self) -> &'a Committee
         ensures { result.now ≡ self.now.charter }
     {
@@ -461,8 +465,8 @@ impl<'a> Dag<'a> {
         self.committee.weight(&self.authors_at(round))
     }
 
-    /// The parent at this place in the certificate of a slot, by author and digest. If there is one, it counts as read; the count stays at
-    /// its greatest number.
+    /// The parent at this place in the certificate of a slot, counted from 0, as its author and digest. If there is one, it counts as one
+    /// more reference that was read, up to the greatest count.
     pub fn parent(
         &self,
         round: Round,
@@ -497,7 +501,7 @@ impl<'a> Dag<'a> {
         }
     }
 
-    // As `parents`; all references of the certificate count as read.
+    // The authors of the parents of the certificate in a slot. All references to parents that the certificate has count as read.
     fn read_parents(&self, round: Round, author: Author, reads: &mut Reads) -> MemberSet
         requires { reads.old + MAX_PARENTS < 2 ^ 64 }
         ensures parents { (member : ℕ) → has result member ≡ has_parent_in self.now round author.0 (round - 1) member }
@@ -508,8 +512,8 @@ impl<'a> Dag<'a> {
         self.parents(round, author)
     }
 
-    /// The authors of the parents of the certificates that these authors have in a round. All references of these certificates count as
-    /// read. This is one step down.
+    /// The authors of the parents of the certificates that these authors have in a round. All references to parents that these certificates
+    /// have count as read. A walk down the DAG makes one such step for each round.
     pub fn parents_of(&self, round: Round, authors: &MemberSet, reads: &mut Reads) -> MemberSet
         requires { reads.old + MAX_ROUND_REFERENCES < 2 ^ 64 }
         ensures parents { (other : ℕ) → has result other ≡ is_parent_of self.now round (round - 1) (has authors.now) other }
@@ -525,7 +529,7 @@ impl<'a> Dag<'a> {
         parents
     }
 
-    // The author alone, where the slot holds a certificate; otherwise nobody.
+    // The author alone, where the slot holds a certificate; otherwise no member.
     fn itself(&self, round: Round, author: Author) -> MemberSet
         ensures { (member : ℕ) → has result member ≡ reaches_in self.now round author.0 round member }
     {
@@ -537,7 +541,7 @@ impl<'a> Dag<'a> {
         authors
     }
 
-    /// The authors whose certificates of the round `below` are reached from the certificate in a slot. It walks down to that round.
+    /// The authors whose certificates of the round `below` are reached from the certificate in a slot. The call walks down to that round.
     pub fn reached(&self, round: Round, author: Author, below: Round) -> MemberSet
         requires { below ≤ round }
         ensures { (member : ℕ) → has result member ≡ reaches_in self.now round author.0 below member }
@@ -572,14 +576,14 @@ impl<'a> Dag<'a> {
         supporters
     }
 
-    /// The authors whose certificates of a round have no mark.
+    /// The authors whose certificates of a round aren't marked: no committed leader reaches them.
     pub fn unmarked_at(&self, round: Round) -> MemberSet
         ensures { (author : ℕ) → has result author ≡ (is_some (slots_in self.now round author) && not (marked_in self.now round author)) }
     {
         rows::unmarked(&self.rows, self.floor, round.number())
     }
 
-    /// Marks the certificates that these authors have in a round. The call allocates no memory.
+    /// Marks the certificates that these authors have in a round, as those that a committed leader reaches. The call allocates no memory.
     pub fn mark(&mut self, round: Round, authors: &MemberSet)
         ensures { IsMarked self.old self.new round (has authors.now) }
     {
@@ -591,8 +595,8 @@ impl<'a> Dag<'a> {
         rows::mark(&mut self.rows, (number - floor) as usize, authors);
     }
 
-    /// Drops everything below a round, if the round is below that of the last committed leader; otherwise it changes nothing. The call
-    /// allocates no memory.
+    /// Drops all certificates below this round and moves the floor up to it, if the round is below that of the last committed leader;
+    /// otherwise it changes nothing. The call allocates no memory.
     pub fn drop_below(&mut self, round: Round)
         ensures below { round < self.old.base → IsDropped self.old self.new round }
         ensures other { self.old.base ≤ round → self.new ≡ self.old }

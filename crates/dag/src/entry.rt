@@ -3,12 +3,13 @@
 use committee::MemberSet;
 use wire::{Certificate, Digest};
 
-/// A certificate with its digest, its parents' authors, and its mark: whether it lies in the history of a committed leader.
+/// A certificate with its digest, its parents' authors, and its mark: whether a committed leader reaches it.
 #[derive(Drop)]
 pub struct Entry {
     pub(crate) certificate: Certificate,
     pub(crate) digest: Digest,
-    // The authors of its parents in the round below. This isn't used at the floor, below which nothing is held.
+    // The authors of the certificate's parents in the round below. In the floor's round this isn't used, since nothing below the floor is
+    // held.
     pub(crate) parents: MemberSet,
     pub(crate) marked: bool,
 }

@@ -1,8 +1,9 @@
-//! How a DAG agrees with admission, and what doesn't change when a DAG changes. The calls do nothing: each one's contract is a law.
+//! Laws on how a DAG agrees with admission, and on what stays the same when a DAG changes. Each function does nothing: its contract is the
+//! law.
 
 ghost use Rattle.dag.specs.Laws.{AnswersAsAdmission, ReachStays, ReachStaysAbove};
 
-/// A node's state with the floor and the certificates of a DAG answers a certificate as the DAG does.
+/// A node's state that has the floor and the certificates of a DAG answers a certificate as the DAG does.
 pub fn answers_as_admission()
     ensures { AnswersAsAdmission }
 {}

@@ -1,5 +1,5 @@
-//! The certificates that a validator holds, by round and author: which reach which, and which of them lie in the history of a committed
-//! leader.
+//! The certificates that a validator holds, by round and author: which certificates each reaches, and which of them a committed leader
+//! reaches.
 #![tactic(auto)]
 
 mod answers;

@@ -1,4 +1,4 @@
-//! Counting the references to parents that were read.
+//! Counting the references to parents that a walk down the DAG reads.
 
 ghost use Rattle.std.specs.Prelude.{◌≡◌, ◌+◌, ◌-◌, ◌<◌, ◌^◌, min};
 
@@ -6,7 +6,7 @@ use committee::MAX_MEMBERS;
 use std::marker::Model;
 use wire::MAX_PARENTS;
 
-/// The greatest number of references to parents in one round: each member has at most one certificate there.
+/// The greatest number of references to parents that the certificates of one round have: each member has at most one certificate there.
 pub const MAX_ROUND_REFERENCES: u64 = MAX_MEMBERS as u64 * MAX_PARENTS as u64;
 
 /// How many references to parents were read. Contracts see this as a number.
@@ -26,14 +26,14 @@ impl Model for Reads {
 }
 
 impl Reads {
-    /// No reference was read.
+    /// The count at the beginning of a walk: no reference was read.
     pub fn new() -> Reads
         ensures { result ≡ 0 }
     {
         Reads { number: 0 }
     }
 
-    /// Counts this many more.
+    /// Counts this many more references as read.
     pub(crate) fn add(&mut self, count: u64)
         requires { self.old + count < 2 ^ 64 }
         ensures { self.new ≡ self.old + count }
@@ -41,14 +41,14 @@ impl Reads {
         self.number += count;
     }
 
-    /// Counts one more, up to the greatest number.
+    /// Counts one more reference as read. The count stays at its greatest number.
     pub(crate) fn add_one(&mut self)
         ensures { self.new ≡ min (self.old + 1) (2 ^ 64 - 1) }
     {
         self.number = self.number.saturating_add(1);
     }
 
-    /// How many were read.
+    /// How many references to parents were read.
     pub fn number(&self) -> u64
         ensures { result ≡ self.now }
     {

@@ -15,13 +15,13 @@ pub enum DagRefusal {
     /// The certificate's round is 0, or at or below a floor above 0.
     #[error("2 TooOld")]
     TooOld,
-    /// A certificate of another digest is held in its slot.
+    /// The certificate's slot holds a certificate with another digest.
     #[error("3 CertConflict")]
     CertConflict,
-    /// A certificate of the same digest with another header is held in its slot.
+    /// The certificate's slot holds a certificate with the same digest and another header.
     #[error("4 DigestClash")]
     DigestClash,
-    /// A parent isn't held.
+    /// A parent of the certificate isn't held.
     #[error("5 MissingParents")]
     MissingParents,
 }

@@ -12,11 +12,11 @@ use std::alloc::{AllocError, Global};
 use std::marker::Model;
 use wire::Author;
 
-/// One round: a slot for each member.
+/// One round of the DAG: a slot for each member, with that member's certificate or nothing.
 #[derive(Drop)]
 pub struct Row {
     slots: Vec<Option<Entry>>,
-    // The authors whose certificates aren't marked.
+    // The authors whose certificates in this row aren't marked.
     unmarked: MemberSet,
 }
 
@@ -40,7 +40,7 @@ fn mark(slot: &mut Option<Entry>)
     }
 }
 
-// The entry at a place among the filled slots, counted from 0.
+// The entry at this place among the slots that hold one, counted from 0.
 fn nth_held(slots: &[Option<Entry>], place: usize) -> Option<&Entry>
     ensures { option_copied result ≡ slice_get (held_in slots.now) place }
 {
@@ -57,7 +57,7 @@ fn nth_held(slots: &[Option<Entry>], place: usize) -> Option<&Entry>
 }
 
 impl Row {
-    /// A row of this many members, without a certificate.
+    /// A row with this many slots, for as many members, that hold nothing.
     pub(crate) fn empty(alloc: Global, size: usize) -> Result<Row, AllocError>
         ensures { IfOk result (λ row. row ≡ replicate size None) }
     {
@@ -71,7 +71,7 @@ impl Row {
         })
     }
 
-    /// The entry of an author.
+    /// The entry of this author's certificate, if the row has one.
     pub(crate) fn get(&self, author: u16) -> Option<&Entry>
         ensures { option_copied result ≡ slot_at self.now author }
     {
@@ -81,7 +81,7 @@ impl Row {
         }
     }
 
-    /// Sets the entry of an author, whose certificate isn't marked.
+    /// Puts an entry into the slot of this author. The entry isn't marked.
     pub(crate) fn set(&mut self, author: u16, entry: Entry)
         requires within { author < length self.old }
         requires member { author < MAX_MEMBERS }
@@ -92,14 +92,14 @@ impl Row {
         self.unmarked.insert(Author(author));
     }
 
-    /// The authors whose certificates aren't marked.
+    /// The authors of the row whose certificates aren't marked.
     pub(crate) fn unmarked(&self) -> MemberSet
         ensures { (author : ℕ) → has result author ≡ is_unmarked self.now author }
     {
         self.unmarked
     }
 
-    /// Marks the certificates of these authors.
+    /// Marks the certificates that these authors have in the row.
     pub(crate) fn mark(&mut self, authors: &MemberSet)
         requires { length self.old < 2 ^ 16 }
         ensures { self.new ≡ marked_row (has authors.now) self.old }
@@ -112,7 +112,7 @@ impl Row {
         self.unmarked.remove_all(authors);
     }
 
-    /// The entry at a place, counted from 0, in the order of the authors.
+    /// The entry at this place among those of the row, counted from 0, in the order of the authors.
     pub(crate) fn nth(&self, place: usize) -> Option<&Entry>
         ensures { option_copied result ≡ slice_get (held_in self.now) place }
     {

@@ -1,4 +1,4 @@
-//! The rows of a DAG, from its floor on.
+//! The rows of a DAG, one for each round from its floor on.
 
 ghost use Rattle.std.specs.Prelude.{◌≡◌, ℕ, if◌then◌else◌, ◌-◌, ◌<◌, ◌≤◌, ◌++◌, ◌==◌, ◌&&◌, ◌||◌, ◌^◌, suc, nat_le, nat_lt, not, length, drop, [], None, Some, IfOk, OnOk, OnErr, All, option_copied, slice_get, slice_set, get_or, replicate, true, false};
 ghost use Rattle.std.specs.List.{list_any, list_all, flat_map};
@@ -15,7 +15,7 @@ use std::alloc::{AllocError, Global};
 use std::collections::VecDeque;
 use wire::{Author, ParentReference, Round};
 
-/// The row of a round, if there is one.
+/// The row of this round, if there is one.
 pub(crate) fn row(rows: &VecDeque<Row>, floor: Round, round: u64) -> Option<&Row>
     ensures { option_copied result ≡ (if nat_le floor round then slice_get rows.now.items (round - floor) else None) }
 {
@@ -25,7 +25,7 @@ pub(crate) fn row(rows: &VecDeque<Row>, floor: Round, round: u64) -> Option<&Row
     rows.get((round - floor.number()) as usize)
 }
 
-/// The entry of a slot.
+/// The entry of the certificate in a slot, if it holds one.
 pub(crate) fn entry(
     rows: &VecDeque<Row>,
     floor: Round,
@@ -40,7 +40,7 @@ pub(crate) fn entry(
     }
 }
 
-/// The entry at a place, counted from 0, in the order of the rows and then of the authors.
+/// The entry at this place in the order of the rows and then of the authors, counted from 0.
 pub(crate) fn nth(rows: &VecDeque<Row>, place: usize) -> Option<&Entry>
     ensures { option_copied result ≡ slice_get (flat_map held_in rows.now.items) place }
 {
@@ -56,7 +56,7 @@ pub(crate) fn nth(rows: &VecDeque<Row>, place: usize) -> Option<&Entry>
     None
 }
 
-/// The authors whose certificates of a round aren't marked.
+/// The authors whose certificates of this round aren't marked.
 pub(crate) fn unmarked(rows: &VecDeque<Row>, floor: Round, round: u64) -> MemberSet
     ensures { (author : ℕ) → has result author ≡ option_map_or (λ entry. not entry.marked) (row_at floor rows.now.items round author) false }
 {
@@ -66,7 +66,7 @@ pub(crate) fn unmarked(rows: &VecDeque<Row>, floor: Round, round: u64) -> Member
     }
 }
 
-// So many rows without certificates.
+// A list of this many rows, whose slots hold nothing. On `AllocError` an allocation failed.
 fn empty_rows(alloc: Global, size: usize, count: usize) -> Result<VecDeque<Row>, AllocError>
     ensures { IfOk result (λ rows. rows.items ≡ replicate count (replicate size None)) }
 {
@@ -77,7 +77,7 @@ fn empty_rows(alloc: Global, size: usize, count: usize) -> Result<VecDeque<Row>,
     Ok(rows)
 }
 
-/// Adds rows until there is one at this place.
+/// Adds rows whose slots hold nothing, until there is a row at this place. On `AllocError` an allocation failed.
 pub(crate) fn extend(
     alloc: Global,
     rows: &mut VecDeque<Row>,
@@ -97,7 +97,7 @@ pub(crate) fn extend(
     Ok(())
 }
 
-/// Puts an entry into a slot, without a mark.
+/// Puts an entry into the slot of this author in the row at this place. The entry isn't marked.
 pub(crate) fn put(rows: &mut VecDeque<Row>, place: usize, author: Author, entry: Entry)
     requires row { place < length rows.old.items }
     requires slot { author.0 < length (get_or rows.old.items place []) }
@@ -108,7 +108,7 @@ pub(crate) fn put(rows: &mut VecDeque<Row>, place: usize, author: Author, entry:
     rows[place].set(author.0, entry);
 }
 
-/// Marks the certificates of these authors in the row at a place, if there is one.
+/// Marks the certificates that these authors have in the row at this place, if there is such a row.
 pub(crate) fn mark(rows: &mut VecDeque<Row>, place: usize, authors: &MemberSet)
     requires { All (λ row. length row ≤ 32) rows.old.items }
     ensures { rows.new.items ≡ marked_rows rows.old.items place (has authors.now) }
@@ -118,7 +118,7 @@ pub(crate) fn mark(rows: &mut VecDeque<Row>, place: usize, authors: &MemberSet)
     }
 }
 
-// Whether a parent reference names the certificate of this entry.
+// Whether a parent reference names the certificate of this entry, by its digest.
 fn is_named(held: Option<&Entry>, parent: &ParentReference) -> bool
     ensures { result ≡ names (option_copied held.entry) parent.now }
 {
@@ -128,7 +128,7 @@ fn is_named(held: Option<&Entry>, parent: &ParentReference) -> bool
     }
 }
 
-// Adds the author of a parent to a set, if the parent is in this entry.
+// Adds the author of a parent to a set, if this entry holds the parent.
 fn add_kept(held: Option<&Entry>, parent: &ParentReference, authors: &mut MemberSet)
     requires { names (option_copied held) parent.now ≡ true → parent.now.author.0 < MAX_MEMBERS }
     ensures { (author : ℕ) → has authors.new author ≡ (has authors.old author || (names (option_copied held.entry) parent.now && (author == parent.now.author.0))) }
@@ -138,7 +138,7 @@ fn add_kept(held: Option<&Entry>, parent: &ParentReference, authors: &mut Member
     }
 }
 
-/// The authors of those parents of a header that are in the round below.
+/// The authors of those parents of a header that the row of the round below holds.
 pub(crate) fn authors_of(
     rows: &VecDeque<Row>,
     floor: Round,
@@ -159,7 +159,19 @@ pub(crate) fn authors_of(
     authors
 }
 
-/// Whether all parents are in the round below.
+/// The authors whom these parent references name.
+pub(crate) fn authors(parents: &[ParentReference]) -> MemberSet
+    requires { All (λ parent. parent.author.0 < MAX_MEMBERS) parents.now }
+    ensures { (author : ℕ) → has result author ≡ list_any (λ parent. author == parent.author.0) parents.now }
+{
+    let mut authors = MemberSet::none();
+    for parent in parents {
+        authors.insert(parent.author);
+    }
+    authors
+}
+
+/// Whether the row of the round below holds all these parents.
 pub(crate) fn are_there(
     rows: &VecDeque<Row>,
     floor: Round,
@@ -171,7 +183,7 @@ pub(crate) fn are_there(
     parents.iter().all(|parent| is_named(entry(rows, floor, below, parent.author), parent))
 }
 
-/// The authors of the parents of the entry in a slot. There are none at the floor, below which nothing is held.
+/// The authors of the parents of the certificate in a slot. There are none at the floor, since nothing below it is held.
 pub(crate) fn parents(rows: &VecDeque<Row>, floor: Round, round: u64, author: Author) -> MemberSet
     ensures { (parent : ℕ) → has result parent ≡ (nat_lt floor round && option_map_or (λ entry. has entry.parents parent) (row_at floor rows.now.items round author.0) false) }
 {
@@ -184,7 +196,7 @@ pub(crate) fn parents(rows: &VecDeque<Row>, floor: Round, round: u64, author: Au
     }
 }
 
-/// Removes this many rows from the front.
+/// Removes this many rows, those of the lowest rounds.
 pub(crate) fn drop_front(rows: &mut VecDeque<Row>, count: usize)
     ensures { rows.new.items ≡ drop count rows.old.items }
 {

@@ -1,4 +1,4 @@
--- What opening a node on one disk or on two reports and leaves.
+-- What the opening of a node on one disk or on two reports, and what it leaves on the disks.
 use Rattle.std.specs.Prelude.{◌≡◌, ◌≢◌, Result, IfErr}
 use Rattle.diskmodel.specs.Disk.{Device as Disks}
 use Rattle.journal.specs.Journal.{disk_after}
@@ -13,18 +13,20 @@ use Rattle.opening.specs.Stages.{IsDecodedThroughout}
 use Rattle.opening.specs.Decoded.{decoded_in, Reports}
 use Rattle.spec_model.specs.Nodes.{Node}
 
--- What opening a node's journal, followed by a call that may lack memory, reports and leaves, whatever value it makes. That value holds the
--- disks, or an error hands them back.
+-- What is reported, and what is left on the disks, when a node's journal is opened and then some value is made, for which an allocation may
+-- fail. The value holds the disks; after an error they are handed back.
 pub record IsStartingOn {T D : Type 0} (node : Node) (device : Disks D) (disks_in : T → Store D) (store : Store D) (result : Result T (Failed JournalError (Store D))) : Type 0 where
-  -- each error but a failed allocation, a failed disk or a lack of room is the one that the areas decode to
+  -- any error other than Memory, Device and Full is the one to which the areas decode
   pub reports : IfErr result (λ failed. failed.error ≢ Device → failed.error ≢ Full → Reports failed.error (decoded_in node (areas_in device store)))
   pub full : IfErr result (λ failed. failed.error ≡ Full → IsFullIn node device store)
-  -- the error is Device exactly where a disk has failed
+  -- the error is Device exactly if a device call failed
   pub cause : ReportsFaultsBack (faults_in device) disks_in Device store result
-  -- what a stop at any moment leaves decodes to what some outcome from before the opening decodes to
+  -- what a stop at any moment of the opening leaves decodes to the same state or error as something that a stop just before the opening
+  -- might have left
   pub any_moment : IsDecodedThroughout node device store (disk_after disks_in result)
   pub keeps : KeepsAlone node device store (disk_after disks_in result)
-  -- what a stop leaves in a world of the node can always be opened, unless a disk, an allocation or the room fails
+  -- if the areas are what a stop left in a world of the node, the only errors are that a device call or an allocation failed, or that there
+  -- is no room
   pub never_refused : IfErr result (λ failed. IsLeftIn node (areas_in device store) → IsNoRefusalOfBoth failed.error)
-  -- After an error the records are as before, unless a disk or an allocation failed.
+  -- after any error other than Device and Memory the records are as before
   pub unchanged : IfErr result (λ failed. failed.error ≢ Device → failed.error ≢ Memory → IsUnchanged device store failed.disk)

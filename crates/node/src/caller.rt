@@ -1,12 +1,13 @@
-//! What a thread uses to call a node.
+//! A caller: what one thread uses to call a shared node.
 
 ghost use Rattle.std.specs.Prelude.{◌≡◌, ◌⊎◌, ◌↔◌, None, drop, length, IsNone, IsOk, IsTrue, IsErrOf, IfOk, IfErr, IfSome};
+ghost use Rattle.std.specs.VecDeque.{deque_capacity};
 ghost use Rattle.header.specs.Checks.{fault_of, accepts_all};
 ghost use Rattle.spec_machine.specs.Machine.{is_ready, proposed, round_in};
 ghost use Rattle.spec_model.specs.States.{State};
 ghost use Rattle.validator.specs.Setting.{node_of};
 ghost use Rattle.validator.specs.Standing.{StandSomewhere};
-ghost use Rattle.node_shared.specs.Answers.{Submits, Gives};
+ghost use Rattle.node_shared.specs.Answers.{Submits, Gives, GivesAll};
 ghost use Rattle.node_shared.specs.Calls.{Looked, Learned, Brought, IsBeside};
 ghost use Rattle.node_shared.specs.Home.{IsBase, IsOf, seen_in, durable_in};
 ghost use Rattle.node.specs.Callers.{StaysWith};
@@ -15,12 +16,14 @@ use header::Checked;
 use node_shared::{Node, Receipt, Refusal, Seat};
 use sigface::Sign;
 use std::alloc::AllocError;
+use std::collections::VecDeque;
 use std::marker::Model;
 use std::sync::Wait;
 use validator::Config;
 use wire::{Author, Digest, Header, Output, Round};
 
-/// A node with its configuration, which contracts see, and a seat of it. Each method is the node's of the same name, made with this seat.
+/// A node, its configuration, and a seat at it. Contracts see all three. Each method calls the node's method of the same name with this
+/// seat.
 pub struct Caller<'n, 'a, S: Sign> {
     node: &'n Node<'a, S>,
     config: &'a Config<S>,
@@ -52,7 +55,7 @@ impl<'n, 'a, S: Sign> Model for Caller<'n, 'a, S> {
 }
 
 impl<'n, 'a, S: Sign> Caller<'n, 'a, S> {
-    /// A caller of a node of this configuration, with a seat of it.
+    /// A caller of this node, which has this configuration, with this seat at the node.
     pub fn new(node: &'n Node<'a, S>, config: &'a Config<S>, seat: Seat) -> Caller<'n, 'a, S>
         requires of { IsOf node.now seat }
         requires setting { node.now.setting ≡ config.now }
@@ -63,18 +66,18 @@ impl<'n, 'a, S: Sign> Caller<'n, 'a, S> {
         Caller { node, config, seat }
     }
 
-    /// The configuration, which is the node's.
+    /// The configuration of the caller, which is the node's.
     pub fn config(&self) -> &'a Config<S>
         ensures config { result.now ≡ self.now.setting }
         ensures node { self.now.node.setting ≡ self.now.setting }
-        // There is a base of the node, on which the contracts of the other calls rest.
+        // The node has a base, on which the contracts of the other calls rest.
         ensures base { StandSomewhere (node_of S.scheme self.now.node.setting) self.now.node.begun }
     {
         self.node.limits_hold();
         self.config
     }
 
-    /// One more caller, which has seen what this one has and has brought no event. The call allocates no memory.
+    /// Makes one more caller of the node. It has seen what this one has seen, and has brought no event. The call allocates no memory.
     pub fn split(&mut self) -> Result<Caller<'n, 'a, S>, AllocError>
         ensures ok { IsOk result }
         ensures same { self.new ≡ self.old }
@@ -85,8 +88,9 @@ impl<'n, 'a, S: Sign> Caller<'n, 'a, S> {
         Ok(Caller::new(self.node, self.config, seat))
     }
 
-    /// Submits an event that passed the checks under the node's committee, after all accepted events. The caller has then seen all of
-    /// these, and a new event becomes one of its own. The error is Down exactly where the caller then knows that the node is down.
+    /// Submits an event that passed the checks under the node's committee; it is answered after all accepted events. The caller has then
+    /// seen all of these. A new event becomes one that this caller brought. The error is Down exactly if the caller then knows that the
+    /// node is down.
     pub fn submit<R: Wait>(&mut self, rt: &R, event: Checked) -> Result<Receipt, Refusal>
         requires passed { fault_of self.old.setting.charter accepts_all event ≡ None }
         ensures stays { StaysWith self.old self.new }
@@ -97,7 +101,7 @@ impl<'n, 'a, S: Sign> Caller<'n, 'a, S> {
         self.node.submit(rt, &mut self.seat, event)
     }
 
-    /// The next output that may leave. None where there is none, or where the node is down.
+    /// Takes out the next output that may leave. None where there is none, or where the node is down.
     pub fn collect<R: Wait>(&mut self, rt: &R) -> Option<Output>
         ensures stays { StaysWith self.old self.new }
         ensures learned { Learned S.scheme self.old.node self.old.seat self.new.seat }
@@ -107,7 +111,19 @@ impl<'n, 'a, S: Sign> Caller<'n, 'a, S> {
         self.node.collect(rt, &mut self.seat)
     }
 
-    /// The order after the settled events, from this place on.
+    /// Moves the outputs that may leave to the end of `outputs`, oldest first, as many as that has room for. Moves nothing where the node
+    /// is down.
+    pub fn collect_into<R: Wait>(&mut self, rt: &R, outputs: &mut VecDeque<Output>)
+        ensures stays { StaysWith self.old self.new }
+        ensures learned { Learned S.scheme self.old.node self.old.seat self.new.seat }
+        ensures down { IsTrue self.new.seat.view.down → outputs.new.items ≡ outputs.old.items }
+        ensures capacity { deque_capacity outputs.new ≡ deque_capacity outputs.old }
+        ensures gives { GivesAll S.scheme self.old.node self.new.seat outputs.old.items outputs.new.items }
+    {
+        self.node.collect_into(rt, &mut self.seat, outputs);
+    }
+
+    /// The order after the settled events, from this place on: the digests of the ordered certificates.
     pub fn order<R: Wait>(&mut self, rt: &R, from: u64) -> Result<Vec<Digest>, Refusal>
         ensures stays { StaysWith self.old self.new }
         ensures learned { Learned S.scheme self.old.node self.old.seat self.new.seat }
@@ -119,7 +135,7 @@ impl<'n, 'a, S: Sign> Caller<'n, 'a, S> {
         self.node.order(rt, &mut self.seat, from)
     }
 
-    /// The digest of the header that the node voted for in a slot, unless the round is low.
+    /// The digest of the header that the node voted for in a slot. None where it has not voted there, or the round is low.
     pub fn peek_voted<R: Wait>(&mut self, rt: &R, author: Author, round: Round) -> Option<Digest>
         ensures stays { StaysWith self.old self.new }
         ensures looked { Looked S.scheme self.old.node self.old.seat self.new.seat }
@@ -137,7 +153,7 @@ impl<'n, 'a, S: Sign> Caller<'n, 'a, S> {
         self.node.round_now(rt, &mut self.seat)
     }
 
-    /// Whether the parents of an event, which passed the checks under the node's committee, are held.
+    /// Whether an event that passed the checks under the node's committee is ready: its answer isn't that a parent is missing.
     pub fn ready<R: Wait>(&mut self, rt: &R, event: &Checked) -> bool
         requires passed { fault_of self.old.setting.charter accepts_all event.now ≡ None }
         ensures stays { StaysWith self.old self.new }
@@ -147,7 +163,7 @@ impl<'n, 'a, S: Sign> Caller<'n, 'a, S> {
         self.node.ready(rt, &mut self.seat, event)
     }
 
-    /// The header that the validator proposes, if it proposes one.
+    /// The header that the node's validator proposes, or None where it proposes none.
     pub fn propose<R: Wait>(&mut self, rt: &R) -> Result<Option<Header>, AllocError>
         ensures stays { StaysWith self.old self.new }
         ensures looked { Looked S.scheme self.old.node self.old.seat self.new.seat }
@@ -157,7 +173,7 @@ impl<'n, 'a, S: Sign> Caller<'n, 'a, S> {
         self.node.propose(rt, &mut self.seat)
     }
 
-    /// How many events were accepted since the node began; the caller has then seen them. The call never waits.
+    /// How many events were accepted since the node was opened; the caller has then seen them. The call never waits.
     pub fn accepted(&mut self) -> u64
         ensures stays { StaysWith self.old self.new }
         ensures looked { Looked S.scheme self.old.node self.old.seat self.new.seat }
@@ -175,7 +191,7 @@ impl<'n, 'a, S: Sign> Caller<'n, 'a, S> {
         self.node.is_down(&mut self.seat)
     }
 
-    /// How many events are settled, which the caller then knows. The call never waits.
+    /// How many events are settled; the caller then knows them as settled. The call never waits.
     pub fn synced(&mut self) -> u64
         ensures stays { StaysWith self.old self.new }
         ensures learned { Learned S.scheme self.old.node self.old.seat self.new.seat }

@@ -1,4 +1,5 @@
-//! Opening a node that threads share, with its flusher, on disks; and what threads use to call both.
+//! Opening a node that threads share, together with its flusher, on one disk or on two; and the callers and rounds by which threads use
+//! them.
 #![tactic(auto)]
 
 mod caller;
@@ -27,11 +28,11 @@ use sigface::Sign;
 use std::alloc::Global;
 use validator::{Config, Validator};
 
-/// Opens a node on one disk or on two: gives the node, a seat of it, and its flusher. The node begins at the state that the disks decode
-/// to, and the seat has seen no event since.
+/// Opens a node on one disk or on two. Gives the node, a seat at it, and its flusher. The node begins at the state that the disks decode
+/// to, and the seat has seen no event yet.
 ///
 /// # Errors
-/// Those of `reopen_store`, and `Memory` where an allocation for the node failed. The disks are handed back.
+/// The errors of `reopen_store`, and `Memory` where an allocation for the node failed. Each error hands the disks back.
 pub fn start<'a, S: Sign, D: Disk>(
     alloc: Global,
     config: &'a Config<S>,
@@ -45,14 +46,14 @@ pub fn start<'a, S: Sign, D: Disk>(
     ensures up { IfOk result (λ started. is_down started.2 ≡ false) }
     ensures nothing_settled { IfOk result (λ started. (settled_in started.2 ≡ []) × (taken_in started.2 ≡ [])) }
 
-    // The journal is on as many disks as were given. A journal on two disks is in the second version then: one in the first version was
-    // rewritten.
+    // The journal is on as many disks as were given. A journal on two disks is in the second version afterwards: the opening rewrites a
+    // first version.
     ensures disks { IfOk result (λ started. IsReadIn (node_of S.scheme config.now) D.device store (journal_of started.2)) }
     ensures newest { IfOk result (λ started. IsSome (spare_of (journal_of started.2)) → IsNewest (areas_of D.device (journal_of started.2))) }
-    // For each state for which the areas stood before the call, the disks now have a journal of the node at this state.
+    // If a start could have restored some state from the areas before the call, the disks now have a journal of the node at that state.
     ensures kept { let node = node_of S.scheme config.now in IfOk result (λ started. KeepsStatesIn node (areas_in D.device store) (areas_of D.device (journal_of started.2))) }
 
-    // What the errors say, and what a stop at any moment of the opening may leave.
+    // What each error says, and what a stop at any moment of the opening may leave.
     ensures opening { IsStartingOn (node_of S.scheme config.now) D.device (λ started. store_of (journal_of started.2)) store result }
 {
     let (validator, journal) = reopen_store(alloc, config, store)?;

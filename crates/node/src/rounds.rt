@@ -1,4 +1,4 @@
-//! What the flushing thread uses to call a node.
+//! Rounds: what the flushing thread uses to write a node's records to the disks.
 
 ghost use Rattle.std.specs.Prelude.{◌≡◌, ◌⊎◌, ◌↔◌, ◌<◌, false, length, IsOk, IfOk, IfSome, IsNone, IsSome, IsTrue, IsErrOf, OnOk, OnErr};
 ghost use Rattle.diskmodel.specs.Disk.{AtEachMoment, ReportsFault};
@@ -22,7 +22,7 @@ use std::marker::Model;
 use std::sync::Wait;
 use validator::Config;
 
-/// A node's flusher, with the node and the seat with which the flusher calls it. Contracts see all three.
+/// A node's flusher, together with the node and the seat with which the flusher calls the node. Contracts see all three.
 pub struct Rounds<'n, 'a, S: Sign, D: Disk> {
     node: &'n Node<'a, S>,
     seat: Seat,
@@ -57,7 +57,7 @@ impl<'n, 'a, S: Sign, D: Disk> Model for Rounds<'n, 'a, S, D> {
 }
 
 impl<'n, 'a, S: Sign, D: Disk> Rounds<'n, 'a, S, D> {
-    /// The flusher of a node, with a seat of the node.
+    /// The rounds of a node with this flusher, which calls the node with this seat.
     pub fn new(node: &'n Node<'a, S>, seat: Seat, flusher: Flusher<D>) -> Rounds<'n, 'a, S, D>
         requires of { IsOf node.now seat }
         requires flusher { IsFlusherOf S.scheme D.device node.now flusher }
@@ -72,7 +72,8 @@ impl<'n, 'a, S: Sign, D: Disk> Rounds<'n, 'a, S, D> {
         }
     }
 
-    /// A caller of the node, which has this configuration. The caller has seen what the flusher's seat has. The call allocates no memory.
+    /// Makes a caller of the node, which has this configuration. The caller has seen what the flusher's seat has seen. The call allocates
+    /// no memory.
     pub fn caller(&mut self, config: &'a Config<S>) -> Result<Caller<'n, 'a, S>, AllocError>
         requires setting { self.old.node.setting ≡ config.now }
         ensures ok { IsOk result }
@@ -85,7 +86,8 @@ impl<'n, 'a, S: Sign, D: Disk> Rounds<'n, 'a, S, D> {
         Ok(Caller::new(self.node, config, seat))
     }
 
-    /// One round of the flusher. Gives the number of records that were written and settled; 0 where all were settled already.
+    /// Makes one round of take, append and settle. Gives the number of records that were written and settled; 0 where all were settled
+    /// already.
     pub fn round<R: Wait>(&mut self, rt: &R) -> Result<u64, FlushError>
         ensures node { self.new.node ≡ self.old.node }
         ensures down { GoesDown self.old.flusher self.new.flusher result }
@@ -99,13 +101,14 @@ impl<'n, 'a, S: Sign, D: Disk> Rounds<'n, 'a, S, D> {
         ensures spare { spare_of (journal_of self.new.flusher) ≡ spare_of (journal_of self.old.flusher) }
         ensures any_moment { IsErrOf result FlushError.Down ⊎ AtEachMoment D.device (disk_of (journal_of self.old.flusher)) (disk_of (journal_of self.new.flusher)) (λ left. HoldsEither S.scheme self.old.node (settled_in self.old.flusher) (taken_in self.new.flusher) (areas_of D.device (journal_of self.old.flusher)) (areas_at D.device (journal_of self.old.flusher) left)) }
         ensures earlier { OnOk result (KeepsEarlier S.scheme self.old.node (settled_in self.old.flusher) (settled_in self.new.flusher) (areas_of D.device (journal_of self.old.flusher)) (areas_of D.device (journal_of self.new.flusher))) }
-        // What the clauses above say, stated for all disks of the journal.
+        // The same as the clauses above, stated at once for a journal on one disk and on two.
         ensures flushes { Flushes S.scheme D.device self.old.node self.old.flusher self.new.flusher result }
     {
         self.flusher.round(rt, self.node, &mut self.seat)
     }
 
-    /// One checkpoint of the flusher. Gives the journal's new generation.
+    /// Makes one checkpoint: rewrites the journal to the state after all accepted events, and settles these. Gives the journal's new
+    /// generation.
     pub fn checkpoint<R: Wait>(&mut self, rt: &R) -> Result<u64, FlushError>
         requires pair { IsSome (spare_of (journal_of self.old.flusher)) }
         ensures node { self.new.node ≡ self.old.node }
@@ -122,13 +125,13 @@ impl<'n, 'a, S: Sign, D: Disk> Rounds<'n, 'a, S, D> {
         ensures untouched { untouched_disk result (journal_of self.new.flusher) ≡ disk_of (journal_of self.old.flusher) }
         ensures any_moment { IsErrOf result FlushError.Down ⊎ AtEachMoment D.device (spare_disk (journal_of self.old.flusher)) (rewritten_disk result (journal_of self.new.flusher)) (λ left. HoldsEither S.scheme self.old.node (settled_in self.old.flusher) (taken_in self.new.flusher) (areas_of D.device (journal_of self.old.flusher)) (areas_with D.device (journal_of self.old.flusher) left)) }
         ensures earlier { OnOk result (KeepsEarlier S.scheme self.old.node (settled_in self.old.flusher) (settled_in self.new.flusher) (areas_of D.device (journal_of self.old.flusher)) (areas_of D.device (journal_of self.new.flusher))) }
-        // What the clauses above say, stated for all disks of the journal.
+        // The same as the clauses above, stated at once for a journal on one disk and on two.
         ensures flushes { Flushes S.scheme D.device self.old.node self.old.flusher self.new.flusher result }
     {
         self.flusher.checkpoint(rt, self.node, &mut self.seat)
     }
 
-    /// The length of the area of the journal that is read, in bytes. None where a round or a checkpoint took the node down.
+    /// The length, in bytes, of the area of the journal that is read. None where a round or a checkpoint took the node down.
     pub fn len(&self) -> Option<u64>
         ensures down { IsNone result ↔ IsTrue (is_down self.now.flusher) }
         ensures len { IfSome result (λ len. len ≡ length (D.device.content (disk_of (journal_of self.now.flusher)))) }
@@ -136,8 +139,8 @@ impl<'n, 'a, S: Sign, D: Disk> Rounds<'n, 'a, S, D> {
         self.flusher.len(self.node)
     }
 
-    /// After this call the flusher's seat knows as settled all that this caller knows as settled. So what the caller collected rests on
-    /// records that every stop leaves on the disks.
+    /// After this call the flusher's seat knows as settled all events that this caller knows as settled. So the outputs that the caller
+    /// took out rest on records that are on the disks after every stop.
     pub fn cover<R: Wait>(&mut self, rt: &R, caller: &mut Caller<'n, 'a, S>)
         requires node { caller.old.node ≡ self.old.node }
         ensures node { self.new.node ≡ self.old.node }
@@ -149,7 +152,7 @@ impl<'n, 'a, S: Sign, D: Disk> Rounds<'n, 'a, S, D> {
         self.flusher.cover(rt, self.node, &mut caller.seat);
     }
 
-    /// Gives the disks back on which the journal was opened.
+    /// Gives back the disks on which the journal was opened.
     pub fn into_store(self) -> Store<D>
         ensures { result ≡ store_of (journal_of self.entry.flusher) }
     {

@@ -21,9 +21,10 @@ use Rattle.node.specs.Callers.{CallerView, StaysWith}
 use Rattle.sigface.specs.Scheme.{Scheme}
 use Rattle.validator.specs.Setting.{node_of, ConfigView}
 use Rattle.waiter.specs.Rounds.{WaitersView, held}
-use Rattle.node_run.specs.Asked.{AsksEach, AsksWhatWasDue, GoesThrough, IsDue, OnlyAsks, WasAsked, WasSubmitted}
+use Rattle.waiter.specs.Waiting.{IsTakenAt}
+use Rattle.node_run.specs.Asked.{AsksEach, AsksWhatWasDue, GoesThrough, IsDue, IsFirstReady, OnlyAsks, WasAsked, WasReady, WasSubmitted}
 use Rattle.node_run.specs.Bringing.{BringsAgain}
-use Rattle.node_run.specs.Asking.{IsDueAfter, IsTakenOut, TakesOne, both_due, both_waiting}
+use Rattle.node_run.specs.Asking.{IsDueAfter, IsTakenOut, TakesOne, both_waiting}
 use Rattle.node_run.specs.declared.due.Due.{Due}
 use Rattle.node_run.specs.declared.due.Waiting.{Waiting}
 use Rattle.node_run.specs.declared.due.Waiting.TheVariants.{Nothing, Rounds}
@@ -70,6 +71,15 @@ all_whole P events count few all = subst (All P) (whole events count few) all
 pub first_of_all : (P : Event → Type 0) (events : List Event) → All P events → IfSome (slice_get events 0) P
 first_of_all P [] all = tt
 first_of_all P (first ∷ rest) all = All-head P first rest all
+
+-- what stands before an element, and the element at its place
+front_taken : (front back : List Event) (event : Event) → take (length front) (front ++ event ∷ back) ≡ front
+front_taken [] back event = refl
+front_taken (first ∷ rest) back event = ap (λ (l : List Event). first ∷ l) (front_taken rest back event)
+
+stands_there : (front back : List Event) (event : Event) → slice_get (front ++ event ∷ back) (length front) ≡ Some event
+stands_there [] back event = refl
+stands_there (first ∷ rest) back event = stands_there rest back event
 
 -- ---- what is due
 
@@ -335,3 +345,47 @@ module _ {S : Type 0} (scheme : Scheme S) where
   go_on before mid later due mid_due later_due waiters mid_waiters later_waiters stays more rest first second =
       through_then scheme before.node due mid_due later_due waiters mid_waiters later_waiters before mid later stays.setting more rest first
       (subst (λ (n : NodeView S). GoesThrough scheme n mid_due later_due mid_waiters later_waiters mid later) stays.node second)
+
+-- ---- which one is taken
+
+module _ {S : Type 0} (scheme : Scheme S) where
+  pub ready_now : (before later : CallerView S) (event : Event) → Begins before.seat.view.seen later.seat.view.seen
+      → ((base : State) → IsBase scheme before.node base
+      → is_missing_parents (answered (node_of scheme before.node.setting) (seen_in (node_of scheme before.node.setting) base later.seat) event) ≡ false)
+      → WasReady scheme before.node before later event
+  ready_now before later event more has = record { looked = later.seat.view.seen; more = more; less = begins_same later.seat.view.seen; has = has }
+
+  ready_since : (before mid later : CallerView S) (event : Event) → OnlyAsks before mid → WasReady scheme mid.node mid later event → WasReady scheme before.node before later event
+  ready_since before mid later event only ready =
+      let here = subst (λ (n : NodeView S). WasReady scheme n mid later event) only.stays.node ready in
+      record { looked = here.looked; more = begins_trans before.seat.view.seen mid.seat.view.seen here.looked only.seen here.more; less = here.less; has = here.has }
+
+  -- the one at a place, where those before it aren't ready
+  pub first_taken : (before mid later : CallerView S) (waiters mid_waiters : WaitersView) (round place : ℕ) (event : Event) (left : List Event) → OnlyAsks before mid → OnlyAsks mid later
+      → mid_waiters ≡ waiters → All (WasAsked scheme before.node before mid) (take place (held waiters round)) → IsTakenAt (held mid_waiters round) place event left
+      → IfSome (slice_get (held mid_waiters round) place) (WasReady scheme mid.node mid later) → IsFirstReady scheme before.node before later (held waiters round) event
+  first_taken before mid later waiters mid_waiters round place event left first second same asked taken ready =
+      let stood : held waiters round ≡ taken.front ++ event ∷ taken.back = ap (λ (w : WaitersView). held w round) (sym same) ∙ taken.stood in
+      let front : take place (held waiters round) ≡ taken.front =
+      ap (λ (l : List Event). take place l) stood ∙ ap (λ n. take n (taken.front ++ event ∷ taken.back)) (sym taken.before) ∙ front_taken taken.front taken.back event in
+      let there : slice_get (held mid_waiters round) place ≡ Some event =
+      ap (λ (l : List Event). slice_get l place) taken.stood ∙ ap (λ n. slice_get (taken.front ++ event ∷ taken.back) n) (sym taken.before) ∙ stands_there taken.front taken.back event in
+      record {
+        front = taken.front;
+        back = taken.back;
+        stood = stood;
+        asked = subst (All (WasAsked scheme before.node before later)) front (all_until scheme before.node before mid later (take place (held waiters round)) second.seen asked);
+        ready = ready_since before mid later event first (subst (λ (o : Option Event). IfSome o (WasReady scheme mid.node mid later)) there ready);
+      }
+
+  -- the same where more was asked before
+  pub first_on : (before mid later : CallerView S) (waiters mid_waiters : WaitersView) (round : ℕ) (event : Event) → OnlyAsks before mid → mid_waiters ≡ waiters
+      → IsFirstReady scheme mid.node mid later (held mid_waiters round) event → IsFirstReady scheme before.node before later (held waiters round) event
+  first_on before mid later waiters mid_waiters round event only same first = record {
+    front = first.front;
+    back = first.back;
+    stood = ap (λ (w : WaitersView). held w round) (sym same) ∙ first.stood;
+    asked = all_since scheme before.node before mid later first.front only.stays.setting only.seen
+        (subst (λ (n : NodeView S). All (WasAsked scheme n mid later) first.front) only.stays.node first.asked);
+    ready = ready_since before mid later event only first.ready;
+  }

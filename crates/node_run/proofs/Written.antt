@@ -8,7 +8,7 @@ use Rattle.std.specs.declared.io.buffered.BufWriter.{BufWriter}
 use Rattle.std.specs.Io.KnownBytes.{Keeps, Appends, append_known}
 use Rattle.std.proofs.KnownBytes.{Keeps-refl, Keeps-trans, Appends-trans, Appends-kept}
 use Rattle.std.proofs.lemmas.List.Concat.{flat_map-append}
-use Rattle.std.proofs.lemmas.List.Elements.{All-nil, All-append, All-push, All-weaker}
+use Rattle.std.proofs.lemmas.List.Elements.{All-nil, All-append, All-cons, All-head, All-tail, All-weaker}
 use Rattle.std.specs.Prelude.{All}
 use Rattle.spec_model.specs.Admitting.{IsLegal}
 use Rattle.spec_model.specs.Giving.{kept, MayGive}
@@ -25,7 +25,7 @@ use Rattle.node_shared.specs.Home.{NodeView, IsBase}
 use Rattle.sigface.specs.Scheme.{Scheme}
 use Rattle.validator.specs.Setting.{node_of}
 use Rattle.wire.specs.Outputs.{frame_of}
-use Rattle.node_run.specs.Writing.{AppendsSome, HoldsPart, is_over, Puts, MayGo, HasWritten, WritesOnly}
+use Rattle.node_run.specs.Writing.{AppendsSome, HoldsPart, is_over, Puts, PutsAll, MayGo, HasWritten, WritesOnly}
 use Rattle.wire_write.proofs.Appending.{keeps_appends}
 use Rattle.wire_write.specs.Frames.{AppendsLess}
 
@@ -143,19 +143,37 @@ none_more_of May before mid later old cur new so_far stays memory others keeps =
     was true is yet = let bad : true ≡ false = sym (stays is) ∙ yet in absurd cc
     was false is yet = is
 
+-- ---- several outputs
+
+-- of what holds of a list it holds of each beginning
+front_all : (P : Output → Type 0) (front back : List Output) → All P (front ++ back) → All P front
+front_all P [] back all = All-nil P
+front_all P (first ∷ rest) back all = All-cons P first rest (All-head P first (rest ++ back) all) (front_all P rest back (All-tail P first (rest ++ back) all))
+
+-- the frames of no output
+pub put_nothing : (faults : Faults) (at : Option (List ℕ)) → PutsAll [] faults faults at at
+put_nothing faults at = record {
+  over = λ is. Keeps-refl at;
+  broken = λ is. is;
+  memory = λ is. is;
+  put = [];
+  begins = record { rest = []; parts = refl };
+  whole = λ up. refl;
+  written = λ fine. keeps_appends at at (Keeps-refl at);
+  some = all_some at at [] (keeps_appends at at (Keeps-refl at));
+  others = refl;
+}
+
 -- one output more
-pub one_more : (May : Output → Type 0) (output : Output) (before mid later : Faults) (old cur new : Option (List ℕ))
-    → WritesOnly May before mid old cur → May output → Puts (frame_of output) mid later cur new → WritesOnly May before later old new
-one_more May output before mid later old cur new so_far may puts = by (is_over mid) later.output refl refl
+pub put_more : (outputs : List Output) (output : Output) (before mid later : Faults) (old cur new : Option (List ℕ))
+    → PutsAll outputs before mid old cur → Puts (frame_of output) mid later cur new → PutsAll (outputs ++ output ∷ []) before later old new
+put_more outputs output before mid later old cur new so_far puts = by (is_over mid) later.output refl refl
   where
     one : List Output
     one = output ∷ []
 
-    whole : frame_of output ≡ flat_map frame_of one
-    whole = sym (append-nil (frame_of output))
-
-    one_may : All May one
-    one_may = All-push May [] output (All-nil May) may
+    frame : frame_of output ≡ flat_map frame_of one
+    frame = sym (append-nil (frame_of output))
 
     memory : before.memory ≡ true → later.memory ≡ true
     memory is =
@@ -169,17 +187,64 @@ one_more May output before mid later old cur new so_far may puts = by (is_over m
     others = others_yet before mid later so_far.others puts.others
 
     some : AppendsSome cur new (flat_map frame_of one)
-    some = subst (AppendsSome cur new) whole puts.some
+    some = subst (AppendsSome cur new) frame puts.some
 
-    -- it was over; the writer fails now; it doesn't
-    by : (was now : Bool) → is_over mid ≡ was → later.output ≡ now → WritesOnly May before later old new
-    by true now is then = none_more_of May before mid later old cur new so_far stays memory others (puts.over is).1
-    by false true is then =
-        more_of May before mid later old cur new one so_far one_may is memory others (λ fine. absurd (let bad : true ≡ false = sym then ∙ fine in cc)) some
+    was : (b : Bool) → mid.output ≡ b → later.output ≡ false → mid.output ≡ false
+    was true is yet = let bad : true ≡ false = sym (stays is) ∙ yet in absurd cc
+    was false is yet = is
+
+    none_more : is_over later ≡ true → Keeps cur new → PutsAll (outputs ++ one) before later old new
+    none_more over keeps = record {
+      over = λ is. Keeps-trans old cur new (so_far.over is) keeps;
+      broken = λ is. stays (so_far.broken is);
+      memory = memory;
+      put = so_far.put;
+      begins = record { rest = so_far.begins.rest ++ one; parts = ap (λ (l : List Output). l ++ one) so_far.begins.parts ∙ append_assoc so_far.put so_far.begins.rest one };
+      whole = λ up. absurd (let bad : true ≡ false = sym over ∙ up in cc);
+      written = λ yet. Appends-kept old cur new (flat_map frame_of so_far.put) (so_far.written (was mid.output refl yet)) keeps;
+      some = some_kept old cur new (flat_map frame_of so_far.put) so_far.some keeps;
+      others = others;
+    }
+
+    one_put : is_over mid ≡ false → (later.output ≡ false → Appends cur new (flat_map frame_of one)) → PutsAll (outputs ++ one) before later old new
+    one_put up written =
+        let fine : mid.output ≡ false = (or_parts mid.output mid.memory up).0 in
+        let all : so_far.put ≡ outputs = so_far.whole up in
+        let frames : flat_map frame_of so_far.put ++ flat_map frame_of one ≡ flat_map frame_of (so_far.put ++ one) = sym (flat_map-append frame_of so_far.put one) in
+        record {
+          over = λ is. absurd (let bad : true ≡ false = sym (over_yet before mid so_far.broken so_far.memory is) ∙ up in cc);
+          broken = λ is. absurd (let bad : true ≡ false = sym (so_far.broken is) ∙ fine in cc);
+          memory = memory;
+          put = so_far.put ++ one;
+          begins = record { rest = []; parts = ap (λ (l : List Output). l ++ one) (sym all) ∙ sym (append-nil (so_far.put ++ one)) };
+          whole = λ _. ap (λ (l : List Output). l ++ one) all;
+          written = λ yet. subst (Appends old new) frames (Appends-trans old cur new (flat_map frame_of so_far.put) (flat_map frame_of one) (so_far.written fine) (written yet));
+          some = subst (AppendsSome old new) frames (some_after old cur new (flat_map frame_of so_far.put) (flat_map frame_of one) (so_far.written fine) some);
+          others = others;
+        }
+
+    -- it was over; the writer fails now; an allocation fails now; nothing fails
+    by : (was_over now : Bool) → is_over mid ≡ was_over → later.output ≡ now → PutsAll (outputs ++ one) before later old new
+    by true now is then = none_more (ap is_over (puts.over is).0 ∙ is) (puts.over is).1
+    by false true is then = one_put is (λ fine. absurd (let bad : true ≡ false = sym then ∙ fine in cc))
     by false false is then = elim (puts.fine then) [
-      | inl all ↦ more_of May before mid later old cur new one so_far one_may is memory others (λ fine. subst (Appends cur new) whole all.1) some
-      | inr none ↦ none_more_of May before mid later old cur new so_far stays memory others none.1
+      | inl all ↦ one_put is (λ fine. subst (Appends cur new) frame all.1)
+      | inr none ↦ none_more (or_right later.output later.memory (ap (λ (faults : Faults). faults.memory) none.0)) none.1
     ]
+
+-- outputs that may go were put
+pub only_put : (May : Output → Type 0) (outputs : List Output) (before later : Faults) (old new : Option (List ℕ)) → All May outputs → PutsAll outputs before later old new
+    → WritesOnly May before later old new
+only_put May outputs before later old new each puts = record {
+  over = puts.over;
+  broken = puts.broken;
+  memory = puts.memory;
+  outputs = puts.put;
+  each = front_all May puts.put puts.begins.rest (subst (All May) puts.begins.parts each);
+  written = puts.written;
+  some = puts.some;
+  others = puts.others;
+}
 
 -- what went before, and what went then
 pub both_written : (May : Output → Type 0) (before mid later : Faults) (old cur new : Option (List ℕ))

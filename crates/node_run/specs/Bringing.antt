@@ -1,4 +1,4 @@
--- What happens to a message that a frame brings.
+-- What becomes of a message that a frame brings.
 use Rattle.std.specs.Prelude.{◌≡◌, ◌≢◌, ◌⊎◌, Bool, true, false, Option, Result, Ok, Err, IfErr, IsTrue, OnErr}
 use Rattle.header.specs.declared.error.CheckError.{CheckError}
 use Rattle.spec_model.specs.Words.{Author, Event}
@@ -16,20 +16,21 @@ use Rattle.node_run.specs.Taking.{Handles, HandlesAgain, OnlyLooks}
 use Rattle.node_run.specs.declared.caller.Taken.{Taken}
 use Rattle.node_run.specs.declared.caller.Taken.TheVariants.{New, Known, Waits}
 
--- a certificate is put at the end of those of its round that wait, unless one with its digest waits there already
+-- this certificate is put at the end of those that wait in its round, unless one with its digest waits there already
 pub record Enters (event : Event) (old new : WaitersView) : Type 0 where
   pub again : WaitsThere old event → new ≡ old
   pub first : (WaitsThere old event → ⊥) → IsWithOne old new event
 
--- why a certificate can't wait: the node is down, an allocation failed, or the greatest number of certificates wait already, none with its
--- digest
+-- why a certificate can't wait: the node is down; an allocation failed; or the greatest number of certificates wait already, none of them
+-- with its digest
 abbrev pub CantWait : Event → WaitersView → Bool → Rejection → Type 0
 CantWait event held down why =
     ((why ≡ Refused refusal.Down) × IsTrue down) ⊎ (why ≡ Refused refusal.Memory)
     ⊎ ((why ≡ Refused refusal.MissingParents) × (WaitsThere held event → ⊥) × (held.count ≡ MAX_WAITING))
 
--- The result says whether the message was a new record, or why it was refused. A message that has to wait is put among those that wait, or
--- refused. After that the caller's seat is unchanged, except that it may have looked where the message waits.
+-- A message was handled, and the result says whether it was a new record, or why it was refused. A message that has to wait is put among
+-- the certificates that wait, or is refused. Nothing else changes afterwards, except that where the message has to wait the caller's seat
+-- may have looked once more.
 pub record Brings {S : Type 0} (scheme : Scheme S) (node : NodeView S) (fault : Option CheckError) (event : Event) (before now : CallerView S) (old new : WaitersView)
     (result : Result Bool Rejection) : Type 0 where
   pub reported : Result Taken Rejection
@@ -41,19 +42,19 @@ pub record Brings {S : Type 0} (scheme : Scheme S) (node : NodeView S) (fault : 
       → (result ≢ Ok true) × (result ≡ Ok false → Enters certificate old new) × OnErr result (new ≡ old) × IfErr result (CantWait certificate old now.seat.view.down) × OnlyLooks later.seat now.seat
   pub refused : (why : Rejection) → reported ≡ Err why → (result ≡ Err why) × (new ≡ old) × (now ≡ later)
 
--- what is reported of an event that was handled: whether it was a new record, or why it was refused
+-- what is reported of a message that was handled: whether it was a new record, or why it was refused
 abbrev pub whether_new : Result Taken Rejection → Result Bool Rejection
 whether_new (Ok New) = Ok true
 whether_new (Ok other) = Ok false
 whether_new (Err why) = Err why
 
--- an event that has waited was handled again, and the result reports that
+-- an event that had waited was handled again, and the result says whether it was a new record, or why it was refused
 pub record BringsAgain {S : Type 0} (scheme : Scheme S) (node : NodeView S) (fault : Option CheckError) (event : Event) (before later : CallerView S)
     (result : Result Bool Rejection) : Type 0 where
   pub reported : Result Taken Rejection
   pub handles : HandlesAgain scheme node fault event before later reported
   pub is : result ≡ whether_new reported
 
--- an own batch as an event
+-- the event by which a node hands in a batch of its own
 abbrev pub own_batch : Author → BatchView → Event
 own_batch own batch = record { sender = own; message = message.Batch batch }

@@ -1,4 +1,4 @@
--- What a round does, with the checkpoint that is due after it.
+-- What a round does, together with the checkpoint that is due after it.
 use Rattle.std.specs.Prelude.{◌≡◌, ⊤, ℕ, Bool, false, Result, Ok, Err, IfOk, IsErrOf, IsSome}
 use Rattle.book.specs.declared.own.error.FlushError.{FlushError}
 use Rattle.book.specs.declared.own.error.FlushError.TheVariants as errors
@@ -15,13 +15,13 @@ use Rattle.node_run.specs.Runs.{HoldsMore, LeavesSettled}
 use Rattle.node_run.specs.declared.rule.Rule.{Rule}
 use Rattle.sigface.specs.Scheme.{Scheme}
 
--- no further round is needed after this result: nothing was pending, or an error came
+-- after a round with this result no further round is made: nothing was pending, or the round failed
 abbrev pub IsOver : Result ℕ FlushError → Type 0
 IsOver (Ok count) = count ≡ 0
 IsOver (Err error) = ⊤
 
--- A round of a node, and then the checkpoint that is due, unless it is missed because an allocation failed. A stop at any moment leaves
--- what was settled, and perhaps more after it.
+-- A round of a node, and after it the checkpoint, if one is due and no allocation for it fails. A stop at any moment leaves on the disks
+-- what was settled before, and perhaps more after it.
 pub record FlushesOnce {S D : Type 0} (scheme : Scheme S) (device : Device D) (rule later_rule : Rule) (missed : Bool) (before later : RoundsView S D) (result : Result ℕ FlushError) : Type 0 where
   pub node : later.node ≡ before.node
   pub seen : Begins before.seat.view.seen later.seat.view.seen
@@ -29,22 +29,22 @@ pub record FlushesOnce {S D : Type 0} (scheme : Scheme S) (device : Device D) (r
   pub down : GoesDown before.flusher later.flusher result
   pub cause : ReportsFault errors.Device (faults_in device (store_of (journal_of before.flusher))) (faults_in device (store_of (journal_of later.flusher))) result
   pub full : IsErrOf result errors.Full → HasNoPlace scheme device before.node later.flusher
-  -- where nothing was pending, nothing more fits a group after what is settled
+  -- if nothing was pending, a further group would be empty: no accepted event is left that fits one after the settled events
   pub nothing : result ≡ Ok 0 → TakesLongest before.seat.view.seen (settled_in later.flusher) (settled_in later.flusher)
-  -- If an allocation of the round fails, the journal is unchanged and nothing is taken that isn't settled. If one of the checkpoint fails,
-  -- that is no error.
+  -- If an allocation of the round fails, the journal is unchanged, and nothing is taken that isn't settled. If only an allocation of the
+  -- checkpoint fails, the result is no error.
   pub memory : IsErrOf result errors.Memory
       → (journal_of later.flusher ≡ journal_of before.flusher) × (settled_in later.flusher ≡ settled_in before.flusher) × (taken_in later.flusher ≡ settled_in later.flusher)
-  -- the result is how many records the round settled
+  -- the result is the number of records that the round settled
   pub count : IfOk result (λ count. IsCountOf (point_of before.flusher) (point_of later.flusher) count)
-  -- if the journal had, from some state on, what was settled before the call, then it has from the same state on what is settled now
+  -- if the journal had some state followed by what was settled before the call, it now has the same state followed by what is settled now
   pub earlier : is_down later.flusher ≡ false
       → KeepsEarlier scheme before.node (settled_in before.flusher) (settled_in later.flusher) (areas_of device (journal_of before.flusher)) (areas_of device (journal_of later.flusher))
   pub any_moment : is_down before.flusher ≡ false
       → AtEachMomentOn device (HoldsMore scheme before.node (settled_in before.flusher) (areas_of device (journal_of before.flusher)))
       (store_of (journal_of before.flusher)) (store_of (journal_of later.flusher))
   pub at_end : IsOver result → is_down before.flusher ≡ false → LeavesSettled scheme device before.node before.flusher (settled_in later.flusher) (store_of (journal_of later.flusher))
-  -- unless the node went down, a checkpoint was taken exactly where one was due, or is marked as missed
+  -- unless the node went down, a checkpoint was made exactly if one was due; or `missed` says that one was skipped
   pub by_rule : is_down later.flusher ≡ false → ByTheRule device (HasCheckpoint scheme device before.node) rule missed (point_of before.flusher) later_rule (point_of later.flusher)
   -- a journal that may be rewritten is on two disks
   pub pair : (IsSome rule.every → IsSome (spare_of (journal_of before.flusher))) → IsSome later_rule.every → IsSome (spare_of (journal_of later.flusher))

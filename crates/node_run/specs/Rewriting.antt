@@ -26,12 +26,12 @@ use Rattle.wire.specs.Lists.{Begins}
 abbrev pub length_in : {D : Type 0} → Device D → Journal D → ℕ
 length_in device journal = length (device.content (disk_of journal))
 
--- an area of this length has grown by at least this many bytes since it had the earlier length
+-- an area that now has the length `len` has grown by at least this many bytes since it had the length `was`
 abbrev pub IsLonger : Option ℕ → ℕ → ℕ → Type 0
 IsLonger None was len = ⊥
 IsLonger (Some every) was len = was + every ≤ len
 
--- a checkpoint is due, by this rule, where the area that is read has this length
+-- by this rule a checkpoint is due once the area that is read has this length
 abbrev pub IsDue : Rule → ℕ → Type 0
 IsDue rule len = IsLonger rule.every rule.since len
 
@@ -41,28 +41,28 @@ counted_from device rule journal = record rule { since = length_in device journa
 
 -- ---- a round, and the checkpoint that may follow it
 
--- a node's journal, and the events that are settled on it
+-- a point of a run: the node's journal, and the events that are settled by then
 pub record Point (D : Type 0) : Type 0 where
   pub journal : Journal D
   pub settled : List Marked
 
--- the journal and the settled events of a flusher
+-- the point of a run at which this flusher is
 abbrev pub point_of : {D : Type 0} → Flusher D → Point D
 point_of flusher = record { journal = journal_of flusher; settled = settled_in flusher }
 
--- What became of the checkpoint after a round: none was due; it was made, and left the node at this point; or it was skipped, since an
--- allocation for it failed.
+-- What became of the checkpoint after a round. None was due; or it was made, and the run is then at this point; or it was due and skipped,
+-- since an allocation for it failed.
 pub data Followed (D : Type 0) : Type 0 where
   none_due : Followed D
   made : Point D → Followed D
   skipped : Followed D
 
--- the journal and the settled events after one round, and what became of the checkpoint after it
+-- one step of a run: the point after a round, and what became of the checkpoint after it
 pub record Step (D : Type 0) : Type 0 where
   pub grown : Point D
   pub followed : Followed D
 
--- the journal and the settled events after the checkpoint of a round that left them at this point
+-- the point after the checkpoint that followed a round, or after the round where none was made
 abbrev pub following : {D : Type 0} → Point D → Followed D → Point D
 following grown none_due = grown
 following grown (made point) = point
@@ -71,7 +71,7 @@ following grown skipped = grown
 abbrev pub point_after : {D : Type 0} → Step D → Point D
 point_after step = following step.grown step.followed
 
--- the rule after a checkpoint that was made, or was not
+-- the rule after the checkpoint that followed a round: it changes only where one was made
 abbrev pub rule_following : {D : Type 0} → Device D → Rule → Followed D → Rule
 rule_following device rule none_due = rule
 rule_following device rule (made point) = counted_from device rule point.journal
@@ -80,7 +80,8 @@ rule_following device rule skipped = rule
 abbrev pub rule_after : {D : Type 0} → Device D → Rule → Step D → Rule
 rule_after device rule step = rule_following device rule step.followed
 
--- What one round settles: at least one more event, as one group that fits. That it is the longest such group is a clause of the round itself.
+-- What one round settles: one more group, with at least one event. That this is the longest group that fits is a clause of the round
+-- itself.
 pub record BringsGroup (settled later : List Marked) : Type 0 where
   pub some : length settled < length later
   pub all : List Marked
@@ -94,33 +95,34 @@ pub record HasCheckpoint {S D : Type 0} (scheme : Scheme S) (device : Device D) 
   pub checkpoint : IsCheckpointAfter scheme node point.settled records
   pub content : device.content (disk_of point.journal) ≡ OPEN ∷ bytes_for (generation_in point.journal) records
 
--- A checkpoint follows a round exactly where one is due. After it the other area is read, all that was settled still is, and it holds what a
--- checkpoint that was made leaves. It is skipped only where a failed allocation is reported.
+-- A checkpoint follows a round exactly if one is due, unless it is skipped, which it is only if `memory` says that an allocation failed.
+-- After a checkpoint the other area is read, all that was settled still is, and the point meets `Made`, which says what a checkpoint
+-- leaves.
 abbrev pub FollowsWhereDue : {D : Type 0} → Device D → (Point D → Type 0) → Rule → Bool → Point D → Followed D → Type 0
 FollowsWhereDue device Made rule memory grown none_due = IsDue rule (length_in device grown.journal) → ⊥
 FollowsWhereDue device Made rule memory grown (made point) =
     IsDue rule (length_in device grown.journal) × HaveChangedPlaces grown.journal point.journal × Begins grown.settled point.settled × Made point
 FollowsWhereDue device Made rule memory grown skipped = IsDue rule (length_in device grown.journal) × (memory ≡ true)
 
--- One round adds to the area that is read the records of what it settles, as one group, and leaves the other area alone. A checkpoint follows
--- exactly where one is due.
+-- A step of a run: one round adds the records of what it settles to the area that is read, as one group, and leaves the other area as it
+-- was. A checkpoint follows where one is due.
 pub record IsStep {D : Type 0} (device : Device D) (Made : Point D → Type 0) (rule : Rule) (memory : Bool) (first : Point D) (step : Step D) : Type 0 where
   pub adds : device.content (disk_of step.grown.journal) ≡ file_with (device.content (disk_of first.journal)) (records_after first.settled step.grown.settled)
   pub same_area : spare_of step.grown.journal ≡ spare_of first.journal
   pub brings : BringsGroup first.settled step.grown.settled
   pub follows : FollowsWhereDue device Made rule memory step.grown step.followed
 
--- these steps, one after the other, lead from one point to a later one; the rule changes with each checkpoint
+-- these steps, one after the other, lead from the point `first` to the point `last`; each checkpoint changes the rule
 abbrev pub AreSteps : {D : Type 0} → Device D → (Point D → Type 0) → Rule → Bool → Point D → List (Step D) → Rule → Point D → Type 0
 AreSteps device Made rule memory first [] later last = (later ≡ rule) × (last ≡ first)
 AreSteps device Made rule memory first (step ∷ more) later last =
     IsStep device Made rule memory first step × AreSteps device Made (rule_after device rule step) memory (point_after step) more later last
 
--- Some steps, of one round each, lead from one point to the later one. A checkpoint was skipped only where a failed allocation is reported.
+-- Some steps lead from the point `first` to the point `last`. A checkpoint was skipped only if `memory` says that an allocation failed.
 abbrev pub ByTheRule : {D : Type 0} → Device D → (Point D → Type 0) → Rule → Bool → Point D → Rule → Point D → Type 0
 ByTheRule {D} device Made rule memory first later last = (steps : List (Step D)) × AreSteps device Made rule memory first steps later last
 
--- A round settled this many records. A checkpoint that followed, which changes the area that is read, may have settled more.
+-- The round settled this many records. If a checkpoint followed, after which another area is read, that may have settled more.
 pub record IsCountOf {D : Type 0} (first later : Point D) (count : ℕ) : Type 0 where
   pub settled : List Marked
   pub size : length settled ≡ length first.settled + count
@@ -130,30 +132,30 @@ pub record IsCountOf {D : Type 0} (first later : Point D) (count : ℕ) : Type 0
 
 -- ---- a checkpoint
 
--- the result of a checkpoint without its generation
+-- the result of a checkpoint, without the generation that it gives
 abbrev pub without_number : Result ℕ FlushError → Result (Unit {0}) FlushError
 without_number (Ok generation) = Ok tt
 without_number (Err error) = Err error
 
--- the group that was taken has no room after the journal
+-- the journal has no room for the group that was taken
 pub record HasNoRoomToAdd {D : Type 0} (device : Device D) (flusher : Flusher D) : Type 0 where
   pub all : List Marked
   pub group : IsGroupOf (settled_in flusher) all (taken_in flusher)
   pub room : HasNoRoom (device.content (disk_of (journal_of flusher))) (settled_in flusher) (taken_in flusher)
 
--- a checkpoint of all that was taken has no room on the journal's two disks
+-- the journal's two disks have no room for a checkpoint of all that was taken
 pub record HasNoRoomToRewrite {S D : Type 0} (scheme : Scheme S) (node : NodeView S) (flusher : Flusher D) : Type 0 where
   pub pair : IsSome (spare_of (journal_of flusher))
   pub records : List (List ℕ)
   pub checkpoint : IsCheckpointAfter scheme node (taken_in flusher) records
   pub full : HasNoRoomFor (journal_of flusher) records
 
--- the journal has no room for what was taken, as a group or as a checkpoint of all of it
+-- the journal can still be appended to, but has no room for what was taken: for the group, or for a checkpoint of all that was taken
 abbrev pub HasNoPlace : {S D : Type 0} → Scheme S → Device D → NodeView S → Flusher D → Type 0
 HasNoPlace scheme device node flusher = IsAlive device (journal_of flusher) × (HasNoRoomToAdd device flusher ⊎ HasNoRoomToRewrite scheme node flusher)
 
--- A checkpoint was taken, with this result. If it succeeded, the area that it wrote is read from then on, and the rule counts from that
--- area's length.
+-- A checkpoint was attempted, with this result. If it succeeded, the area that it wrote is the one that is read from then on, and the rule
+-- counts from that area's length.
 pub record IsRewritten {S D : Type 0} (scheme : Scheme S) (device : Device D) (rule later_rule : Rule) (before later : RoundsView S D) (result : Result (Unit {0}) FlushError) : Type 0 where
   pub answer : Result ℕ FlushError
   pub answered : result ≡ without_number answer
@@ -167,7 +169,7 @@ pub record IsRewritten {S D : Type 0} (scheme : Scheme S) (device : Device D) (r
   pub keeps : OnErr answer (later_rule ≡ rule)
   pub full : IsErrOf answer errors.Full → IsAlive device (journal_of later.flusher) × HasNoRoomToRewrite scheme before.node later.flusher
 
--- A checkpoint was taken where one was due, and otherwise nothing was done.
+-- A checkpoint was attempted if one was due; otherwise nothing was done.
 abbrev pub RewritesWhereDue : {S D : Type 0} → Scheme S → Device D → Rule → Rule → RoundsView S D → RoundsView S D → Result (Unit {0}) FlushError → Type 0
 RewritesWhereDue scheme device rule later_rule before later result =
     (IsDue rule (length_in device (journal_of before.flusher)) × IsRewritten scheme device rule later_rule before later result)

@@ -1,4 +1,4 @@
--- How a node's run on its disks ends, and what a stop at any moment of it leaves.
+-- How the run of a node on its disks ends, and what a stop at any moment of it leaves on the disks.
 use Rattle.std.specs.Prelude.{◌≡◌, ◌≢◌, ◌⊎◌, ◌+◌, ◌<◌, ⊤, ℕ, Bool, true, false, List, [], ◌∷◌, length, Option, Some, None, Ok, All, IfSome, IsSome, IsTrue}
 use Rattle.book.specs.Book.{GoesOutAfter, IsCheckpoint}
 use Rattle.book.specs.Checkpoints.{HasNoRoomFor}
@@ -48,26 +48,27 @@ use Rattle.node_run.specs.declared.ran.Ran.{Ran}
 use Rattle.node_run.specs.declared.rule.Rule.{Rule}
 use Rattle.sigface.specs.Scheme.{Scheme}
 
--- areas are a node's journal with what was settled, and perhaps more after it, after the same earlier state as before
+-- these areas are a journal of the node. It has the same earlier state as before, followed by what was settled, and perhaps by more
 pub record HoldsMore {S : Type 0} (scheme : Scheme S) (node : NodeView S) (settled : List Marked) (before left : Areas) : Type 0 where
   pub more : List Marked
   pub begins : Begins settled more
   pub leaves : LeavesAfter scheme node settled more before left
 
--- Whatever a stop now leaves of the disks is a node's journal with these settled events, and perhaps more after them, after the same
--- earlier state as at the time of `first`.
+-- Whatever a stop leaves of the disks now is a journal of the node. It has the same earlier state as the journal of `first`, followed by
+-- these settled events, and perhaps by more.
 abbrev pub LeavesSettled : {S D : Type 0} → Scheme S → Device D → NodeView S → Flusher D → List Marked → Store D → Type 0
 LeavesSettled scheme device node first settled left =
     (found : Areas) → MayBeLeft device left found
     → (it : HoldsMore scheme node (settled_in first) (areas_of device (journal_of first)) found) × Begins settled it.more
 
--- A node's rounds ran at one node, and report these faults: the journal's faults as rounds report them, and none of outputs or of the
--- input. A full journal has no room for what was taken. A stop at any moment leaves what was settled before, and perhaps more; a stop at
--- the end leaves all that is settled then. Unless a fault of the journal is reported, the disks were written by the rule.
+-- A node's rounds are done, and these faults are reported: of the journal as rounds report them, and none of outputs or of the input. If
+-- the journal is reported as full, it has no room for what was taken. A stop at any moment leaves on the disks what was settled before, and
+-- perhaps more; a stop at the end leaves all that is settled then. Unless a fault of the journal is reported, the disks were written by the
+-- rule for checkpoints.
 pub record HasFlushed {S D : Type 0} (scheme : Scheme S) (device : Device D) (rule : Rule) (before later : RoundsView S D) (reports : Faults) : Type 0 where
   pub node : later.node ≡ before.node
   pub reported : ReportsRounds (faults_in device (store_of (journal_of before.flusher))) (faults_in device (store_of (journal_of later.flusher))) reports.journal
-  -- one is reported exactly where a round or a checkpoint took the node down
+  -- a fault of the journal is reported exactly if a round or a checkpoint took the node down
   pub fell : IsSome reports.journal → IsTrue (is_down later.flusher)
   pub is_reported : is_down before.flusher ≡ false → IsTrue (is_down later.flusher) → IsSome reports.journal
   pub full : reports.journal ≡ Some Full → HasNoPlace scheme device before.node later.flusher
@@ -79,34 +80,34 @@ pub record HasFlushed {S D : Type 0} (scheme : Scheme S) (device : Device D) (ru
   pub by_rule : is_down before.flusher ≡ false → reports.journal ≡ None
       → (last : Rule) × ByTheRule device (HasCheckpoint scheme device before.node) rule reports.memory (point_of before.flusher) last (point_of later.flusher)
 
--- what contracts see of the thread that flushes: its rounds, and its rule for checkpoints
+-- what contracts see of the flushing thread's work: its rounds, and its rule for checkpoints
 pub record FlushingView (S D : Type 0) : Type 0 where
   pub rounds : RoundsView S D
   pub rule : Rule
 
--- The journal on these disks came about from an earlier one by the rule, with a checkpoint skipped only where a failed allocation is
--- reported.
+-- The journal on these disks came about from the point `first` by the rule for checkpoints. A checkpoint was skipped only if `memory` says
+-- that an allocation failed.
 pub record ComesByRule {D : Type 0} (device : Device D) (Made : Point D → Type 0) (rule : Rule) (memory : Bool) (first : Point D) (left : Store D) : Type 0 where
   pub last : Point D
   pub last_rule : Rule
   pub by_rule : ByTheRule device Made rule memory first last_rule last
   pub is_left : left ≡ store_of last.journal
 
--- The journal of a node on these disks has no room for what was taken.
+-- The journal of the node on these disks has no room for what was taken.
 pub record IsFullUp {S D : Type 0} (scheme : Scheme S) (device : Device D) (node : NodeView S) (left : Store D) : Type 0 where
   pub last : Flusher D
   pub lacks : HasNoPlace scheme device node last
   pub is_left : left ≡ store_of (journal_of last)
 
--- These outputs rest on events that a node has settled on its disks: each may go out after some of the events that a seat knows as settled,
--- and whatever a stop now leaves of the disks has all of those, after the same earlier state as at the time of `first`.
+-- These outputs rest on events that are settled on the disks. Each may go out after some of the events that a seat knows as settled.
+-- Whatever a stop leaves of the disks now has all those events, after the same earlier state as the journal of `first`.
 pub record AreSettled {S D : Type 0} (scheme : Scheme S) (device : Device D) (node : NodeView S) (first : Flusher D) (left : Store D) (outputs : List Output) : Type 0 where
   pub view : View
   pub each : All (MayGo scheme node view) outputs
   pub on_disk : LeavesSettled scheme device node first view.durable left
 
--- Earlier areas decoded to a state, and these areas are the node's journal at the state after some more events, which are legal and may be
--- none. For each state that the earlier areas stood for, these areas are its journal after the same events.
+-- The earlier areas decode to a state, and these areas are the node's journal at the state after some more legal events, or none. For each
+-- state that a start might restore from the earlier areas, these areas are also the journal at that state after the same events.
 pub record GoesOn (node : Node) (before left : Areas) : Type 0 where
   pub base : State
   pub is_decoded : decoded_in node before ≡ Ok base
@@ -115,13 +116,13 @@ pub record GoesOn (node : Node) (before left : Areas) : Type 0 where
   pub holds : Holds node left (after_all node base more)
   pub earlier : (began : State) → StandsFor node before began → Holds node left (after_all node began more)
 
--- what a stop leaves decodes to what some outcome of these disks decodes to
+-- what a stop leaves decodes to the same state or error as something that a stop might have left of these disks
 pub record IsReadAsOneOf {D : Type 0} (node : Node) (disks : Device D) (store : Store D) (left : Areas) : Type 0 where
   pub was : Areas
   pub might : MayBeLeft disks store was
   pub same : decoded_in node left ≡ decoded_in node was
 
--- this ending hides no fault of writing to the disks, except perhaps that an allocation failed
+-- with this ending no fault of the journal occurred. An allocation may have failed nevertheless: `may_lack_memory` says with which endings
 abbrev pub is_all_brought : Ending → Bool
 is_all_brought endings.Done = true
 is_all_brought endings.Input = true
@@ -134,28 +135,28 @@ may_lack_memory endings.Done = false
 may_lack_memory endings.Input = false
 may_lack_memory other = true
 
--- how much a journal may grow until it is rewritten: this many bytes on two disks; on one disk it is never rewritten
+-- by how many bytes a journal may grow until it is rewritten: by `every` on two disks; on one disk it is never rewritten
 abbrev pub every_on : {D : Type 0} → Store D → ℕ → Option ℕ
 every_on (One disk) every = None
 every_on (Two first second) every = Some every
 
--- the rule for a journal that was opened on these disks
+-- the rule for checkpoints of a journal that was opened on these disks
 abbrev pub rule_on : {D : Type 0} → Device D → Store D → ℕ → Journal D → Rule
 rule_on device store every opened = record { every = every_on store every; since = length_in device opened }
 
--- where a node starts from after its journal was opened: nothing is settled
+-- the point at which a run begins once the journal was opened: nothing is settled
 abbrev pub point_at : {D : Type 0} → Journal D → Point D
 point_at opened = record { journal = opened; settled = [] }
 
--- The area that is read has a checkpoint of the state after what is settled, from this base on, and nothing after it.
+-- The area that is read has a checkpoint of the state that the settled events lead to from this base, and nothing after it.
 pub record HasCheckpointFrom {D : Type 0} (node : Node) (disks : Device D) (base : State) (point : Point D) : Type 0 where
   pub records : List (List ℕ)
   pub checkpoint : IsCheckpoint node (after_all node base (events point.settled)) records
   pub content : disks.content (disk_of point.journal) ≡ OPEN ∷ bytes_for (generation_in point.journal) records
 
--- A journal was opened on disks: it can be appended to, and keeps each state that the disks stood for. From then on the disks were written
--- by rounds, and by a checkpoint exactly after each round by which the area that is read had grown by `every` bytes since the opening or
--- the last checkpoint. Such a checkpoint was skipped only where an allocation may have failed.
+-- A journal was opened on these disks: it can be appended to, and keeps each state that a start could have restored from them. From then on
+-- the disks were written by rounds, and by a checkpoint exactly after each round by which the area that is read had grown by `every` bytes
+-- since the opening or the last checkpoint. Such a checkpoint was skipped only if an allocation may have failed.
 pub record IsRewrittenEach {D : Type 0} (node : Node) (disks : Device D) (store : Store D) (every : ℕ) (memory : Bool) (left : Store D) : Type 0 where
   pub opened : Journal D
   pub read : IsReadIn node disks store opened
@@ -165,13 +166,14 @@ pub record IsRewrittenEach {D : Type 0} (node : Node) (disks : Device D) (store 
   pub is_read : decoded_in node (areas_in disks store) ≡ Ok base
   pub comes : ComesByRule disks (HasCheckpointFrom node disks base) (rule_on disks store every opened) memory (point_at opened) left
 
--- A journal has no room: for some group, or, on two disks, for some checkpoint of the node's state after more events.
+-- A journal has no room for some group; or, if it is on two disks, none for some checkpoint of the state after more events.
 abbrev pub HasNoRoomAfter : {D : Type 0} → Node → Device D → State → Journal D → Type 0
 HasNoRoomAfter node disks base last =
     ((group : List (List ℕ)) × FitsGroup group × (MAX_JOURNAL_BYTES < length_in disks last + length (group_bytes group)))
     ⊎ (IsSome (spare_of last) × ((more : History) × (records : List (List ℕ)) × IsCheckpoint node (after_all node base more) records × HasNoRoomFor last records))
 
--- The journal on the disks that a run leaves has no room for what comes next, after the state that the disks decoded to at the start.
+-- The journal on the disks that a run leaves has no room for what was to be written next. The run began at the state to which the disks
+-- decoded.
 pub record IsFullAfter {D : Type 0} (node : Node) (disks : Device D) (store left : Store D) : Type 0 where
   pub base : State
   pub is_read : decoded_in node (areas_in disks store) ≡ Ok base
@@ -180,13 +182,12 @@ pub record IsFullAfter {D : Type 0} (node : Node) (disks : Device D) (store left
   pub is_left : left ≡ store_of last
   pub no_room : HasNoRoomAfter node disks base last
 
--- A node was opened on its disks, if they could be opened, and ran until this ending, which leaves these disks.
--- A disk's fault is reported exactly where a disk counted one. Full is reported where the opening has no room for a journal in the second
--- version, or the run for what it took. Any other journal's error is the one that the disks decoded to, and what a stop leaves in a world
--- of the node has none.
--- The disks are lost only together with a thread that could not be made. A stop at any moment leaves what decodes to an outcome from before
--- the run, or to the state at its start with more events after it. If the ending reports no fault of writing to the disks, a journal on two
--- disks was rewritten whenever it had grown by `every` bytes.
+-- A run of a node on its disks, with this ending and the disks that it leaves. If the disks could be opened, the node ran on them. Device
+-- is reported exactly if a device call failed. Full is reported where the opening had no room for a journal in the second version, or the
+-- run had none for what it took. Any other error of the journal is the one to which the disks decoded; what a stop leaves in a world of the
+-- node decodes to no error. The disks are lost only if a thread could not be made. What a stop at any moment leaves decodes to something
+-- that a stop might have left before the run, or to the state at its start followed by more events. If the ending reports no fault of
+-- writing to the disks, a journal on two disks was rewritten each time that it had grown by `every` bytes.
 pub record RunsOver {D : Type 0} (node : Node) (disks : Device D) (store : Store D) (every : ℕ) (ending : Ending) (left : Option (Store D)) : Type 0 where
   pub device : ending ≡ endings.Journal errors.Device → IfSome left (λ later. faults_in disks store < faults_in disks later)
   pub no_fault : ending ≢ endings.Journal errors.Device → IfSome left (λ later. faults_in disks later ≡ faults_in disks store)
@@ -196,18 +197,18 @@ pub record RunsOver {D : Type 0} (node : Node) (disks : Device D) (store : Store
   pub lost : left ≡ None → ending ≡ endings.Memory
   pub any_moment : IfSome left (λ later. AtEachMomentOn disks (λ areas. IsReadAsOneOf node disks store areas ⊎ GoesOn node (areas_in disks store) areas) store later)
   pub rewritten : is_all_brought ending ≡ true → IfSome left (IsRewrittenEach node disks store every (may_lack_memory ending))
-  -- where an allocation failed, the disks weren't opened and decode as before, or the node ran on them
+  -- if an allocation failed, the disks decode as before, since no node was opened; or a node ran on them
   pub lacks : ending ≡ endings.Memory → IfSome left (λ later. IsDecodedThroughout node disks store later ⊎ IsRewrittenEach node disks store every true later)
 
--- an output goes out after a prefix of these events, from this state
+-- the output goes out after a prefix of these events, from this state on
 pub record GoesOutAfterPrefix (node : Node) (base : State) (settled : History) (output : Output) : Type 0 where
   pub events : History
   pub begins : Begins events settled
   pub goes_out : GoesOutAfter node base events output
 
--- These outputs are on the disks that a run leaves. There are settled events such that each output goes out after a prefix of them, from
--- the state that the disks decoded to at the start. Whatever a stop at the end leaves of the disks decodes to the state after all of these
--- events, and perhaps after more.
+-- These outputs rest on events that are on the disks that a run leaves. There are settled events such that each output goes out after a
+-- prefix of them, beginning at the state to which the disks decoded at the start. Whatever a stop at the end leaves of the disks decodes to
+-- the state after all these events, and perhaps after more.
 pub record AreOnDisk {D : Type 0} (node : Node) (disks : Device D) (store left : Store D) (outputs : List Output) : Type 0 where
   pub base : State
   pub is_read : decoded_in node (areas_in disks store) ≡ Ok base
@@ -215,33 +216,34 @@ pub record AreOnDisk {D : Type 0} (node : Node) (disks : Device D) (store left :
   pub each : All (GoesOutAfterPrefix node base settled) outputs
   pub on_disk : (found : Areas) → MayBeLeft disks left found → (it : GoesOn node (areas_in disks store) found) × Begins settled it.more
 
--- no output, or outputs that are on the disks
+-- there is no output, or the outputs rest on events that are on the disks
 abbrev pub NoneOrOnDisk : {D : Type 0} → Node → Device D → Store D → Store D → List Output → Type 0
 NoneOrOnDisk node disks store left outputs = (outputs ≡ []) ⊎ AreOnDisk node disks store left outputs
 
--- with this ending every write of an output succeeded: a failure is reported as the writer's, or the journal's fault is, which goes first
+-- with this ending no write of an output failed: a failed write is reported as Output, or a fault of the journal is reported, which goes
+-- first
 abbrev pub is_all_written : Ending → Bool
 is_all_written endings.Output = false
 is_all_written (endings.Journal error) = false
 is_all_written other = true
 
--- the ending reports a failed allocation; or it reports a fault of the journal, which goes first if there are both
+-- the ending reports that an allocation failed, or a fault of the journal, which is reported first if there are both
 abbrev pub IsOfLoss : Ending → Type 0
 IsOfLoss ending = (ending ≡ endings.Memory) ⊎ ((error : JournalError) × (ending ≡ endings.Journal error))
 
--- What a run gives out is on the disks that it gives back. All that it wrote are frames of outputs, one after the other, which the disks
--- hold whatever a stop leaves of them; only where the writer failed may the last frame be missing or cut short. The loss of the writer is
--- reported.
+-- All that a run has written are frames of outputs, one after the other. The events on which the outputs rest are on the disks that the run
+-- gives back, whatever a stop leaves of these. Only if the writer failed may the last frame be missing or cut short. If the writer is lost,
+-- the ending reports it.
 pub record GivesOnly {D W : Type 0} (node : Node) (disks : Device D) (contents : W → Option (List ℕ)) (store : Store D) (writer : W) (ran : Ran D W) : Type 0 where
   pub written : IfSome ran.store (λ left. IfSome ran.writer (λ later. HasWritten (NoneOrOnDisk node disks store left) (is_all_written ran.ending ≡ true) (contents writer) (contents later)))
   pub lost : ran.writer ≡ None → IsOfLoss ran.ending
 
--- there are two disks
+-- the node is on two disks
 abbrev pub AreTwo : {D : Type 0} → Store D → Type 0
 AreTwo (One disk) = ⊥
 AreTwo (Two first second) = ⊤
 
--- the member with this number in some text's committee ran on two disks, with this result
+-- the member with this number, in the committee that some text describes, ran on two disks, with this result
 pub record RunsAs {D W : Type 0} (scheme : Scheme Key) (device : Device D) (contents : W → Option (List ℕ)) (own : List ℕ) (every : ℕ) (writer : W) (ran : Ran D W) : Type 0 where
   pub text : List ℕ
   pub config : ConfigView Key

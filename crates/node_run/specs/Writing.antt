@@ -1,5 +1,5 @@
--- What a node's writer gets.
-use Rattle.std.specs.Prelude.{◌≤◌, length, take, ◌≡◌, ◌⊎◌, ◌||◌, ℕ, Bool, true, false, List, ◌++◌, Option, None, Some, ⊤, All}
+-- What the writer of a running node gets.
+use Rattle.std.specs.Prelude.{◌≤◌, length, take, ◌≡◌, ◌≢◌, ◌⊎◌, ◌||◌, ℕ, Bool, true, false, List, [], ◌++◌, Option, None, Some, ⊤, All}
 use Rattle.std.specs.List.{flat_map}
 use Rattle.std.specs.Io.KnownBytes.{Keeps, Appends}
 use Rattle.wire.specs.Lists.{Begins}
@@ -18,26 +18,26 @@ use Rattle.node_shared.specs.Home.{NodeView, IsBase}
 use Rattle.sigface.specs.Scheme.{Scheme}
 use Rattle.validator.specs.Setting.{node_of}
 
--- nothing has failed
+-- the faults of a run in which nothing has failed
 abbrev pub no_faults : Faults
 no_faults = record { journal = None; output = false; memory = false; input = false }
 
--- an allocation failed
+-- the fault that an allocation failed
 abbrev pub no_memory : Faults
 no_memory = record { journal = None; output = false; memory = true; input = false }
 
--- what the writer has got grows by a prefix of these bytes
+-- the writer got a prefix of these bytes after what it had
 pub record AppendsSome (old new : Option (List ℕ)) (bytes : List ℕ) : Type 0 where
   pub part : List ℕ
   pub begins : Begins part bytes
   pub appends : Appends old new part
 
--- a writer gets no more: it failed, or an allocation for its bytes failed
+-- after these faults a writer gets no more bytes: it failed, or an allocation for its bytes failed
 abbrev pub is_over : Faults → Bool
 is_over faults = faults.output || faults.memory
 
--- The bytes of one output. As long as nothing has failed the writer gets all of them; or it fails, and gets some of them; or an allocation
--- for them fails, and it gets none. After a failure it gets no bytes any more. No other fault is reported.
+-- The bytes of one output are put. If nothing has failed yet, the writer gets all of them; or it fails, and gets some of them; or an
+-- allocation for them fails, and it gets none. After a failure it gets no more bytes. No other fault is reported.
 pub record Puts (bytes : List ℕ) (before later : Faults) (old new : Option (List ℕ)) : Type 0 where
   pub over : is_over before ≡ true → (later ≡ before) × Keeps old new
   pub fine : later.output ≡ false
@@ -45,8 +45,8 @@ pub record Puts (bytes : List ℕ) (before later : Faults) (old new : Option (Li
   pub some : AppendsSome old new bytes
   pub others : later ≡ record before { output = later.output; memory = later.memory }
 
--- An output was put out, from each base, after some of the events that a seat knows as settled. It may be given out after all of them, at
--- each legal history that keeps a base.
+-- From each base, this output was put out after some of the events that a seat knows as settled. It may be given out after each legal
+-- history that keeps a base, followed by all those events.
 pub record MayGo {S : Type 0} (scheme : Scheme S) (node : NodeView S) (view : View) (output : Output) : Type 0 where
   pub settled : List Marked
   pub begins : Begins settled view.durable
@@ -56,14 +56,29 @@ pub record MayGo {S : Type 0} (scheme : Scheme S) (node : NodeView S) (view : Vi
   pub within : count ≤ length settled
   pub put_out : (base : State) → IsBase scheme node base → GoesOutAfter (node_of scheme node.setting) base (events (take count settled)) output
 
--- an output that may go out was written
-pub record WritesNext (May : Output → Type 0) (before later : Faults) (old new : Option (List ℕ)) : Type 0 where
-  pub output : Output
-  pub may : May output
-  pub puts : Puts (frame_of output) before later old new
+-- The frames of these outputs are put, in their order. If nothing has failed yet, the writer gets all of them. If it fails, or an
+-- allocation fails, it gets the frames of the first outputs; only if the writer failed may the last of these frames be cut short. After a
+-- failure it gets nothing. No other fault is reported.
+pub record PutsAll (outputs : List Output) (before later : Faults) (old new : Option (List ℕ)) : Type 0 where
+  pub over : is_over before ≡ true → Keeps old new
+  pub broken : before.output ≡ true → later.output ≡ true
+  pub memory : before.memory ≡ true → later.memory ≡ true
+  pub put : List Output
+  pub begins : Begins put outputs
+  pub whole : is_over later ≡ false → put ≡ outputs
+  pub written : later.output ≡ false → Appends old new (flat_map frame_of put)
+  pub some : AppendsSome old new (flat_map frame_of put)
+  pub others : later ≡ record before { output = later.output; memory = later.memory }
 
--- The writer got only frames of outputs that may go out; only if it failed may the last be cut short. After a failure it got nothing. No
--- fault is reported but the writer's and a failed allocation.
+-- at least one output that may go out was taken out of the node, and all that were are put
+pub record WritesNext (May : Output → Type 0) (before later : Faults) (old new : Option (List ℕ)) : Type 0 where
+  pub outputs : List Output
+  pub some : outputs ≢ []
+  pub each : All May outputs
+  pub puts : PutsAll outputs before later old new
+
+-- The writer got only frames of outputs that may go out; only if it failed may the last frame be cut short. After a failure it got nothing.
+-- No faults are reported but those of the writer and of allocations.
 pub record WritesOnly (May : Output → Type 0) (before later : Faults) (old new : Option (List ℕ)) : Type 0 where
   pub over : is_over before ≡ true → Keeps old new
   pub broken : before.output ≡ true → later.output ≡ true
@@ -74,14 +89,14 @@ pub record WritesOnly (May : Output → Type 0) (before later : Faults) (old new
   pub some : AppendsSome old new (flat_map frame_of outputs)
   pub others : later ≡ record before { output = later.output; memory = later.memory }
 
--- what the writer holds now, where that is known, is what it held followed by a prefix of these bytes
+-- if it is known what the writer held before and what it holds now, this is what it held followed by a prefix of these bytes
 abbrev pub HoldsPart : Option (List ℕ) → Option (List ℕ) → List ℕ → Type 0
 HoldsPart None new bytes = ⊤
 HoldsPart (Some xs) None bytes = ⊥
 HoldsPart (Some xs) (Some ys) bytes = Begins ys (xs ++ bytes)
 
--- At the end the writer holds what it held before, followed by whole frames of some outputs, which meet `AreRight`. Unless `IsWhole` holds,
--- the last frame may be missing or cut short.
+-- At the end the writer holds what it held before, followed by whole frames of some outputs, which meet `AreRight`. Only if `IsWhole`
+-- doesn't hold may the last frame be missing or cut short.
 pub record HasWritten (AreRight : List Output → Type 0) (IsWhole : Type 0) (old new : Option (List ℕ)) : Type 0 where
   pub outputs : List Output
   pub right : AreRight outputs

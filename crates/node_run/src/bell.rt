@@ -1,15 +1,15 @@
-//! How a thread learns that there is work for it.
+//! A bell: how a thread learns that there is work for it.
 
 use std::sync::{Condvar, Mutex, Wait};
 
-/// The state of a bell.
+/// What a bell was told: whether there is work, and whether more may come.
 #[derive(Clone, Copy)]
 struct Reported {
     rung: bool,
     closed: bool,
 }
 
-/// A bell that one thread waits for. Several rings before the thread waits count as one.
+/// A bell that one thread waits for and others ring. Several rings before the thread waits count as one.
 #[derive(Drop)]
 pub(crate) struct Bell {
     reported: Mutex<Reported>,
@@ -17,7 +17,7 @@ pub(crate) struct Bell {
 }
 
 impl Bell {
-    /// A bell that wasn't rung yet.
+    /// A bell that was neither rung nor closed.
     pub(crate) fn new() -> Bell {
         Bell {
             reported: Mutex::new(Reported {
@@ -28,19 +28,19 @@ impl Bell {
         }
     }
 
-    /// Says that there is work.
+    /// Tells the waiting thread that there is work.
     pub(crate) fn ring<R: Wait>(&self, rt: &R) {
         self.reported.lock(rt).rung = true;
         self.changed.notify_one();
     }
 
-    /// Says that no more work will come.
+    /// Tells the waiting thread that no more work will come.
     pub(crate) fn close<R: Wait>(&self, rt: &R) {
         self.reported.lock(rt).closed = true;
         self.changed.notify_one();
     }
 
-    /// Sleeps until there is work, or no more will come. Gives whether more may come after this.
+    /// Sleeps until the bell is rung or closed. Gives whether more work may come after this.
     pub(crate) fn wait<R: Wait>(&self, rt: &R) -> bool {
         let reported = self.reported.lock(rt);
         let mut reported = self.changed.wait_while(
@@ -53,17 +53,17 @@ impl Bell {
     }
 }
 
-/// The bells of a node's threads.
+/// The bells of a running node.
 #[derive(Drop)]
 pub(crate) struct Bells {
-    /// For the thread that flushes: something was accepted, or has to go out again.
+    /// The bell of the flushing thread. It is rung after an event was accepted, or was known, so that its outputs have to go out again.
     pub(crate) pending: Bell,
-    /// For the thread that writes: a round was made.
+    /// The bell of the writing thread. It is rung after each round, since outputs may leave then.
     pub(crate) settled: Bell,
 }
 
 impl Bells {
-    /// Bells that were not rung.
+    /// Bells that were neither rung nor closed.
     pub(crate) fn new() -> Bells {
         Bells {
             pending: Bell::new(),

@@ -1,4 +1,4 @@
-//! Three pieces of work at once, two of them in threads of their own.
+//! Doing three pieces of work at once, two of them in threads of their own.
 
 ghost use Rattle.std.specs.Prelude.{◌≡◌, true, IfSome};
 ghost use Rattle.std.specs.Thread.{IsSend, IsSync};
@@ -10,7 +10,7 @@ use std::thread::{self, Promise, Scope, Threads};
 
 /// A piece of work for a thread.
 pub(crate) trait Work<R: Wait, X> {
-    /// How the result of the work is related to the work.
+    /// What holds of the work and its result, once the work is done.
     ghost does: { Self → X → Type 0 };
 
     /// Does the work.
@@ -18,7 +18,7 @@ pub(crate) trait Work<R: Wait, X> {
         ensures { does self result };
 }
 
-// The promise of a thread that did its work.
+// What a thread that does this work promises: its result is one that the work may have.
 struct Done<R, F> {
     runtime: PhantomData<R>,
     work: Snapshot<F>,
@@ -37,8 +37,9 @@ impl<R: Wait, F: Work<R, X>, X> Promise<X> for Done<R, F> {
     ghost kept_by = { λ done result. F.does done.work.value result };
 }
 
-/// Does two pieces of work in threads of their own, and the third, `here`, in this thread. Gives their results once all have ended. The
-/// result is None where the first thread couldn't be made. Where the second couldn't be made, `instead` is done in place of `here`.
+/// Does two pieces of work, `first` and `second`, in threads of their own, and a third, `here`, in this thread. Gives their results once
+/// all have ended. The result is None where the first thread couldn't be made. Where the second couldn't be made, `instead` is done in
+/// place of `here`, and only the result of `first` is given.
 pub(crate) fn do_beside<R, F, G, H, I, X, Y, Z>(
     rt: &R,
     first: F,

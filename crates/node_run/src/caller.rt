@@ -1,4 +1,4 @@
-//! What a thread uses to call a node.
+//! What a thread of a running node uses to call the node, with messages that weren't checked yet.
 
 ghost use Rattle.std.specs.Prelude.{◌≡◌, None, Err, true, false, IsSome, IsTrue, IsErr, ◌↔◌, IfOk, IfSome, OnErr};
 ghost use Rattle.header.specs.Digested.{certificate_digest_in};
@@ -9,7 +9,7 @@ ghost use Rattle.spec_machine.specs.Machine.{answered, is_missing_parents};
 ghost use Rattle.spec_model.specs.States.{State};
 ghost use Rattle.node_seats.specs.Views.{IsSame};
 ghost use Rattle.node_io.specs.declared.rejection.Rejection.TheVariants.{Refused};
-ghost use Rattle.node_shared.specs.Answers.{Gives};
+ghost use Rattle.node_shared.specs.Answers.{GivesAll};
 ghost use Rattle.node_shared.specs.Calls.{Learned};
 ghost use Rattle.node_shared.specs.Home.{IsBase, seen_in};
 ghost use Rattle.sigface.specs.Pair.{is_pair_signature};
@@ -23,23 +23,24 @@ use node::{Refusal, Rounds};
 use node_io::Rejection;
 use sigface::{HashVerify, Sign};
 use std::alloc::AllocError;
+use std::collections::VecDeque;
 use std::marker::Model;
 use std::sync::Wait;
 use validator::Config;
 use wire::{Author, Message, Output};
 
-/// What happened to a message.
+/// What happened to a message that wasn't refused.
 #[derive(Drop)]
 pub(crate) enum Taken {
-    /// The event was new.
+    /// The message's event was new, and is accepted.
     New,
-    /// The event was known: its outputs go out again.
+    /// The message's event was known; its outputs go out again.
     Known,
-    /// A certificate whose parents aren't held yet.
+    /// The message is a certificate whose parents aren't held yet, so that it has to wait.
     Waits(Checked),
 }
 
-/// A caller of a node for messages that weren't checked yet. Contracts see the inner caller.
+/// A caller of a node that also checks messages, so that it takes messages that weren't checked yet. Contracts see the inner caller.
 #[derive(Drop)]
 pub(crate) struct Caller<'n, 'a, S: Sign> {
     node: node::Caller<'n, 'a, S>,
@@ -58,7 +59,7 @@ impl<'n, 'a, S: Sign> Model for Caller<'n, 'a, S> {
 }
 
 impl<'n, 'a, S: Sign> Caller<'n, 'a, S> {
-    /// A caller for unchecked messages, over this caller.
+    /// A caller for messages that weren't checked yet, over this caller.
     pub(crate) fn new(node: node::Caller<'n, 'a, S>) -> Caller<'n, 'a, S>
         ensures { result ≡ node.entry }
     {
@@ -72,7 +73,7 @@ impl<'n, 'a, S: Sign> Caller<'n, 'a, S> {
         self.node.config()
     }
 
-    /// Checks a message from its sender, and submits it unless it is a certificate that has to wait for its parents.
+    /// Checks a message from this sender, and submits it. A certificate whose parents aren't held yet isn't submitted; it has to wait.
     pub(crate) fn take<R: Wait>(
         &mut self,
         rt: &R,
@@ -92,7 +93,7 @@ impl<'n, 'a, S: Sign> Caller<'n, 'a, S> {
         submit(rt, &mut self.node, event)
     }
 
-    // Whether an event may be submitted at once: it is no certificate, or one that lacks no parent.
+    // Whether an event may be submitted at once: it is no certificate, or a certificate that lacks no parent.
     fn may_go<R: Wait>(&mut self, rt: &R, event: &Checked) -> bool
         requires passed { fault_of self.old.setting.charter accepts_all event.now ≡ None }
         ensures stays { StaysWith self.old self.new }
@@ -108,7 +109,7 @@ impl<'n, 'a, S: Sign> Caller<'n, 'a, S> {
         }
     }
 
-    /// Whether a waiting certificate is ready.
+    /// Whether a certificate that waits is ready: it passes the checks, and lacks no parent.
     pub(crate) fn is_ready<R: Wait>(&mut self, rt: &R, event: &Checked) -> bool
         ensures stays { StaysWith self.old self.new }
         ensures same { IsSame self.old.seat self.new.seat }
@@ -123,7 +124,7 @@ impl<'n, 'a, S: Sign> Caller<'n, 'a, S> {
         passes(self.node.config().committee(), event) && self.node.ready(rt, event)
     }
 
-    /// Submits a certificate that has waited.
+    /// Checks and submits a certificate that has waited.
     pub(crate) fn take_waiting<R: Wait>(
         &mut self,
         rt: &R,
@@ -138,7 +139,8 @@ impl<'n, 'a, S: Sign> Caller<'n, 'a, S> {
         submit(rt, &mut self.node, event)
     }
 
-    /// Submits the header that the validator proposes, if it proposes one. Gives whether it was new. On `AllocError` an allocation failed.
+    /// Submits the header that the validator proposes, if it proposes one. Gives whether that header was new. On `AllocError` an allocation
+    /// failed.
     pub(crate) fn propose<R: Wait>(&mut self, rt: &R) -> Result<bool, AllocError>
         ensures stays { StaysWith self.old self.new }
         ensures proposed { IfOk result (λ new. IsProposed S.scheme self.old.node self.old self.new new) }
@@ -155,7 +157,7 @@ impl<'n, 'a, S: Sign> Caller<'n, 'a, S> {
         newness(submit(rt, &mut self.node, event))
     }
 
-    /// `Down` where the node is down.
+    /// Ok where the node is up. The error is `Down` where it is down.
     pub(crate) fn test_up(&mut self) -> Result<(), Rejection>
         ensures stays { StaysWith self.old self.new }
         ensures looks { OnlyLooks self.old.seat self.new.seat }
@@ -168,8 +170,8 @@ impl<'n, 'a, S: Sign> Caller<'n, 'a, S> {
         Ok(())
     }
 
-    /// After this call the flusher's seat knows as settled all that this caller knows as settled. So what the caller collected rests on
-    /// records that are on the disk.
+    /// After this call the flusher's seat knows as settled all events that this caller knows as settled. So the outputs that the caller
+    /// took out rest on records that are on the disks.
     pub(crate) fn cover<D: Disk, R: Wait>(&mut self, rt: &R, rounds: &mut Rounds<'n, 'a, S, D>)
         requires node { self.old.node ≡ rounds.old.node }
         ensures stays { StaysAsIs rounds.old.flusher rounds.new.flusher }
@@ -178,13 +180,13 @@ impl<'n, 'a, S: Sign> Caller<'n, 'a, S> {
         rounds.cover(rt, &mut self.node);
     }
 
-    /// The next output that may leave.
-    pub(crate) fn collect<R: Wait>(&mut self, rt: &R) -> Option<Output>
+    /// Moves the outputs that may leave to the end of `outputs`, oldest first, as many as that has room for.
+    pub(crate) fn collect_into<R: Wait>(&mut self, rt: &R, outputs: &mut VecDeque<Output>)
         ensures stays { StaysWith self.old self.new }
         ensures learned { Learned S.scheme self.old.node self.old.seat self.new.seat }
-        ensures gives { IfSome result (λ output. Gives S.scheme self.old.node self.new.seat output) }
+        ensures gives { GivesAll S.scheme self.old.node self.new.seat outputs.old.items outputs.new.items }
     {
-        self.node.collect(rt)
+        self.node.collect_into(rt, outputs);
     }
 }
 
@@ -206,7 +208,7 @@ fn submit<S: Sign, R: Wait>(
     }
 }
 
-// Whether a proposal was new. A node that is down refuses it; the run reports that at its end.
+// Whether a proposed header was new, by the result of submitting it. A node that is down refuses it; the run reports that at its end.
 fn newness(reported: Result<Taken, Rejection>) -> Result<bool, AllocError>
     ensures ok { IfOk result (λ new. new ≡ is_reported_new reported) }
     ensures err { OnErr result (reported ≡ Err (Refused Refusal.Memory)) }

@@ -1,17 +1,17 @@
-//! Which questions the node has to be asked after a record.
+//! Which questions are due: those that the node has to be asked after a new record, since their answers may have changed.
 
 ghost use Rattle.std.specs.Prelude.{◌≡◌, ◌↔◌, IsTrue, suc, true};
 ghost use Rattle.node_run.specs.Asking.{Leaves, LacksNothingBelow, nothing_due, first_due, both_due, both_waiting};
 
 use wire::{Author, Message, Round};
 
-/// The rounds of which waiting certificates may be ready.
+/// The rounds whose waiting certificates are due: they may have become ready.
 #[derive(Clone, Copy)]
 pub(crate) enum Waiting {
     /// No round.
     Nothing,
-    /// Each round from `low` on that is below `end`; this may be no round. A waiting certificate of another round is ready only where the
-    /// floor has risen over the lowest round of which one waits.
+    /// All rounds from `low` on and below `end`, which may be none. A certificate that waits in another round can have become ready only if
+    /// the floor has risen over the lowest round in which one waits.
     Rounds {
         /// The lowest of these rounds.
         low: u64,
@@ -21,7 +21,7 @@ pub(crate) enum Waiting {
 }
 
 impl Waiting {
-    // The rounds of both, and all rounds between them.
+    // The rounds of either of the two, and all rounds between them.
     fn and(self, other: Waiting) -> Waiting
         ensures { result ≡ both_waiting self other }
     {
@@ -42,17 +42,17 @@ impl Waiting {
     }
 }
 
-/// Which questions the node has to be asked again: which of the waiting certificates are ready, and what it proposes.
+/// Which questions the node has to be asked again: which of the waiting certificates are ready, and which header it proposes.
 #[derive(Clone, Copy)]
 pub(crate) struct Due {
-    /// Of which rounds waiting certificates may be ready.
+    /// The rounds whose waiting certificates have to be asked about.
     pub(crate) waiting: Waiting,
-    /// What the node proposes.
+    /// Whether the node has to be asked which header it proposes.
     pub(crate) proposal: bool,
 }
 
 impl Due {
-    /// What is due at a node that was not asked anything yet: what it proposes. No certificate waits then.
+    /// What is due at a node that was not asked anything yet: which header it proposes. No certificate waits at that time.
     pub(crate) const fn first() -> Due
         ensures { result ≡ first_due }
     {
@@ -62,14 +62,14 @@ impl Due {
         }
     }
 
-    /// Whether nothing is due.
+    /// Whether no question is due.
     pub(crate) fn is_nothing(self) -> bool
         ensures { IsTrue result ↔ (self ≡ nothing_due) }
     {
         matches!(self.waiting, Waiting::Nothing) && !self.proposal
     }
 
-    /// What is due by either of the two.
+    /// The questions that are due by either of the two.
     pub(crate) fn and(self, other: Due) -> Due
         ensures { result ≡ both_due self other }
     {
@@ -80,10 +80,10 @@ impl Due {
     }
 }
 
-/// What is due after a new event of a member's node. A question that isn't due has the same answer as before the event: if no waiting
-/// certificates are due, no certificate entered the DAG and the floor did not move; if the proposal isn't due, no round, availability or
-/// own header changed. A certificate that enters concerns the waiting ones of its round, since its slot is filled now, and those of the
-/// next round, since it may be their parent.
+/// Which questions are due after a new event of this member's node. A question that isn't due has the same answer as before the event. If
+/// no waiting certificates are due, no certificate entered the DAG and the floor did not move. If the proposal isn't due, neither the
+/// node's round nor the availability of a batch nor an own header changed. A certificate that enters the DAG makes the waiting certificates
+/// of its round due, since its slot is filled now, and those of the next round, since it may be their parent.
 pub(crate) fn due_after(own: Author, message: &Message) -> Due
     ensures left { Leaves own message.now result }
 {
@@ -97,7 +97,7 @@ pub(crate) fn due_after(own: Author, message: &Message) -> Due
             waiting: Waiting::Nothing,
             proposal: true,
         },
-        // No header adds a certificate.
+        // A header adds no certificate to the DAG.
         Message::Header(header) => Due {
             waiting: Waiting::Nothing,
             proposal: header.body.author == own,
@@ -105,7 +105,7 @@ pub(crate) fn due_after(own: Author, message: &Message) -> Due
         // A vote may complete the certificate of the own header of its round.
         Message::Vote(vote) => certificate_due(vote.round),
         Message::Certificate(certificate) => certificate_due(certificate.header.round),
-        // A coin moves the floor, and adds no certificate.
+        // A coin may move the floor, but adds no certificate to the DAG.
         Message::Coin(_) => Due {
             waiting: Waiting::Rounds { low: 0, end: 0 },
             proposal: false,
@@ -113,7 +113,7 @@ pub(crate) fn due_after(own: Author, message: &Message) -> Due
     }
 }
 
-// What is due after a certificate of this round has entered the DAG.
+// Which questions are due after a certificate of this round has entered the DAG.
 fn certificate_due(round: Round) -> Due
     ensures { result ≡ record { waiting = Waiting.Rounds round (suc (suc round)); proposal = true } }
 {
@@ -124,8 +124,9 @@ fn certificate_due(round: Round) -> Due
     }
 }
 
-/// If the floor has risen over a waiting certificate, neither it nor a certificate of a lower round lacks parents. So if the lowest one
-/// that waits lacks a parent, the floor has risen over none of them.
+/// The law that low certificates lack no parents: if the floor has risen over the certificates of a round, neither they nor those of lower
+/// rounds lack parents. So if a certificate of the lowest round in which any waits lacks a parent, the floor has risen over none that
+/// waits. The call does nothing.
 pub(crate) fn low_ones_lack_nothing()
     ensures { LacksNothingBelow }
 {}

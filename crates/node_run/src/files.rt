@@ -11,22 +11,23 @@ use std::fs::File;
 use std::io::ErrorKind;
 use std::rt::Files;
 
-/// How many bytes of the spare file are kept in memory: an opening reads no more of it than the longest group, with a gate before and after
-/// it.
+/// How many bytes at the beginning of the spare file are kept in memory. An opening reads no more of it than the longest group, with the
+/// gate before it and the gate after it.
 const FRONT_BYTES: u64 = (LENGTH_BYTES + MAX_GROUP_BYTES) as u64 + 2;
 
-/// How many bytes hold the first group of any file that can be read: the configuration of 31 members and a head.
+/// How many bytes are enough to hold the first group of any file that can be read. At most this is the configuration of 31 members, and a
+/// head with the generation.
 const FIRST_GROUP_BYTES: u64 = 4_096;
 
-/// Opens both files of a journal. The first one is at this path, and the second has `.2` added to its name. A file that isn't there is
+/// Opens the two files of a journal. The first file is at this path; the name of the second has `.2` added. A file that doesn't exist is
 /// created, and both are locked.
 ///
-/// The newer file is kept in memory as a whole, and of the other one only what an opening reads. The files' first bytes, read before the
-/// files are locked, tell which is newer. Only the use of memory rests on this: if the other file had to be read after all, the opening
-/// fails.
+/// The newer file is kept in memory as a whole, and of the other file only what an opening reads. Which file is newer is told by the files'
+/// first bytes, which are read before the files are locked. Only the use of memory rests on this: if the other file had to be read after
+/// all, the opening would fail.
 ///
 /// # Errors
-/// Those of `FileDisk::open`.
+/// The errors of `FileDisk::open`.
 pub(crate) fn open_files<R: Files<File = File> + AllocGlobal>(
     rt: &R,
     alloc: Global,
@@ -48,7 +49,7 @@ pub(crate) fn open_files<R: Files<File = File> + AllocGlobal>(
     }
 }
 
-// The generation of the file at this path, by its first bytes. None where they name none, or can't be read.
+// The generation of the file at this path, by its first bytes. None where these have no generation, or can't be read.
 fn generation_at<R: Files<File = File> + AllocGlobal>(
     rt: &R,
     alloc: Global,

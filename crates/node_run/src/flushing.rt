@@ -1,4 +1,4 @@
-//! The thread that writes records to the disks.
+//! The flushing thread, which writes records to the disks.
 
 ghost use Rattle.std.specs.Prelude.{◌≡◌, ◌↔◌, true, false, Some, None, IsSome, IsTrue};
 ghost use Rattle.journal.specs.Journal.{spare_of};
@@ -21,9 +21,9 @@ use node_io::Faults;
 use sigface::Sign;
 use std::sync::Wait;
 
-/// Writes all records to the disks each time that the first bell is rung, and then rings the second bell, until the first is closed and all
-/// records are written. Rewrites the journal to a checkpoint where the rule says so; if an allocation for that fails, it goes on without,
-/// and reports that at the end.
+/// The work of the flushing thread. Each time that the bell `pending` is rung, it writes all pending records to the disks, and rings the
+/// bell `settled` after each round. It ends once `pending` is closed and all records are written. It rewrites the journal to a checkpoint
+/// where the rule says so. If an allocation for a checkpoint fails, it goes on without that checkpoint, and reports the failure at the end.
 pub(crate) fn flush_all<S: Sign, D: Disk, R: Wait>(
     rt: &R,
     rounds: &mut Rounds<'_, '_, S, D>,
@@ -36,12 +36,12 @@ pub(crate) fn flush_all<S: Sign, D: Disk, R: Wait>(
     ensures journal { ReportsJournal (faults_in D.device (store_of (journal_of rounds.old.flusher))) (faults_in D.device (store_of (journal_of rounds.new.flusher))) (is_down rounds.old.flusher) (is_down rounds.new.flusher) result.journal (HasNoPlace S.scheme D.device rounds.old.node rounds.new.flusher) }
     ensures others { (result.output ≡ false) × (result.input ≡ false) }
     ensures node { rounds.new.node ≡ rounds.old.node }
-    // Unless a fault of the journal is reported, a checkpoint was taken exactly after each round after which one was due. One may have been
-    // skipped where a failed allocation is reported.
+    // Unless a fault of the journal is reported, a checkpoint was made exactly after each round after which one was due. A checkpoint may
+    // have been skipped only where a failed allocation is reported.
     ensures by_rule { is_down rounds.old.flusher ≡ false → result.journal ≡ None → (later : Rule) × ByTheRule D.device (HasCheckpoint S.scheme D.device rounds.old.node) rule result.memory (point_of rounds.old.flusher) later (point_of rounds.new.flusher) }
-    // A stop at any moment leaves what was settled before, and perhaps more.
+    // A stop at any moment leaves on the disks what was settled before the call, and perhaps more.
     ensures any_moment { is_down rounds.old.flusher ≡ false → AtEachMomentOn D.device (HoldsMore S.scheme rounds.old.node (settled_in rounds.old.flusher) (areas_of D.device (journal_of rounds.old.flusher))) (store_of (journal_of rounds.old.flusher)) (store_of (journal_of rounds.new.flusher)) }
-    // A stop at the end leaves all that is settled.
+    // A stop at the end leaves on the disks all that is settled.
     ensures at_end { is_down rounds.old.flusher ≡ false → LeavesSettled S.scheme D.device rounds.old.node rounds.old.flusher (settled_in rounds.new.flusher) (store_of (journal_of rounds.new.flusher)) }
 {
     let mut faults = Faults::none();
@@ -60,8 +60,8 @@ pub(crate) fn flush_all<S: Sign, D: Disk, R: Wait>(
     unreachable!()
 }
 
-// Makes rounds until all records are on the disks or one round fails, and the checkpoints that are due after them. If an allocation for a
-// checkpoint fails, that is marked, and the rounds go on.
+// Makes rounds, and the checkpoints that are due after them, until all records are on the disks or a round fails. If an allocation for a
+// checkpoint fails, `missed` is set, and the rounds go on.
 fn flush_pending<S: Sign, D: Disk, R: Wait>(
     rt: &R,
     rounds: &mut Rounds<'_, '_, S, D>,
@@ -73,25 +73,26 @@ fn flush_pending<S: Sign, D: Disk, R: Wait>(
     ensures pair { IsSome rule.new.every → IsSome (spare_of (journal_of rounds.new.flusher)) }
     ensures rounds { ReportsRounds (faults_in D.device (store_of (journal_of rounds.old.flusher))) (faults_in D.device (store_of (journal_of rounds.new.flusher))) result.journal }
 
-    // A round that takes the node down is reported as the journal's fault: the disk's, or that the group has no room.
+    // If a round takes the node down, a fault of the journal is reported: that a device call failed, or that the journal has no room.
     ensures down { is_down rounds.old.flusher ≡ false → IsSome result.journal ↔ IsTrue (is_down rounds.new.flusher) }
     ensures stays { IsTrue (is_down rounds.old.flusher) → (result.journal ≡ None) × (rounds.new.flusher ≡ rounds.old.flusher) }
     ensures full { is_down rounds.old.flusher ≡ false → result.journal ≡ Some JournalError.Full → HasNoPlace S.scheme D.device rounds.old.node rounds.new.flusher }
 
-    // Unless a fault of the journal is reported, a checkpoint was taken exactly after each round after which one was due, or is marked as
-    // missed.
+    // Unless a fault of the journal is reported, a checkpoint was made exactly after each round after which one was due, or `missed` says
+    // that one was skipped.
     ensures by_rule { is_down rounds.old.flusher ≡ false → result.journal ≡ None → ByTheRule D.device (HasCheckpoint S.scheme D.device rounds.old.node) rule.old missed.new (point_of rounds.old.flusher) rule.new (point_of rounds.new.flusher) }
     ensures missed { missed.old ≡ true → missed.new ≡ true }
 
-    // Unless the node is down or an allocation of a round failed, all accepted events are settled, as of some moment after the call began.
-    // This holds also where an allocation for a checkpoint failed.
+    // Unless the node is down or an allocation of a round failed, all events are settled that were accepted at some moment after the call
+    // began. This holds also where an allocation for a checkpoint failed.
     ensures all { is_down rounds.new.flusher ≡ false → result.memory ≡ false → TakesLongest rounds.old.seat.view.seen (settled_in rounds.new.flusher) (settled_in rounds.new.flusher) }
-    // After a failed allocation nothing is taken that isn't settled.
+    // After a failed allocation, nothing is taken that isn't settled.
     ensures memory { result.memory ≡ true → taken_in rounds.new.flusher ≡ settled_in rounds.new.flusher }
     ensures others { (result.output ≡ false) × (result.input ≡ false) }
     ensures node { rounds.new.node ≡ rounds.old.node }
     ensures more { Begins (settled_in rounds.old.flusher) (settled_in rounds.new.flusher) }
-    // If the journal had, from some state on, what was settled before the call, then it has from the same state on what is settled now.
+    // If the journal had some state followed by what was settled before the call, it now has the same state followed by what is settled
+    // now.
     ensures earlier { is_down rounds.new.flusher ≡ false → KeepsEarlier S.scheme rounds.old.node (settled_in rounds.old.flusher) (settled_in rounds.new.flusher) (areas_of D.device (journal_of rounds.old.flusher)) (areas_of D.device (journal_of rounds.new.flusher)) }
     ensures any_moment { is_down rounds.old.flusher ≡ false → AtEachMomentOn D.device (HoldsMore S.scheme rounds.old.node (settled_in rounds.old.flusher) (areas_of D.device (journal_of rounds.old.flusher))) (store_of (journal_of rounds.old.flusher)) (store_of (journal_of rounds.new.flusher)) }
     ensures at_end { is_down rounds.old.flusher ≡ false → LeavesSettled S.scheme D.device rounds.old.node rounds.old.flusher (settled_in rounds.new.flusher) (store_of (journal_of rounds.new.flusher)) }
@@ -106,8 +107,8 @@ fn flush_pending<S: Sign, D: Disk, R: Wait>(
     unreachable!()
 }
 
-// Makes a round, and the checkpoint that is due after it. Gives the number of records that the round settled; 0 where all were settled
-// already. If an allocation for the checkpoint fails, that is marked, and the checkpoint is due again after the next round.
+// Makes a round, and the checkpoint that is due after it, if one is. Gives the number of records that the round settled; 0 where all were
+// settled already. If an allocation for the checkpoint fails, `missed` is set, and the checkpoint is due again after the next round.
 fn flush_once<S: Sign, D: Disk, R: Wait>(
     rt: &R,
     rounds: &mut Rounds<'_, '_, S, D>,
@@ -135,7 +136,7 @@ fn flush_once<S: Sign, D: Disk, R: Wait>(
     }
 }
 
-// Rewrites the journal to a checkpoint, if one is due.
+// Rewrites the journal to a checkpoint, if one is due by the rule.
 fn rewrite_if_due<S: Sign, D: Disk, R: Wait>(
     rt: &R,
     rounds: &mut Rounds<'_, '_, S, D>,
@@ -156,7 +157,7 @@ fn rewrite_if_due<S: Sign, D: Disk, R: Wait>(
     Ok(())
 }
 
-/// The length of the area that is read, in bytes, for a node that is up.
+/// The length, in bytes, of the area of the journal that is read. The node isn't down.
 pub(crate) fn length_of<S: Sign, D: Disk>(rounds: &Rounds<'_, '_, S, D>) -> u64
     requires { is_down rounds.now.flusher ≡ false }
     ensures { result ≡ length_in D.device (journal_of rounds.now.flusher) }
@@ -167,7 +168,8 @@ pub(crate) fn length_of<S: Sign, D: Disk>(rounds: &Rounds<'_, '_, S, D>) -> u64
     }
 }
 
-// What a failed round means for the run. That the node is down already was reported before.
+// The faults that a run reports of a round that failed with this error. Of `Down` nothing is reported: the fault that took the node down
+// was reported before.
 fn faults_of(error: FlushError) -> Faults
     ensures { result ≡ faults_after error }
 {

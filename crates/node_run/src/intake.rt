@@ -1,4 +1,4 @@
-//! What is done with the frames.
+//! The intake: what is done with the frames that come in.
 
 ghost use Rattle.std.specs.Prelude.{◌≡◌, ◌≢◌, ◌≤◌, ◌<◌, ℕ, [], true, false, None, Ok, IfOk, IfErr, IfSome, IfNone, OnOk, OnErr, All, ◌+◌, slice_get};
 ghost use Rattle.header.specs.Checks.{fault_of, accepts_all};
@@ -9,7 +9,7 @@ ghost use Rattle.node.specs.Callers.{StaysWith};
 ghost use Rattle.wire.specs.declared.message.Message.TheVariants as message;
 ghost use Rattle.waiter.specs.Rounds.{held, none_waits};
 ghost use Rattle.wire.specs.Lists.{Begins};
-ghost use Rattle.node_run.specs.Asked.{AsksEach, AsksWhatWasDue, GoesThrough, OnlyAsks, WasAsked};
+ghost use Rattle.node_run.specs.Asked.{AsksEach, AsksWhatWasDue, GoesThrough, IsFirstReady, OnlyAsks, WasAsked, WasReady};
 ghost use Rattle.node_run.specs.Asking.{IsDueAfter, IsTakenOut, TakesOne, nothing_due, first_due};
 ghost use Rattle.node_run.specs.Bringing.{Brings, BringsAgain, CantWait, Enters, own_batch};
 ghost use Rattle.node_run.specs.Ends.{reported_of_wait};
@@ -28,7 +28,7 @@ use validator::Refusal;
 use waiter::{WaitRefusal, Waiters};
 use wire::{Author, Batch, Message};
 
-/// Handles what frames bring.
+/// Takes what frames bring, and lets certificates wait for their parents.
 #[derive(Drop)]
 pub(crate) struct Intake<'n, 'a, S: Sign> {
     alloc: Global,
@@ -36,13 +36,14 @@ pub(crate) struct Intake<'n, 'a, S: Sign> {
     waiters: Waiters,
     makers: Makers,
     pending: &'n Bell,
-    // What the node has to be asked after the next record.
+    // Which questions the node has to be asked after the next new record.
     due: Due,
     was_refused_memory: bool,
 }
 
 impl<'n, 'a, S: Sign> Intake<'n, 'a, S> {
-    /// The bell is rung where there is something to flush or to give out. On `AllocError` an allocation failed.
+    /// An intake that calls the node with this caller. It rings the bell `pending` where there is something to flush or to give out. On
+    /// `AllocError` an allocation failed.
     pub(crate) fn new(
         alloc: Global,
         caller: Caller<'n, 'a, S>,
@@ -66,17 +67,17 @@ impl<'n, 'a, S: Sign> Intake<'n, 'a, S> {
         })
     }
 
-    /// Whether an allocation failed outside the handling of an event.
+    /// Whether an allocation failed while no event was handled, so that no refusal reported it.
     pub(crate) fn was_refused_memory(&self) -> bool
         ensures { result ≡ self.now.was_refused_memory }
     {
         self.was_refused_memory
     }
 
-    /// Takes what a frame of this body brings, and writes a line for each refusal.
+    /// Takes what a frame with this body brings, and writes a line for a refusal.
     pub(crate) fn take<R: Wait, E: Write>(&mut self, rt: &R, body: &[u8], errors: &mut E)
         ensures mark { self.old.was_refused_memory ≡ true → self.new.was_refused_memory ≡ true }
-        // Between two frames no waiting certificate is due.
+        // If no waiting certificate was due before the frame, none is due after it.
         ensures rests { self.old.due.waiting ≡ Waiting.Nothing → self.new.due.waiting ≡ Waiting.Nothing }
     {
         match self.answer(rt, body) {
@@ -86,8 +87,9 @@ impl<'n, 'a, S: Sign> Intake<'n, 'a, S> {
         }
     }
 
-    /// Submits what follows from the records so far: what the validator proposes, and then each waiting certificate that is ready. The node
-    /// is asked only what may have another answer than before, or what could not be answered because an allocation failed.
+    /// Submits what follows from the records so far: the header that the validator proposes, and each waiting certificate that is ready.
+    /// The node is asked only such questions as may have another answer than before, or as could not be answered because an allocation
+    /// failed.
     pub(crate) fn follow<R: Wait, E: Write>(&mut self, rt: &R, errors: &mut E)
         ensures idle { self.old.due ≡ nothing_due → self.new ≡ self.old }
         ensures rests { self.new.due.waiting ≡ Waiting.Nothing }
@@ -99,7 +101,8 @@ impl<'n, 'a, S: Sign> Intake<'n, 'a, S> {
         }
     }
 
-    // Asks the node what is due, as long as that yields a certificate that is ready. After that no waiting certificate is due.
+    // Asks the node the questions that are due, as long as this finds a waiting certificate that is ready. Afterwards no waiting
+    // certificate is due.
     fn ask<R: Wait, E: Write>(&mut self, rt: &R, errors: &mut E)
         ensures stays { StaysWith self.old.caller self.new.caller }
         ensures rests { self.new.due.waiting ≡ Waiting.Nothing }
@@ -110,8 +113,8 @@ impl<'n, 'a, S: Sign> Intake<'n, 'a, S> {
         'asking: while self.go_on(rt, errors) {}
     }
 
-    // Submits what the validator proposes, if that is due, and then one certificate that has waited and is ready. Gives whether there was
-    // one.
+    // Submits the header that the validator proposes, if that question is due, and then one waiting certificate that is ready. Gives
+    // whether there was such a certificate.
     fn go_on<R: Wait, E: Write>(&mut self, rt: &R, errors: &mut E) -> bool
         ensures stays { StaysWith self.old.caller self.new.caller }
         ensures rests { result ≡ false → self.new.due.waiting ≡ Waiting.Nothing }
@@ -130,7 +133,8 @@ impl<'n, 'a, S: Sign> Intake<'n, 'a, S> {
         true
     }
 
-    // Submits a certificate that has waited. Gives whether it is a new record, after which only what it may have changed becomes due.
+    // Submits a certificate that has waited. Gives whether it is a new record. If so, the questions whose answers it may have changed
+    // become due, and no others.
     fn take_ready<R: Wait>(&mut self, rt: &R, event: Checked) -> Result<bool, Rejection>
         ensures due { IsDueAfter self.old.caller.setting.own event.message self.old.due self.new.due result }
         ensures waiters { self.new.waiters ≡ self.old.waiters }
@@ -149,7 +153,7 @@ impl<'n, 'a, S: Sign> Intake<'n, 'a, S> {
         Ok(is_new)
     }
 
-    // Whether a frame with this body brought a new record. Otherwise nothing more is due.
+    // Handles a frame with this body. Gives whether it brought a new record; if it did not, no more questions become due.
     fn answer<R: Wait>(&mut self, rt: &R, body: &[u8]) -> Result<bool, Rejection>
         ensures due { result ≢ Ok true → self.new.due ≡ self.old.due }
         ensures mark { self.new.was_refused_memory ≡ self.old.was_refused_memory }
@@ -171,7 +175,7 @@ impl<'n, 'a, S: Sign> Intake<'n, 'a, S> {
         }
     }
 
-    // Submits a batch of the node's own, if one was given.
+    // Submits a batch as the node's own, if there is one. Gives whether it is a new record.
     fn submit_batch<R: Wait>(&mut self, rt: &R, batch: Option<Batch>) -> Result<bool, Rejection>
         ensures makers { self.new.makers ≡ self.old.makers }
         ensures mark { self.new.was_refused_memory ≡ self.old.was_refused_memory }
@@ -190,7 +194,8 @@ impl<'n, 'a, S: Sign> Intake<'n, 'a, S> {
         }
     }
 
-    // Submits a message, or puts it among those that wait. After a new record only what it may have changed becomes due.
+    // Submits a message, or puts it among the certificates that wait. Gives whether it is a new record. If so, the questions whose answers
+    // it may have changed become due.
     fn submit<R: Wait>(
         &mut self,
         rt: &R,
@@ -219,7 +224,7 @@ impl<'n, 'a, S: Sign> Intake<'n, 'a, S> {
         }
     }
 
-    // Puts a certificate among those that wait. That makes no record.
+    // Puts a certificate among those that wait. This makes no record.
     fn offer(&mut self, event: Checked) -> Result<bool, Rejection>
         requires { certificate_digest_in event.message ≢ None }
         ensures makers { self.new.makers ≡ self.old.makers }
@@ -241,9 +246,9 @@ impl<'n, 'a, S: Sign> Intake<'n, 'a, S> {
         }
     }
 
-    // Submits what the validator proposes, if a proposal is due. It stays due where an allocation failed, and after a new own header. Such
-    // a header makes no waiting certificate due, since it adds no certificate. The mark of a failed allocation is set only where no event
-    // of the caller's was accepted, and stays set.
+    // Submits the header that the validator proposes, if that question is due. The question stays due where an allocation failed, and after
+    // a new own header. An own header makes no waiting certificate due, since it adds no certificate. `was_refused_memory` is set only
+    // where an allocation failed and this caller brought no new event, and stays set.
     fn propose<R: Wait>(&mut self, rt: &R)
         ensures memory { self.new.was_refused_memory ≢ self.old.was_refused_memory → self.new.caller.seat.view.mine ≡ self.old.caller.seat.view.mine }
         ensures stays { self.old.was_refused_memory ≡ true → self.new.was_refused_memory ≡ true }
@@ -264,12 +269,13 @@ impl<'n, 'a, S: Sign> Intake<'n, 'a, S> {
         }
     }
 
-    // Takes out a waiting certificate that is ready, if there is one. If the floor has risen over the lowest round in which any waits, it
-    // is the first ready one of that round. Otherwise it is the first ready one of the lowest round that is due and has a ready one; the
-    // due rounds below that round stop being due. Where none is ready, no round is due any more.
+    // Takes out a waiting certificate that is ready, if there is one. If the floor has risen over the lowest round in which any waits, this
+    // is the first ready one of that round. Otherwise it is the first ready one of the lowest due round that has a ready one, and the due
+    // rounds below that one stop being due. Where no certificate is ready, no round is due any more.
     fn next_ready<R: Wait>(&mut self, rt: &R) -> Option<Checked>
         ensures idle { self.old.due.waiting ≡ Waiting.Nothing → (result ≡ None) × (self.new ≡ self.old) }
         ensures some { IfSome result (λ event. TakesOne event self.old.waiters self.new.waiters self.old.due self.new.due) }
+        ensures first { IfSome result (λ event. (round : ℕ) × IsFirstReady S.scheme self.old.caller.node self.old.caller self.new.caller (held self.old.waiters round) event) }
         ensures none { IfNone result ((self.new.waiters ≡ self.old.waiters) × (self.new.due.waiting ≡ Waiting.Nothing)) }
         ensures count { IfSome result (λ _. self.new.waiters.count + 1 ≡ self.old.waiters.count) }
         ensures asks { AsksWhatWasDue S.scheme self.old.caller.node self.old.due.waiting self.new.due.waiting self.old.waiters self.old.caller self.new.caller }
@@ -295,7 +301,7 @@ impl<'n, 'a, S: Sign> Intake<'n, 'a, S> {
         Some(found)
     }
 
-    // The lowest round in which a certificate waits.
+    // The lowest round in which a certificate waits, if any waits.
     fn lowest_round(&self) -> Option<u64>
         ensures some { IfSome result (λ round. held self.now.waiters round ≢ []) }
         ensures least { IfSome result (λ round. (other : ℕ) → other < round → held self.now.waiters other ≡ []) }
@@ -305,11 +311,12 @@ impl<'n, 'a, S: Sign> Intake<'n, 'a, S> {
         Some(round)
     }
 
-    // Where a round isn't among those that are due, asks about its first certificate. If that is ready, takes the first ready one of the
-    // round.
+    // Where this round is not due, asks about the first certificate that waits in it. If that one is ready, takes out the first ready one
+    // of the round.
     fn ready_outside<R: Wait>(&mut self, rt: &R, round: u64, low: u64, end: u64) -> Option<Checked>
         ensures due { self.new.due ≡ self.old.due }
         ensures some { IfSome result (λ event. IsTakenOut event round self.old.waiters self.new.waiters) }
+        ensures first { IfSome result (λ event. IsFirstReady S.scheme self.old.caller.node self.old.caller self.new.caller (held self.old.waiters round) event) }
         ensures none { IfNone result (self.new.waiters ≡ self.old.waiters) }
         ensures count { IfSome result (λ _. self.new.waiters.count + 1 ≡ self.old.waiters.count) }
         ensures asked { IfNone result ((low ≤ round → round < end → ⊥) → IfSome (slice_get (held self.old.waiters round) 0) (WasAsked S.scheme self.old.caller.node self.old.caller self.new.caller)) }
@@ -325,12 +332,14 @@ impl<'n, 'a, S: Sign> Intake<'n, 'a, S> {
         self.ready_of(rt, round)
     }
 
-    // The first ready certificate of the lowest of these rounds that has one, with its round. Each one before it was asked about.
+    // Takes out the first ready certificate of the lowest of these rounds that has one, and gives it with its round. Each waiting
+    // certificate before it was asked about.
     fn ready_from<R: Wait>(&mut self, rt: &R, low: u64, end: u64) -> Option<(u64, Checked)>
         ensures due { self.new.due ≡ self.old.due }
         ensures some { IfSome result (λ found. IsTakenOut found.1 found.0 self.old.waiters self.new.waiters × (low ≤ found.0) × (found.0 < end)) }
         ensures none { IfNone result (self.new.waiters ≡ self.old.waiters) }
         ensures count { IfSome result (λ _. self.new.waiters.count + 1 ≡ self.old.waiters.count) }
+        ensures first { IfSome result (λ found. IsFirstReady S.scheme self.old.caller.node self.old.caller self.new.caller (held self.old.waiters found.0) found.1) }
         ensures passed { IfSome result (λ found. AsksEach S.scheme self.old.caller.node low found.0 self.old.waiters self.old.caller self.new.caller) }
         ensures asked { IfNone result (AsksEach S.scheme self.old.caller.node low end self.old.waiters self.old.caller self.new.caller) }
         ensures only { OnlyAsks self.old.caller self.new.caller }
@@ -348,6 +357,7 @@ impl<'n, 'a, S: Sign> Intake<'n, 'a, S> {
     fn ready_of<R: Wait>(&mut self, rt: &R, round: u64) -> Option<Checked>
         ensures due { self.new.due ≡ self.old.due }
         ensures some { IfSome result (λ event. IsTakenOut event round self.old.waiters self.new.waiters) }
+        ensures first { IfSome result (λ event. IsFirstReady S.scheme self.old.caller.node self.old.caller self.new.caller (held self.old.waiters round) event) }
         ensures none { IfNone result (self.new.waiters ≡ self.old.waiters) }
         ensures count { IfSome result (λ _. self.new.waiters.count + 1 ≡ self.old.waiters.count) }
         ensures asked { IfNone result (All (WasAsked S.scheme self.old.caller.node self.old.caller self.new.caller) (held self.old.waiters round)) }
@@ -362,10 +372,11 @@ impl<'n, 'a, S: Sign> Intake<'n, 'a, S> {
         None
     }
 
-    // Whether the waiting certificate of a round at this place is ready.
+    // Whether the certificate that waits at this place of this round is ready.
     fn is_ready_at<R: Wait>(&mut self, rt: &R, round: u64, place: usize) -> bool
         ensures same { self.new ≡ record self.old { caller = self.new.caller } }
         ensures only { OnlyAsks self.old.caller self.new.caller }
+        ensures ready { result ≡ true → IfSome (slice_get (held self.old.waiters round) place) (WasReady S.scheme self.old.caller.node self.old.caller self.new.caller) }
         ensures asked { result ≡ false → IfSome (slice_get (held self.old.waiters round) place) (WasAsked S.scheme self.old.caller.node self.old.caller self.new.caller) }
     {
         match self.waiters.nth_of(round, place) {
@@ -375,12 +386,12 @@ impl<'n, 'a, S: Sign> Intake<'n, 'a, S> {
     }
 }
 
-// If the line can't be written, there is nobody to report that to.
+// Writes a refusal as a line. If the line can't be written, there is nobody to whom that could be reported.
 fn write_line<E: Write>(errors: &mut E, reported: Rejection) {
     let _ = writeln!(errors, "{reported}");
 }
 
-// The refusal that is reported of a certificate that can't wait: an allocation failed, or its parents are missing.
+// The refusal that is reported of a certificate that can't wait: an allocation failed, or else its parents are missing.
 fn reported_of_wait(refusal: WaitRefusal) -> Rejection
     ensures { result ≡ reported_of_wait refusal }
 {

@@ -1,5 +1,5 @@
-//! A running node: it reads frames, handles what they bring under a lock, writes records to the disks, and writes the outputs that may
-//! leave. Reading, flushing and writing each have a thread of their own.
+//! A running node. One thread reads frames and submits what they bring, a second one writes records to the disks, and a third one writes
+//! the outputs that may leave.
 #![tactic(auto)]
 
 mod bell;

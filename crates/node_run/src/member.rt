@@ -1,4 +1,4 @@
-//! A member's node on its disks.
+//! Running a member's node on its disks.
 
 ghost use Rattle.std.specs.Prelude.{◌≡◌};
 ghost use Rattle.validator.specs.Setting.{node_of};
@@ -20,7 +20,7 @@ use std::sync::Wait;
 use std::thread::Threads;
 use validator::Config;
 
-/// Opens a member's node on one disk or on two and runs it. A journal on two disks is rewritten to a checkpoint after each round by which
+/// Opens a member's node on one disk or on two, and runs it. A journal on two disks is rewritten to a checkpoint after each round by which
 /// the area that is read has grown by `every` bytes since the opening or the last checkpoint. Gives how the run ended; the disks, unless
 /// they were lost with a thread that couldn't be made; and the writer, unless it was lost in the same way or by a failed allocation.
 pub(crate) fn run_member<R, S, D, I, W, E>(
@@ -75,7 +75,7 @@ where
     }
 }
 
-// How much a journal may grow until it is rewritten. A journal on one disk is never rewritten.
+// By how many bytes a journal may grow until it is rewritten. None on one disk, where a journal is never rewritten.
 fn every_on<D>(store: &Store<D>, every: u64) -> Option<u64>
     ensures { result ≡ every_on store.now every }
 {

@@ -1,4 +1,4 @@
-//! The thread that reads frames and handles what they bring.
+//! The reading thread, which reads frames and handles what they bring.
 
 ghost use Rattle.std.specs.Prelude.{◌≡◌, true, Some};
 ghost use Rattle.node_io.specs.Endings.{after_input};
@@ -10,8 +10,8 @@ use sigface::Sign;
 use std::io::{BufWriter, Read, Write};
 use std::sync::Wait;
 
-/// Handles what the frames bring, until they end. A line for each refusal is written before more is read. Gives how the frames ended, and
-/// whether an allocation failed outside the handling of an event.
+/// The work of the reading thread: handles what the frames bring, until they end. The line for a refusal is written before more is read.
+/// Gives how the frames ended, and whether an allocation failed outside the handling of an event.
 pub(crate) fn read_all<S: Sign, I: Read + Drop, E: Write + Drop, R: Wait>(
     rt: &R,
     input: &mut Input<I>,

@@ -4,9 +4,9 @@
 /// since the opening or the last checkpoint.
 #[derive(Clone, Copy)]
 pub struct Rule {
-    /// The growth in bytes. None for a journal on one disk, which is never rewritten.
+    /// By how many bytes the area may grow. None for a journal on one disk, which is never rewritten.
     pub(crate) every: Option<u64>,
-    /// The length of the area at the opening or the last checkpoint, in bytes.
+    /// The length of the area that is read, at the opening or the last checkpoint, in bytes.
     pub(crate) since: u64,
 }
 
@@ -14,7 +14,7 @@ impl Rule {
     ghost use Rattle.std.specs.Prelude.{◌≡◌, ◌↔◌, IsTrue};
     ghost use Rattle.node_run.specs.Rewriting.{IsDue};
 
-    /// Whether a checkpoint is due, where the area has this length.
+    /// Whether a checkpoint is due once the area that is read has this length in bytes.
     pub(crate) fn is_due(self, len: u64) -> bool
         ensures { IsTrue result ↔ IsDue self len }
     {

@@ -22,10 +22,11 @@ use std::rt::Files;
 use std::sync::Wait;
 use std::thread::Threads;
 
-/// How many bytes the area that is read may grow until a checkpoint. So an opening has to read little more than this beside the state.
+/// By how many bytes the area that is read may grow until a checkpoint is made. So an opening reads little more than this, beside the
+/// state.
 pub const CHECKPOINT_BYTES: u64 = 1 << 30;
 
-/// `CHECKPOINT_BYTES` as a number.
+/// `CHECKPOINT_BYTES` is 2^30. The call does nothing: its contract is this law.
 pub fn checkpoint_bytes_in_numbers()
     ensures { CHECKPOINT_BYTES ≡ 2 ^ 30 }
 {}
@@ -50,7 +51,7 @@ where
     W: Write + Drop + Send,
     E: Write,
     ensures arguments { length args.now ≢ 3 → (result.ending ≡ Ending.Usage) × (result.writer ≡ Some writer) }
-    // Either the ending says why nothing was opened, and nothing was written; or the member with that number ran on its disks.
+    // Either the ending says why nothing was opened, and nothing was written; or the member with the given number ran on its disks.
     ensures ending { IfSome (slice_get args.now 1) (λ own. (RefusesOpening (string_bytes own) result.ending × (result.writer ≡ Some writer))
         ⊎ RunsAs ⟦<HashSign as Sign>⟧.scheme ⟦<FileDisk as Disk>⟧.device W.contents (string_bytes own) every writer result) }
 {
@@ -59,7 +60,7 @@ where
     ran
 }
 
-// Runs the node that the arguments name.
+// Runs the node that the arguments describe.
 fn run_named<R, I, W, E>(
     rt: &R,
     alloc: Global,
@@ -85,7 +86,7 @@ where
     run_member(rt, alloc, &config, store, every, reader, writer, errors)
 }
 
-// The result of a run whose node could not be opened.
+// The result of a run in which no node could be opened.
 fn not_run<D, W>(ending: Ending, store: Option<Store<D>>, writer: W) -> Ran<D, W>
     ensures ending { result.ending ≡ ending }
     ensures store { result.store ≡ store }
@@ -118,8 +119,8 @@ where
     I: Read + Drop,
     W: Write + Drop + Send,
     E: Write,
-    // Either the text and the number give a configuration, the node runs with it, and what it wrote is on the disks; or the ending says why
-    // not, and the disks and the writer are as they were.
+    // Either the text and the number give a configuration, the node runs with it, and what it wrote rests on records on the disks; or the
+    // ending says why there is no configuration, and the disks and the writer are as they were.
     ensures { ((config : ConfigView Key) × IsConfigOf named.entry.0.now named.entry.1.now config × RunsOver (node_of ⟦<HashSign as Sign>⟧.scheme config) D.device store every result.ending result.store
         × GivesOnly (node_of ⟦<HashSign as Sign>⟧.scheme config) D.device W.contents store writer result)
         ⊎ (RefusesConfig named.entry.0.now named.entry.1.now result.ending × (result.store ≡ Some store) × (result.writer ≡ Some writer)) }

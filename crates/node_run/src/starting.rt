@@ -1,4 +1,4 @@
-//! The arguments, and what they name.
+//! The arguments of a run, and the configuration and the journal that they name.
 
 ghost use Rattle.std.specs.Prelude.{◌≡◌, ◌≢◌, ℕ, List, Err, IfOk, IfErr, IfSome, length, slice_get, string_bytes};
 ghost use Rattle.node_run.specs.Members.{IsConfigOf, RefusesConfig, RefusesOpening};
@@ -19,8 +19,8 @@ use validator::Config;
 /// The configuration and the journal that the arguments name: the committee file, the own number, the first of the journal's two files.
 ///
 /// # Errors
-/// The first test that fails is reported: of the number of arguments, the file, its text, the own number, and the journal's files, in this
-/// order.
+/// The first of these tests that fails is reported: of the number of arguments, the file, its text, the own number, and the journal's
+/// files.
 pub(crate) fn open_all<R: Files<File = File> + AllocGlobal>(
     rt: &R,
     alloc: Global,
@@ -43,10 +43,10 @@ pub(crate) fn open_all<R: Files<File = File> + AllocGlobal>(
     }
 }
 
-/// The configuration of a member, from a committee file's text and an own number.
+/// The configuration of a member, from the text of a committee file and the text of the own number.
 ///
 /// # Errors
-/// `Config` or `Memory` for the text, and then `Usage` for a number that is no member's.
+/// `Config` or `Memory` for the text of the committee file; after that `Usage` where the number is no member's.
 pub(crate) fn config_of(alloc: Global, text: &[u8], own: &str) -> Result<Config<HashSign>, Ending>
     ensures ok { IfOk result (λ config. IsConfigOf text.now own.now config) }
     ensures refused { IfErr result (λ ending. RefusesConfig text.now own.now ending) }

@@ -1,4 +1,4 @@
-//! The threads of a node.
+//! The three threads of a running node.
 
 ghost use Rattle.std.specs.Prelude.{◌≡◌, Bool, true, false, [], Some, None, IfOk, IfSome, IsSome};
 ghost use Rattle.std.specs.Io.Buffered.{writer_buffer, writer_contents, writer_inner};
@@ -22,26 +22,28 @@ use crate::flushing::flush_all;
 use crate::intake::Intake;
 use crate::reading::read_all;
 use crate::rule::Rule;
-use crate::writing::{Sink, write_outputs};
+use crate::writing::{MAX_COLLECTED, Sink, write_outputs};
 use diskmodel::Disk;
 use journal::{JournalError, Store};
 use node::Rounds;
 use node_io::{Faults, Input};
 use sigface::Sign;
 use std::alloc::{AllocError, Global};
+use std::collections::VecDeque;
 use std::io::{BufWriter, Read, Write};
 use std::marker::{Model, PhantomData};
 use std::sync::Wait;
 use std::thread::Threads;
 use validator::Config;
+use wire::Output;
 
-// The work of the flushing thread, which gives its rounds back.
+// The work of the flushing thread. When it ends it gives its rounds back.
 #[derive(Drop)]
 struct Flushing<'n, 'a, S: Sign, D: Disk> {
     rounds: Rounds<'n, 'a, S, D>,
     rule: Rule,
     bells: &'n Bells,
-    // The signer lives as long as the node's configuration.
+    // This tells the compiler that the signer lives as long as the node's configuration.
     config: PhantomData<&'a Config<S>>,
 }
 
@@ -80,11 +82,13 @@ impl<'n, 'a, R: Wait, S: Sign, D: Disk + Drop> Work<R, (Faults, Rounds<'n, 'a, S
     }
 }
 
-// The work of the writing thread, which gives back its writer and the caller with which it called the node.
+// The work of the writing thread. When it ends it gives back its writer, and the caller with which it called the node.
 #[derive(Drop)]
 struct Writing<'n, 'a, S: Sign, W: Write + Drop> {
     caller: Caller<'n, 'a, S>,
     sink: Sink<W>,
+    // The outputs that were taken out of the node and that aren't written yet.
+    collected: VecDeque<Output>,
     settled: &'n Bell,
 }
 
@@ -111,9 +115,10 @@ impl<'n, 'a, R: Wait, S: Sign, W: Write + Drop> Work<R, Wrote<'n, 'a, S, W>>
         let Writing {
             mut caller,
             mut sink,
+            mut collected,
             settled,
         } = self;
-        write_outputs(rt, &mut caller, &mut sink, settled);
+        write_outputs(rt, &mut caller, &mut sink, &mut collected, settled);
         let (faults, writer) = sink.finish();
         Wrote {
             caller,
@@ -123,7 +128,7 @@ impl<'n, 'a, R: Wait, S: Sign, W: Write + Drop> Work<R, Wrote<'n, 'a, S, W>>
     }
 }
 
-// The work of the reading thread. After it nothing is pending any more.
+// The work of the reading thread. When it ends it closes the bell `pending`, since no more records will come.
 #[derive(Drop)]
 struct Reading<'n, 'a, 'e, S: Sign, I: Read + Drop, E: Write> {
     input: Input<I>,
@@ -162,7 +167,7 @@ pub(crate) struct Desks<'n, 'a, 'e, S: Sign, I: Read + Drop, W: Write + Drop, E:
 }
 
 impl<'n, 'a, 'e, S: Sign, I: Read + Drop, W: Write + Drop, E: Write> Desks<'n, 'a, 'e, S, I, W, E> {
-    /// On `AllocError` an allocation failed.
+    /// Makes what the reading and the writing thread work with. On `AllocError` an allocation failed.
     pub(crate) fn new<D: Disk>(
         alloc: Global,
         config: &'a Config<S>,
@@ -188,6 +193,7 @@ impl<'n, 'a, 'e, S: Sign, I: Read + Drop, W: Write + Drop, E: Write> Desks<'n, '
             writing: Writing {
                 caller: Caller::new(rounds.caller(config)?),
                 sink: Sink::new(alloc, buffered(alloc, writer)?),
+                collected: VecDeque::with_capacity(alloc, MAX_COLLECTED)?,
                 settled: &bells.settled,
             },
             bells,
@@ -204,8 +210,9 @@ fn buffered<W: Write + Drop>(alloc: Global, writer: W) -> Result<BufWriter<W>, A
     }
 }
 
-/// Reads in this thread, and flushes and writes in two others, until everything was read, flushed and written. Gives the faults; the disks
-/// of the journal, unless they were lost with a thread that couldn't be made; and the writer, unless it was lost.
+/// Runs the three threads of a node: reads in this thread, and flushes and writes in two others, until everything was read, flushed and
+/// written. Gives the faults; the disks of the journal, unless they were lost with a thread that couldn't be made; and the writer, unless
+/// it was lost in the same way.
 pub(crate) fn run_threads<'n, 'a, 'e, R, S, D, I, W, E>(
     rt: &R,
     rounds: Rounds<'n, 'a, S, D>,
@@ -224,16 +231,16 @@ where
     requires pair { IsSome rule.every → IsSome (spare_of (journal_of rounds.flusher)) }
     requires node { desks.writing.caller.node ≡ rounds.node }
     ensures reported { IfSome result.1 (λ left. ReportsRounds (faults_in D.device (store_of (journal_of rounds.entry.flusher))) (faults_in D.device left) result.0.journal) }
-    // A full journal is reported where it has no room for what was taken.
+    // If a full journal is reported, the journal has no room for what was taken.
     ensures full { result.0.journal ≡ Some JournalError.Full → IfSome result.1 (IsFullUp S.scheme D.device rounds.entry.node) }
     ensures lost { result.1 ≡ None → result.0 ≡ no_memory }
-    // A writer that is lost is reported as a failed allocation.
+    // If the writer is lost, a failed allocation is reported.
     ensures unwritten { result.2 ≡ None → (result.0.output ≡ false) × (result.0.memory ≡ true) }
-    // A stop at any moment leaves what was settled before, and perhaps more.
+    // A stop at any moment leaves on the disks what was settled before the call, and perhaps more.
     ensures any_moment { is_down rounds.entry.flusher ≡ false → IfSome result.1 (λ left. AtEachMomentOn D.device (HoldsMore S.scheme rounds.entry.node (settled_in rounds.entry.flusher) (areas_of D.device (journal_of rounds.entry.flusher))) (store_of (journal_of rounds.entry.flusher)) left) }
-    // Unless a fault of the journal is reported, the disks were written by the rule.
+    // Unless a fault of the journal is reported, the disks were written by the rule for checkpoints.
     ensures by_rule { is_down rounds.entry.flusher ≡ false → result.0.journal ≡ None → IfSome result.1 (ComesByRule D.device (HasCheckpoint S.scheme D.device rounds.entry.node) rule result.0.memory (point_of rounds.entry.flusher)) }
-    // What was written is on the disks.
+    // The outputs that were written rest on records that are on the disks.
     ensures given { is_down rounds.entry.flusher ≡ false → IfSome result.1 (λ left. IfSome result.2 (λ later. HasWritten (AreSettled S.scheme D.device rounds.entry.node rounds.entry.flusher left) (result.0.output ≡ false) (writer_contents W.contents desks.entry.writing.sink.writer) (W.contents later))) }
 {
     let Desks {
@@ -264,7 +271,7 @@ where
     (faults, Some(store), Some(writer))
 }
 
-// The disks of the journal, and the writer, whose outputs are then certain to be on these disks.
+// Gives back the disks of the journal, and the writer. The outputs that were written then rest on records that are surely on these disks.
 fn give_back<'n, 'a, R, S, D, W>(
     rt: &R,
     mut rounds: Rounds<'n, 'a, S, D>,
@@ -289,8 +296,8 @@ where
     (rounds.into_store(), writer)
 }
 
-// Does the third piece of work, reading, beside the other two. It is a function of its own because the prover searches too long for the
-// lifetimes of all three at once.
+// Reads in this thread, beside two other pieces of work in threads of their own. This is a function of its own because the prover searches
+// too long for the lifetimes of all three pieces of work at once.
 fn read_beside<R, S, F, G, I, E, C, X, Y>(
     rt: &R,
     first: F,

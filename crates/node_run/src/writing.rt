@@ -1,4 +1,4 @@
-//! The thread that writes the outputs.
+//! The writing thread, which writes the outputs that may leave.
 
 ghost use Rattle.std.specs.Prelude.{◌≡◌, [], true, false};
 ghost use Rattle.std.specs.Io.Buffered.{writer_contents};
@@ -7,19 +7,24 @@ ghost use Rattle.wire.specs.Lists.{Begins};
 ghost use Rattle.node_seats.specs.Views.{IsSame};
 ghost use Rattle.node.specs.Callers.{StaysWith};
 ghost use Rattle.wire.specs.Outputs.{frame_of};
-ghost use Rattle.node_run.specs.Writing.{no_faults, HoldsPart, Puts, MayGo, WritesNext, WritesOnly};
+ghost use Rattle.node_run.specs.Writing.{no_faults, HoldsPart, Puts, PutsAll, MayGo, WritesNext, WritesOnly};
 
 use crate::bell::Bell;
 use crate::caller::Caller;
 use node_io::Faults;
 use sigface::Sign;
 use std::alloc::Global;
+use std::collections::VecDeque;
 use std::io::{BufWriter, Write};
 use std::sync::Wait;
 use wire::Output;
 use wire_write::{WriteError, write_output};
 
-/// Where outputs go. Once one couldn't be written, or an allocation for it failed, no more are written, so what was written has no gap.
+/// How many outputs are taken out of the node at most in one hold of its lock.
+pub(crate) const MAX_COLLECTED: usize = 256;
+
+/// Where outputs are written. Once an output couldn't be written, or an allocation for it failed, no further output is written. So what was
+/// written has no gap.
 #[derive(Drop)]
 pub(crate) struct Sink<W: Write + Drop> {
     alloc: Global,
@@ -27,11 +32,13 @@ pub(crate) struct Sink<W: Write + Drop> {
     faults: Faults,
 }
 
-/// Writes a frame for each output that may leave, each time that the bell is rung, until the bell is closed and all are written.
+/// The work of the writing thread: writes a frame for each output that may leave, each time that the bell is rung, until the bell is closed
+/// and all of them are written. Between the node and the sink the outputs stand in `collected`.
 pub(crate) fn write_outputs<S: Sign, W: Write + Drop, R: Wait>(
     rt: &R,
     caller: &mut Caller<'_, '_, S>,
     sink: &mut Sink<W>,
+    collected: &mut VecDeque<Output>,
     settled: &Bell,
 )
     ensures stays { StaysWith caller.old caller.new }
@@ -41,7 +48,7 @@ pub(crate) fn write_outputs<S: Sign, W: Write + Drop, R: Wait>(
 {
     for _ in rt.forever() {
         let may_go_on = settled.wait(rt);
-        write_due(rt, caller, sink);
+        write_due(rt, caller, sink, collected);
         if !may_go_on {
             return;
         }
@@ -54,6 +61,7 @@ fn write_due<S: Sign, W: Write + Drop, R: Wait>(
     rt: &R,
     caller: &mut Caller<'_, '_, S>,
     sink: &mut Sink<W>,
+    collected: &mut VecDeque<Output>,
 )
     ensures stays { StaysWith caller.old caller.new }
     ensures same { IsSame caller.old.seat caller.new.seat }
@@ -61,18 +69,19 @@ fn write_due<S: Sign, W: Write + Drop, R: Wait>(
     ensures only { WritesOnly (MayGo S.scheme caller.old.node caller.new.seat.view) sink.old.faults sink.new.faults (writer_contents W.contents sink.old.writer) (writer_contents W.contents sink.new.writer) }
 {
     for _ in rt.forever() {
-        if !write_next(rt, caller, sink) {
+        if !write_next(rt, caller, sink, collected) {
             return sink.flush();
         }
     }
     unreachable!()
 }
 
-// Writes the next output that may leave. Gives whether there was one.
+// Takes the next outputs that may leave, as many as `collected` has room for, and writes them, oldest first. Gives whether there was one.
 fn write_next<S: Sign, W: Write + Drop, R: Wait>(
     rt: &R,
     caller: &mut Caller<'_, '_, S>,
     sink: &mut Sink<W>,
+    collected: &mut VecDeque<Output>,
 ) -> bool
     ensures stays { StaysWith caller.old caller.new }
     ensures same { IsSame caller.old.seat caller.new.seat }
@@ -80,13 +89,13 @@ fn write_next<S: Sign, W: Write + Drop, R: Wait>(
     ensures next { result ≡ true → WritesNext (MayGo S.scheme caller.old.node caller.new.seat.view) sink.old.faults sink.new.faults (writer_contents W.contents sink.old.writer) (writer_contents W.contents sink.new.writer) }
     ensures none { result ≡ false → sink.new ≡ sink.old }
 {
-    match caller.collect(rt) {
-        Some(output) => {
-            sink.put(output);
-            true
-        }
-        None => false,
+    collected.clear();
+    caller.collect_into(rt, collected);
+    if collected.is_empty() {
+        return false;
     }
+    sink.put_all(collected);
+    true
 }
 
 impl<W: Write + Drop> Sink<W> {
@@ -102,7 +111,8 @@ impl<W: Write + Drop> Sink<W> {
         }
     }
 
-    /// Gives back the writer, with everything that was put, and the faults. Where the writer failed it may lack the last bytes.
+    /// Gives back the writer, to which all frames that were put have gone, and the faults. If the writer failed, the last bytes may be
+    /// missing.
     pub(crate) fn finish(self) -> (Faults, W)
         ensures faults { result.0 ≡ record self.faults { output = result.0.output } }
         ensures broken { self.faults.output ≡ true → result.0.output ≡ true }
@@ -124,7 +134,16 @@ impl<W: Write + Drop> Sink<W> {
         }
     }
 
-    // Puts the frame of an output after what was written, and drops the output.
+    // Writes the frames of these outputs, in their order, and drops the outputs.
+    fn put_all(&mut self, outputs: &mut VecDeque<Output>)
+        ensures { PutsAll outputs.old.items self.old.faults self.new.faults (writer_contents W.contents self.old.writer) (writer_contents W.contents self.new.writer) }
+    {
+        while let Some(output) = outputs.pop_front() {
+            self.put(output);
+        }
+    }
+
+    // Writes the frame of an output, and drops the output.
     fn put(&mut self, output: Output)
         ensures { Puts (frame_of output) self.old.faults self.new.faults (writer_contents W.contents self.old.writer) (writer_contents W.contents self.new.writer) }
     {

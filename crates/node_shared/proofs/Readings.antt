@@ -1,6 +1,6 @@
 -- What is said of the runs at which a book stands, said of what a seat has seen or knows as settled.
-use Rattle.std.proofs.Common.{◌≡◌, ◌≤◌, Bool, true, List, ◌++◌, length, take, refl, sym, ap, ◌∙◌, subst, arith}
-use Rattle.std.specs.Prelude.{ℕ, Option, Some, None, IsNone, IfSome, Result, Ok, Err, IfOk, drop}
+use Rattle.std.proofs.Common.{◌≡◌, ◌≤◌, Bool, true, List, ◌++◌, length, take, refl, sym, ap, ◌∙◌, subst, arith, append-nil}
+use Rattle.std.specs.Prelude.{ℕ, All, slice_index_or, Option, Some, None, IsNone, IfSome, Result, Ok, Err, IfOk, drop}
 use Rattle.std.proofs.lemmas.List.{length-map, take-map}
 use Rattle.admission.proofs.OneState.{one_state}
 use Rattle.spec_machine.specs.Machine.{proposed as proposed_at}
@@ -11,13 +11,14 @@ use Rattle.spec_model.specs.Histories.{History}
 use Rattle.spec_model.specs.Nodes.{Node}
 use Rattle.spec_model.specs.States.{State}
 use Rattle.spec_model.specs.Words.{Digest, Header, Output}
+use Rattle.spec_world.specs.World.{Waiting}
 use Rattle.validator.specs.Setting.{ConfigView, node_of}
 use Rattle.node_seats.specs.Sights.{SeatView}
 use Rattle.node_seats.specs.Views.{events}
 use Rattle.node_seats.specs.declared.view.Marked.{Marked}
 use Rattle.node_seats.proofs.Beginnings.{begins_trans}
-use Rattle.book.specs.Book.{BookView, Run, GoesOutAfter, Stands, state_in, settled_in, GoesOutSettled, releasable}
-use Rattle.node_shared.specs.Answers.{IsPutOutBy}
+use Rattle.book.specs.Book.{BookView, Run, GoesOutAfter, Stands, state_in, settled_in, GoesOutSettled, releasable, releasable_within}
+use Rattle.node_shared.specs.Answers.{IsPutOutBy, Gives}
 use Rattle.node_shared.specs.Home.{NodeView, IsBase, IsAtHome, run_of, seen_in, durable_in}
 use Rattle.node_shared.proofs.Groups.{same_front}
 use Rattle.sigface.specs.Scheme.{Scheme}
@@ -87,6 +88,15 @@ module _ {S : Type 0} (shared : NodeView S) (scheme : Scheme S) (seat mine : Sea
             (subst (λ (l : History). GoesOutAfter node first_base l one) events_are first.goes_out);
       }
 
+  -- each of the outputs that go out
+  pub all_given : mine.view.durable ≡ seat.view.durable → (outputs : List Output)
+      → ((run : Run) → Stands (node_of scheme book.validator.setting) run book → All (GoesOutSettled (node_of scheme book.validator.setting) run) outputs)
+      → All (Gives scheme shared mine) outputs
+  all_given same outputs go = λ k d within.
+      let one : Output = slice_index_or outputs k d in
+      let goes : (run : Run) → Stands (node_of scheme book.validator.setting) run book → GoesOutSettled (node_of scheme book.validator.setting) run one = λ run at. go run at k d within in
+      record { may = given same (Some one) goes; put_out = put_out_by same (Some one) goes }
+
   -- the order that is told is that of what the seat knows as settled
   pub ordered : mine.view.durable ≡ seat.view.durable → {D E : Type 0} → (items : D → List Digest) (from : ℕ) (result : Result D E)
       → IfOk result (λ digests. (run : Run) → Stands (node_of scheme book.validator.setting) run book
@@ -107,15 +117,30 @@ module _ {S : Type 0} (shared : NodeView S) (scheme : Scheme S) (seat mine : Sea
       is reported in
       seen_of (λ n state. found ≡ proposed_at n state) same (λ run stands. there (state_in (node_of scheme book.validator.setting) run) stands.at)
 
--- what a book gives that is down just where this is so
+-- a book that is down just where this is so
+pub with_down : {S : Type 0} (first book later : BookView S) (down : Bool) → book ≡ first → later ≡ record book { down = down } → later ≡ record first { down = down }
+with_down {S} first book later down same is = is ∙ ap {A = BookView S} (λ (b : BookView S). record b { down = down }) same
+
+-- what it gives
 pub gives_next : {S : Type 0} (first book later : BookView S) (down : Bool) (given : Option Output) → book ≡ first → later
     ≡ record book { down = down } → given ≡ releasable later → given ≡ releasable (record first { down = down })
-gives_next {S} first book later down given same is gives =
-    let there : later ≡ record first { down = down } = is ∙ ap {A = BookView S} (λ (b : BookView S). record b { down = down }) same in
-    subst (λ (b : BookView S). given ≡ releasable b) there gives
+gives_next {S} first book later down given same is gives = subst (λ (b : BookView S). given ≡ releasable b) (with_down first book later down same is) gives
 
 pub none_given : {S : Type 0} (book later : BookView S) (down : Bool) (given : Option Output) → later ≡ record book { down = down } → given ≡ releasable later → down ≡ true → IsNone given
 none_given {S} book later down given is gives so =
     let there : later ≡ record book { down = true } = is ∙ ap {A = Bool} (λ (d : Bool). record book { down = d }) so in
     let none : given ≡ None = subst (λ (b : BookView S). given ≡ releasable b) there gives in
     subst (λ (o : Option Output). IsNone o) (sym none) refl
+
+-- what it lets go of at once, and what it keeps
+module _ {S : Type 0} (first book : BookView S) (room : ℕ) (down : Bool) (is : book ≡ record first { down = down }) where
+  pub moves_next : (before after : List Output) → after ≡ before ++ releasable_within room book → after ≡ before ++ releasable_within room (record first { down = down })
+  moves_next before after added = added ∙ ap (λ (b : BookView S). before ++ releasable_within room b) is
+
+  pub keeps_rest : (later : List Waiting) → later ≡ drop (length (releasable_within room book)) book.queue
+      → later ≡ drop (length (releasable_within room (record first { down = down }))) first.queue
+  keeps_rest later left = left ∙ ap (λ (b : BookView S). drop (length (releasable_within room b)) b.queue) is
+
+  pub moves_none : (before after : List Output) → after ≡ before ++ releasable_within room book → down ≡ true → after ≡ before
+  moves_none before after added so =
+      moves_next before after added ∙ ap (λ (d : Bool). before ++ releasable_within room (record first { down = d })) so ∙ append-nil before

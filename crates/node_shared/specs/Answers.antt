@@ -1,5 +1,5 @@
--- What a call of a shared node answers.
-use Rattle.std.specs.Prelude.{◌≡◌, ◌≤◌, ◌<◌, ◌⊎◌, ⊤, ℕ, true, false, List, [], ◌∷◌, ◌++◌, length, take, IsTrue, Result, IfOk, IfErr}
+-- What the calls of a shared node answer.
+use Rattle.std.specs.Prelude.{◌≡◌, ◌≤◌, ◌<◌, ◌⊎◌, ⊤, ℕ, true, false, List, [], ◌∷◌, ◌++◌, length, take, All, IsTrue, Result, IfOk, IfErr}
 use Rattle.spec_machine.specs.After.{after_all}
 use Rattle.spec_machine.specs.Machine.{answered}
 use Rattle.spec_model.specs.Admitting.{is_new, IsLegal}
@@ -24,13 +24,13 @@ use Rattle.node_shared.specs.Home.{NodeView, IsBase}
 use Rattle.sigface.specs.Scheme.{Scheme}
 use Rattle.validator.specs.Setting.{node_of}
 
--- this is the answer to the event after all of these, from each base of the node
+-- from each base of the node, this is the answer to the event after all of these events
 abbrev pub IsAnsweredAfter : {S : Type 0} → Scheme S → NodeView S → List Marked → Event → Admission → Type 0
 IsAnsweredAfter scheme node all event answer =
     (base : State) → IsBase scheme node base → answered (node_of scheme node.setting) (after_all (node_of scheme node.setting) base (events all)) event ≡ answer
 
--- the event is new after all of these, which are fewer than a run may accept; the seat has seen them and then the event, which carries its
--- number and is now the last of its own events
+-- the event is new after all of these events, which are fewer than a run may accept. The seat has seen them, and then this event, which is
+-- marked with the seat's number and is the last one that the seat brought
 pub record IsAdded {S : Type 0} (scheme : Scheme S) (node : NodeView S) (event : Event) (before : View) (all : List Marked) (later : View) (receipt : Receipt) : Type 0 where
   pub outputs : List Output
   pub answer : IsAnsweredAfter scheme node all event (New outputs)
@@ -39,7 +39,7 @@ pub record IsAdded {S : Type 0} (scheme : Scheme S) (node : NodeView S) (event :
   pub mine : later.mine ≡ before.mine ++ event ∷ []
   pub ticket : receipt.ticket ≡ length later.seen
 
--- the event is known after all of these, which the seat has seen; its own events are as before
+-- the event is known after all of these events. The seat has seen them; the events that it brought are as before
 pub record IsKnown {S : Type 0} (scheme : Scheme S) (node : NodeView S) (event : Event) (before : View) (all : List Marked) (later : View) (receipt : Receipt) : Type 0 where
   pub outputs : List Output
   pub answer : IsAnsweredAfter scheme node all event (Known outputs)
@@ -47,8 +47,8 @@ pub record IsKnown {S : Type 0} (scheme : Scheme S) (node : NodeView S) (event :
   pub mine : later.mine ≡ before.mine
   pub ticket : receipt.ticket ≡ length later.seen
 
--- why an event is refused at a state, when `count` events were accepted before it: an allocation failed, the node is down, the run is full,
--- or the state refuses it
+-- why an event may be refused at a state that was reached by `count` accepted events: an allocation failed, the node is down, the run is
+-- full, or the state refuses it
 abbrev pub MayRefuseAt : Node → State → ℕ → Event → Refusal → Type 0
 MayRefuseAt node state count event Memory = ⊤
 MayRefuseAt node state count event Down = ⊤
@@ -58,8 +58,8 @@ MayRefuseAt node state count event StoreFull = (answered node state event ≡ Re
     IsFull = IsTrue (is_new (answered node state event)) × (count ≡ MAX_ACCEPTED)
 MayRefuseAt node state count event refusal = answered node state event ≡ Refused refusal
 
--- A seat submits an event: there is a list of accepted events, of which what the seat had seen is a prefix, and the event is answered as
--- after this list, from each base.
+-- A seat submits an event: there is a list of accepted events, of which the events that the seat had seen are a prefix. From each base, the
+-- event is answered as one after this list.
 pub record Submits {S : Type 0} (scheme : Scheme S) (node : NodeView S) (event : Event) (before : View) (later : View) (answer : Result Receipt Refusal) : Type 0 where
   pub all : List Marked
   pub more : Begins before.seen all
@@ -69,15 +69,21 @@ pub record Submits {S : Type 0} (scheme : Scheme S) (node : NodeView S) (event :
       → MayRefuseAt (node_of scheme node.setting) (after_all (node_of scheme node.setting) base (events all)) (length all) event refusal)
   pub same : IfErr answer (λ refusal. (later.seen ≡ all) × (later.mine ≡ before.mine))
 
--- an output goes out after the first `count` events that a seat knows as settled, from each base
+-- from each base, the output goes out after the first `count` events that the seat knows as settled
 pub record IsPutOutBy {S : Type 0} (scheme : Scheme S) (node : NodeView S) (view : View) (output : Output) : Type 0 where
   pub count : ℕ
   pub settled : count ≤ length view.durable
   pub goes_out : (base : State) → IsBase scheme node base → GoesOutAfter (node_of scheme node.setting) base (events (take count view.durable)) output
 
--- an output may be given out at each legal history that keeps a base, followed by the events that the seat knows as settled; one of these
--- put it out
+-- an output may be given out: after each legal history that keeps a base, followed by the events that the seat knows as settled. An event
+-- among these put it out
 pub record Gives {S : Type 0} (scheme : Scheme S) (node : NodeView S) (seat : SeatView) (output : Output) : Type 0 where
   pub may : (base : State) (history : History) → IsBase scheme node base → IsLegal (node_of scheme node.setting) history → kept (node_of scheme node.setting) history ≡ base
       → MayGive (node_of scheme node.setting) (history ++ events seat.view.durable) output
   pub put_out : IsPutOutBy scheme node seat.view output
+
+-- outputs were added at the end of a list, each of which may be given out
+pub record GivesAll {S : Type 0} (scheme : Scheme S) (node : NodeView S) (seat : SeatView) (before later : List Output) : Type 0 where
+  pub outputs : List Output
+  pub each : All (Gives scheme node seat) outputs
+  pub added : later ≡ before ++ outputs

@@ -1,4 +1,4 @@
--- How a call of a shared node changes what the seats know that it is made with.
+-- How a call of a shared node changes what its seats know.
 use Rattle.std.specs.Prelude.{◌≡◌, true, false, List, [], ℕ, Option, IsNone, Result, IfOk, IfSome, OnOk, OnErr}
 use Rattle.wire.specs.Lists.{Begins}
 use Rattle.spec_machine.specs.After.{IsLegalAfter}
@@ -10,8 +10,8 @@ use Rattle.node_shared.specs.Home.{NodeView, IsBase, IsOf, IsFlushOf, TakesNext,
 use Rattle.node_shared.specs.declared.flush_seat.FlushSeat.{FlushSeat}
 use Rattle.sigface.specs.Scheme.{Scheme}
 
--- A seat only looked: it is the same seat of the node, and knows the same events as settled. It has seen what it had seen and perhaps more,
--- all legal after each base; its own events are those in it with its number.
+-- The seat only looked: it is the same seat of the node, and knows the same events as settled. It has seen what it had seen before, and
+-- perhaps more events, all legal after each base. The events that it brought are those among them that are marked with its number.
 pub record Looked {S : Type 0} (scheme : Scheme S) (node : NodeView S) (before later : SeatView) : Type 0 where
   pub of_node : IsOf node later
   pub same : IsSame before later
@@ -20,8 +20,9 @@ pub record Looked {S : Type 0} (scheme : Scheme S) (node : NodeView S) (before l
   pub own : HasOwn later.view
   pub legal : (base : State) → IsBase scheme node base → IsLegalAfter (node_of scheme node.setting) base (events later.view.seen)
 
--- A seat learned what is settled: it is the same seat of the node. It has seen, and knows as settled, what it did before and perhaps more.
--- What it knows as settled is legal after each base, and its own events are those that it has seen with its number.
+-- The seat learned what is settled: it is the same seat of the node. It has seen what it had seen before, and perhaps more events; and it
+-- knows as settled what it knew before, and perhaps more. What it knows as settled is legal after each base. The events that it brought are
+-- those that it has seen marked with its number.
 pub record Learned {S : Type 0} (scheme : Scheme S) (node : NodeView S) (before later : SeatView) : Type 0 where
   pub of_node : IsOf node later
   pub same : IsSame before later
@@ -31,9 +32,9 @@ pub record Learned {S : Type 0} (scheme : Scheme S) (node : NodeView S) (before 
   pub own : HasOwn later.view
   pub legal : (base : State) → IsBase scheme node base → IsLegalAfter (node_of scheme node.setting) base (events later.view.durable)
 
--- A seat brought an event, new or not: it is the same seat of the node, and knows the same events as settled. If it knew that the node is
--- down it still does, and it has kept its right, if any, to take the node down. What it has seen is legal after each base; its own events
--- are those in it with its number.
+-- The seat brought an event, whether it was new or not: it is the same seat of the node, and knows the same events as settled. If it knew
+-- that the node is down, it still does; it may take the node down exactly if it might before. What it has seen is legal after each base,
+-- and the events that it brought are those among them that are marked with its number.
 pub record Brought {S : Type 0} (scheme : Scheme S) (node : NodeView S) (before later : SeatView) : Type 0 where
   pub of_node : IsOf node later
   pub id : later.id ≡ before.id
@@ -44,20 +45,20 @@ pub record Brought {S : Type 0} (scheme : Scheme S) (node : NodeView S) (before 
   pub own : HasOwn later.view
   pub legal : (base : State) → IsBase scheme node base → IsLegalAfter (node_of scheme node.setting) base (events later.view.seen)
 
--- A seat is the same one, has seen the same events, and knows the same ones as settled.
+-- The seat is the same, has seen the same events, and knows the same events as settled.
 pub record Stays (before later : SeatView) : Type 0 where
   pub same : IsSame before later
   pub seen : later.view.seen ≡ before.view.seen
   pub durable : later.view.durable ≡ before.view.durable
 
--- a seat that has seen no event since its node began, and doesn't know the node to be down
+-- the seat has seen no event since its node was made, and doesn't know that the node is down
 pub record HasNothing (seat : SeatView) : Type 0 where
   pub seen : seat.view.seen ≡ []
   pub durable : seat.view.durable ≡ []
   pub mine : seat.view.mine ≡ []
   pub up : seat.view.down ≡ false
 
--- a seat next to another one of the node: it knows what that one does, has brought no event, and can't take the node down
+-- the second seat was split off the first: it knows what the first one does, has brought no event, and can't take the node down
 pub record IsBeside {S : Type 0} (node : NodeView S) (seat other : SeatView) : Type 0 where
   pub of_node : IsOf node other
   pub seen : other.view.seen ≡ seat.view.seen
@@ -69,19 +70,21 @@ pub record IsBeside {S : Type 0} (node : NodeView S) (seat other : SeatView) : T
 
 -- ---- the seat of the flusher
 
--- a take: the next group of what the seat has seen; or nothing, where all of that is settled or an allocation failed
+-- a call takes a group for the disk. The group is the next one of the events that the flush seat has seen; or there is none, where all of
+-- these are settled. Where an allocation failed, nothing is taken
 pub record Takes {E : Type 0} (before later : FlushSeat) (result : Result (Option (List (List ℕ))) E) : Type 0 where
   pub none : IfOk result (λ found. IsNone found → (later.taken ≡ before.taken) × (later.seat.view.durable ≡ later.seat.view.seen))
   pub group : IfOk result (λ found. IfSome found (λ group. TakesNext later group))
   pub err : OnErr result (later.taken ≡ before.taken)
 
--- a take for a checkpoint: all that the seat has seen, of which these records are a checkpoint; or nothing, where an allocation failed
+-- a call takes everything for a checkpoint: all events that the flush seat has seen are taken, and these records are a checkpoint of them.
+-- Where an allocation failed, nothing is taken
 pub record TakesAll {S E : Type 0} (scheme : Scheme S) (node : NodeView S) (before later : FlushSeat) (result : Result (List (List ℕ)) E) : Type 0 where
   pub all : OnOk result ((taken_by later ≡ later.seat.view.seen) × (later.rewriting ≡ true))
   pub checkpoint : IfOk result (λ records. IsCheckpointAfter scheme node (taken_by later) records)
   pub err : OnErr result ((later.taken ≡ before.taken) × (later.rewriting ≡ false))
 
--- all events that were taken are settled now, and nothing is in flight
+-- all events that had been taken are settled, and neither a group nor a checkpoint is in flight
 pub record SettlesTaken {S : Type 0} (node : NodeView S) (before later : FlushSeat) : Type 0 where
   pub flush_of : IsFlushOf node later
   pub same : IsSame before.seat later.seat
@@ -90,7 +93,7 @@ pub record SettlesTaken {S : Type 0} (node : NodeView S) (before later : FlushSe
   pub taken : later.taken ≡ before.taken
   pub idle : later.rewriting ≡ false
 
--- the numbers of settled and taken events are unchanged
+-- the flush seat counts as many settled and taken events as before, and a checkpoint is in flight exactly if one was before
 pub record CountsAs (before later : FlushSeat) : Type 0 where
   pub settled : later.settled ≡ before.settled
   pub taken : later.taken ≡ before.taken

@@ -1,14 +1,14 @@
-//! The flusher's seat.
+//! The seat of the flusher, the thread that writes a node's records to the disk.
 
 use node_seats::Seat;
 
-/// The seat with which groups and checkpoints are taken and settled. Each node has one.
+/// A seat with which groups and checkpoints are taken and settled. Each node has exactly one flush seat.
 pub struct FlushSeat {
     pub(crate) seat: Seat,
-    // How many of the events that it has seen are settled, and how many are taken.
+    // How many of the events that the seat has seen are settled, and how many are taken.
     pub(crate) settled: u64,
     pub(crate) taken: u64,
-    // Whether a checkpoint of everything taken is in flight.
+    // Whether a checkpoint of all taken events is in flight.
     pub(crate) rewriting: bool,
 }
 

@@ -1,4 +1,4 @@
-//! What a node hands over to be written, and how it learns that it was.
+//! What a shared node hands over to be written to the disk, and how it learns that this is durable.
 
 ghost use Rattle.std.specs.Prelude.{◌≡◌, ◌≤◌, ◌||◌, true, false, is_some};
 ghost use Rattle.wire.specs.Lists.{Begins};
@@ -22,8 +22,8 @@ use std::marker::Brand;
 use std::sync::Wait;
 
 impl<'a, S: Sign> Node<'a, S> {
-    /// Takes the longest prefix that fits a group of the accepted events that aren't settled. What the seat had seen is among the accepted
-    /// events. None where all of them are settled. On `AllocError` an allocation failed, and nothing was taken.
+    /// Takes a group: the longest prefix that fits a group of the accepted events that aren't settled. All that the seat had seen is among
+    /// the accepted events. None where all of them are settled. On `AllocError` an allocation failed, and nothing was taken.
     pub fn take<R: Wait>(
         &self,
         rt: &R,
@@ -58,8 +58,9 @@ impl<'a, S: Sign> Node<'a, S> {
         unreachable!()
     }
 
-    /// Takes all accepted events, among them what the seat had seen, for a checkpoint of the state after them. Threads may submit events
-    /// meanwhile; until the checkpoint is settled no group can be taken. On `AllocError` an allocation failed, and nothing was taken.
+    /// Takes all accepted events, which include all that the seat had seen, for a checkpoint of the state after them. Threads may submit
+    /// events meanwhile, but until the checkpoint is settled no group can be taken. On `AllocError` an allocation failed, and nothing was
+    /// taken.
     pub fn take_all<R: Wait>(
         &self,
         rt: &R,
@@ -93,7 +94,7 @@ impl<'a, S: Sign> Node<'a, S> {
         unreachable!()
     }
 
-    /// Says that what was taken is on the disk: the group, or the checkpoint in flight. Everything taken is settled then.
+    /// Notes that what was taken is durable: the group, or the checkpoint in flight. All taken events are then settled.
     pub fn settle<R: Wait>(&self, rt: &R, flush: &mut FlushSeat, synced: Synced)
         requires flush { IsFlushOf self.now flush.old }
         requires group { flush.old.rewriting ≡ false → synced ≡ group_of flush.old }
@@ -113,7 +114,7 @@ impl<'a, S: Sign> Node<'a, S> {
         unreachable!()
     }
 
-    /// After this the seat knows exactly the same events as settled as the flush seat.
+    /// After this call the seat knows as settled exactly the events that the flush seat knows as settled.
     pub fn report_settled<R: Wait>(&self, rt: &R, flush: &mut FlushSeat, seat: &mut Seat)
         requires flush { IsFlushOf self.now flush.old }
         requires of { IsOf self.now seat.old }
@@ -127,7 +128,7 @@ impl<'a, S: Sign> Node<'a, S> {
             .catch_up_durable::<Brand, R>(rt, seat, &mut flush.seat, count);
     }
 
-    /// After this call the flush seat knows as settled all that the other seat knows as settled. Nothing else changes.
+    /// After this call the flush seat knows as settled all events that the other seat knows as settled. Nothing else changes.
     pub fn cover<R: Wait>(&self, rt: &R, flush: &mut FlushSeat, seat: &mut Seat)
         requires flush { IsFlushOf self.now flush.old }
         requires of { IsOf self.now seat.old }
@@ -142,8 +143,8 @@ impl<'a, S: Sign> Node<'a, S> {
         self.words.cover(rt, &mut flush.seat, seat, count);
     }
 
-    /// Takes the node down, because a device call failed or the journal is full; the seat then knows that. From now on the node accepts and
-    /// gives out nothing. The call never waits.
+    /// Takes the node down, because a device call failed or the journal is full; the seat then knows that. From now on the node accepts no
+    /// event and gives out no output. The call never waits.
     pub fn fail(&self, flush: &mut FlushSeat, seat: &mut Seat)
         requires flush { IsFlushOf self.now flush.old }
         requires right { flush.old.seat.view.may_fail ≡ true }
@@ -155,8 +156,8 @@ impl<'a, S: Sign> Node<'a, S> {
         self.words.inform(&mut flush.seat, seat);
     }
 
-    // After this the flush seat knows what the book's seat does. The result is whether both count the same; if they don't at once, they
-    // never will.
+    // After this call the flush seat knows what the book's own seat does. The result is whether the flush seat counts as many taken and
+    // settled events as the book. If it doesn't, it never will, since only calls with the flush seat change the book's counts.
     fn tie<R: Wait>(&self, rt: &R, locked: &mut Locked<'a, S>, flush: &mut FlushSeat) -> bool
         requires home { IsAtHome S.scheme self.now locked.old.seat locked.old.book }
         requires of { IsOf self.now flush.old.seat }

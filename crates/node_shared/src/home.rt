@@ -1,4 +1,4 @@
-//! What is under the lock.
+//! What a shared node keeps under its lock, and the rules of its lock and its words.
 
 use book::Book;
 use node_lock::Fits;
@@ -6,7 +6,7 @@ use node_seats::{Law, Seat, Words};
 use sigface::Sign;
 use validator::Validator;
 
-/// The rule of the words: the events that they count are legal after each state that the validator held at first.
+/// The rule of a node's words: the events that they count are legal after each state that the validator held when the node was made.
 pub(crate) struct Legal;
 
 impl<'a, S: Sign> Law<Validator<'a, S>> for Legal {
@@ -20,14 +20,14 @@ impl<'a, S: Sign> Law<Validator<'a, S>> for Legal {
 
 pub(crate) type Counts<'a, S> = Words<Validator<'a, S>, Legal>;
 
-/// The book, with its own seat. It is large, so the lock keeps it in a box, and moves only the box.
+/// The book, with its own seat at the node. It is large, so the lock keeps it in a box, and only the box is moved.
 #[derive(Drop)]
 pub(crate) struct Locked<'a, S: Sign> {
     pub(crate) book: Book<'a, S>,
     pub(crate) seat: Seat,
 }
 
-/// The lock's rule: the book is at home in its node.
+/// The rule of a node's lock: the book under it is at home in the node.
 pub(crate) struct AtHome;
 
 impl<'a, S: Sign> Fits<Box<Locked<'a, S>>, Counts<'a, S>> for AtHome {

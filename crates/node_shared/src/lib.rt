@@ -1,5 +1,6 @@
-//! The node that threads share: a book under a lock; words that count what it accepted and settled, and say whether it is down; and seats,
-//! each of which knows what its thread has learned of these.
+//! The node that threads share. It consists of a book under a lock and of the words: three atomic integers that say how many events were
+//! accepted, how many of them are settled, and whether the node is down. Each thread calls it with a seat, which is what the thread knows
+//! of these events.
 #![tactic(auto)]
 
 mod flush_seat;

@@ -1,4 +1,4 @@
-//! The node.
+//! The node that threads share.
 
 ghost use Rattle.std.specs.Prelude.{◌≡◌, true, false, IsOk, IfOk};
 ghost use Rattle.validator.specs.Setting.{node_of};
@@ -16,7 +16,8 @@ use std::alloc::{AllocError, Global};
 use std::marker::Model;
 use validator::Validator;
 
-/// A node that threads share: a book under a lock, and words that count what it accepted and settled and say whether it is down.
+/// A node that threads share: a book under a lock, and the words, which are three atomic integers. They say how many events were accepted,
+/// how many are settled, and whether the node is down.
 pub struct Node<'a, S: Sign> {
     pub(crate) words: Counts<'a, S>,
     pub(crate) lock: Lock<Box<Locked<'a, S>>, Counts<'a, S>, AtHome>,
@@ -46,8 +47,8 @@ impl<'a, S: Sign> Model for Node<'a, S> {
 }
 
 impl<'a, S: Sign> Node<'a, S> {
-    /// A node over a validator, with a seat for calls and the flusher's seat. Contracts keep the tables that the validator had here, and so
-    /// the state at which the node begins. On `AllocError` an allocation failed.
+    /// Makes a node over this validator, with one seat for calls and the flusher's seat. Contracts keep the tables that the validator has
+    /// at this call, and so know the state at which the node begins. On `AllocError` an allocation failed.
     pub fn new(
         alloc: Global,
         validator: Validator<'a, S>,
@@ -79,14 +80,15 @@ impl<'a, S: Sign> Node<'a, S> {
         Ok((Node { words, lock }, seat, flush_seat))
     }
 
-    /// What holds of every node: there is a state that its validator held when the node was made. The call does nothing.
+    /// What holds of every node: there is a sound state that its validator held when the node was made. The call does nothing.
     pub fn limits_hold(&self)
         ensures { StandSomewhere (node_of S.scheme self.now.setting) self.now.begun }
     {
         let _ = &self.words;
     }
 
-    /// One more seat, which has seen what this one has and has brought no event. It can't take the node down. The call allocates no memory.
+    /// Makes one more seat. It has seen what this seat has, has brought no event, and can't take the node down. The call allocates no
+    /// memory.
     pub fn split(&self, seat: &mut Seat) -> Result<Seat, AllocError>
         requires of { IsOf self.now seat.old }
         ensures ok { IsOk result }

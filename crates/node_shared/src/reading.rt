@@ -1,13 +1,14 @@
-//! What a node can be asked, and what it gives out.
+//! What a shared node can be asked, and how its outputs are taken out.
 
-ghost use Rattle.std.specs.Prelude.{◌≡◌, ◌⊎◌, ◌↔◌, ◌||◌, None, drop, length, is_some, if◌then◌else◌, IsNone, IsTrue, IsErrOf, IfOk, IfErr, IfSome};
-ghost use Rattle.book.specs.Book.{releasable};
+ghost use Rattle.std.specs.Prelude.{◌≡◌, ◌⊎◌, ◌↔◌, ◌-◌, ◌<◌, ◌++◌, ◌||◌, None, drop, length, is_some, if◌then◌else◌, IsNone, IsTrue, IsErrOf, IfOk, IfErr, IfSome};
+ghost use Rattle.std.specs.VecDeque.{deque_len, deque_capacity};
+ghost use Rattle.book.specs.Book.{releasable, releasable_within};
 ghost use Rattle.header.specs.Checks.{fault_of, accepts_all};
 ghost use Rattle.wire.specs.Lists.{Begins};
 ghost use Rattle.spec_machine.specs.Machine.{is_ready, proposed, round_in};
 ghost use Rattle.spec_model.specs.States.{State};
 ghost use Rattle.validator.specs.Setting.{node_of};
-ghost use Rattle.node_shared.specs.Answers.{Gives};
+ghost use Rattle.node_shared.specs.Answers.{Gives, GivesAll};
 ghost use Rattle.node_shared.specs.Calls.{Looked, Learned, Stays};
 ghost use Rattle.node_shared.specs.Home.{IsBase, IsOf, IsAtHome, seen_in, durable_in};
 
@@ -18,12 +19,13 @@ use header::Checked;
 use node_seats::Seat;
 use sigface::Sign;
 use std::alloc::AllocError;
+use std::collections::VecDeque;
 use std::marker::Brand;
 use std::sync::Wait;
 use wire::{Author, Digest, Header, Output, Round};
 
 impl<'a, S: Sign> Node<'a, S> {
-    /// How many events were accepted since the node began; the seat has then seen them. The call never waits and allocates no memory.
+    /// How many events were accepted since the node was made; the seat has then seen them. The call never waits and allocates no memory.
     pub fn accepted(&self, seat: &mut Seat) -> u64
         requires of { IsOf self.now seat.old }
         ensures looked { Looked S.scheme self.now seat.old seat.new }
@@ -43,7 +45,7 @@ impl<'a, S: Sign> Node<'a, S> {
         self.words.read::<Brand>(seat)
     }
 
-    /// Whether the node is down, which the seat then knows, and all that is settled too. The call never waits and allocates no memory.
+    /// Whether the node is down. The seat then knows this, and which events are settled. The call never waits and allocates no memory.
     pub fn is_down(&self, seat: &mut Seat) -> bool
         requires of { IsOf self.now seat.old }
         ensures learned { Learned S.scheme self.now seat.old seat.new }
@@ -53,8 +55,8 @@ impl<'a, S: Sign> Node<'a, S> {
         self.words.read_down(seat)
     }
 
-    /// Two looks. After them the second seat has seen all that the first has, and knows that the node is down if the first does. Gives the
-    /// number of events that the second seat has seen. The call never waits and allocates no memory.
+    /// Looks at the words with both seats. Afterwards the second seat has seen all that the first has seen, and knows that the node is down
+    /// if the first knows it. Gives the number of events that the second seat has seen. The call never waits and allocates no memory.
     pub fn meet(&self, first: &mut Seat, second: &mut Seat) -> u64
         requires first { IsOf self.now first.old }
         requires second { IsOf self.now second.old }
@@ -67,7 +69,7 @@ impl<'a, S: Sign> Node<'a, S> {
         self.words.meet::<Brand>(first, second)
     }
 
-    // After this the seat has seen exactly the accepted events.
+    // After this call the seat has seen exactly the accepted events.
     pub(crate) fn see_all<R: Wait>(&self, rt: &R, locked: &mut Locked<'a, S>, seat: &mut Seat)
         requires home { IsAtHome S.scheme self.now locked.old.seat locked.old.book }
         requires of { IsOf self.now seat.old }
@@ -81,7 +83,7 @@ impl<'a, S: Sign> Node<'a, S> {
             .catch_up::<Brand, R>(rt, seat, &mut locked.seat, count);
     }
 
-    // After this the seat knows exactly the settled events as settled.
+    // After this call the seat knows exactly the settled events as settled.
     pub(crate) fn know_all<R: Wait>(&self, rt: &R, locked: &mut Locked<'a, S>, seat: &mut Seat)
         requires home { IsAtHome S.scheme self.now locked.old.seat locked.old.book }
         requires of { IsOf self.now seat.old }
@@ -95,7 +97,7 @@ impl<'a, S: Sign> Node<'a, S> {
             .catch_up_durable::<Brand, R>(rt, seat, &mut locked.seat, count);
     }
 
-    // After this the seat knows whether the node is down, and the book is down exactly where the seat knows that.
+    // After this call the seat knows whether the node is down, and the book is down exactly if the seat knows that the node is.
     pub(crate) fn know_down(&self, locked: &mut Locked<'a, S>, seat: &mut Seat)
         requires home { IsAtHome S.scheme self.now locked.old.seat locked.old.book }
         requires of { IsOf self.now seat.old }
@@ -111,8 +113,8 @@ impl<'a, S: Sign> Node<'a, S> {
         }
     }
 
-    /// The next output that may leave, if there is one. All that it rests on is settled, which the seat then knows; an event put it out,
-    /// and it may be given out. None where the node is down, which the seat then knows.
+    /// Takes out the next output that may leave, if there is one. An event put it out, and it may be given out after the settled events,
+    /// all of which the seat then knows as settled. None where the node is down, which the seat then knows.
     pub fn collect<R: Wait>(&self, rt: &R, seat: &mut Seat) -> Option<Output>
         requires of { IsOf self.now seat.old }
         ensures learned { Learned S.scheme self.now seat.old seat.new }
@@ -126,7 +128,23 @@ impl<'a, S: Sign> Node<'a, S> {
         output
     }
 
-    // Gives the next output that may be given out, under the lock.
+    /// Moves the outputs that may leave to the end of `outputs`, oldest first, as many as that has room for, in one hold of the lock.
+    /// Events put them out, and they may be given out after the settled events, all of which the seat then knows as settled. Moves nothing
+    /// where the node is down, which the seat then knows. The call allocates no memory.
+    pub fn collect_into<R: Wait>(&self, rt: &R, seat: &mut Seat, outputs: &mut VecDeque<Output>)
+        requires of { IsOf self.now seat.old }
+        ensures learned { Learned S.scheme self.now seat.old seat.new }
+        ensures down { IsTrue seat.new.view.down → outputs.new.items ≡ outputs.old.items }
+        ensures capacity { deque_capacity outputs.new ≡ deque_capacity outputs.old }
+        ensures gives { GivesAll S.scheme self.now seat.new outputs.old.items outputs.new.items }
+    {
+        let (turn, mut home) = self.lock.acquire(rt);
+        let locked = &mut *home;
+        self.give_into(rt, locked, seat, outputs);
+        self.lock.release(turn, home);
+    }
+
+    // Takes out the next output that may be given out. The caller holds the lock.
     fn give<R: Wait>(&self, rt: &R, locked: &mut Locked<'a, S>, seat: &mut Seat) -> Option<Output>
         requires home { IsAtHome S.scheme self.now locked.old.seat locked.old.book }
         requires of { IsOf self.now seat.old }
@@ -134,7 +152,7 @@ impl<'a, S: Sign> Node<'a, S> {
         ensures learned { Learned S.scheme self.now seat.old seat.new }
         ensures down { IsTrue seat.new.view.down → IsNone result }
         ensures gives { IfSome result (λ output. Gives S.scheme self.now seat.new output) }
-        // Unless the node is down, this is the book's next output, which leaves the book.
+        // This is the next output of the book, and leaves it. If the node is down there is none.
         ensures next { result ≡ releasable (record locked.old.book { down = seat.new.view.down }) }
         ensures queue { locked.new.book.queue ≡ (if is_some result then drop 1 locked.old.book.queue else locked.old.book.queue) }
     {
@@ -143,8 +161,36 @@ impl<'a, S: Sign> Node<'a, S> {
         locked.book.release()
     }
 
-    /// The order after the settled events, which the seat then knows, from this place on: the digests of the ordered certificates. The list
-    /// is empty where the place is past the order's end.
+    // Moves the outputs that may be given out to the end of `outputs`, as many as that has room for. The caller holds the lock.
+    fn give_into<R: Wait>(
+        &self,
+        rt: &R,
+        locked: &mut Locked<'a, S>,
+        seat: &mut Seat,
+        outputs: &mut VecDeque<Output>,
+    )
+        requires home { IsAtHome S.scheme self.now locked.old.seat locked.old.book }
+        requires of { IsOf self.now seat.old }
+        ensures home { IsAtHome S.scheme self.now locked.new.seat locked.new.book }
+        ensures learned { Learned S.scheme self.now seat.old seat.new }
+        ensures down { IsTrue seat.new.view.down → outputs.new.items ≡ outputs.old.items }
+        ensures capacity { deque_capacity outputs.new ≡ deque_capacity outputs.old }
+        ensures gives { GivesAll S.scheme self.now seat.new outputs.old.items outputs.new.items }
+        // These are the next outputs of the book, and leave it. If the node is down there is none.
+        ensures next { let room = deque_capacity outputs.old - deque_len outputs.old in
+            outputs.new.items ≡ outputs.old.items ++ releasable_within room (record locked.old.book { down = seat.new.view.down }) }
+        ensures queue { let room = deque_capacity outputs.old - deque_len outputs.old in
+            locked.new.book.queue ≡ drop (length (releasable_within room (record locked.old.book { down = seat.new.view.down }))) locked.old.book.queue }
+        // If the deque isn't full afterwards, no output is left in the book that may leave.
+        ensures all { deque_len outputs.new < deque_capacity outputs.new → releasable locked.new.book ≡ None }
+    {
+        self.know_all(rt, locked, seat);
+        self.know_down(locked, seat);
+        locked.book.release_into(outputs);
+    }
+
+    /// The order after the settled events, from this place on: the digests of the ordered certificates. The seat then knows these events as
+    /// settled. The list is empty where the place is past the order's end.
     ///
     /// # Errors
     /// `Down` where the node is down, which the seat then knows; `Memory` where an allocation failed.
@@ -165,8 +211,8 @@ impl<'a, S: Sign> Node<'a, S> {
         order
     }
 
-    /// The digest of the header that the node voted for in a slot, after all accepted events, which the seat has then seen. None for low
-    /// rounds.
+    /// The digest of the header that the node voted for in a slot, after all accepted events. The seat has then seen these. None where the
+    /// node has not voted in the slot, or its round is low.
     pub fn peek_voted<R: Wait>(
         &self,
         rt: &R,
@@ -186,7 +232,7 @@ impl<'a, S: Sign> Node<'a, S> {
         voted
     }
 
-    /// The validator's round after all accepted events, which the seat has then seen.
+    /// The validator's round after all accepted events. The seat has then seen these.
     pub fn round_now<R: Wait>(&self, rt: &R, seat: &mut Seat) -> u64
         requires of { IsOf self.now seat.old }
         ensures looked { Looked S.scheme self.now seat.old seat.new }
@@ -200,8 +246,8 @@ impl<'a, S: Sign> Node<'a, S> {
         round
     }
 
-    /// Whether an event that passed the checks is ready after all accepted events, which the seat has then seen: its answer there isn't
-    /// that a parent is missing.
+    /// Whether an event that passed the checks is ready after all accepted events: its answer isn't that a parent is missing. The seat has
+    /// then seen the accepted events.
     pub fn ready<R: Wait>(&self, rt: &R, seat: &mut Seat, event: &Checked) -> bool
         requires of { IsOf self.now seat.old }
         requires passed { fault_of self.now.setting.charter accepts_all event.now ≡ None }
@@ -216,8 +262,8 @@ impl<'a, S: Sign> Node<'a, S> {
         ready
     }
 
-    /// The header that the validator proposes after all accepted events, which the seat has then seen. None where it proposes none. On
-    /// `AllocError` an allocation failed.
+    /// The header that the validator proposes after all accepted events, or None where it proposes none. The seat has then seen these
+    /// events. On `AllocError` an allocation failed.
     pub fn propose<R: Wait>(&self, rt: &R, seat: &mut Seat) -> Result<Option<Header>, AllocError>
         requires of { IsOf self.now seat.old }
         ensures looked { Looked S.scheme self.now seat.old seat.new }

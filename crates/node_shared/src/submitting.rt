@@ -1,4 +1,4 @@
-//! How a node accepts events.
+//! How a shared node accepts events.
 
 ghost use Rattle.std.specs.Prelude.{◌≡◌, ◌↔◌, None, IsTrue, IsErrOf};
 ghost use Rattle.header.specs.Checks.{fault_of, accepts_all};
@@ -16,8 +16,8 @@ use std::marker::Brand;
 use std::sync::Wait;
 
 impl<'a, S: Sign> Node<'a, S> {
-    /// Submits an event that passed the checks, after all accepted events. The seat has then seen all of these, and a new event becomes one
-    /// of its own. The error is Down exactly where the seat then knows that the node is down.
+    /// Submits an event that passed the checks; it is answered after all accepted events. The seat has then seen all of these. A new event
+    /// becomes one that this seat brought. The error is Down exactly if the seat then knows that the node is down.
     pub fn submit<R: Wait>(
         &self,
         rt: &R,
@@ -37,7 +37,7 @@ impl<'a, S: Sign> Node<'a, S> {
         answer
     }
 
-    // Accepts or refuses an event, under the lock.
+    // Accepts or refuses an event. The caller holds the lock.
     fn accept<C: Call, R: Wait>(
         &self,
         rt: &R,

@@ -20,7 +20,7 @@ use Rattle.opening.specs.Decoded.{own_fault, or_damaged, read_events, is_event, 
 use Rattle.opening.specs.declared.reached.Reached.{Reached}
 use Rattle.opening.specs.declared.reached.Reached.TheVariants.{Empty, Configured, Checkpoint, Standing, Failed}
 
--- the version of the configuration that the first record has the form of; None without a record, or without that form
+-- the version in whose form of a configuration the first record is; None if there is no record, or if it is in no such form
 abbrev pub version_in : List Record → Option Version
 version_in [] = None
 version_in (first ∷ rest) = shaped_version first.bytes

@@ -35,7 +35,7 @@ supports ledger certificate member =
 abbrev pub has_support : Ledger → Certificate → Bool
 has_support ledger certificate = nat_le (support_of ledger.charter) (weight ledger.charter (supports ledger certificate))
 
--- a wave is directly committed: its leader has support. Each earlier leader that its leader reaches is committed with it
+-- A wave is directly committed if its leader has support. Earlier leaders are committed with it, as `newer_to` says.
 abbrev pub is_directly_committed : Ledger → ℕ → Bool
 is_directly_committed ledger wave = option_map_or (has_support ledger) (leader ledger wave) false
 

@@ -167,7 +167,8 @@ fn give_own(nodes: &mut Nodes<'_>, node: Author) -> Result<(), ClusterError>
     Ok(())
 }
 
-// Adds how many outputs a node has put out, and how many of them each other node has taken already: a second delivery answers "known".
+// Adds two numbers: how many outputs a node has put out, and how many deliveries of these to the three other nodes are answered "known",
+// since that node has taken the output already.
 fn report_known(
     nodes: &mut Nodes<'_>,
     node: Author,

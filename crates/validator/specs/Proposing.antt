@@ -17,7 +17,7 @@ use Rattle.admission.specs.Headers.{AssembliesView, header_in}
 use Rattle.admission.specs.Headers as assemblies
 use Rattle.admission.specs.Batches.{HasBatches}
 
--- the round with this number, if there is one for which a header may still be made: it has no own header
+-- the round with this number, if an own header may still be made for it: there is such a round, and it has no own header
 abbrev pub free_round : AssembliesView → ℕ → Option ℕ
 free_round headers number = if is_some (header_in headers number) || nat_lt MAX_ROUND number then None else Some number
 

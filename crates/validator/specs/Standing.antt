@@ -1,4 +1,4 @@
--- When a validator is in a state.
+-- When a validator's tables hold a state, and when what it answers is right for it.
 use Rattle.std.specs.Prelude.{◌≡◌, ◌++◌, ◌∷◌, [], IsTrue, Result}
 use Rattle.spec_model.specs.Admitting.{is_new, header_outputs, IsTaken, IsLegal}
 use Rattle.spec_model.specs.Giving.{kept}
@@ -19,7 +19,7 @@ use Rattle.admission.specs.Standing.{AreAt, Meets}
 use Rattle.admission.specs.declared.tables.Tables.{Tables}
 use Rattle.validator.specs.Setting.{ConfigView}
 
--- a validator: its setting, and its tables
+-- a validator: its setting and its tables
 pub record ValidatorView (S : Type 0) : Type 0 where
   pub setting : ConfigView S
   pub tables : Tables
@@ -39,12 +39,13 @@ pub record GoesOn (node : Node) (history : History) (event : Event) (later : Tab
   pub at : AreAtSound node later (kept node (history ++ event ∷ []))
   pub order : Begins (order node history) (order node (history ++ event ∷ []))
 
--- this header can be taken as the node's own, and is new
+-- if the node itself hands in this header as an event, the event passes the checks and is new
 pub record IsNewThere (node : Node) (state : State) (header : Header) : Type 0 where
   pub taken : IsTaken node (own_event node header)
   pub new : answered node state (own_event node header) ≡ New (header_outputs node header)
 
--- ---- the result for an event, at each state that the tables hold, of a node with these signatures
+-- ---- the result for an event, at each state that the tables hold, of a node with these signatures: it is right, it is the same refusal
+-- where the state refuses the event, and after a new event the tables hold the state after it
 
 abbrev pub AnswersEvent : Tables → (Digest → Signature) → Event → Result Step Refusal → Type 0
 AnswersEvent tables sign event result = (node : Node) (state : State) → Meets node state event tables event.message → node.sign ≡ sign

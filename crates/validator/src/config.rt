@@ -1,4 +1,4 @@
-//! The setting of a validator.
+//! The configuration of a validator: its committee, its number and its signer.
 
 ghost use Rattle.std.specs.Prelude.{◌≡◌, All, IfSome, IsNone, Some, slice_get};
 ghost use Rattle.wire.specs.Fields.{HasBytes, AreBytes};
@@ -11,7 +11,7 @@ use sigface::Sign;
 use std::marker::Model;
 use wire::{Author, Key};
 
-/// A member of a committee, with its signer. Contracts see the committee, the number and the signer.
+/// A member of a committee, with its signer. Contracts see the committee, the member's number and the signer.
 pub struct Config<S: Sign> {
     node: Node<S>,
 }
@@ -55,28 +55,28 @@ impl<S: Sign> Config<S> {
         })
     }
 
-    // The member as a node.
+    // The node that this configuration describes: the member's number, the committee and the signer.
     pub(crate) fn node(&self) -> &Node<S>
         ensures { self.now ≡ record { own = result.now.own; charter = result.now.committee; signer = result.now.signer } }
     {
         &self.node
     }
 
-    /// The committee.
+    /// The committee whose member the validator is.
     pub fn committee(&self) -> &Committee
         ensures { result.now ≡ self.now.charter }
     {
         &self.node.committee
     }
 
-    /// The member's number.
+    /// The member's number in its committee.
     pub fn own(&self) -> Author
         ensures { result ≡ self.now.own }
     {
         self.node.own
     }
 
-    /// The signer.
+    /// The signer with which the member signs headers and votes.
     pub fn signer(&self) -> &S
         ensures { result.now ≡ self.now.signer }
     {

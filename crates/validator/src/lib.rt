@@ -1,4 +1,4 @@
-//! The validator: how it answers each event, and what it keeps.
+//! The validator: it answers each event, keeps the state that it needs for that, and orders certificates. It has no disk.
 #![tactic(auto)]
 
 mod config;

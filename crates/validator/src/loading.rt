@@ -16,7 +16,7 @@ use sigface::Sign;
 use std::alloc::Global;
 use std::marker::Model;
 
-/// A validator that is being loaded, record by record. Contracts see its setting and the records so far.
+/// A validator that is being loaded, record by record. Contracts see its setting and the records that it was given so far.
 pub struct Loading<'a, S: Sign> {
     alloc: Global,
     config: &'a Config<S>,
@@ -45,7 +45,7 @@ impl<'a, S: Sign> Model for Loading<'a, S> {
 }
 
 impl<'a, S: Sign> Loading<'a, S> {
-    /// A validator for which no record came yet.
+    /// A validator that is being loaded, to which no record was given yet.
     pub fn begin(alloc: Global, config: &'a Config<S>) -> Loading<'a, S>
         ensures { result ≡ record { setting = config.now; records = [] } }
     {
@@ -61,7 +61,7 @@ impl<'a, S: Sign> Loading<'a, S> {
     ///
     /// # Errors
     /// `Unsound` with the first record that doesn't follow the format, which is this one or the one before it; `Memory` where an allocation
-    /// failed. After an error it is as before.
+    /// failed. After an error the validator that is being loaded is as before.
     pub fn put(&mut self, bytes: &[u8]) -> Result<(), LoadError>
         ensures ok { OnOk result (self.new ≡ record self.old { records = self.old.records ++ bytes.now ∷ [] }) }
         ensures fault { IfErr result (λ error. error ≢ LoadError.Memory → (more : List (List ℕ)) → load_fault (node_of S.scheme self.old.setting) (self.old.records ++ bytes.now ∷ more) ≡ fault_of error) }
@@ -70,11 +70,11 @@ impl<'a, S: Sign> Loading<'a, S> {
         self.reader.put(bytes)
     }
 
-    /// The validator in the state of the records.
+    /// The validator in the state that the records decode to, once all of them were given.
     ///
     /// # Errors
-    /// `Unsound` with the first record that isn't sound, or where no record came; `UnsoundWhole` where each record is sound and the whole
-    /// isn't; `Memory` where an allocation failed.
+    /// `Unsound` with the first record that isn't sound, or where no record was given; `UnsoundWhole` where each record is sound and the
+    /// whole isn't; `Memory` where an allocation failed.
     pub fn finish(self) -> Result<Validator<'a, S>, LoadError>
         ensures setting { IfOk result (λ made. made.setting ≡ self.entry.setting) }
         ensures ok { OnOk result (load_fault (node_of S.scheme self.entry.setting) self.entry.records ≡ None) }

@@ -1,4 +1,4 @@
-//! Making a header of given parts.
+//! How a header is made of its parts and signed.
 
 ghost use Rattle.std.specs.Prelude.{◌≡◌, None, IfOk};
 ghost use Rattle.header.specs.Making.{batches_fault, parents_fault, body_of, signed_by};

@@ -1,4 +1,4 @@
-//! Which events would be new.
+//! Which events would be new in the state that a validator's tables hold.
 
 ghost use Rattle.std.specs.Prelude.{◌≡◌};
 ghost use Rattle.spec_model.specs.Admitting.{is_new};

@@ -1,4 +1,4 @@
-//! The certificates that a header names.
+//! The references by which a header names the certificates of a round as its parents.
 
 ghost use Rattle.std.specs.Prelude.{◌≡◌, IfOk, option_map};
 ghost use Rattle.spec_model.specs.Proposing.{as_parent};
@@ -13,7 +13,7 @@ use wire::{Author, ParentReference, Round};
 fn parent(dag: &Dag, round: Round, author: Author) -> Option<ParentReference>
     ensures { result ≡ option_map as_parent (slots_in dag.now round author.0) }
 {
-    // The certificate's author is that of its slot.
+    // The certificate in a slot is of the slot's author, so that the reference names this author.
     dag.limits_hold();
     match dag.digest(round, author) {
         Some(digest) => Some(ParentReference {

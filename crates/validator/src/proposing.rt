@@ -1,4 +1,4 @@
-//! What a validator proposes.
+//! Which header a validator proposes.
 
 ghost use Rattle.std.specs.Prelude.{◌≡◌, ◌-◌, IfOk};
 ghost use Rattle.spec_model.specs.Nodes.{Node};
@@ -16,7 +16,7 @@ use sigface::Sign;
 use std::alloc::{AllocError, Global};
 use wire::{Author, Header, Round};
 
-// The round of this number, if there is one and it has no own header.
+// The round with this number, if an own header may still be made for it: there is such a round, and it has no own header.
 fn free_round(headers: &Assemblies, number: u64) -> Option<Round>
     ensures { result ≡ free_in headers.now number }
 {
@@ -39,7 +39,8 @@ fn below(round: Round) -> Round
     }
 }
 
-// The header that would be proposed in this round.
+// The header that would be proposed for this round: its parents are all certificates of the round below, and its batches the first nameable
+// ones by digest.
 fn header_for<S: Sign>(
     alloc: Global,
     signer: &S,
@@ -52,7 +53,7 @@ fn header_for<S: Sign>(
 {
     let batches = batches.least_nameable(alloc)?;
     let parents = parents_of(alloc, dag, below(round))?;
-    // All parents are of members, so they are as few as a header may have.
+    // No two parents are by the same member, so that there are no more of them than a header may have.
     dag.limits_hold();
     signed(alloc, signer, own, round, &batches, &parents)
 }

@@ -1,4 +1,4 @@
-//! Which events lack no parent.
+//! Which events are ready: they lack no parent in the state that a validator's tables hold.
 
 ghost use Rattle.std.specs.Prelude.{◌≡◌};
 ghost use Rattle.spec_model.specs.Nodes.{Node};

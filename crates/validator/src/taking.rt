@@ -1,4 +1,4 @@
-//! How an event gets to the tables.
+//! How an event that passed the checks is given to the table of its kind.
 
 ghost use Rattle.std.specs.Prelude.{◌≡◌, ◌≢◌, true, false, None, Some};
 ghost use Rattle.admission.specs.Answers.{is_new_step};
@@ -11,7 +11,7 @@ use sigface::Sign;
 use std::alloc::Global;
 use wire::{Digest, Message};
 
-/// The digest of a message that has one.
+/// The digest of a message of a kind that has one; the checks computed it.
 pub(crate) fn given(digest: Option<Digest>) -> Digest
     requires { digest ≢ None }
     ensures { Some result ≡ digest }
@@ -22,7 +22,7 @@ pub(crate) fn given(digest: Option<Digest>) -> Digest
     }
 }
 
-/// Takes an event, with the digests that its checks computed.
+/// Takes an event into the tables, with the digests that its checks computed.
 ///
 /// # Errors
 /// The refusal of admission, or `Memory` where an allocation failed. Neither changes anything.

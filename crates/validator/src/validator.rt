@@ -1,4 +1,4 @@
-//! The validator.
+//! The validator, which answers events and has no disk.
 
 ghost use Rattle.std.specs.Prelude.{◌≡◌, ◌≢◌, ◌+◌, ◌≤◌, true, false, not, drop, None, Ok, IfOk, IfErr, IfSome, OnOk};
 ghost use Rattle.header.specs.Checks.{fault_of, accepts_all};
@@ -19,6 +19,7 @@ ghost use Rattle.spec_checkpoint.specs.Data.{Checkpoint};
 ghost use Rattle.spec_checkpoint.specs.Loading.{load_fault};
 ghost use Rattle.spec_checkpoint.specs.Meaning.{state_in};
 ghost use Rattle.spec_checkpoint.specs.Reading.{checkpoint_read};
+ghost use Rattle.sigface.specs.Seeds.{seed_of};
 ghost use Rattle.validator.specs.Setting.{node_of};
 ghost use Rattle.validator.specs.Standing.{AreAtSound, GoesOn, IsNewThere, StandSomewhere};
 ghost use Rattle.wire.specs.declared.round.TheConstants.Round.{MAX};
@@ -40,7 +41,7 @@ use std::marker::Model;
 use wire::{Author, Digest, Header, Round};
 
 /// A validator without a disk. It answers events, keeps the state that it needs for that, and orders certificates. Contracts see its
-/// configuration and its tables, which always hold a sound state.
+/// configuration and its tables, which always hold a sound state and hash with its signer's seed.
 pub struct Validator<'a, S: Sign> {
     alloc: Global,
     config: &'a Config<S>,
@@ -77,6 +78,8 @@ impl<'a, S: Sign> Validator<'a, S> {
     pub fn new(alloc: Global, config: &'a Config<S>) -> Result<Validator<'a, S>, AllocError>
         ensures setting { IfOk result (λ made. made.setting ≡ config.now) }
         ensures at { let node = node_of S.scheme config.now in IfOk result (λ made. AreAtSound node made.tables (fresh node)) }
+        // The table of batches hashes with the seed of the validator's signer.
+        ensures seed { IfOk result (λ made. made.tables.batches.seed ≡ seed_of (S.scheme.signature_of config.now.signer)) }
     {
         spec_machine::fresh_is_sound();
         config.limits_hold();
@@ -98,6 +101,7 @@ impl<'a, S: Sign> Validator<'a, S> {
         requires { let node = node_of S.scheme config.now in (state : State) × IsKeptOf node state kept }
         ensures setting { IfOk result (λ made. made.setting ≡ config.now) }
         ensures at { let node = node_of S.scheme config.now in IfOk result (λ made. (state : State) → IsKeptOf node state kept → AreAtSound node made.tables state) }
+        ensures seed { IfOk result (λ made. made.tables.batches.seed ≡ seed_of (S.scheme.signature_of config.now.signer)) }
     {
         let seed = TableSeed::of(config.signer());
         let tables = Tables::restore(alloc, config.committee(), config.own(), seed, kept)?;
@@ -108,7 +112,7 @@ impl<'a, S: Sign> Validator<'a, S> {
         })
     }
 
-    /// The validator of these records of a checkpoint: its configuration, and those of its state.
+    /// Loads a validator from the records of a checkpoint: its configuration, and those of its state.
     ///
     /// # Errors
     /// `Unsound` with the first record at fault, `UnsoundWhole` where only the whole is at fault; `Memory` where an allocation failed.
@@ -129,22 +133,24 @@ impl<'a, S: Sign> Validator<'a, S> {
         loading.finish()
     }
 
-    /// The tables.
+    /// The tables of the validator: its batches, votes, own headers and certificates.
     pub fn tables(&self) -> &Tables<'a>
         ensures { result.now ≡ self.now.tables }
     {
         &self.tables
     }
 
-    /// What holds of every validator: its setting is a node's, and its tables hold a sound state. The call does nothing.
+    /// What holds of every validator: its setting is a node's, its tables hold a sound state, and they hash with its signer's seed. The
+    /// call does nothing.
     pub fn limits_hold(&self)
         ensures node { IsNode (node_of S.scheme self.now.setting) }
         ensures sound { StandSomewhere (node_of S.scheme self.now.setting) self.now.tables }
+        ensures seed { self.now.tables.batches.seed ≡ seed_of (S.scheme.signature_of self.now.setting.signer) }
     {
         self.config.limits_hold();
     }
 
-    /// The committee.
+    /// The committee whose member the validator is.
     pub fn committee(&self) -> &Committee
         ensures { result.now ≡ self.now.setting.charter }
     {
@@ -167,8 +173,8 @@ impl<'a, S: Sign> Validator<'a, S> {
         ensures setting { self.new.setting ≡ self.old.setting }
         // A validator has no disk and is never down.
         ensures never_down { IfErr result (λ refusal. refusal ≢ Refusal.Down) }
-        // The same for legal histories: if the tables hold the state kept of a history, the answer is admission's, and after a new event
-        // they hold the state kept of the longer history, whose order has the earlier one as a prefix.
+        // For histories: if the tables hold the state kept of a legal history, the answer is admission's, and after a new event they hold
+        // the state kept of the longer history, whose order has the earlier order as a prefix.
         ensures admits { let node = node_of S.scheme self.old.setting in (history : History) → IsLegal node history
             → AreAtSound node self.old.tables (kept node history)
             → IsAnswer (admit node history event) result }
@@ -208,8 +214,8 @@ impl<'a, S: Sign> Validator<'a, S> {
         self.tables.sequencer().round()
     }
 
-    /// The floor: certificates of lower rounds are dropped, and if it is above 0, no header, vote or certificate of a round up to it is
-    /// taken.
+    /// The floor, which is the garbage-collection round: certificates of lower rounds are dropped. If the floor is above 0, no header, vote
+    /// or certificate of a round up to it is taken.
     pub fn floor(&self) -> Round
         ensures at { let node = node_of S.scheme self.now.setting in (state : State) → AreAtSound node self.now.tables state
             → result ≡ floor_in node state }
@@ -289,7 +295,7 @@ impl<'a, S: Sign> Validator<'a, S> {
         )
     }
 
-    /// The records of its checkpoint: its configuration, and those of its state. On `AllocError` an allocation failed.
+    /// The records of the validator's checkpoint: its configuration, and those of its state. On `AllocError` an allocation failed.
     pub fn kept_records(&self) -> Result<Vec<Vec<u8>>, AllocError>
         ensures { let node = node_of S.scheme self.now.setting in IfOk result (λ rows. Describes node self.now.tables (contents rows.items)) }
     {
@@ -297,7 +303,7 @@ impl<'a, S: Sign> Validator<'a, S> {
         checkpoint::kept_records(self.alloc, self.config.own(), &self.tables)
     }
 
-    /// The validator's checkpoint as a journal writes it, with the same records. On `AllocError` an allocation failed.
+    /// The validator's checkpoint in the form in which a journal writes it; it has the same records. On `AllocError` an allocation failed.
     pub fn snapshot(&self) -> Result<Snapshot, AllocError>
         ensures { let node = node_of S.scheme self.now.setting in IfOk result (λ snapshot. Describes node self.now.tables snapshot) }
     {

@@ -9,5 +9,6 @@ pub mod Passing
 pub mod Messages
 pub mod Beginnings
 pub mod Streams
+pub mod Begun
 pub mod Cuts
 pub mod ByTable

@@ -5,7 +5,7 @@ use Rattle.std.specs.Option.{MatchOption}
 use Rattle.std.specs.declared.alloc.Global.{Global}
 use Rattle.std.specs.List.{flat_map, AllByRecursion}
 use Rattle.std.specs.Int.{w32, to_be_bytes, from_be_bytes}
-use Rattle.std.proofs.lemmas.List.{take_at, drop_at, take_all, drop_all, take-append-drop, take-append-le, length-append, length-take, length-drop, map-append}
+use Rattle.std.proofs.lemmas.List.{take_at, drop_at, take_all, take-append-drop, take-append-le, length-append, length-take, length-drop, map-append}
 use Rattle.std.proofs.lemmas.List.Concat.{flat_map-cons}
 use Rattle.std.proofs.lemmas.List.Elements.{All-append, All-push, recursion_from_All}
 use Rattle.std.proofs.lemmas.Grind.{flat_map-append}
@@ -40,7 +40,7 @@ same_front b c x y is-b is-c e =
     (front, back)
 
 -- the first frame, and the others after it
-cons : (b : List ℕ) (bs : List (List ℕ)) (rest : List ℕ) → stream_of (b ∷ bs) rest ≡ frame b ++ stream_of bs rest
+pub cons : (b : List ℕ) (bs : List (List ℕ)) (rest : List ℕ) → stream_of (b ∷ bs) rest ≡ frame b ++ stream_of bs rest
 cons b bs rest = ap (λ (l : List ℕ). l ++ rest) (flat_map-cons frame b bs) ∙ append_assoc (frame b) (flat_map frame bs) rest
 
 -- the first frames of the same bytes are one, and so are the bytes after them
@@ -98,7 +98,7 @@ broken stream before old piece p q = record {
 }
 
 -- what breaks is broken with more after it
-breaks_yet : (stream more : List ℕ) → Breaks stream → Breaks (stream ++ more)
+pub breaks_yet : (stream more : List ℕ) → Breaks stream → Breaks (stream ++ more)
 breaks_yet stream more p = record {
   bodies = p.bodies;
   rest = p.rest ++ more;
@@ -110,27 +110,7 @@ breaks_yet stream more p = record {
   };
 }
 
--- ---- a piece in two parts, the first of which goes after what is held
-
-module _ (old front following first piece : List ℕ) (held : first ≡ old ++ front) (parts : piece ≡ front ++ following) where
-  pub together : first ++ following ≡ old ++ piece
-  together = ap (λ (l : List ℕ). l ++ following) held ∙ append_assoc old front following ∙ ap (λ (l : List ℕ). old ++ l) (sym parts)
-
-  pub first_breaks : Breaks first → Breaks (old ++ piece)
-  first_breaks p = subst (λ (l : List ℕ). Breaks l) together (breaks_yet first following p)
-
-  module _ (bodies : List (Vec ℕ Global)) (taken : ℕ) (all : length first ≤ taken) (splits : Splits first (bodies_bytes bodies) (drop taken first)) where
-    whole_first : Splits first (bodies_bytes bodies) []
-    whole_first = subst (λ (l : List ℕ). Splits first (bodies_bytes bodies) l) (drop_all taken first all) splits
-
-    pub both_split : (more every : List (Vec ℕ Global)) (rest : List ℕ) → every ≡ bodies ++ more → Splits following (bodies_bytes more) rest → Splits (old ++ piece) (bodies_bytes every) rest
-    both_split more every rest is later =
-        let both = joined first (bodies_bytes bodies) [] following (bodies_bytes more) rest whole_first later in
-        let bytes : bodies_bytes bodies ++ bodies_bytes more ≡ bodies_bytes every = sym (ap bodies_bytes is ∙ map-append (λ (b : Vec ℕ Global). b.items) bodies more) in
-        subst (λ (l : List ℕ). Splits l (bodies_bytes every) rest) together (subst (λ (b : List (List ℕ)). Splits (first ++ following) b rest) bytes both)
-
-    pub second_breaks : Breaks following → Breaks (old ++ piece)
-    second_breaks p = subst (λ (l : List ℕ). Breaks l) together (broken first (bodies_bytes bodies) [] following whole_first p)
+-- ---- frames by their length fields
 
 -- a whole frame at the front, by its length field
 pub framed : (bytes body : List ℕ) → IsBytes bytes → 4 ≤ length bytes → length_field bytes ≤ length (drop 4 bytes) → body ≡ take (length_field bytes) (drop 4 bytes)

@@ -1,5 +1,5 @@
 -- How a stream of bytes is cut into frames. A frame is a length in four big-endian bytes, and that many bytes.
-use Rattle.std.specs.Prelude.{◌≡◌, ℕ, ◌+◌, ◌<◌, ◌≤◌, List, ◌++◌, length, take, All, map, Vec}
+use Rattle.std.specs.Prelude.{◌≡◌, ℕ, ◌+◌, ◌<◌, ◌≤◌, List, [], ◌++◌, length, take, All, map, Vec}
 use Rattle.std.specs.List.{flat_map}
 use Rattle.std.specs.Int.{w32, to_be_bytes, from_be_bytes}
 use Rattle.std.specs.declared.alloc.Global.{Global}
@@ -20,6 +20,12 @@ length_field bytes = from_be_bytes w32 (take 4 bytes)
 -- these bytes are less than a whole frame: its length field isn't complete, or it is within the limit and more bytes have to come
 abbrev pub IsPartial : List ℕ → Type 0
 IsPartial bytes = (4 ≤ length bytes) → (length_field bytes ≤ MAX_FRAME_BYTES) × (length bytes < 4 + length_field bytes)
+
+-- these bytes of a length field and of the body after it have come: none of the body before the whole field, and less than a whole frame
+pub record HasBegun (field body : List ℕ) : Type 0 where
+  pub within : length field ≤ 4
+  pub order : length field < 4 → body ≡ []
+  pub partial : IsPartial (field ++ body)
 
 -- these bytes start, where a frame has to start, with a length above the limit
 pub record IsTooLong (bytes : List ℕ) : Type 0 where

@@ -1,34 +1,41 @@
 //! Cuts a stream that comes in pieces into frames.
 
-ghost use Rattle.std.specs.Prelude.{◌≡◌, ◌+◌, ◌≤◌, ◌++◌, [], List, ℕ, length, take, drop, IsTrue, ◌↔◌, ◌⊎◌, IfOk, IfErr, OnErr};
+ghost use Rattle.std.specs.Prelude.{◌≡◌, ◌+◌, ◌<◌, ◌≤◌, ◌++◌, ◌∷◌, [], List, ℕ, length, take, drop, IsTrue, ◌↔◌, ◌⊎◌, IfOk, IfErr, OnErr};
+ghost use Rattle.std.specs.Int.{w32, to_be_bytes};
 ghost use Rattle.std.specs.Option.{MatchOption};
-ghost use Rattle.wire_read.specs.Frames.{IsFrameBody, IsPartial, IsTooLong, Splits, Breaks, bodies_bytes, frame};
+ghost use Rattle.wire_read.specs.Frames.{IsFrameBody, IsPartial, IsTooLong, Splits, Breaks, bodies_bytes, frame, length_field};
 
 use std::alloc::{AllocError, Global};
 use std::marker::Model;
+use std::mem;
 use wire::{MAX_FRAME_BYTES, WireError};
 
 /// The length of a frame's length field, in bytes.
 const LENGTH_BYTES: usize = 4;
+
+// A body may have this part of its memory to spare.
+const SPARE_PART: usize = 8;
 
 /// Cuts a stream into the bodies of its frames. A frame is a length in four big-endian bytes, and that many bytes, at most
 /// `MAX_FRAME_BYTES`.
 #[derive(Debug, Drop)]
 pub struct FrameReader {
     alloc: Global,
-    // The bytes of the next frame that have come so far.
-    held: Vec<u8>,
+    // The bytes of the next frame that have come so far. Those of its body stand apart from its length, so that a whole body is given away
+    // and not copied.
+    field: LengthField,
+    body: Vec<u8>,
 }
 
 impl Model for FrameReader {
-    ghost use Rattle.std.specs.Prelude.{ℕ, List};
-    ghost use Rattle.wire_read.specs.Frames.{IsPartial};
+    ghost use Rattle.std.specs.Prelude.{◌++◌, ℕ, List};
+    ghost use Rattle.wire_read.specs.Frames.{HasBegun};
 
     ghost Value = { List ℕ };
 
-    ghost view = { λ reader. reader.held.items };
+    ghost view = { λ reader. reader.field ++ reader.body.items };
 
-    ghost invariant = { λ reader. IsPartial reader.held.items };
+    ghost invariant = { λ reader. HasBegun reader.field reader.body.items };
 }
 
 impl FrameReader {
@@ -38,7 +45,8 @@ impl FrameReader {
     {
         FrameReader {
             alloc,
-            held: Vec::new(alloc),
+            field: LengthField::new(),
+            body: Vec::new(alloc),
         }
     }
 
@@ -46,7 +54,7 @@ impl FrameReader {
     pub fn is_empty(&self) -> bool
         ensures { IsTrue result ↔ (self.now ≡ []) }
     {
-        self.held.is_empty()
+        self.field.is_empty()
     }
 
     /// Takes the next piece of the stream, and returns the bodies of the frames that are whole now, in their order. `TooMany` if there is a
@@ -60,61 +68,127 @@ impl FrameReader {
         ensures never { IfOk result (λ _. Breaks (self.old ++ piece.now) → ⊥) }
         ensures err { OnErr result (self.new ≡ self.old) }
     {
-        let before = self.held.len();
-        match feed_held(self.alloc, &mut self.held, piece) {
-            Ok(bodies) => Ok(bodies),
-            Err(error) => {
-                self.held.truncate(before);
-                Err(error)
+        let (field, rest) = self.field.with(piece);
+        match field.end_of_body(&self.body, rest)? {
+            Some((end, after)) => self.complete(end, after),
+            None => {
+                // The memory grows with the bytes that come, since a length field may be false.
+                self.body.extend_from_slice(rest)?;
+                self.field = field;
+                Ok(Vec::new(self.alloc))
             }
+        }
+    }
+
+    // Completes the body that has begun, by its end, and cuts the bytes after it into frames. Returns the bodies of all these frames.
+    fn complete(&mut self, end: &[u8], after: &[u8]) -> Result<Vec<Vec<u8>>, WireError>
+        ensures splits { IfOk result (λ bodies. (more : List (List ℕ)) × (bodies_bytes bodies.items ≡ (drop 4 self.old ++ end.now) ∷ more) × Splits after.now more self.new) }
+        ensures breaks { IfErr result (λ e. (e ≡ WireError.Memory) ⊎ ((e ≡ WireError.TooMany) × Breaks after.now)) }
+        ensures err { OnErr result (self.new ≡ self.old) }
+    {
+        let (mut bodies, taken) = bodies_of(self.alloc, after)?;
+        let (field, rest) = LengthField::new().with(&after[taken..]);
+        let next = copied(self.alloc, rest)?;
+        bodies.reserve(1)?;
+        self.body.reserve_exact(end.len())?;
+        // Nothing fails from here on, so the reader changes only if every allocation has succeeded.
+        self.body.extend_from_slice(end).unwrap();
+        let mut body = mem::replace(&mut self.body, next);
+        self.field = field;
+        release_spare_room(&mut body);
+        bodies.insert(0, body).unwrap();
+        Ok(bodies)
+    }
+}
+
+// The bytes of a length field that have come so far.
+#[derive(Debug, Drop)]
+struct LengthField {
+    bytes: [u8; LENGTH_BYTES],
+    count: usize,
+}
+
+impl Model for LengthField {
+    ghost use Rattle.std.specs.Prelude.{◌≤◌, ℕ, List, take};
+
+    ghost Value = { List ℕ };
+
+    ghost view = { λ field. take field.count field.bytes };
+
+    ghost invariant = { λ field. field.count ≤ 4 };
+}
+
+impl LengthField {
+    fn new() -> LengthField
+        ensures { result ≡ [] }
+    {
+        LengthField {
+            bytes: [0; LENGTH_BYTES],
+            count: 0,
+        }
+    }
+
+    fn is_empty(&self) -> bool
+        ensures { IsTrue result ↔ (self.now ≡ []) }
+    {
+        self.count == 0
+    }
+
+    // The field with the bytes of a piece that belong to it, and the rest of the piece.
+    fn with<'a>(&self, piece: &'a [u8]) -> (LengthField, &'a [u8])
+        ensures parts { self.now ++ piece.now ≡ result.0 ++ result.1.now }
+        ensures within { length result.0 ≤ 4 }
+        ensures whole { 4 ≤ length self.now → (result.0 ≡ self.now) × (result.1.now ≡ piece.now) }
+        ensures first { length result.0 < 4 → result.1.now ≡ [] }
+    {
+        let (front, rest) = piece.split_at(piece.len().min(LENGTH_BYTES - self.count));
+        let count = self.count + front.len();
+        let mut bytes = self.bytes;
+        bytes[self.count..count].copy_from_slice(front);
+        (LengthField { bytes, count }, rest)
+    }
+
+    // The part of these bytes with which the body that has begun is whole, and the bytes after it; `None` if they don't complete the frame.
+    fn end_of_body<'a>(
+        &self,
+        body: &[u8],
+        bytes: &'a [u8],
+    ) -> Result<Option<(&'a [u8], &'a [u8])>, WireError>
+        requires { length body.now ≤ length_field self.now }
+        ensures whole { IfOk result (λ found. MatchOption found (4 ≤ length self.now → IsPartial (self.now ++ (body.now ++ bytes.now))) (λ parts. (bytes.now ≡ parts.0.now ++ parts.1.now) × IsFrameBody (body.now ++ parts.0.now) × (self.now ++ (body.now ++ parts.0.now) ≡ frame (body.now ++ parts.0.now)))) }
+        ensures err { IfErr result (λ e. (e ≡ WireError.TooMany) × IsTooLong self.now) }
+    {
+        match body_len(&self.bytes[..self.count])? {
+            Some(len) => Ok(bytes.split_at_checked(len - body.len())),
+            None => Ok(None),
         }
     }
 }
 
-// Adds a piece to the held bytes, and returns the bodies of the frames that are whole now. The frame that had begun is completed first; the
-// other bodies are cut out of the piece itself, and what is left of it is held. After an error the held bytes are the same.
-fn feed_held(alloc: Global, held: &mut Vec<u8>, piece: &[u8]) -> Result<Vec<Vec<u8>>, WireError>
-    ensures splits { IfOk result (λ bodies. Splits (held.old.items ++ piece.now) (bodies_bytes bodies.items) held.new.items) }
-    ensures breaks { IfErr result (λ e. (e ≡ WireError.Memory) ⊎ ((e ≡ WireError.TooMany) × Breaks (held.old.items ++ piece.now))) }
-    ensures kept { OnErr result (take (length held.old.items) held.new.items ≡ held.old.items) }
+// The length of a frame's body by the length field at the front of these bytes; `None` if the field isn't whole.
+fn body_len(bytes: &[u8]) -> Result<Option<usize>, WireError>
+    ensures whole { IfOk result (λ found. MatchOption found (length bytes.now < 4) (λ len. (4 ≤ length bytes.now) × (len ≡ length_field bytes.now) × (to_be_bytes w32 len ≡ take 4 bytes.now) × (len ≤ MAX_FRAME_BYTES))) }
+    ensures err { IfErr result (λ e. (e ≡ WireError.TooMany) × IsTooLong bytes.now) }
 {
-    let (front, after) = piece.split_at(begun_len(held, piece));
-    held.extend_from_slice(front)?;
-    let (mut bodies, taken) = bodies_of(alloc, held)?;
-    if taken < held.len() {
-        held.extend_from_slice(after)?;
-        return cut_held(alloc, held);
+    let Some((field, _)) = bytes.split_first_chunk::<LENGTH_BYTES>() else {
+        return Ok(None);
+    };
+    let len = u32::from_be_bytes(*field) as usize;
+    if len > MAX_FRAME_BYTES {
+        return Err(WireError::TooMany);
     }
-    let (mut more, taken) = bodies_of(alloc, after)?;
-    bodies.append(&mut more)?;
-    *held = copied(alloc, &after[taken..])?;
-    Ok(bodies)
+    Ok(Some(len))
 }
 
-// Cuts the whole frames off the front of the held bytes.
-fn cut_held(alloc: Global, held: &mut Vec<u8>) -> Result<Vec<Vec<u8>>, WireError>
-    ensures splits { IfOk result (λ bodies. Splits held.old.items (bodies_bytes bodies.items) held.new.items) }
-    ensures breaks { IfErr result (λ e. (e ≡ WireError.Memory) ⊎ ((e ≡ WireError.TooMany) × Breaks held.old.items)) }
-    ensures err { OnErr result (held.new.items ≡ held.old.items) }
+// Gives back the memory that a body doesn't use, if that is more than an eighth of all it has. If no smaller block can be allocated the
+// body keeps its own, so nothing can fail here.
+fn release_spare_room(body: &mut Vec<u8>)
+    ensures { body.new.items ≡ body.old.items }
 {
-    let (bodies, taken) = bodies_of(alloc, held)?;
-    remove_front(held, taken);
-    Ok(bodies)
-}
-
-// How many bytes of a piece belong to the frame that has begun.
-fn begun_len(held: &[u8], piece: &[u8]) -> usize
-    ensures { result ≤ length piece.now }
-{
-    if held.is_empty() {
-        return 0;
+    let spare = body.capacity() - body.len();
+    if spare > body.capacity() / SPARE_PART {
+        body.shrink_to_fit();
     }
-    let mut field = [0; LENGTH_BYTES];
-    for (place, byte) in field.iter_mut().zip(held.iter().chain(piece.iter())) {
-        *place = *byte;
-    }
-    let len = LENGTH_BYTES + u32::from_be_bytes(field) as usize;
-    len.saturating_sub(held.len()).min(piece.len())
 }
 
 fn copied(alloc: Global, bytes: &[u8]) -> Result<Vec<u8>, AllocError>
@@ -123,13 +197,6 @@ fn copied(alloc: Global, bytes: &[u8]) -> Result<Vec<u8>, AllocError>
     let mut copy = Vec::with_capacity(alloc, bytes.len())?;
     copy.extend_from_slice(bytes)?;
     Ok(copy)
-}
-
-fn remove_front(bytes: &mut Vec<u8>, count: usize)
-    requires { count ≤ length bytes.old.items }
-    ensures { bytes.new.items ≡ drop count bytes.old.items }
-{
-    bytes.drain(..count);
 }
 
 // The bodies of the whole frames at the front of these bytes, and the length of these frames together.
@@ -152,13 +219,10 @@ fn body_at(bytes: &[u8]) -> Result<Option<&[u8]>, WireError>
     ensures whole { IfOk result (λ found. MatchOption found (IsPartial bytes.now) (λ body. IsFrameBody body.now × (bytes.now ≡ frame body.now ++ drop (4 + length body.now) bytes.now))) }
     ensures err { IfErr result (λ e. (e ≡ WireError.TooMany) × IsTooLong bytes.now) }
 {
-    let Some((field, rest)) = bytes.split_first_chunk::<LENGTH_BYTES>() else {
+    let Some(len) = body_len(bytes)? else {
         return Ok(None);
     };
-    let len = u32::from_be_bytes(*field) as usize;
-    if len > MAX_FRAME_BYTES {
-        return Err(WireError::TooMany);
-    }
+    let rest = &bytes[LENGTH_BYTES..];
     if rest.len() < len {
         return Ok(None);
     }

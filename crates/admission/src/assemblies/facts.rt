@@ -1,36 +1,37 @@
-//! What ties a table of own headers to a node's state. The calls do nothing: each one's contract is a law.
+//! Laws on how a table of own headers agrees with a node's state. Each function does nothing: its contract is the law.
 
 ghost use Rattle.admission.specs.HeaderLaws.{StartsFresh, VotesAgree, HeaderComes, VoteComes, OthersCome};
 
 use spec_machine::floors_agree;
 
-/// A table with no header is at the fresh state.
+/// A table without headers agrees with the fresh state, in which no event was taken.
 pub fn starts_fresh()
     ensures { StartsFresh }
 {}
 
-/// A table at a sound state has for each own header the digest that has the node's vote, and tells whose votes count.
+/// If a table agrees with a sound state, it has for each own header the digest that the node voted for, and the same counted votes as the
+/// state.
 pub fn votes_agree()
     ensures { VotesAgree }
 {}
 
-/// A new own header may be held with the node's vote, since its round is free. The table that holds it so, and from which the rounds up to
-/// the floor are dropped, is at the state after the header.
+/// When a new own header comes, its round has none yet. With this header and the node's vote on it added, and the rounds up to the floor
+/// dropped, the table agrees with the state after the event.
 pub fn header_comes()
     ensures { HeaderComes }
 {
     floors_agree();
 }
 
-/// A new vote is counted, and if it completes a certificate at the state, it completes the same one at the table. The table in which it is
-/// counted, and from which the rounds up to the floor are dropped, is at the state after the vote.
+/// When a new vote comes, it is counted. If it completes a certificate in the node's state, it completes the same one in the table. With
+/// the vote counted and the rounds up to the floor dropped, the table agrees with the state after the event.
 pub fn vote_comes()
     ensures { VoteComes }
 {
     floors_agree();
 }
 
-/// With any other new event, and with the rounds up to the floor forgotten, a table is at the state after it.
+/// When any other new event comes, the table without the rounds up to the floor agrees with the state after the event.
 pub fn others_come()
     ensures { OthersCome }
 {

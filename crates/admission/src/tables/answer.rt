@@ -1,4 +1,4 @@
-//! What a message comes to before anything is changed for it.
+//! What the tables decide about a message, before they change.
 
 ghost use Rattle.std.specs.Prelude.{◌≡◌, Ok, Err, IfOk, IfErr};
 ghost use Rattle.header.specs.declared.refusal.Refusal.TheVariants.{Memory};
@@ -10,16 +10,16 @@ use header::Refusal;
 use std::alloc::AllocError;
 use wire::Output;
 
-/// What a message that isn't refused comes to.
+/// The decision about a message that isn't refused.
 #[derive(Clone, Copy, Debug, PartialEq, Eq)]
 pub enum Answer {
-    /// It will be accepted.
+    /// The message is new: it will be accepted.
     New,
-    /// It was accepted before.
+    /// The message was accepted before.
     Known,
 }
 
-/// What comes of a new event that puts this out, if memory allows it.
+/// The result for a new event with these outputs; `Memory` where an allocation for them failed.
 pub(crate) fn new_step(made: Result<Vec<Output>, AllocError>) -> Result<Step, Refusal>
     ensures ok { IfOk made (λ outputs. result ≡ Ok (step.New outputs)) }
     ensures err { IfErr made (λ _. result ≡ Err Memory) }
@@ -30,7 +30,7 @@ pub(crate) fn new_step(made: Result<Vec<Output>, AllocError>) -> Result<Step, Re
     }
 }
 
-/// What comes of one that was accepted before and puts this out, if memory allows it.
+/// The result for a known event with these outputs; `Memory` where an allocation for them failed.
 pub(crate) fn known_step(made: Result<Vec<Output>, AllocError>) -> Result<Step, Refusal>
     ensures ok { IfOk made (λ outputs. result ≡ Ok (step.Known outputs)) }
     ensures err { IfErr made (λ _. result ≡ Err Memory) }
@@ -41,14 +41,14 @@ pub(crate) fn known_step(made: Result<Vec<Output>, AllocError>) -> Result<Step, 
     }
 }
 
-/// Whether a message lacks a parent.
+/// Whether the decision about a message is that a parent is missing.
 pub(crate) fn lacks_parents(decision: &Result<Answer, Refusal>) -> bool
     ensures { result ≡ lacks_parents decision.now }
 {
     matches!(decision, Err(Refusal::MissingParents))
 }
 
-/// Whether a message will be accepted.
+/// Whether the decision about a message is that it is new.
 pub(crate) fn is_new(decision: &Result<Answer, Refusal>) -> bool
     ensures { result ≡ is_new_decision decision.now }
 {

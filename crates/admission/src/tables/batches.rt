@@ -1,4 +1,4 @@
-//! Batches and acknowledgements.
+//! How the tables answer batches and acknowledgements.
 
 ghost use Rattle.std.specs.Prelude.{◌≡◌, true, false};
 ghost use Rattle.wire.specs.declared.message.Message.TheVariants as message;
@@ -16,10 +16,10 @@ use std::alloc::Global;
 use wire::{Batch, BatchAck, Digest};
 
 impl<'a> Tables<'a> {
-    /// Takes a batch of this digest.
+    /// Takes a batch with this digest.
     ///
     /// # Errors
-    /// What admission answers, or `Memory` where an allocation failed. They change nothing.
+    /// The refusal of admission, or `Memory` where an allocation failed. Neither changes anything.
     pub fn take_batch(
         &mut self,
         alloc: Global,
@@ -37,17 +37,17 @@ impl<'a> Tables<'a> {
         take_batch(alloc, self.own, &mut self.batches, digest, batch)
     }
 
-    /// Whether a batch of this digest would be new. It takes no memory.
+    /// Whether a batch with this digest would be new. The call allocates no memory.
     pub fn is_batch_new(&self, digest: &Digest) -> bool
         ensures { (batch : BatchView) → digest.now ≡ digest_of batch → IsNew always self.now (message.Batch batch) result }
     {
         is_new_batch(&self.batches, digest)
     }
 
-    /// Takes an acknowledgement.
+    /// Takes a member's acknowledgement of a batch.
     ///
     /// # Errors
-    /// What admission answers, or `Memory` where an allocation failed. They change nothing.
+    /// The refusal of admission, or `Memory` where an allocation failed. Neither changes anything.
     pub fn take_ack(&mut self, alloc: Global, ack: &BatchAck) -> Result<Step, Refusal>
         requires meets { MeetSome self.old (message.BatchAck ack.now) }
         ensures answer { Answers always self.old (message.BatchAck ack.now) result }
@@ -59,7 +59,7 @@ impl<'a> Tables<'a> {
         take_ack(alloc, &mut self.batches, ack)
     }
 
-    /// Whether an acknowledgement would be new. It takes no memory.
+    /// Whether an acknowledgement would be new. The call allocates no memory.
     pub fn is_ack_new(&self, ack: &BatchAck) -> bool
         ensures { IsNew always self.now (message.BatchAck ack.now) result }
     {

@@ -1,4 +1,4 @@
-//! Certificates.
+//! How the tables answer certificates.
 
 ghost use Rattle.std.specs.Prelude.{◌≡◌, ◌++◌, true, false, Some, IfOk, OnOk, OnErr};
 ghost use Rattle.wire.specs.declared.message.Message.TheVariants as message;
@@ -24,8 +24,8 @@ use sequencer::Sequencer;
 use std::alloc::{AllocError, Global};
 use wire::{Certificate, Digest, Output};
 
-// Holds a new certificate of this digest, and puts out what it adds to the order after other outputs. `AllocError` where an
-// allocation failed: the certificates, the coins and the order haven't changed then.
+// Adds a new certificate with this digest to the DAG, and adds to the outputs what the order grows by. On `AllocError` an allocation
+// failed: then the certificates, the coins and the order are as before.
 pub(crate) fn hold_certificate(
     sequencer: &mut Sequencer,
     alloc: Global,
@@ -47,7 +47,7 @@ pub(crate) fn hold_certificate(
     sequencer.hold(certificate, digest, &prepared)
 }
 
-// A DAG's refusal, as admission says it.
+// The refusal by which admission reports a refusal of the DAG.
 fn refusal_of(refusal: DagRefusal) -> Refusal
     ensures { result ≡ as_refusal refusal }
 {
@@ -61,7 +61,7 @@ fn refusal_of(refusal: DagRefusal) -> Refusal
 }
 
 impl<'a> Tables<'a> {
-    // What a certificate of this digest comes to.
+    // The decision about a certificate with this digest: New, Known, or the refusal.
     pub(crate) fn certificate_decision(
         &self,
         certificate: &Certificate,
@@ -77,7 +77,7 @@ impl<'a> Tables<'a> {
         }
     }
 
-    // Takes a new certificate of this digest.
+    // Takes a new certificate with this digest, and gives the outputs: what the order grows by.
     fn new_certificate(
         &mut self,
         alloc: Global,
@@ -105,10 +105,10 @@ impl<'a> Tables<'a> {
         Ok(outputs.into_vec())
     }
 
-    /// Takes a certificate of this digest.
+    /// Takes a certificate with this digest.
     ///
     /// # Errors
-    /// What admission answers, or `Memory` where an allocation failed. They change nothing.
+    /// The refusal of admission, or `Memory` where an allocation failed. Neither changes anything.
     pub fn take_certificate(
         &mut self,
         alloc: Global,
@@ -129,7 +129,7 @@ impl<'a> Tables<'a> {
         }
     }
 
-    /// Whether a certificate of this digest is ready: its answer isn't that a parent is missing.
+    /// Whether a certificate with this digest is ready: its answer isn't that a parent is missing.
     pub fn is_certificate_ready(&self, certificate: &Certificate, digest: &Digest) -> bool
         requires { digest.now ≡ certificate_digest certificate.now.header }
         ensures { IsReady self.now (message.Certificate certificate.now) result }
@@ -137,7 +137,7 @@ impl<'a> Tables<'a> {
         !lacks_parents(&self.certificate_decision(certificate, digest))
     }
 
-    /// Whether a certificate of this digest would be new. It takes no memory.
+    /// Whether a certificate with this digest would be new. The call allocates no memory.
     pub fn is_certificate_new(&self, certificate: &Certificate, digest: &Digest) -> bool
         requires { digest.now ≡ certificate_digest certificate.now.header }
         ensures { IsNew always self.now (message.Certificate certificate.now) result }

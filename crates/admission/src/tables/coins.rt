@@ -1,4 +1,4 @@
-//! Coins.
+//! How the tables answer coins.
 
 ghost use Rattle.std.specs.Prelude.{◌≡◌, ◌+◌, ◌*◌, ◌++◌, true, false, Some, IfOk, OnOk, OnErr};
 ghost use Rattle.wire.specs.declared.message.Message.TheVariants as message;
@@ -22,8 +22,8 @@ use sequencer::Sequencer;
 use std::alloc::{AllocError, Global};
 use wire::{Author, Coin, Output, Round};
 
-// Takes the coin of the next wave, and puts out what it adds to the order after other outputs. `AllocError` where an
-// allocation failed: the certificates, the coins and the order haven't changed then.
+// Takes this value as the coin of the next wave, and adds to the outputs what the order grows by. On `AllocError` an allocation failed:
+// then the certificates, the coins and the order are as before.
 fn push_coin(
     sequencer: &mut Sequencer,
     alloc: Global,
@@ -43,7 +43,7 @@ fn push_coin(
 }
 
 impl<'a> Tables<'a> {
-    // Whether the last round of a wave has certificates of a quorum.
+    // Whether the authors who have certificates in the last round of the coin's wave weigh a quorum.
     fn is_full(&self, coin: &Coin) -> bool
         ensures { result ≡ is_full_in self.now (2 * coin.now.wave + 1) }
     {
@@ -56,7 +56,7 @@ impl<'a> Tables<'a> {
         }
     }
 
-    // What a coin of a wave comes to that has none.
+    // The decision about a coin whose wave has no coin yet.
     fn next_decision(&self, coin: &Coin) -> Result<Answer, Refusal>
         ensures { result ≡ next_decision self.now coin.now }
     {
@@ -69,7 +69,7 @@ impl<'a> Tables<'a> {
         Ok(Answer::New)
     }
 
-    // What a coin comes to.
+    // The decision about a coin from this sender: New, Known, or the refusal.
     fn coin_decision(&self, sender: Author, coin: &Coin) -> Result<Answer, Refusal>
         ensures { result ≡ coin_decision self.now sender coin.now }
     {
@@ -83,7 +83,7 @@ impl<'a> Tables<'a> {
         }
     }
 
-    // Takes a new coin.
+    // Takes a new coin, and gives the outputs: what the order grows by.
     fn new_coin(&mut self, alloc: Global, coin: &Coin) -> Result<Vec<Output>, AllocError>
         ensures outputs { IfOk result (PutsOut self.old (message.Coin coin.now)) }
         ensures at { OnOk result (GoOn always self.old self.new (message.Coin coin.now)) }
@@ -97,10 +97,10 @@ impl<'a> Tables<'a> {
         Ok(outputs.into_vec())
     }
 
-    /// Takes a coin from a sender.
+    /// Takes a coin from this sender.
     ///
     /// # Errors
-    /// What admission answers, or `Memory` where an allocation failed. They change nothing.
+    /// The refusal of admission, or `Memory` where an allocation failed. Neither changes anything.
     pub fn take_coin(&mut self, alloc: Global, sender: Author, coin: &Coin) -> Result<Step, Refusal>
         ensures answer { Answers (from_sender sender) self.old (message.Coin coin.now) result }
         ensures refused { Refuses (from_sender sender) self.old (message.Coin coin.now) result }
@@ -114,7 +114,7 @@ impl<'a> Tables<'a> {
         }
     }
 
-    /// Whether a coin from a sender would be new. It takes no memory.
+    /// Whether a coin from this sender would be new. The call allocates no memory.
     pub fn is_coin_new(&self, sender: Author, coin: &Coin) -> bool
         ensures { IsNew (from_sender sender) self.now (message.Coin coin.now) result }
     {

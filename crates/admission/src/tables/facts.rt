@@ -1,4 +1,4 @@
-//! Laws. The calls do nothing: each one's contract is a law.
+//! Laws on the tables. Each function does nothing: its contract is the law.
 
 ghost use Rattle.admission.specs.After.{OthersStay};
 ghost use Rattle.admission.specs.Standing.{OthersAreReady, OneState};
@@ -6,7 +6,7 @@ ghost use Rattle.admission.specs.Standing.{OthersAreReady, OneState};
 use crate::assemblies::others_come;
 use crate::facts::{batches_stay, votes_stay};
 
-/// A message without parents lacks none.
+/// A message that is neither a header nor a certificate names no parents, and so is always ready.
 pub fn others_are_ready()
     ensures { OthersAreReady }
 {}
@@ -16,7 +16,8 @@ pub fn one_state()
     ensures { OneState }
 {}
 
-// An event that adds neither a certificate nor a coin leaves the tables at the state after it, but for what it is.
+// An event that adds neither a certificate nor a coin leaves the tables in agreement with the state after it, except for the table of the
+// event's own kind.
 pub(crate) fn others_stay()
     ensures { OthersStay }
 {

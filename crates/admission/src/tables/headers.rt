@@ -1,4 +1,4 @@
-//! Headers of the validator and of other members.
+//! How the tables answer headers, the validator's own and those of other members.
 
 ghost use Rattle.std.specs.Prelude.{◌≡◌, ◌∷◌, [], true, false, None, IfOk, OnOk, OnErr};
 ghost use Rattle.wire.specs.declared.message.Message.TheVariants as message;
@@ -20,7 +20,7 @@ use sigface::Sign;
 use std::alloc::{AllocError, Global};
 use wire::{Author, Digest, Header, Output, Vote, certificate_digest};
 
-// The vote of a member for a header of this digest: it signs the digest of the certificate.
+// The member's vote for a header with this digest. Its signature is of the digest of the header's certificate.
 fn vote_for<S: Sign>(signer: &S, own: Author, header: &Header, digest: &Digest) -> Vote
     requires digested { digest.now ≡ header_digest header.now.body }
     ensures { result ≡ vote_by own (S.scheme.signature_of signer.now) header.now.body }
@@ -36,7 +36,7 @@ fn vote_for<S: Sign>(signer: &S, own: Author, header: &Header, digest: &Digest) 
     }
 }
 
-// An output alone.
+// A list with this output alone. On `AllocError` an allocation failed.
 pub(crate) fn alone(alloc: Global, output: Output) -> Result<Vec<Output>, AllocError>
     ensures { IfOk result (λ outputs. outputs.items ≡ output ∷ []) }
 {
@@ -46,14 +46,14 @@ pub(crate) fn alone(alloc: Global, output: Output) -> Result<Vec<Output>, AllocE
 }
 
 impl<'a> Tables<'a> {
-    // Whether the validator itself is the author.
+    // Whether this author is the validator itself.
     pub(crate) fn is_own(&self, author: Author) -> bool
         ensures { result ≡ is_own_of self.now author }
     {
         author == self.own
     }
 
-    // What a header of this digest comes to, where its author and round have the vote for another digest or this one.
+    // The decision about a header with this digest, where the validator has voted in the header's slot, for the digest `voted`.
     fn voted_decision(
         &self,
         voted: &Digest,
@@ -72,7 +72,7 @@ impl<'a> Tables<'a> {
         Err(Refusal::Equivocation)
     }
 
-    // What a header comes to, where its author and round have no vote.
+    // The decision about a header, where the validator has not voted in the header's slot.
     fn free_decision(&self, header: &Header) -> Result<Answer, Refusal>
         requires own { self.now.own.0 ≡ self.now.batches.own }
         ensures { result ≡ free_decision self.now header.now }
@@ -86,7 +86,7 @@ impl<'a> Tables<'a> {
         Ok(Answer::New)
     }
 
-    // What a header of this digest comes to.
+    // The decision about a header with this digest: New, Known, or the refusal.
     pub(crate) fn header_decision(
         &self,
         header: &Header,
@@ -105,7 +105,7 @@ impl<'a> Tables<'a> {
         }
     }
 
-    // What a header of this digest puts out that was accepted before: the own header that is held, or the vote.
+    // The outputs for a known header with this digest: the own header that is held, or the vote for another member's.
     fn known_header<S: Sign>(
         &self,
         alloc: Global,
@@ -126,7 +126,7 @@ impl<'a> Tables<'a> {
         }
     }
 
-    // Takes a new header of another member.
+    // Takes a new header of another member: keeps the vote for it, and gives the vote as the output.
     fn new_peers_header<S: Sign>(
         &mut self,
         alloc: Global,
@@ -149,7 +149,7 @@ impl<'a> Tables<'a> {
         Ok(outputs)
     }
 
-    // Takes a new own header.
+    // Takes a new own header: counts the own vote on it, marks the batches that it names, and gives the header as the output.
     fn new_own_header<S: Sign>(
         &mut self,
         alloc: Global,
@@ -168,7 +168,7 @@ impl<'a> Tables<'a> {
         others_stay();
         header_comes();
         let vote = vote_for(signer, self.own, &header, digest);
-        // What can fail comes first.
+        // What can run out of memory comes first, so that an error changes nothing.
         let mut outputs = Vec::with_capacity(alloc, 1)?;
         let held = header.try_clone()?;
         self.headers.hold(alloc, held, vote)?;
@@ -177,7 +177,7 @@ impl<'a> Tables<'a> {
         Ok(outputs)
     }
 
-    // Takes a new header.
+    // Takes a new header, the validator's own or another member's, and gives the outputs.
     fn new_header<S: Sign>(
         &mut self,
         alloc: Global,
@@ -198,10 +198,10 @@ impl<'a> Tables<'a> {
         self.new_peers_header(alloc, signer, &header, digest)
     }
 
-    /// Takes a header of this digest. A new one of another member gets the vote, with this signer's signature.
+    /// Takes a header with this digest. A new header of another member gets the validator's vote, signed by this signer.
     ///
     /// # Errors
-    /// What admission answers, or `Memory` where an allocation failed. They change nothing.
+    /// The refusal of admission, or `Memory` where an allocation failed. Neither changes anything.
     pub fn take_header<S: Sign>(
         &mut self,
         alloc: Global,
@@ -223,7 +223,7 @@ impl<'a> Tables<'a> {
         }
     }
 
-    /// Whether a header of this digest is ready: its answer isn't that a parent is missing.
+    /// Whether a header with this digest is ready: its answer isn't that a parent is missing.
     pub fn is_header_ready(&self, header: &Header, digest: &Digest) -> bool
         requires meets { MeetSome self.now (message.Header header.now) }
         requires digested { digest.now ≡ header_digest header.now.body }
@@ -232,7 +232,7 @@ impl<'a> Tables<'a> {
         !lacks_parents(&self.header_decision(header, digest))
     }
 
-    /// Whether a header of this digest would be new. It takes no memory.
+    /// Whether a header with this digest would be new. The call allocates no memory.
     pub fn is_header_new(&self, header: &Header, digest: &Digest) -> bool
         requires meets { MeetSome self.now (message.Header header.now) }
         requires digested { digest.now ≡ header_digest header.now.body }

@@ -1,4 +1,4 @@
-//! Votes on own headers.
+//! How the tables answer votes on the validator's own headers.
 
 ghost use Rattle.std.specs.Prelude.{◌≡◌, true, false, IfOk, OnOk, OnErr};
 ghost use Rattle.wire.specs.declared.message.Message.TheVariants as message;
@@ -21,7 +21,7 @@ use header::{Outputs, Refusal};
 use std::alloc::{AllocError, Global};
 use wire::{Certificate, Output, Vote, certificate_digest, header_digest};
 
-// What a vote comes to whose round holds this own certificate.
+// The decision about a vote, where the own slot of its round holds this certificate: Known if it is of the header that the vote is for.
 fn certified_decision(held: &Certificate, vote: &Vote) -> Result<Answer, Refusal>
     ensures { result ≡ certified_decision held.now vote.now }
 {
@@ -42,7 +42,7 @@ impl<'a> Tables<'a> {
         }
     }
 
-    // What a vote on the own header of its round comes to, where the round holds no own certificate.
+    // The decision about a vote on the own header of its round, where the own slot of that round holds no certificate.
     fn open_decision(&self, vote: &Vote) -> Result<Answer, Refusal>
         ensures { result ≡ open_decision self.now vote.now }
     {
@@ -52,7 +52,7 @@ impl<'a> Tables<'a> {
         Ok(Answer::New)
     }
 
-    // What a vote comes to.
+    // The decision about a vote: New, Known, or the refusal.
     fn vote_decision(&self, vote: &Vote) -> Result<Answer, Refusal>
         ensures { result ≡ vote_decision self.now vote.now }
     {
@@ -65,7 +65,7 @@ impl<'a> Tables<'a> {
         if !self.is_on_own(vote) {
             return Err(Refusal::NotOurs);
         }
-        // The slot then holds the certificate that these votes made: a late vote needs no digest of it.
+        // A complete header's certificate stands in its slot, so that the vote is known, and no digest has to be computed.
         if self.headers.is_complete(vote.round) {
             return Ok(Answer::Known);
         }
@@ -75,7 +75,7 @@ impl<'a> Tables<'a> {
         }
     }
 
-    // What a vote puts out that was accepted before: the own certificate of its round, if it is held.
+    // The outputs for a known vote: the own certificate of its round, if it is held.
     fn known_vote(&self, alloc: Global, vote: &Vote) -> Result<Vec<Output>, AllocError>
         ensures { IfOk result (λ outputs. outputs.items ≡ known_outputs (slots_in self.now.sequencer.graph vote.now.round self.now.own.0)) }
     {
@@ -85,7 +85,7 @@ impl<'a> Tables<'a> {
         }
     }
 
-    // Counts a new vote with which the votes don't weigh a quorum.
+    // Counts a new vote after which the votes on the header weigh less than a quorum. It gives no output.
     fn count_vote(&mut self, vote: Vote)
         requires meets { MeetNew self.old (message.Vote vote) }
         requires added { added.Counted ≡ answer_in self.old.headers vote }
@@ -97,7 +97,7 @@ impl<'a> Tables<'a> {
         self.headers.count(vote, false);
     }
 
-    // Takes a new vote that completes a certificate: it goes out, and what it adds to the order.
+    // Takes a new vote that completes this certificate. The outputs are the certificate and what the order grows by.
     fn complete(
         &mut self,
         alloc: Global,
@@ -131,7 +131,7 @@ impl<'a> Tables<'a> {
         Ok(outputs.into_vec())
     }
 
-    // Takes a new vote.
+    // Takes a new vote, and gives the outputs.
     fn new_vote(&mut self, alloc: Global, vote: Vote) -> Result<Vec<Output>, AllocError>
         requires meets { MeetNew self.old (message.Vote vote) }
         ensures outputs { IfOk result (PutsOut self.old (message.Vote vote)) }
@@ -152,10 +152,10 @@ impl<'a> Tables<'a> {
         }
     }
 
-    /// Takes a vote.
+    /// Takes a vote on an own header.
     ///
     /// # Errors
-    /// What admission answers, or `Memory` where an allocation failed. They change nothing.
+    /// The refusal of admission, or `Memory` where an allocation failed. Neither changes anything.
     pub fn take_vote(&mut self, alloc: Global, vote: Vote) -> Result<Step, Refusal>
         requires meets { MeetSome self.old (message.Vote vote) }
         ensures answer { Answers always self.old (message.Vote vote) result }
@@ -172,7 +172,7 @@ impl<'a> Tables<'a> {
         }
     }
 
-    /// Whether a vote would be new. It takes no memory.
+    /// Whether a vote would be new. The call allocates no memory.
     pub fn is_vote_new(&self, vote: &Vote) -> bool
         ensures { IsNew always self.now (message.Vote vote.now) result }
     {

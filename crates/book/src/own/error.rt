@@ -1,4 +1,4 @@
-//! Why a round fails.
+//! Why a round of taking, appending and settling failed.
 
 ghost use Rattle.std.specs.Prelude.{◌≡◌};
 ghost use Rattle.book.specs.declared.own.error.FlushError.TheVariants.{Memory};

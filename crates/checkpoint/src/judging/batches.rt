@@ -1,4 +1,4 @@
-//! Whether the batches are sound, and what a store holds of them.
+//! Whether the batches of a checkpoint are sound, and the entries that a store then has for them.
 
 ghost use Rattle.std.specs.Prelude.{◌≡◌, ℕ, ◌+◌, ◌<◌, ◌^◌, ◌==◌, ◌&&◌, [], List, length, All, not, nat_lt, is_some, IfOk, IfErr, IfSome, OnOk};
 ghost use Rattle.std.specs.List.{list_all, list_any};
@@ -24,10 +24,10 @@ use std::alloc::{AllocError, Global};
 use std::collections::BTreeSet;
 use wire::{Author, Batch, Digest, Message};
 
-/// What a store holds of these batches, each with its digest. The first of them is in the record at this place.
+/// The entries that a store has for these batches, each with the batch's digest. The first batch is in the record at place `first`.
 ///
 /// # Errors
-/// `Unsound` with the first that isn't sound; `Memory` where an allocation failed.
+/// `Unsound` with the first record whose batch isn't sound; `Memory` where an allocation failed.
 pub fn sound_batches<S: Sign>(
     alloc: Global,
     node: &Node<S>,
@@ -56,8 +56,8 @@ pub fn sound_batches<S: Sign>(
     Ok(found)
 }
 
-/// What a store holds of a batch after this many others, with its digest, if the batch is sound apart from whether an earlier one has its
-/// digest.
+/// The entry that a store has for a batch, with the batch's digest; None where the batch isn't sound. `before` other batches stand before
+/// it. Whether one of them has the same digest isn't tested here.
 fn sound_batch<S: Sign>(
     node: &Node<S>,
     before: usize,
@@ -87,7 +87,7 @@ fn sound_batch<S: Sign>(
     Ok(Some((digest, Held::new(batch, set_of(&members), named))))
 }
 
-/// The digest of a batch, if it passes the checks as one from its author.
+/// The digest of a batch, if the batch passes the checks with its author as the sender.
 fn digest_of<S: Sign>(node: &Node<S>, batch: &Batch) -> Result<Option<Digest>, AllocError>
     ensures passes { let seen = node_view S.scheme node.now in IfOk result (λ found. faults.passes seen batch.now.author (message.Batch batch.now) ≡ is_some found) }
     ensures digest { IfOk result (λ found. IfSome found (λ digest. digest ≡ holdings.batch_digest batch.now)) }
@@ -105,7 +105,7 @@ fn digest_of<S: Sign>(node: &Node<S>, batch: &Batch) -> Result<Option<Digest>, A
     }
 }
 
-/// Whether each of these numbers is a member's.
+/// Whether each of these numbers is that of a member of the committee.
 fn are_members(size: u16, members: &[u16]) -> bool
     ensures { result ≡ list_all (λ member. nat_lt member size) members.now }
 {

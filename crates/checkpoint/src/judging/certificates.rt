@@ -1,4 +1,4 @@
-//! The certificates: their digests, and whether they are sound.
+//! The digests of a checkpoint's certificates, and whether the certificates are sound.
 
 ghost use Rattle.std.specs.Prelude.{◌≡◌, ◌+◌, ◌<◌, ◌^◌, All, length, map, IfOk, OnOk, IfErr};
 ghost use Rattle.spec_model.specs.Nodes.{node_view};
@@ -14,12 +14,12 @@ use sigface::Sign;
 use std::alloc::{AllocError, Global};
 use wire::{Certificate, Digest, HeaderBody, Message, certificate_digest, header_digest};
 
-/// Certificates with their digests, and of each whether it passes the checks.
+/// The certificates of a checkpoint, each with its digest and the result of its checks.
 #[derive(Drop)]
 pub struct Rechecked {
-    /// The certificates with their digests.
+    /// The certificates, each with its digest.
     pub list: Vec<(Certificate, Digest)>,
-    /// Of each certificate, in the same order, whether it passes the checks.
+    /// For each certificate, in the same order, whether it passes the checks.
     pub passed: Vec<bool>,
 }
 
@@ -68,10 +68,10 @@ fn digest_of(header: &HeaderBody) -> Digest
     certificate_digest(&header_digest(header), header.round, header.author)
 }
 
-/// Tests the certificates, the first of which is in the record at this place.
+/// Tests the certificates. The first one is in the record at place `first`.
 ///
 /// # Errors
-/// `Unsound` with the first that isn't sound.
+/// `Unsound` with the first record whose certificate isn't sound.
 pub fn test_certificates<S: Sign>(
     node: &Node<S>,
     floor: u64,
@@ -96,7 +96,7 @@ pub fn test_certificates<S: Sign>(
     Ok(())
 }
 
-/// Whether a certificate is sound, given whether it passes the checks.
+/// Whether a certificate is sound: it passes the checks, which is given, its round isn't below the floor, and its parents are held.
 fn is_certificate_sound<S: Sign>(
     node: &Node<S>,
     floor: u64,

@@ -1,4 +1,4 @@
-//! Whether the own headers are sound, and what is restored of them.
+//! Whether the own headers of a checkpoint are sound, and the own headers with votes that are then restored.
 
 ghost use Rattle.std.specs.Prelude.{◌≡◌, ◌+◌, ◌<◌, ◌^◌, [], length, map, All, nat_lt, false, IfOk, IfErr, OnOk};
 ghost use Rattle.std.specs.List.{list_all};
@@ -26,10 +26,10 @@ use wire::{
     certificate_digest, encode, header_digest,
 };
 
-/// The own headers as they are restored, each with the node's own vote on it. The first of them is in the record at this place.
+/// The own headers as they are restored, each with the node's own vote on it. The first one is in the record at place `first`.
 ///
 /// # Errors
-/// `Unsound` with the first that isn't sound; `Memory` where an allocation failed.
+/// `Unsound` with the first record whose header isn't sound; `Memory` where an allocation failed.
 pub fn sound_headers<S: Sign>(
     alloc: Global,
     node: &Node<S>,
@@ -57,7 +57,7 @@ pub fn sound_headers<S: Sign>(
     Ok(found)
 }
 
-/// An own header with the node's own vote on it, which is signed again.
+/// An own header with the votes on it, as it is restored. The node's own vote isn't in the record; the node signs it again.
 fn voted<S: Sign>(
     alloc: Global,
     node: &Node<S>,
@@ -75,7 +75,7 @@ fn voted<S: Sign>(
     })
 }
 
-/// The node's own vote on a header: its signature is of the certificate's digest.
+/// The node's own vote on a header. Its signature is of the digest of the header's certificate.
 fn own_vote<S: Sign>(node: &Node<S>, header: &HeaderBody) -> Vote
     ensures { result ≡ holdings.own_vote (node_view S.scheme node.now) header.now }
 {
@@ -118,7 +118,7 @@ fn is_header_sound<S: Sign>(
     is_completed_well(alloc, node, floor, list, read)
 }
 
-/// Whether a header passes the checks as the node's own.
+/// Whether a header passes the checks with the node itself as the sender.
 fn passes<S: Sign>(node: &Node<S>, header: &Header) -> Result<bool, AllocError>
     ensures { let seen = node_view S.scheme node.now in IfOk result (λ passes. passes ≡ faults.passes seen seen.own (message.Header header.now)) }
 {
@@ -132,15 +132,15 @@ fn passes<S: Sign>(node: &Node<S>, header: &Header) -> Result<bool, AllocError>
     }
 }
 
-/// Whether all who voted are members.
+/// Whether the voter of each of these votes is a member of the committee.
 fn are_voters(size: u16, votes: &[VoteEntry]) -> bool
     ensures { result ≡ list_all (λ entry. nat_lt entry.voter.0 size) votes.now }
 {
     votes.iter().all(|entry| entry.voter.0 < size)
 }
 
-/// Whether the votes on an own header weigh less than a quorum; or the header's slot holds its certificate, and without some other member's
-/// vote they would.
+/// Whether the votes on an own header are few enough, or rightly complete. They weigh less than a quorum; or the header's slot holds its
+/// certificate, and there is a vote of another member without which they would weigh less than a quorum.
 fn is_completed_well<S: Sign>(
     alloc: Global,
     node: &Node<S>,
@@ -161,7 +161,7 @@ fn is_completed_well<S: Sign>(
     Ok(is_one_needed(node, read, read.votes.as_slice()))
 }
 
-/// Whether the slot of an own header holds its certificate.
+/// Whether the slot of an own header holds the certificate of this header.
 fn has_certificate<S: Sign>(
     alloc: Global,
     node: &Node<S>,
@@ -177,7 +177,7 @@ fn has_certificate<S: Sign>(
     }
 }
 
-/// Whether two header bodies are equal, by comparing the bytes of certificates of both.
+/// Whether two header bodies are equal: it compares the encodings of a certificate with each of them.
 #[tactic(auto, using(crate::proofs::SameBodies::same_with_votes))]
 fn same_body(alloc: Global, one: &HeaderBody, other: &HeaderBody) -> Result<bool, AllocError>
     ensures { IfOk result (λ same. same ≡ faults.same_body one.now other.now) }
@@ -185,7 +185,7 @@ fn same_body(alloc: Global, one: &HeaderBody, other: &HeaderBody) -> Result<bool
     Ok(certificate_bytes(alloc, one)? == certificate_bytes(alloc, other)?)
 }
 
-/// The bytes of a certificate with this header and no votes.
+/// The encoding of a certificate that has this header and no votes.
 fn certificate_bytes(alloc: Global, header: &HeaderBody) -> Result<Vec<u8>, AllocError>
     ensures { IfOk result (λ bytes. bytes.items ≡ encoding (message.Certificate (record { header = header.now; votes = [] }))) }
 {

@@ -1,4 +1,4 @@
-//! The certificates of a sorted list by slot, and whether the parents of headers are among them.
+//! Looking up certificates by slot in a sorted list, and whether the parents of headers are held.
 
 ghost use Rattle.std.specs.Prelude.{◌≡◌, true, false, option_map, option_copied, IfSome};
 ghost use Rattle.std.specs.List.{list_all};
@@ -32,7 +32,7 @@ pub fn entry_of(
     None
 }
 
-/// How many certificates come before a slot.
+/// How many certificates of the list come before this slot.
 fn place_of(list: &[(Certificate, Digest)], round: u64, author: u16) -> usize
     requires { AreListed list.now }
     ensures { IsPartitionPoint (λ one. comes_before round author one ≡ true) (λ one. comes_before round author one ≡ false) list.now result }
@@ -40,7 +40,7 @@ fn place_of(list: &[(Certificate, Digest)], round: u64, author: u16) -> usize
     list.partition_point(|one| comes_before(one, round, author))
 }
 
-/// Whether a certificate comes before a slot.
+/// Whether a certificate comes before this slot in the order of slots.
 fn comes_before(one: &(Certificate, Digest), round: u64, author: u16) -> bool
     ensures { result ≡ comes_before round author one.now }
 {
@@ -48,7 +48,7 @@ fn comes_before(one: &(Certificate, Digest), round: u64, author: u16) -> bool
     header.round.number() < round || (header.round.number() == round && header.author.0 < author)
 }
 
-/// Whether a certificate is that of a slot.
+/// Whether a certificate is of this slot.
 fn is_of(one: &(Certificate, Digest), round: u64, author: u16) -> bool
     ensures { result ≡ is_of_slot round author one.now.0.header }
 {
@@ -56,7 +56,7 @@ fn is_of(one: &(Certificate, Digest), round: u64, author: u16) -> bool
     header.round.number() == round && header.author.0 == author
 }
 
-/// Whether all parents of a header are held, or are at or below a floor above 0.
+/// Whether all parents of a header are held. Parents at or below a floor above 0 count as held.
 pub fn are_parents_held<S: Sign>(
     node: &Node<S>,
     floor: u64,
@@ -70,7 +70,7 @@ pub fn are_parents_held<S: Sign>(
     are_all_held(node, floor, list, round, header.parents.as_slice())
 }
 
-/// Whether each of the parents of a header of this round is held.
+/// Whether each of these parents of a header of this round is held. Parents at or below a floor above 0 count as held.
 fn are_all_held<S: Sign>(
     node: &Node<S>,
     floor: u64,
@@ -89,7 +89,7 @@ fn are_all_held<S: Sign>(
     true
 }
 
-/// Whether a parent of a header of this round is held.
+/// Whether this parent of a header of this round is held.
 fn is_held<S: Sign>(
     node: &Node<S>,
     floor: u64,
@@ -104,7 +104,7 @@ fn is_held<S: Sign>(
     is_in_slot(node, floor, list, below, parent) || (0 < floor && below <= floor)
 }
 
-/// Whether the slot of a parent, in this round, has the certificate with the parent's digest.
+/// Whether the slot of a parent, in this round, holds a certificate with the digest that the parent reference names.
 fn is_in_slot<S: Sign>(
     node: &Node<S>,
     floor: u64,
@@ -124,7 +124,7 @@ fn is_in_slot<S: Sign>(
     }
 }
 
-/// Whether a parent is a genesis certificate of a member.
+/// Whether a parent reference names the genesis certificate of a member.
 fn is_genesis<S: Sign>(node: &Node<S>, parent: &ParentReference) -> bool
     ensures { let seen = node_view S.scheme node.now in result ≡ is_of_genesis seen parent.now }
 {

@@ -1,4 +1,4 @@
-//! The last committed leader, by the certificates of a checkpoint, and the floor that it determines.
+//! The last committed leader, by the certificates and coins of a checkpoint, and the floor that it determines.
 
 ghost use Rattle.std.specs.Prelude.{◌≡◌, ◌-◌, ◌*◌, Some, None, option_map};
 ghost use Rattle.std.specs.Option.{option_map_or};
@@ -13,7 +13,7 @@ use committee::Committee;
 use sequencer::{Coins, listed_top};
 use wire::{Author, Certificate, Digest, Round};
 
-/// The slot of the last committed leader.
+/// The round and author of the last committed leader, if a leader is committed.
 pub fn last_leader(
     committee: &Committee,
     coins: &Coins,
@@ -27,7 +27,7 @@ pub fn last_leader(
     leader_of(committee, coins, list, wave)
 }
 
-/// The slot of the leader of this wave, which is the greatest directly committed one.
+/// The round and author of the leader of this wave, which is the greatest wave whose leader has enough support to be committed by itself.
 fn leader_of(
     committee: &Committee,
     coins: &Coins,
@@ -39,7 +39,7 @@ fn leader_of(
     ensures value { result ≡ option_map slot_of (last_of (ledger_of committee.now list.now coins.now)) }
     ensures round { option_map (λ slot. slot.0) result ≡ Some (2 * wave - 1) }
 {
-    // There are at least as many coins as waves, so the rounds of a wave fit 64 bits.
+    // A wave's number is at most the number of coins, so the numbers of its rounds fit 64 bits.
     let _ = coins.count();
     let coin = coins.get(wave)?;
     let author = (coin % committee.size() as u64) as u16;
@@ -47,7 +47,7 @@ fn leader_of(
     Some((leader.header.round, leader.header.author))
 }
 
-/// The floor that the last committed leader determines; 0 where there is none.
+/// The floor that the last committed leader determines: its round less the depth; 0 where no leader is committed.
 pub fn floor_of(committee: &Committee, last: &Option<(Round, Author)>) -> Round
     ensures { result ≡ option_map_or (λ slot. slot.0 - committee.now.depth) last.now 0 }
 {

@@ -1,4 +1,4 @@
-//! The votes for the headers of other members.
+//! Whether a checkpoint's votes for other members' headers are sound.
 
 ghost use Rattle.std.specs.Prelude.{◌≡◌, ◌+◌, ◌<◌, ◌^◌, length, map, OnOk, IfErr};
 ghost use Rattle.spec_model.specs.Holdings as holdings;
@@ -12,10 +12,10 @@ use sigface::Sign;
 use votebook::Slot;
 use wire::Digest;
 
-/// Tests the votes, the first of which is in the record at this place.
+/// Tests the votes for other members' headers. The first one is in the record at place `first`.
 ///
 /// # Errors
-/// `Unsound` with the first that isn't sound.
+/// `Unsound` with the first record whose vote isn't sound.
 pub fn test_votes<S: Sign>(
     node: &Node<S>,
     floor: u64,
@@ -44,7 +44,7 @@ fn is_vote_sound<S: Sign>(node: &Node<S>, floor: u64, vote: &(Slot, Digest)) -> 
     !is_low(floor, slot.round) && slot.author < node.size() && slot.author != node.own.0
 }
 
-/// Whether a round is low.
+/// Whether a round is low: it is 0, or at or below a floor above 0.
 pub fn is_low(floor: u64, round: u64) -> bool
     ensures { result ≡ holdings.is_low floor round }
 {

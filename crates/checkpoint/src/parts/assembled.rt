@@ -1,4 +1,4 @@
-//! An own header with the votes on it, read vote by vote.
+//! Reading an own header with the votes on it out of a validator's tables, vote by vote.
 
 ghost use Rattle.std.specs.Prelude.{◌≡◌, IfOk, IsTrue, Some, None, slice_index_or};
 ghost use Rattle.certify.specs.Assembled.{is_on};
@@ -10,7 +10,7 @@ use committee::MAX_MEMBERS;
 use std::alloc::{AllocError, Global};
 use wire::{Author, Signature, Vote, VoteEntry, header_digest};
 
-/// An own header with the votes on it.
+/// An own header with the votes on it: the validator's own vote, and those of other members.
 pub fn voted_header(
     alloc: Global,
     own: Author,
@@ -42,7 +42,7 @@ fn own_vote(own: Author, assembly: &Assembly) -> Result<Vote, AllocError>
     })
 }
 
-/// The signature of a member's vote.
+/// The signature of this member's counted vote on a header.
 fn signature_of(voter: Author, assembly: &Assembly) -> Result<Signature, AllocError>
     ensures { IfOk result (λ signature. slice_index_or assembly.now.places voter.0 None ≡ Some signature) }
 {

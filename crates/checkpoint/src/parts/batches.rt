@@ -1,4 +1,4 @@
-//! The batches, read one by one.
+//! Reading the batches out of a validator's tables, one by one.
 
 ghost use Rattle.std.specs.Prelude.{◌≡◌, All, IfOk};
 ghost use Rattle.std.specs.Map.{values_of};
@@ -23,7 +23,7 @@ pub fn batches_of(alloc: Global, batches: &BatchStore) -> Result<Vec<(Digest, He
     Ok(found)
 }
 
-/// A copy of what is held of a batch, whose body is shared.
+/// A copy of a store's entry for a batch. The batch's body is shared, not copied.
 fn again(held: &Held) -> Result<Held, AllocError>
     ensures { IfOk result (λ copy. copy ≡ held.now) }
 {

@@ -1,4 +1,4 @@
-//! The certificates above the genesis, read one by one.
+//! Reading the certificates above the genesis out of a validator's tables, one by one.
 
 ghost use Rattle.std.specs.Prelude.{◌≡◌, IfOk};
 ghost use Rattle.checkpoint.specs.Parts.{above_genesis, digested, is_above};
@@ -21,7 +21,7 @@ pub fn certificates_of(alloc: Global, dag: &Dag) -> Result<Vec<(Certificate, Dig
             found.push(digested(certificate)?)?;
         }
     }
-    // The loop ends before this, since there are fewer certificates.
+    // This is never reached: the DAG has fewer certificates than the loop has steps.
     Ok(found)
 }
 

@@ -1,4 +1,4 @@
-//! The own headers with the votes on them, read one by one.
+//! Reading the own headers with the votes on them out of a validator's tables, one by one.
 
 ghost use Rattle.std.specs.Prelude.{◌≡◌, All, IfOk};
 ghost use Rattle.admission.specs.Kept.{AreVotedBy, table_of};
@@ -8,7 +8,7 @@ use crate::parts::assembled::voted_header;
 use admission::{Assemblies, VotedHeader};
 use std::alloc::{AllocError, Global};
 
-/// The own headers with the votes on them, from which the same table can be restored.
+/// The own headers with the votes on them. From this list an equal table can be restored.
 pub fn headers_of(alloc: Global, headers: &Assemblies) -> Result<Vec<VotedHeader>, AllocError>
     ensures voted { IfOk result (λ found. AreVotedBy headers.now.charter headers.now.own found.items) }
     ensures others { IfOk result (λ found. All (AreOfOthers headers.now.own) found.items) }

@@ -1,4 +1,4 @@
-//! The last committed leader, by the certificates that are listed.
+//! The last committed leader, by the list of a DAG's certificates.
 
 ghost use Rattle.std.specs.Prelude.{◌≡◌, option_map};
 ghost use Rattle.spec_machine.specs.Machine.{last_leader as last_of};
@@ -9,7 +9,7 @@ use dag::Dag;
 use sequencer::{Coins, listed_top};
 use wire::{Author, Certificate, Digest, Round};
 
-/// The slot of the last committed leader of a DAG, of which the certificates above the genesis are listed.
+/// The round and author of the last committed leader of a DAG whose certificates above the genesis are listed, if a leader is committed.
 pub fn last_leader(
     dag: &Dag,
     coins: &Coins,

@@ -1,4 +1,4 @@
-//! The votes for the headers of others, read vote by vote.
+//! Reading the votes for other members' headers out of a validator's tables, vote by vote.
 
 ghost use Rattle.std.specs.Prelude.{◌≡◌, IfOk};
 ghost use Rattle.std.specs.FinMap as map;
@@ -7,7 +7,7 @@ use std::alloc::{AllocError, Global};
 use votebook::{Slot, VoteBook};
 use wire::Digest;
 
-/// The votes for other members' headers.
+/// The slots of other members' headers for which the validator voted, each with the header's digest.
 pub fn votes_of(alloc: Global, votes: &VoteBook) -> Result<Vec<(Slot, Digest)>, AllocError>
     ensures { IfOk result (λ found. found.items ≡ map.entries votes.now) }
 {

@@ -1,4 +1,4 @@
-//! Reading a batch of a checkpoint.
+//! Reading the record of a batch in a checkpoint.
 
 ghost use Rattle.std.specs.Prelude.{◌≡◌, nat_lt};
 ghost use Rattle.std.specs.Int.{w16};
@@ -14,12 +14,12 @@ use std::marker::Model;
 use wire::{Batch, WireError};
 use wire_read::{Reader, batch_of};
 
-/// A batch that was read.
+/// What the record of a batch decodes to.
 #[derive(Drop)]
 pub struct ReadBatch {
     /// Whether an own header names the batch.
     pub named: bool,
-    /// The other members who acknowledged it, sorted by number. Whether these numbers are members' isn't known yet.
+    /// The other members who acknowledged the batch, sorted by number. Whether these numbers are those of members isn't tested yet.
     pub members: Vec<u16>,
     /// The batch.
     pub batch: Batch,
@@ -33,7 +33,7 @@ impl Model for ReadBatch {
     ghost view = { λ read. record { named = read.named; members = read.members.items; batch = read.batch } };
 }
 
-/// Reads whether an own header names the batch, who acknowledged it, and the batch.
+/// Reads what the record of a batch says after its kind: whether an own header names the batch, who acknowledged it, and the batch.
 #[tactic(auto, unfolding(spec_checkpoint::specs::Reading::kept_batch_at))]
 pub fn read_batch_of<S: Sign>(
     alloc: Global,
@@ -52,7 +52,7 @@ pub fn read_batch_of<S: Sign>(
     })
 }
 
-/// Whether an own header names a batch: the byte 1 or 0.
+/// Reads the byte that says whether an own header names a batch: 1 or 0.
 #[tactic(auto, unfolding(spec_checkpoint::specs::Reading::mark_at))]
 fn mark_of(reader: &mut Reader) -> Result<bool, WireError>
     ensures { Gives (λ x. (x, reader.new)) result (mark_at reader.old) }
@@ -64,7 +64,7 @@ fn mark_of(reader: &mut Reader) -> Result<bool, WireError>
     }
 }
 
-/// Reads other members' numbers after their count.
+/// Reads the numbers of the other members who acknowledged a batch, after their count.
 fn members_of<S: Sign>(
     alloc: Global,
     node: &Node<S>,
@@ -81,7 +81,7 @@ fn members_of<S: Sign>(
     Ok(members)
 }
 
-/// Reads another member's number, which has to be greater than those before it.
+/// Reads the number of another member who acknowledged a batch. It has to be greater than the numbers before it.
 #[tactic(auto, unfolding(spec_checkpoint::specs::Reading::member_at))]
 fn member_of<S: Sign>(node: &Node<S>, before: &[u16], reader: &mut Reader) -> Result<u16, WireError>
     ensures { Gives (λ x. (x, reader.new)) result (member_at (node_view S.scheme node.now) before.now reader.old) }

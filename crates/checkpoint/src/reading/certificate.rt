@@ -1,4 +1,4 @@
-//! Reading a certificate of a checkpoint.
+//! Reading the record of a certificate in a checkpoint.
 
 ghost use Rattle.std.specs.Prelude.{◌≡◌, ◌&&◌, nat_lt};
 ghost use Rattle.spec_checkpoint.specs.Reading.{kept_certificate_at, certificate_may_follow};
@@ -9,7 +9,7 @@ use std::alloc::Global;
 use wire::{Certificate, HeaderBody, WireError};
 use wire_read::{Reader, certificate_of};
 
-/// Reads a certificate above the genesis.
+/// Reads a certificate above the genesis. By round and then author it has to come after the certificates that were read before it.
 #[tactic(auto, unfolding(spec_checkpoint::specs::Reading::kept_certificate_at))]
 pub fn read_certificate_of(
     alloc: Global,
@@ -25,14 +25,14 @@ pub fn read_certificate_of(
     Ok(certificate)
 }
 
-/// Whether a certificate with this header is above the genesis and may follow these.
+/// Whether a certificate with this header is above the genesis, and by round and then author comes after those that were read before it.
 fn may_come_next(before: &[Certificate], header: &HeaderBody) -> bool
     ensures { result ≡ (certificate_may_follow before.now header.now && nat_lt 0 header.now.round) }
 {
     certificate_may_follow(before, header) && 0 < header.round.number()
 }
 
-/// Whether a certificate with this header may follow these.
+/// Whether a certificate with this header comes, by round and then author, after those that were read before it.
 fn certificate_may_follow(before: &[Certificate], header: &HeaderBody) -> bool
     ensures { result ≡ certificate_may_follow before.now header.now }
 {

@@ -1,4 +1,4 @@
-//! Reading an own header of a checkpoint, with the other members' votes on it.
+//! Reading the record of an own header in a checkpoint, with the other members' votes on it.
 
 ghost use Rattle.std.specs.Prelude.{◌≡◌, ◌&&◌, ◌==◌};
 ghost use Rattle.std.specs.List.{list_any};
@@ -14,12 +14,12 @@ use std::marker::Model;
 use wire::{Header, VoteEntries, VoteEntry, WireError};
 use wire_read::{Reader, header_of, votes_of};
 
-/// An own header that was read.
+/// What the record of an own header decodes to.
 #[derive(Drop)]
 pub struct ReadHeader {
     /// The header.
     pub header: Header,
-    /// The other members' votes on it, sorted by number. Whether these numbers are members' isn't known yet.
+    /// The other members' votes on the header, sorted by voter. Whether the voters are members isn't tested yet.
     pub votes: VoteEntries,
 }
 
@@ -48,7 +48,7 @@ pub fn read_header_of<S: Sign>(
     Ok(read)
 }
 
-/// Reads a header with its signature, and any votes.
+/// Reads a header with its signature, and the votes on it, whoever gave them.
 #[tactic(auto, unfolding(crate::specs::Reading::header_with_votes_at))]
 fn header_with_votes_of(alloc: Global, reader: &mut Reader) -> Result<ReadHeader, WireError>
     ensures { Gives (λ x. (x, reader.new)) result (header_with_votes_at reader.old) }
@@ -58,7 +58,7 @@ fn header_with_votes_of(alloc: Global, reader: &mut Reader) -> Result<ReadHeader
     Ok(ReadHeader { header, votes })
 }
 
-/// Whether an own header may follow these, and none of its votes is the node's own.
+/// Whether the round of an own header is above those of the headers before it, and none of the votes on it is the node's own.
 fn may_come_next<S: Sign>(node: &Node<S>, before: &[ReadHeader], read: &ReadHeader) -> bool
     ensures { result ≡ (header_may_follow before.now read.now.header.body.round && are_of_others (node_view S.scheme node.now) read.now.votes) }
 {
@@ -66,7 +66,7 @@ fn may_come_next<S: Sign>(node: &Node<S>, before: &[ReadHeader], read: &ReadHead
         && are_of_others(node, read.votes.as_slice())
 }
 
-/// Whether an own header of this round may follow these.
+/// Whether this round is above those of the own headers before it.
 fn header_may_follow(before: &[ReadHeader], round: u64) -> bool
     ensures { result ≡ header_may_follow before.now round }
 {

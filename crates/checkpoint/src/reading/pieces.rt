@@ -1,4 +1,4 @@
-//! Reading pieces of the order and of the coins.
+//! Reading the records of pieces of the order and of the coins in a checkpoint.
 
 ghost use Rattle.std.specs.Prelude.{◌≡◌};
 ghost use Rattle.std.specs.Int.{w32, w64};
@@ -10,7 +10,7 @@ use std::alloc::Global;
 use wire::{Digest, WireError};
 use wire_read::Reader;
 
-/// Reads the digests of one piece of the order, at least one.
+/// Reads the digests of one piece of the order. A piece has at least one.
 #[tactic(auto, unfolding(spec_checkpoint::specs::Reading::digests_at))]
 pub fn digests_of(alloc: Global, reader: &mut Reader) -> Result<Vec<Digest>, WireError>
     ensures { Gives (λ x. (x.items, reader.new)) result (digests_at reader.old) }
@@ -35,7 +35,7 @@ fn counted_digests_of(alloc: Global, reader: &mut Reader) -> Result<Vec<Digest>,
     Ok(digests)
 }
 
-/// Reads the values of one piece of coins, at least one.
+/// Reads the values of one piece of the coins. A piece has at least one.
 #[tactic(auto, unfolding(spec_checkpoint::specs::Reading::coins_at))]
 pub fn coins_of(alloc: Global, reader: &mut Reader) -> Result<Vec<u64>, WireError>
     ensures { Gives (λ x. (x.items, reader.new)) result (coins_at reader.old) }

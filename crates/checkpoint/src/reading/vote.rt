@@ -1,4 +1,4 @@
-//! Reading a vote of a checkpoint for another author's header.
+//! Reading the record of a vote for another member's header in a checkpoint.
 
 ghost use Rattle.std.specs.Prelude.{◌≡◌, map};
 ghost use Rattle.spec_checkpoint.specs.Reading.{kept_vote_at, vote_may_follow};
@@ -10,7 +10,7 @@ use votebook::Slot;
 use wire::{Digest, WireError};
 use wire_read::Reader;
 
-/// Reads author, round and header digest.
+/// Reads a vote: the author and round of the header, and its digest. The slot has to come after those of the votes before it.
 #[tactic(auto, unfolding(spec_checkpoint::specs::Reading::kept_vote_at))]
 pub fn read_vote_of(
     before: &[(Slot, Digest)],
@@ -27,7 +27,7 @@ pub fn read_vote_of(
     Ok((Slot { round, author }, header))
 }
 
-/// Whether a vote in this slot may follow these.
+/// Whether this slot comes, by round and then author, after those of the votes that were read before it.
 fn vote_may_follow(before: &[(Slot, Digest)], round: u64, author: u16) -> bool
     ensures { result ≡ vote_may_follow (map vote_of before.now) round author }
 {

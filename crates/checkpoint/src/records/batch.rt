@@ -1,4 +1,4 @@
-//! The record of a batch.
+//! Writing the record of a batch.
 
 ghost use Rattle.std.specs.Prelude.{◌≡◌, ◌≤◌, ◌++◌, ◌∷◌, [], length, flat_map, IfOk, OnOk, if◌then◌else◌};
 ghost use Rattle.std.specs.Int.{w16, to_be_bytes};
@@ -14,10 +14,10 @@ use std::alloc::{AllocError, Global};
 use wire::Author;
 use wire::numbers::two_bytes;
 
-/// The kind of a batch's record.
+/// The kind byte of a batch's record.
 pub const BATCH: u8 = 4;
 
-/// Adds the record of a batch. The batch's body is a part of its own, so it is copied only once.
+/// Adds the record of a batch to the sink. The batch's body is given as a part by itself, so that it is copied only once.
 pub fn put_batch<S: RecordSink>(alloc: Global, sink: &mut S, held: &Held) -> Result<(), AllocError>
     requires { S.fits (records.batch_record (keep_of held.now)) }
     ensures { OnOk result (S.records sink.new ≡ S.records sink.old ++ records.batch_record (keep_of held.now) ∷ []) }
@@ -26,8 +26,8 @@ pub fn put_batch<S: RecordSink>(alloc: Global, sink: &mut S, held: &Held) -> Res
     sink.put(alloc, &[head.as_slice(), held.batch().body()])
 }
 
-/// What precedes a batch's body: the kind, whether an own header names the batch, the number of other members who acknowledged it, and
-/// these members.
+/// The bytes before a batch's body: the record's kind, whether an own header names the batch, the number of other members who acknowledged
+/// it, and these members' numbers.
 fn batch_head(alloc: Global, held: &Held) -> Result<Vec<u8>, AllocError>
     ensures { IfOk result (λ bytes. bytes.items ++ batch_body held.now.batch ≡ records.batch_record (keep_of held.now)) }
 {
@@ -40,7 +40,7 @@ fn batch_head(alloc: Global, held: &Held) -> Result<Vec<u8>, AllocError>
     Ok(bytes)
 }
 
-/// The byte that says whether a batch is named.
+/// The byte that says whether an own header names a batch: 1 or 0.
 fn mark_byte(named: bool) -> u8
     ensures { result ≡ (if named then 1 else 0) }
 {

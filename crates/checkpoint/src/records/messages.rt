@@ -1,4 +1,4 @@
-//! The records of votes, own headers and certificates.
+//! Writing the records of votes, own headers and certificates.
 
 ghost use Rattle.std.specs.Prelude.{◌≡◌, ◌++◌, ◌∷◌, length, drop, flat_map, IfOk, OnOk};
 ghost use Rattle.std.specs.Int.{w16, to_be_bytes};
@@ -12,16 +12,16 @@ use votebook::Slot;
 use wire::numbers::two_bytes;
 use wire::{Certificate, Digest, Message, VoteEntry, encode};
 
-/// The kind of a vote's record.
+/// The kind byte of a vote's record.
 pub const VOTE: u8 = 5;
 
-/// The kind of an own header's record.
+/// The kind byte of an own header's record.
 pub const HEADER: u8 = 6;
 
-/// The kind of a certificate's record.
+/// The kind byte of a certificate's record.
 pub const CERTIFICATE: u8 = 7;
 
-/// A vote for another member's header: its kind, author, round, header digest.
+/// The record of a vote for another member's header: the kind, the header's author and round, and its digest.
 pub fn vote_record(alloc: Global, vote: &(Slot, Digest)) -> Result<Vec<u8>, AllocError>
     ensures { IfOk result (λ bytes. bytes.items ≡ records.vote_record (vote_of vote.now)) }
 {
@@ -34,7 +34,7 @@ pub fn vote_record(alloc: Global, vote: &(Slot, Digest)) -> Result<Vec<u8>, Allo
     Ok(bytes)
 }
 
-/// An own header: its kind, the header's body, its signature, the number of others' votes on it, and these votes.
+/// The record of an own header: the kind, the header's body, its signature, the number of other members' votes on it, and these votes.
 pub fn header_record(alloc: Global, voted: &VotedHeader) -> Result<Vec<u8>, AllocError>
     ensures { IfOk result (λ bytes. bytes.items ≡ records.header_record (header_of voted.now)) }
 {
@@ -44,7 +44,7 @@ pub fn header_record(alloc: Global, voted: &VotedHeader) -> Result<Vec<u8>, Allo
     Ok(bytes)
 }
 
-/// A certificate: its kind, the header's body, the number of votes, and the votes.
+/// The record of a certificate: the kind, the header's body, the number of votes, and the votes.
 pub fn certificate_record(alloc: Global, certificate: &Certificate) -> Result<Vec<u8>, AllocError>
     ensures { IfOk result (λ bytes. bytes.items ≡ records.certificate_record certificate.now) }
 {
@@ -55,7 +55,7 @@ pub fn certificate_record(alloc: Global, certificate: &Certificate) -> Result<Ve
     )
 }
 
-/// The bytes of a message, with a record's kind in the place of the message's tag.
+/// The encoding of a message, with the kind of a record in the place of the message's tag.
 fn of_kind(alloc: Global, kind: u8, message: &Message) -> Result<Vec<u8>, AllocError>
     ensures { IfOk result (λ bytes. bytes.items ≡ kind ∷ drop 1 (encoding message.now)) }
 {
@@ -66,7 +66,7 @@ fn of_kind(alloc: Global, kind: u8, message: &Message) -> Result<Vec<u8>, AllocE
     Ok(bytes)
 }
 
-/// The two lower bytes of a count.
+/// The two lower bytes of a count, the higher of them first.
 #[tactic(auto, using(crate::proofs::Counts::lower_bytes))]
 fn count_bytes(count: usize) -> [u8; 2]
     ensures { result ≡ to_be_bytes w16 count }

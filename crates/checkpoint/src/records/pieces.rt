@@ -1,4 +1,4 @@
-//! The records of pieces of the order and of the coins.
+//! Writing the records of pieces of the order and of the coins.
 
 ghost use Rattle.std.specs.Prelude.{◌≡◌, ◌<◌, ◌≤◌, ◌+◌, ◌*◌, ◌^◌, ◌++◌, length, take, drop, flat_map, IfOk, OnOk};
 ghost use Rattle.std.specs.Int.{w64, to_be_bytes};
@@ -8,19 +8,19 @@ use sequencer::Coins;
 use std::alloc::{AllocError, Global};
 use wire::Digest;
 
-/// The kind of the record of a piece of the order.
+/// The kind byte of the record of a piece of the order.
 pub const ORDER: u8 = 3;
 
-/// The kind of the record of a piece of the coins.
+/// The kind byte of the record of a piece of the coins.
 pub const COINS: u8 = 8;
 
-/// How many digests a piece of the order has, except the last one: 2 MiB of them.
+/// How many digests a full piece of the order has: they are 2 MiB. Only the last piece may have fewer.
 pub const ORDER_PIECE: usize = 65_536;
 
-/// How many values a piece of the coins has, except the last one: 1 MiB of them.
+/// How many values a full piece of the coins has: they are 1 MiB. Only the last piece may have fewer.
 pub const COINS_PIECE: usize = 131_072;
 
-/// One piece of a list that is cut into pieces of this size.
+/// The piece with this number, counted from 0, of a list that is cut into pieces of this size.
 pub fn piece_at<T>(list: &[T], size: usize, piece: usize) -> &[T]
     requires { size * piece < length list.now }
     ensures value { result.now ≡ take size (drop (size * piece) list.now) }
@@ -30,7 +30,7 @@ pub fn piece_at<T>(list: &[T], size: usize, piece: usize) -> &[T]
     &rest[..size.min(rest.len())]
 }
 
-/// A piece of the order: its kind, the number of digests, the digests.
+/// The record of a piece of the order: the kind, the number of digests, and the digests.
 pub fn order_record(alloc: Global, digests: &[Digest]) -> Result<Vec<u8>, AllocError>
     requires { length digests.now ≤ ORDER_PIECE }
     ensures { IfOk result (λ bytes. bytes.items ≡ records.order_record digests.now) }
@@ -52,7 +52,7 @@ fn put_digests(bytes: &mut Vec<u8>, digests: &[Digest]) -> Result<(), AllocError
     Ok(())
 }
 
-/// A piece of the coins from a place on: its kind, the number of values, the values.
+/// The record of a piece of the coins, which begins at this place: the kind, the number of values, and the values.
 pub fn coins_record(alloc: Global, coins: &Coins, from: usize) -> Result<Vec<u8>, AllocError>
     requires { from < length coins.now }
     ensures { IfOk result (λ bytes. bytes.items ≡ records.coins_record (take COINS_PIECE (drop from coins.now))) }
@@ -65,7 +65,7 @@ pub fn coins_record(alloc: Global, coins: &Coins, from: usize) -> Result<Vec<u8>
     Ok(bytes)
 }
 
-/// Adds this many values of the coins, from a place on, to the bytes.
+/// Adds this many values of the coins, from this place on, to the bytes.
 fn put_values(
     bytes: &mut Vec<u8>,
     coins: &Coins,

@@ -15,6 +15,7 @@ use journal::Store;
 use node::{Caller, FlushError, Rounds, start};
 use sigface::HashSign;
 use std::alloc::{AllocError, Global};
+use std::collections::VecDeque;
 use std::sync::Wait;
 use std::sync::atomic::{AtomicU64, Ordering};
 use std::thread::{self, Threads};
@@ -135,20 +136,21 @@ where
         Kind::Round => put_number(answer, "settled", flushed?),
         Kind::Checkpoint => put_number(answer, "generation", flushed?),
     }
-    report_outputs(rt, &mut caller, answer);
-    flush_rest(rt, rounds, &mut caller, answer)
+    report_outputs(rt, alloc, &mut caller, kind, answer)?;
+    flush_rest(rt, alloc, rounds, &mut caller, kind, answer)
 }
 
 // Flushes once, with no sync held.
 fn flush_rest<R: Wait, D: Disk + Drop>(
     rt: &R,
+    alloc: Global,
     mut rounds: Rounds<'_, '_, HashSign, D>,
     caller: &mut Caller<'_, '_, HashSign>,
+    kind: Kind,
     answer: &mut String,
 ) -> Result<(), Ending> {
     put_number(answer, "settled", rounds.round(rt)?);
-    report_outputs(rt, caller, answer);
-    Ok(())
+    report_outputs(rt, alloc, caller, kind, answer)
 }
 
 // The result of a call of the flusher, and the flusher itself.
@@ -253,12 +255,27 @@ fn report_voted<R: Wait>(
     Ok(())
 }
 
-// Adds how many events are synced, and the next two outputs that may leave.
-fn report_outputs<R: Wait>(rt: &R, caller: &mut Caller<'_, '_, HashSign>, reported: &mut String) {
+// Adds how many events are synced, and the next two outputs that may leave: after a round they are collected one by one, after a checkpoint
+// together.
+fn report_outputs<R: Wait>(
+    rt: &R,
+    alloc: Global,
+    caller: &mut Caller<'_, '_, HashSign>,
+    kind: Kind,
+    reported: &mut String,
+) -> Result<(), Ending> {
     put_number(reported, "synced", caller.synced());
+    let mut outputs = VecDeque::with_capacity(alloc, 2)?;
     for _ in 0..2 {
-        report_collected(&caller.collect(rt), reported);
+        match kind {
+            Kind::Round => report_collected(&caller.collect(rt), reported),
+            Kind::Checkpoint => {
+                caller.collect_into(rt, &mut outputs);
+                report_collected(&outputs.pop_front(), reported);
+            }
+        }
     }
+    Ok(())
 }
 
 fn report_collected(output: &Option<Output>, reported: &mut String) {

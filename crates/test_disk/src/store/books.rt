@@ -13,6 +13,7 @@ use book::{OwnBook, Receipt};
 use committee::Committee;
 use sigface::HashSign;
 use std::alloc::{AllocError, Global};
+use std::collections::VecDeque;
 use validator::Refusal::{
     self, AlreadyProposed, CertConflict, CoinConflict, CoinEarly, CoinOutOfTurn, DigestClash, Down,
     Equivocation, Memory, MissingBatch, MissingParents, NotOurs, StoreFull, TooOld,
@@ -129,6 +130,19 @@ impl Store<'_> {
     /// Makes a checkpoint, with the count-th write to the disk set to fail; 0 sets none. The opening makes the first write.
     fn checkpoint(&mut self, count: u64, answer: &mut String) -> Reported {
         put_checkpoint(self.alloc, self.config, &mut self.book, count, answer)
+    }
+
+    /// Moves as many outputs out at once as there is room for, and shows them.
+    pub fn release_into(&mut self, room: usize, answer: &mut String) -> Reported {
+        let mut outputs = VecDeque::with_capacity(self.alloc, room)?;
+        self.book.release_into(&mut outputs);
+        if outputs.is_empty() {
+            put(answer, "none\n");
+        }
+        for output in outputs.iter() {
+            report_output(self.book.committee(), answer, output);
+        }
+        Ok(())
     }
 
     fn release(&mut self, answer: &mut String) {

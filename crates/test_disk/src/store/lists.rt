@@ -19,6 +19,7 @@ use diskmodel::{CallKind, Disk, MemDisk};
 use journal::Journal;
 use sigface::{HashSign, Sign};
 use std::alloc::{AllocError, Global};
+use std::collections::VecDeque;
 use validator::Config;
 use wire::{Output, header_digest};
 
@@ -63,7 +64,8 @@ impl<'a> Lists<'a> {
         for _ in 0..steps {
             let reported = match self.draws.below(16) {
                 0..=7 => self.accept(),
-                8..=11 => self.release(),
+                8..=10 => self.release(),
+                11 => self.release_some(),
                 12..=14 => self.flush(),
                 _ => self.stop(Moment::Idle, 0),
             };
@@ -113,6 +115,21 @@ impl<'a> Lists<'a> {
         let same = is_expected(self.alloc, self.book.release(), expected)?;
         self.expect(same);
         self.tally.add_release(expected.is_some());
+        Ok(())
+    }
+
+    /// As many outputs as there is room for go out at once, if so many may: the model lets them go one by one.
+    fn release_some(&mut self) -> Reported {
+        let room = self.draws.below(4);
+        let mut outputs = VecDeque::with_capacity(self.alloc, room as usize)?;
+        self.book.release_into(&mut outputs);
+        for _ in 0..room {
+            let expected = self.plain.release()?;
+            let same = is_expected(self.alloc, outputs.pop_front(), expected)?;
+            self.expect(same);
+            self.tally.add_release(expected.is_some());
+        }
+        self.expect(outputs.is_empty());
         Ok(())
     }
 

@@ -53,7 +53,7 @@ impl Node {
         }
     }
 
-    /// Carries out a command that has no words.
+    /// Carries out a command that takes no arguments.
     fn obey_alone(&mut self, name: &str, words: &[Word], answer: &mut String) -> Reported {
         match name {
             _ if !words.is_empty() => reported_bad(answer),

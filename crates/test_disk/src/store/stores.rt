@@ -53,6 +53,9 @@ impl<'a> Store<'a> {
         match words {
             [] => self.obey_alone(name, answer),
             [Word::Bytes(bytes)] => self.obey_bytes(name, bytes, answer),
+            [Word::Number(room)] if name == "release_into" => {
+                self.release_into(*room as usize, answer)
+            }
             _ => self.obey_more(name, words, answer),
         }
     }

@@ -284,7 +284,7 @@ impl<'c> Trial<'c> {
         self.restored_differs()
     }
 
-    /// Restores the tables again, after a failed allocation, which leaves them as they were.
+    /// Restores the tables once more after an allocation failed. Returns the name of what differs in them, if that failure changed them.
     fn restore_again(&mut self, counts: &mut Counts) -> Result<Option<&'static str>, FormError> {
         counts.refuse();
         if let Some(differs) = self.tables_differ() {

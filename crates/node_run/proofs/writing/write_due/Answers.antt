@@ -1,10 +1,11 @@
 use Rattle.std.proofs.Common.{rules, subst, sym}
+use Rattle.std.specs.Prelude.{All}
 use Rattle.std.specs.Io.Buffered.{writer_contents}
 use Rattle.node_seats.proofs.Beginnings.{begins_same, begins_trans}
 use Rattle.node_seats.specs.Views.{IsSame}
 use Rattle.node.specs.Callers.{StaysWith}
 use Rattle.node_run.specs.Writing.{MayGo, WritesOnly}
-use Rattle.node_run.proofs.Written.{none_yet, weaker, one_more, no_more, may_go_yet}
+use Rattle.node_run.proofs.Written.{both_written, may_go_yet, no_more, none_yet, only_put, weaker}
 use Rattle.node_run.proofs.writing.write_due.Goals as goal
 
 pub loop-init : goal.loop-init
@@ -33,14 +34,15 @@ loop-preserved g c =
     let next = c.write_next.ensures.next c.if-not-write_next.false in
     let so_far = weaker (MayGo scheme node c.loop.caller.seat.view) (MayGo scheme node later) c.args.sink.now.faults c.loop.sink.faults old cur
     (may_go_yet scheme node c.loop.caller.seat.view later c.write_next.ensures.more) c.loop.invariant.5 in
-    let may = subst (λ it. MayGo scheme it later next.output) c.loop.invariant.2.node next.may in (
+    let may = subst (λ it. All (MayGo scheme it later) next.outputs) c.loop.invariant.2.node next.each in
+    let now = writer_contents g.W.Write.contents c.write_next.new.sink.writer in (
       tt,
       tt,
       stays,
       same,
       begins_trans _ _ _ c.loop.invariant.4 c.write_next.ensures.more,
-      one_more (MayGo scheme node later) next.output c.args.sink.now.faults c.loop.sink.faults c.write_next.new.sink.faults old cur
-          (writer_contents g.W.Write.contents c.write_next.new.sink.writer) so_far may next.puts,
+      both_written (MayGo scheme node later) c.args.sink.now.faults c.loop.sink.faults c.write_next.new.sink.faults old cur now so_far
+          (only_put (MayGo scheme node later) next.outputs c.loop.sink.faults c.write_next.new.sink.faults cur now may next.puts),
     )
 
 pub returns-then-not-write_next-clause-only : goal.returns-then-not-write_next-clause-only

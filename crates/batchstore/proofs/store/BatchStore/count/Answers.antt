@@ -2,6 +2,7 @@ use Rattle.std.proofs.Common.{◌≡◌, ◌≢◌, ◌<◌, List, Some, refl, a
 use Rattle.std.specs.Prelude.{find}
 use Rattle.batchstore.specs.Stock.{BatchStoreView, held_at}
 use Rattle.batchstore.specs.Answer.{with_ack}
+use Rattle.batchstore.specs.Kept.{TableView}
 use Rattle.batchstore.specs.declared.held.Held.{Held}
 use Rattle.batchstore.proofs.Among.{is_of}
 use Rattle.batchstore.proofs.Steps.{Stands, stands, with_acks, acked_new, acked_same, acked_view, own_of, other_than}
@@ -11,7 +12,8 @@ use Rattle.batchstore.proofs.store.BatchStore.count.Goals.{then-becomes_nameable
 pub invariant_of-self-2 : goal.invariant_of-self-2
 invariant_of-self-2 c =
     let inside = c.self.inside in
-    let batches = inside.held in
+    let table = inside.table in
+    let batches = table.held in
     let place = c.args.place in
     let old = c.in-Some.held.now in
     let members = c.insert.new.self in
@@ -26,18 +28,18 @@ invariant_of-self-2 c =
     let within : c.args.author.0 < length inside.committee.now.keys = rw (← c.self.view_is) at c.requires.member in
     elim c.if-becomes_nameable.branch [
       | then-becomes_nameable+in_ok-insert w ↦
-          let same : c.if-becomes_nameable.self-inside.held ≡ batches = rw w.self-inside-is refl in
-          let at_inside : slice_get c.if-becomes_nameable.self-inside.held place ≡ Some old = rw same at in
-          let set : c.set_members.new.self ≡ slice_set batches place (with_acks old members) =
-          c.set_members.ensures old at_inside ∙ ap (λ (l : List Held). slice_set l place (with_acks old members)) same in
+          let same : c.if-becomes_nameable.self-inside.table ≡ table = rw w.self-inside-is refl in
+          let at_inside : slice_get c.if-becomes_nameable.self-inside.table.held place ≡ Some old = rw same at in
+          let set : c.set_members.new.self ≡ record table { held = slice_set batches place (with_acks old members) } =
+          c.set_members.ensures old at_inside ∙ ap (λ (t : TableView). record t { held = slice_set t.held place (with_acks old members) }) same in
           rw (w.self-inside-is, set, w.in_ok-insert.ensures.entries, c.worker-worker.ensures)
           (acked_new inside.committee.now inside.own.0 batches inside.nameable.entries digest place old c.args.author.0 members
           c.self.invariant there ours within other c.insert.ensures (sym c.becomes_nameable.ensures ∙ w.if-becomes_nameable.true))
       | else-becomes_nameable w ↦
-          let same : c.if-becomes_nameable.self-inside.held ≡ batches = rw w.self-inside-is refl in
-          let at_inside : slice_get c.if-becomes_nameable.self-inside.held place ≡ Some old = rw same at in
-          let set : c.set_members.new.self ≡ slice_set batches place (with_acks old members) =
-          c.set_members.ensures old at_inside ∙ ap (λ (l : List Held). slice_set l place (with_acks old members)) same in
+          let same : c.if-becomes_nameable.self-inside.table ≡ table = rw w.self-inside-is refl in
+          let at_inside : slice_get c.if-becomes_nameable.self-inside.table.held place ≡ Some old = rw same at in
+          let set : c.set_members.new.self ≡ record table { held = slice_set batches place (with_acks old members) } =
+          c.set_members.ensures old at_inside ∙ ap (λ (t : TableView). record t { held = slice_set t.held place (with_acks old members) }) same in
           rw (w.self-inside-is, set)
           (acked_same inside.committee.now inside.own.0 batches inside.nameable.entries digest place old c.args.author.0 members
           c.self.invariant there ours within other c.insert.ensures (sym c.becomes_nameable.ensures ∙ w.if-becomes_nameable.false))
@@ -46,7 +48,8 @@ invariant_of-self-2 c =
 pub returns-clause-ok : goal.returns-clause-ok
 returns-clause-ok c =
     let inside = c.self.inside in
-    let batches = inside.held in
+    let table = inside.table in
+    let batches = table.held in
     let place = c.args.place in
     let old = c.in-Some.held.now in
     let members = c.insert.new.self in
@@ -56,22 +59,22 @@ returns-clause-ok c =
     sym c.requires.place ∙ ap (λ (s : BatchStoreView). slice_get s.held place) (sym c.self.view_is) ∙ at in
     let found : find (is_of digest) batches ≡ Some old = rw (← c.self.view_is) at now_at in
     let there : Stands batches digest place old = stands batches digest place old c.self.invariant.valid.distinct found at in
-    let store : List Held → BatchStoreView = λ l. record { charter = inside.committee.now; own = inside.own.0; held = l } in
+    let store : TableView → BatchStoreView = λ t. record { charter = inside.committee.now; own = inside.own.0; seed = t.seed; held = t.held } in
     elim c.if-becomes_nameable.branch [
       | then-becomes_nameable+in_ok-insert w ↦
-          let same : c.if-becomes_nameable.self-inside.held ≡ batches = rw w.self-inside-is refl in
-          let at_inside : slice_get c.if-becomes_nameable.self-inside.held place ≡ Some old = rw same at in
-          let set : c.set_members.new.self ≡ slice_set batches place (with_acks old members) =
-          c.set_members.ensures old at_inside ∙ ap (λ (l : List Held). slice_set l place (with_acks old members)) same in
+          let same : c.if-becomes_nameable.self-inside.table ≡ table = rw w.self-inside-is refl in
+          let at_inside : slice_get c.if-becomes_nameable.self-inside.table.held place ≡ Some old = rw same at in
+          let set : c.set_members.new.self ≡ record table { held = slice_set batches place (with_acks old members) } =
+          c.set_members.ensures old at_inside ∙ ap (λ (t : TableView). record t { held = slice_set t.held place (with_acks old members) }) same in
           rw (w.self-inside-is)
-          (ap store set ∙ ap store (acked_view batches digest place old c.args.author.0 members there c.insert.ensures)
+          (ap store set ∙ ap (λ (l : List Held). store (record table { held = l })) (acked_view batches digest place old c.args.author.0 members there c.insert.ensures)
           ∙ ap (λ (s : BatchStoreView). with_ack s digest c.args.author.0) c.self.view_is)
       | else-becomes_nameable w ↦
-          let same : c.if-becomes_nameable.self-inside.held ≡ batches = rw w.self-inside-is refl in
-          let at_inside : slice_get c.if-becomes_nameable.self-inside.held place ≡ Some old = rw same at in
-          let set : c.set_members.new.self ≡ slice_set batches place (with_acks old members) =
-          c.set_members.ensures old at_inside ∙ ap (λ (l : List Held). slice_set l place (with_acks old members)) same in
+          let same : c.if-becomes_nameable.self-inside.table ≡ table = rw w.self-inside-is refl in
+          let at_inside : slice_get c.if-becomes_nameable.self-inside.table.held place ≡ Some old = rw same at in
+          let set : c.set_members.new.self ≡ record table { held = slice_set batches place (with_acks old members) } =
+          c.set_members.ensures old at_inside ∙ ap (λ (t : TableView). record t { held = slice_set t.held place (with_acks old members) }) same in
           rw (w.self-inside-is)
-          (ap store set ∙ ap store (acked_view batches digest place old c.args.author.0 members there c.insert.ensures)
+          (ap store set ∙ ap (λ (l : List Held). store (record table { held = l })) (acked_view batches digest place old c.args.author.0 members there c.insert.ensures)
           ∙ ap (λ (s : BatchStoreView). with_ack s digest c.args.author.0) c.self.view_is)
     ]

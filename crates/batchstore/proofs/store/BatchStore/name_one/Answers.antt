@@ -4,6 +4,7 @@ use Rattle.std.proofs.lemmas.Bool.{eqb-true, not-true, not-false}
 use Rattle.wire.specs.declared.keys.Author.{Author}
 use Rattle.batchstore.specs.Stock.{BatchStoreView, IsStock, held_at}
 use Rattle.batchstore.specs.Answer.{with_names}
+use Rattle.batchstore.specs.Kept.{TableView}
 use Rattle.batchstore.specs.declared.held.Held.{Held}
 use Rattle.batchstore.proofs.Among.{is_of}
 use Rattle.batchstore.proofs.Steps.{Stands, stands, marked, marked_view, unmarked, unheld}
@@ -30,7 +31,7 @@ returns-then-ne c =
 pub invariant_of-self : goal.invariant_of-self
 invariant_of-self c =
     let inside = c.self.inside in
-    let batches = inside.held in
+    let batches = inside.table.held in
     let place = c.in-Some.found.0 in
     let old = c.in-Some.found.1.now in
     let digest = c.args.reference.now.digest in
@@ -46,7 +47,7 @@ invariant_of-self c =
 pub returns : goal.returns
 returns c =
     let inside = c.self.inside in
-    let batches = inside.held in
+    let batches = inside.table.held in
     let place = c.in-Some.found.0 in
     let old = c.in-Some.found.1.now in
     let digest = c.args.reference.now.digest in
@@ -56,6 +57,6 @@ returns c =
     let there : Stands batches digest place old = stands batches digest place old c.self.invariant.valid.distinct found at in
     let ours : old.batch.author.0 ≡ inside.own.0 =
     ap (λ (a : Author). a.0) (sym c.author.ensures) ∙ eqb-true c.author.result.0 inside.own.0 (not-false (c.author.result.0 == inside.own.0) (sym c.ne.ensures ∙ c.if-ne.false)) in
-    let store : List Held → BatchStoreView = λ l. record { charter = inside.committee.now; own = inside.own.0; held = l } in
-    ap store (c.set_mark.ensures old at) ∙ ap store (marked_view inside.own.0 batches c.args.reference.now place old there ours)
+    let store : TableView → BatchStoreView = λ t. record { charter = inside.committee.now; own = inside.own.0; seed = t.seed; held = t.held } in
+    ap store (c.set_mark.ensures old at) ∙ ap (λ (l : List Held). store (record inside.table { held = l })) (marked_view inside.own.0 batches c.args.reference.now place old there ours)
     ∙ ap (λ (s : BatchStoreView). with_names s (c.args.reference.now ∷ [])) c.self.view_is

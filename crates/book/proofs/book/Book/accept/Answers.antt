@@ -1,7 +1,5 @@
 use Rattle.std.proofs.Common.{◌≡◌, ◌+◌, ℕ, List, [], ◌∷◌, ◌++◌, length, None, refl, sym, ap, ◌∙◌, subst, arith, length-append}
-use Rattle.std.specs.Prelude.{All}
 use Rattle.std.proofs.lemmas.Bool.{true≢false}
-use Rattle.book.specs.Queue.{HasOutput}
 use Rattle.wire.specs.Grammar.{IsMessage}
 use Rattle.header.specs.Checks.{fault_of, accepts_all}
 use Rattle.std.specs.Prelude.{Ok}
@@ -37,7 +35,6 @@ invariant_of-self-in-Ok-New g c =
           (λ state at. subst (λ (st : Step). IsAnswer (answered node state event) (Ok st)) c.in-Ok-New.field-0-is
           (c.in-Ok-New.ensures.answer state at)),
       omega (arith, ap length c.in_ok-make_room.ensures.ok, length-append b.pending (record_of event ∷ []), c.self.invariant.1),
-      c.enqueue.ensures.each,
     )
 
 pub returns-in-Ok-New-clause-limit : goal.returns-in-Ok-New-clause-limit
@@ -155,27 +152,21 @@ returns-in-Ok-Known-clause-new g c = λ yes. absurd (true≢false (sym yes))
 pub invariant_of-self-in-Ok-Known : goal.invariant_of-self-in-Ok-Known
 invariant_of-self-in-Ok-Known g c =
     let left : c.take_back.new.self ≡ c.self.inside.pending = c.take_back.ensures c.self.inside.pending (record_of c.args.event) c.in_ok-make_room.ensures.ok in
-    (c.self.invariant.0, ap (λ (l : List (List ℕ)). c.self.inside.taken + length l) left ∙ c.self.invariant.1, c.enqueue-in-Ok-Known.ensures.each)
+    (c.self.invariant.0, ap (λ (l : List (List ℕ)). c.self.inside.taken + length l) left ∙ c.self.invariant.1)
 
 pub invariant_of-self-in-Err : goal.invariant_of-self-in-Err
 invariant_of-self-in-Err g c =
     let left : c.take_back-in-Err.new.self ≡ c.self.inside.pending = c.take_back-in-Err.ensures c.self.inside.pending (record_of c.args.event) c.in_ok-make_room.ensures.ok in
-    (c.self.invariant.0, ap (λ (l : List (List ℕ)). c.self.inside.taken + length l) left ∙ c.self.invariant.1, subst (All HasOutput) (sym c.make_room.ensures.queue) c.self.invariant.2)
+    (c.self.invariant.0, ap (λ (l : List (List ℕ)). c.self.inside.taken + length l) left ∙ c.self.invariant.1)
 
-pub enqueue-requires-clause-room : goal.enqueue-requires-clause-room
-enqueue-requires-clause-room g c = c.in_ok-make_room.ensures.queue_room
+pub enqueue-requires : goal.enqueue-requires
+enqueue-requires g c = record { room = c.in_ok-make_room.ensures.queue_room }
 
-pub enqueue-requires-in-Ok-Known-clause-room : goal.enqueue-requires-in-Ok-Known-clause-room
-enqueue-requires-in-Ok-Known-clause-room g c = c.in_ok-make_room.ensures.queue_room
+pub enqueue-requires-in-Ok-Known : goal.enqueue-requires-in-Ok-Known
+enqueue-requires-in-Ok-Known g c = record { room = c.in_ok-make_room.ensures.queue_room }
 
 pub note_order-requires : goal.note_order-requires
 note_order-requires g c = record { room = c.in_ok-make_room.ensures.reached_room }
-
-pub enqueue-requires-clause-each : goal.enqueue-requires-clause-each
-enqueue-requires-clause-each g c = subst (All HasOutput) (sym c.make_room.ensures.queue) c.self.invariant.2
-
-pub enqueue-requires-in-Ok-Known-clause-each : goal.enqueue-requires-in-Ok-Known-clause-each
-enqueue-requires-in-Ok-Known-clause-each g c = subst (All HasOutput) (sym c.make_room.ensures.queue) c.self.invariant.2
 
 pub returns-in-Ok-Known-clause-ticket : goal.returns-in-Ok-Known-clause-ticket
 returns-in-Ok-Known-clause-ticket g c = refl

@@ -39,7 +39,7 @@ pub invariant_of-self-2 : goal.invariant_of-self-2
 invariant_of-self-2 g c =
     let b = c.self.inside in
     let longest = subst (λ (o : Option (List (List ℕ))). IfSome o (λ group. IsLongestBeginning b.pending group c.take.new.self)) c.in-Some.is c.in_ok-group.ensures.group in
-    (c.self.invariant.0, count_stays b.taken c.records_count.result b.accepted b.pending c.in-Some.group c.take.new.self longest c.records_count.ensures.value c.self.invariant.1, c.self.invariant.2)
+    (c.self.invariant.0, count_stays b.taken c.records_count.result b.accepted b.pending c.in-Some.group c.take.new.self longest c.records_count.ensures.value c.self.invariant.1)
 
 pub returns-clause-taken : goal.returns-clause-taken
 returns-clause-taken g c = λ i. record (c.self.view_is i) { pending = c.take.new.self; taken = (c.self.view_is i).taken + c.records_count.ensures.value i }

@@ -4,7 +4,7 @@ use Rattle.std.proofs.lemmas.List.Elements.{All-nil}
 use Rattle.node_run.specs.Asked.{AsksEach, AsksWhatWasDue, WasAsked}
 use Rattle.node_run.specs.declared.due.Waiting.{Waiting}
 use Rattle.node_run.specs.declared.due.Waiting.TheVariants.{Nothing, Rounds}
-use Rattle.node_run.proofs.Asked.{each_on, none_ready, one_ready}
+use Rattle.node_run.proofs.Asked.{each_on, first_on, none_ready, one_ready}
 use Rattle.node_run.proofs.intake.Intake.next_ready.Goals as goal
 
 pub returns-in_default-lowest_round-clause-asks : goal.returns-in_default-lowest_round-clause-asks
@@ -48,3 +48,15 @@ returns-clause-asks g c =
     subst (λ (w : Waiting). AsksWhatWasDue scheme old.caller.node w (Rounds at end) old.waiters old.caller later.caller) (sym c.in-Rounds.is)
     (one_ready scheme old.caller.node low end lowest at old.waiters old.caller later.caller c.in-Some.ensures.least
     (subst (λ n. AsksEach scheme old.caller.node n at old.waiters old.caller later.caller) c.max.ensures each))
+
+pub returns-in-Some-ready_outside-clause-first : goal.returns-in-Some-ready_outside-clause-first
+returns-in-Some-ready_outside-clause-first g c = (c.in-Some.lowest, c.in-Some-ready_outside.ensures.first)
+
+pub returns-clause-first : goal.returns-clause-first
+returns-clause-first g c =
+    let old = c.args.self.now in
+    let mid = c.ready_outside.new.self in (
+      c.in-Some-ready_from.round,
+      first_on g.S.Sign.scheme old.caller mid.caller c.ready_from.new.self.caller old.waiters mid.waiters c.in-Some-ready_from.round
+          c.in-Some-ready_from.found c.ready_outside.ensures.only c.in_default-ready_outside.ensures.none c.in-Some-ready_from.ensures.first,
+    )

@@ -1,9 +1,9 @@
-use Rattle.std.proofs.Common.{◌≡◌, inl, inr, subst, sym, ◌∙◌, arith}
+use Rattle.std.proofs.Common.{◌≡◌, inl, inr, subst, ◌∙◌, arith}
 use Rattle.std.specs.Prelude.{All}
 use Rattle.std.proofs.lemmas.Bool.Decides.{leb_tells}
 use Rattle.waiter.specs.Rounds.{held}
 use Rattle.node_run.specs.Asked.{WasAsked}
-use Rattle.node_run.proofs.Asked.{all_on, all_until, only_then}
+use Rattle.node_run.proofs.Asked.{all_on, all_until, first_on, only_then}
 use Rattle.node_run.proofs.intake.Intake.ready_from.Goals as goal
 
 pub returns-in-Some-clause-passed : goal.returns-in-Some-clause-passed
@@ -11,6 +11,14 @@ returns-in-Some-clause-passed g c = λ round above under.
     let old = c.args.self.now in
     all_until g.S.Sign.scheme old.caller.node old.caller c.loop-round.self.caller c.ready_of.new.self.caller (held old.waiters round) c.ready_of.ensures.only.seen
     (c.loop-round.invariant.asked round above under)
+
+pub returns-in-Some-clause-first : goal.returns-in-Some-clause-first
+returns-in-Some-clause-first g c =
+    let old = c.args.self.now in
+    let mid = c.loop-round.self in
+    let so_far = c.loop-round.invariant in
+    first_on g.S.Sign.scheme old.caller mid.caller c.ready_of.new.self.caller old.waiters mid.waiters c.loop-round.round c.in-Some.found so_far.only so_far.waiters
+    c.in-Some.ensures.first
 
 pub loop-round-preserved : goal.loop-round-preserved
 loop-round-preserved g c =
