@@ -137,14 +137,6 @@ taken_cases one place old new taken round event inside = elim (cases_Bool (round
 -- ---- callers
 
 module _ {S : Type 0} where
-  pub only_self : (one : CallerView S) → OnlyAsks one one
-  only_self one = record {
-    stays = record { setting = refl; node = refl };
-    same = record { table = refl; id = refl; live = refl; numbered = refl; number = refl; mine = refl; down = λ down. down; right = refl };
-    durable = refl;
-    seen = begins_same one.seat.view.seen;
-  }
-
   pub only_then : (one two three : CallerView S) → OnlyAsks one two → OnlyAsks two three → OnlyAsks one three
   only_then one two three first second = record {
     stays = record { setting = second.stays.setting ∙ first.stays.setting; node = second.stays.node ∙ first.stays.node };
@@ -193,13 +185,6 @@ module _ {S : Type 0} (scheme : Scheme S) (node : NodeView S) where
   pub some_until : (before later end : CallerView S) (found : Option Event) → Begins later.seat.view.seen end.seat.view.seen
       → IfSome found (WasAsked scheme node before later) → IfSome found (WasAsked scheme node before end)
   some_until before later end found more asked = some_more found (λ event. asked_until before later end event more) asked
-
-  -- an answer that parents are missing, just now
-  pub asked_now : (before later : CallerView S) (event : Event) → Begins before.seat.view.seen later.seat.view.seen
-      → (IsSome (certificate_digest_in event.message) → fault_of before.setting.charter accepts_all event ≡ None → (base : State) → IsBase scheme node base
-      → is_missing_parents (answered (node_of scheme node.setting) (seen_in (node_of scheme node.setting) base later.seat) event) ≡ true)
-      → WasAsked scheme node before later event
-  asked_now before later event more lacks = record { looked = later.seat.view.seen; more = more; less = begins_same later.seat.view.seen; lacks = lacks }
 
   -- ---- what becomes of those that were due
 
@@ -268,16 +253,21 @@ module _ {S : Type 0} (scheme : Scheme S) (node : NodeView S) where
             (subst (λ (l : List Event). IfSome (slice_get l 0) (WasAsked scheme node before mid)) is (outside (λ above under. isnt (above, under))))
       ]
 
+  -- each in the due rounds below one was asked about, where none waits below the lowest
+  pub asked_below : (low lowest at : ℕ) (waiters : WaitersView) (before later : CallerView S) → ((other : ℕ) → other < lowest → held waiters other ≡ [])
+      → AsksEach scheme node (max low lowest) at waiters before later → AsksEach scheme node low at waiters before later
+  asked_below low lowest at waiters before later least each round from under = elim (leb_tells lowest round) [
+    | inl above ↦ each round (omega (arith, from, above.1)) under
+    | inr before' ↦ subst (All (WasAsked scheme node before later)) (sym (least round before'.1)) (All-nil (WasAsked scheme node before later))
+  ]
+
   -- one was ready in a round, and each in a round before it was asked about
   pub one_ready : (low end lowest at : ℕ) (waiters : WaitersView) (before later : CallerView S) → ((other : ℕ) → other < lowest → held waiters other ≡ [])
       → AsksEach scheme node (max low lowest) at waiters before later → AsksWhatWasDue scheme node (Rounds low end) (Rounds at end) waiters before later
   one_ready low end lowest at waiters before later least each = record {
     rounds = λ round due isnt. elim (leb_tells at round) [
       | inl from ↦ absurd (isnt (from.1, due.1))
-      | inr under ↦ elim (leb_tells lowest round) [
-        | inl above ↦ each round (omega (arith, due.0, above.1)) under.1
-        | inr before' ↦ subst (All (WasAsked scheme node before later)) (sym (least round before'.1)) (All-nil (WasAsked scheme node before later))
-      ]
+      | inr under ↦ asked_below low lowest at waiters before later least each round due.0 under.1
     ];
     lowest = λ _ none. absurd cc;
   }
@@ -349,16 +339,22 @@ module _ {S : Type 0} (scheme : Scheme S) where
 -- ---- which one is taken
 
 module _ {S : Type 0} (scheme : Scheme S) where
-  pub ready_now : (before later : CallerView S) (event : Event) → Begins before.seat.view.seen later.seat.view.seen
+  pub ready_now : (before later : CallerView S) (event : Event) → Begins before.seat.view.seen later.seat.view.seen → fault_of before.setting.charter accepts_all event ≡ None
       → ((base : State) → IsBase scheme before.node base
       → is_missing_parents (answered (node_of scheme before.node.setting) (seen_in (node_of scheme before.node.setting) base later.seat) event) ≡ false)
       → WasReady scheme before.node before later event
-  ready_now before later event more has = record { looked = later.seat.view.seen; more = more; less = begins_same later.seat.view.seen; has = has }
+  ready_now before later event more passed has = record { looked = later.seat.view.seen; more = more; less = begins_same later.seat.view.seen; passed = passed; has = has }
 
   ready_since : (before mid later : CallerView S) (event : Event) → OnlyAsks before mid → WasReady scheme mid.node mid later event → WasReady scheme before.node before later event
   ready_since before mid later event only ready =
       let here = subst (λ (n : NodeView S). WasReady scheme n mid later event) only.stays.node ready in
-      record { looked = here.looked; more = begins_trans before.seat.view.seen mid.seat.view.seen here.looked only.seen here.more; less = here.less; has = here.has }
+      record {
+        looked = here.looked;
+        more = begins_trans before.seat.view.seen mid.seat.view.seen here.looked only.seen here.more;
+        less = here.less;
+        passed = subst (λ (s : ConfigView S). fault_of s.charter accepts_all event ≡ None) only.stays.setting here.passed;
+        has = here.has;
+      }
 
   -- the one at a place, where those before it aren't ready
   pub first_taken : (before mid later : CallerView S) (waiters mid_waiters : WaitersView) (round place : ℕ) (event : Event) (left : List Event) → OnlyAsks before mid → OnlyAsks mid later

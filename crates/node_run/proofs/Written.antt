@@ -1,26 +1,29 @@
 -- What goes to a node's writer, output by output.
-use Rattle.std.proofs.Common.{◌≡◌, ℕ, Bool, true, false, List, [], ◌∷◌, ◌++◌, Option, None, Some, refl, sym, ap, subst, ◌∙◌, append-nil, append_assoc, inl, inr}
-use Rattle.std.specs.Prelude.{◌||◌}
+use Rattle.std.proofs.Common.{◌≡◌, ℕ, ◌+◌, length, arith, Bool, true, false, List, [], ◌∷◌, ◌++◌, Option, None, Some, refl, sym, ap, subst, ◌∙◌, append-nil, append_assoc, inl, inr}
+use Rattle.std.specs.Prelude.{◌||◌, ◌≢◌}
 use Rattle.std.proofs.lemmas.Bool.{or_left, or_right, or_parts}
 use Rattle.std.specs.Io.Buffered.{writer_buffer, writer_contents, writer_inner}
 use Rattle.std.specs.List.{flat_map}
 use Rattle.std.specs.declared.io.buffered.BufWriter.{BufWriter}
 use Rattle.std.specs.Io.KnownBytes.{Keeps, Appends, append_known}
 use Rattle.std.proofs.KnownBytes.{Keeps-refl, Keeps-trans, Appends-trans, Appends-kept}
+use Rattle.std.proofs.lemmas.List.{length-append}
 use Rattle.std.proofs.lemmas.List.Concat.{flat_map-append}
 use Rattle.std.proofs.lemmas.List.Elements.{All-nil, All-append, All-cons, All-head, All-tail, All-weaker}
-use Rattle.std.specs.Prelude.{All}
+use Rattle.std.specs.Prelude.{All, map}
 use Rattle.spec_model.specs.Admitting.{IsLegal}
 use Rattle.spec_model.specs.Giving.{kept, MayGive}
 use Rattle.spec_model.specs.Histories.{History}
 use Rattle.spec_model.specs.States.{State}
 use Rattle.wire.specs.Lists.{Begins}
 use Rattle.spec_model.specs.Words.{Output}
+use Rattle.spec_world.specs.World.{Waiting}
 use Rattle.node_io.specs.declared.faults.Faults.{Faults}
 use Rattle.node_seats.proofs.Beginnings.{begins_trans}
+use Rattle.node_seats.specs.Sights.{SeatView}
 use Rattle.node_seats.specs.Views.{events}
 use Rattle.node_seats.specs.declared.view.View.{View}
-use Rattle.node_shared.specs.Answers.{IsPutOutBy}
+use Rattle.node_shared.specs.Answers.{Gives, GivesAll, IsPutOutBy}
 use Rattle.node_shared.specs.Home.{NodeView, IsBase}
 use Rattle.sigface.specs.Scheme.{Scheme}
 use Rattle.validator.specs.Setting.{node_of}
@@ -150,15 +153,28 @@ front_all : (P : Output → Type 0) (front back : List Output) → All P (front 
 front_all P [] back all = All-nil P
 front_all P (first ∷ rest) back all = All-cons P first rest (All-head P first (rest ++ back) all) (front_all P rest back (All-tail P first (rest ++ back) all))
 
+module _ (outputs : List Output) (before later : Faults) (old new : Option (List ℕ)) (puts : PutsAll outputs before later old new) where
+  puts_broken : before.output ≡ true → later.output ≡ true
+  puts_broken is = ap (λ (faults : Faults). faults.output) (puts.over (or_left before.output before.memory is)).0 ∙ is
+
+  puts_memory : before.memory ≡ true → later.memory ≡ true
+  puts_memory is = ap (λ (faults : Faults). faults.memory) (puts.over (or_right before.output before.memory is)).0 ∙ is
+
+-- the first of some outputs aren't all of these and one more
+one_short : (put outputs : List Output) (output : Output) → Begins put outputs → put ≢ outputs ++ output ∷ []
+one_short put outputs output begins is =
+    let longer : length put ≡ length outputs + 1 = ap length is ∙ length-append outputs (output ∷ []) in
+    let parts : length outputs ≡ length put + length begins.rest = ap length begins.parts ∙ length-append put begins.rest in
+    omega (arith, longer, parts)
+
 -- the frames of no output
 pub put_nothing : (faults : Faults) (at : Option (List ℕ)) → PutsAll [] faults faults at at
 put_nothing faults at = record {
-  over = λ is. Keeps-refl at;
-  broken = λ is. is;
-  memory = λ is. is;
+  over = λ is. (refl, Keeps-refl at);
   put = [];
   begins = record { rest = []; parts = refl };
   whole = λ up. refl;
+  lacks = λ up fine lack. absurd (let bad : true ≡ false = sym lack ∙ (or_parts faults.output faults.memory up).1 in cc);
   written = λ fine. keeps_appends at at (Keeps-refl at);
   some = all_some at at [] (keeps_appends at at (Keeps-refl at));
   others = refl;
@@ -175,11 +191,6 @@ put_more outputs output before mid later old cur new so_far puts = by (is_over m
     frame : frame_of output ≡ flat_map frame_of one
     frame = sym (append-nil (frame_of output))
 
-    memory : before.memory ≡ true → later.memory ≡ true
-    memory is =
-        let was : mid.memory ≡ true = so_far.memory is in
-        ap (λ (faults : Faults). faults.memory) (puts.over (or_right mid.output mid.memory was)).0 ∙ was
-
     stays : mid.output ≡ true → later.output ≡ true
     stays was = ap (λ (faults : Faults). faults.output) (puts.over (or_left mid.output mid.memory was)).0 ∙ was
 
@@ -193,31 +204,34 @@ put_more outputs output before mid later old cur new so_far puts = by (is_over m
     was true is yet = let bad : true ≡ false = sym (stays is) ∙ yet in absurd cc
     was false is yet = is
 
-    none_more : is_over later ≡ true → Keeps cur new → PutsAll (outputs ++ one) before later old new
-    none_more over keeps = record {
-      over = λ is. Keeps-trans old cur new (so_far.over is) keeps;
-      broken = λ is. stays (so_far.broken is);
-      memory = memory;
+    -- if it was over before, it was over then
+    was_up : is_over mid ≡ false → is_over before ≡ true → ⊥
+    was_up up is = let bad : true ≡ false = sym (ap is_over (so_far.over is).0 ∙ is) ∙ up in cc
+
+    none_more : (is_over before ≡ true → later ≡ before) → is_over later ≡ true → Keeps cur new → PutsAll (outputs ++ one) before later old new
+    none_more same over keeps = record {
+      over = λ is. (same is, Keeps-trans old cur new (so_far.over is).1 keeps);
       put = so_far.put;
       begins = record { rest = so_far.begins.rest ++ one; parts = ap (λ (l : List Output). l ++ one) so_far.begins.parts ∙ append_assoc so_far.put so_far.begins.rest one };
       whole = λ up. absurd (let bad : true ≡ false = sym over ∙ up in cc);
+      lacks = λ up fine lack. one_short so_far.put outputs output so_far.begins;
       written = λ yet. Appends-kept old cur new (flat_map frame_of so_far.put) (so_far.written (was mid.output refl yet)) keeps;
       some = some_kept old cur new (flat_map frame_of so_far.put) so_far.some keeps;
       others = others;
     }
 
-    one_put : is_over mid ≡ false → (later.output ≡ false → Appends cur new (flat_map frame_of one)) → PutsAll (outputs ++ one) before later old new
-    one_put up written =
+    one_put : is_over mid ≡ false → (later.output ≡ false → later.memory ≡ false) → (later.output ≡ false → Appends cur new (flat_map frame_of one))
+        → PutsAll (outputs ++ one) before later old new
+    one_put up no_lack written =
         let fine : mid.output ≡ false = (or_parts mid.output mid.memory up).0 in
         let all : so_far.put ≡ outputs = so_far.whole up in
         let frames : flat_map frame_of so_far.put ++ flat_map frame_of one ≡ flat_map frame_of (so_far.put ++ one) = sym (flat_map-append frame_of so_far.put one) in
         record {
-          over = λ is. absurd (let bad : true ≡ false = sym (over_yet before mid so_far.broken so_far.memory is) ∙ up in cc);
-          broken = λ is. absurd (let bad : true ≡ false = sym (so_far.broken is) ∙ fine in cc);
-          memory = memory;
+          over = λ is. absurd (was_up up is);
           put = so_far.put ++ one;
           begins = record { rest = []; parts = ap (λ (l : List Output). l ++ one) (sym all) ∙ sym (append-nil (so_far.put ++ one)) };
           whole = λ _. ap (λ (l : List Output). l ++ one) all;
+          lacks = λ _ yet lack. absurd (let bad : true ≡ false = sym lack ∙ no_lack yet in cc);
           written = λ yet. subst (Appends old new) frames (Appends-trans old cur new (flat_map frame_of so_far.put) (flat_map frame_of one) (so_far.written fine) (written yet));
           some = subst (AppendsSome old new) frames (some_after old cur new (flat_map frame_of so_far.put) (flat_map frame_of one) (so_far.written fine) some);
           others = others;
@@ -225,20 +239,22 @@ put_more outputs output before mid later old cur new so_far puts = by (is_over m
 
     -- it was over; the writer fails now; an allocation fails now; nothing fails
     by : (was_over now : Bool) → is_over mid ≡ was_over → later.output ≡ now → PutsAll (outputs ++ one) before later old new
-    by true now is then = none_more (ap is_over (puts.over is).0 ∙ is) (puts.over is).1
-    by false true is then = one_put is (λ fine. absurd (let bad : true ≡ false = sym then ∙ fine in cc))
+    by true now is then = none_more (λ was. (puts.over is).0 ∙ (so_far.over was).0) (ap is_over (puts.over is).0 ∙ is) (puts.over is).1
+    by false true is then =
+        one_put is (λ fine. absurd (let bad : true ≡ false = sym then ∙ fine in cc)) (λ fine. absurd (let bad : true ≡ false = sym then ∙ fine in cc))
     by false false is then = elim (puts.fine then) [
-      | inl all ↦ one_put is (λ fine. subst (Appends cur new) frame all.1)
-      | inr none ↦ none_more (or_right later.output later.memory (ap (λ (faults : Faults). faults.memory) none.0)) none.1
+      | inl all ↦ one_put is (λ fine. ap (λ (faults : Faults). faults.memory) all.0 ∙ (or_parts mid.output mid.memory is).1)
+          (λ fine. subst (Appends cur new) frame all.1)
+      | inr none ↦ none_more (λ before'. absurd (was_up is before')) (or_right later.output later.memory (ap (λ (faults : Faults). faults.memory) none.0)) none.1
     ]
 
 -- outputs that may go were put
 pub only_put : (May : Output → Type 0) (outputs : List Output) (before later : Faults) (old new : Option (List ℕ)) → All May outputs → PutsAll outputs before later old new
     → WritesOnly May before later old new
 only_put May outputs before later old new each puts = record {
-  over = puts.over;
-  broken = puts.broken;
-  memory = puts.memory;
+  over = λ is. (puts.over is).1;
+  broken = puts_broken outputs before later old new puts;
+  memory = puts_memory outputs before later old new puts;
   outputs = puts.put;
   each = front_all May puts.put puts.begins.rest (subst (All May) puts.begins.parts each);
   written = puts.written;
@@ -332,6 +348,18 @@ goes_now scheme node view output may put = record {
   within = put.settled;
   put_out = put.goes_out;
 }
+
+-- what a seat collected may go
+pub may_all : {S : Type 0} (scheme : Scheme S) (node : NodeView S) (seat : SeatView) (outputs : List Output) → GivesAll scheme node seat [] outputs → All (MayGo scheme node seat.view) outputs
+may_all scheme node seat outputs gives = subst (All (MayGo scheme node seat.view)) (sym gives.added) (each gives.waiting gives.each)
+  where
+    each : (waiting : List Waiting) → All (λ (one : Waiting). Gives scheme node seat one.output) waiting → All (MayGo scheme node seat.view) (map (λ (one : Waiting). one.output) waiting)
+    each [] all = All-nil (MayGo scheme node seat.view)
+    each (one ∷ rest) all =
+        let P : Waiting → Type 0 = λ (it : Waiting). Gives scheme node seat it.output in
+        let first : P one = All-head P one rest all in
+        All-cons (MayGo scheme node seat.view) one.output (map (λ (it : Waiting). it.output) rest) (goes_now scheme node seat.view one.output first.may first.put_out)
+        (each rest (All-tail P one rest all))
 
 -- ---- the writer that is given back
 

@@ -15,6 +15,7 @@ use Rattle.node.specs.Callers.{CallerView, StaysWith}
 use Rattle.sigface.specs.Scheme.{Scheme}
 use Rattle.validator.specs.Setting.{node_of}
 use Rattle.waiter.specs.Rounds.{WaitersView, held}
+use Rattle.node_run.specs.Asking.{IsTakenOut}
 use Rattle.node_run.specs.Bringing.{BringsAgain}
 use Rattle.node_run.specs.declared.due.Waiting.{Waiting}
 use Rattle.node_run.specs.declared.due.Waiting.TheVariants.{Nothing, Rounds}
@@ -41,16 +42,18 @@ pub record WasAsked {S : Type 0} (scheme : Scheme S) (node : NodeView S) (before
   pub lacks : IsSome (certificate_digest_in event.message) → fault_of before.setting.charter accepts_all event ≡ None → (base : State) → IsBase scheme node base
       → is_missing_parents (answered (node_of scheme node.setting) (after_all (node_of scheme node.setting) base (events looked)) event) ≡ true
 
--- The node was asked about a certificate that waits, which is ready. From each base it lacked no parent after the events that the caller
--- had seen at some moment between `before` and `later`.
+-- The node was asked about a certificate that waits, which is ready. The certificate passes the checks, and from each base it lacked no
+-- parent after the events that the caller had seen at some moment between `before` and `later`.
 pub record WasReady {S : Type 0} (scheme : Scheme S) (node : NodeView S) (before later : CallerView S) (event : Event) : Type 0 where
   pub looked : List Marked
   pub more : Begins before.seat.view.seen looked
   pub less : Begins looked later.seat.view.seen
+  pub passed : fault_of before.setting.charter accepts_all event ≡ None
   pub has : (base : State) → IsBase scheme node base
       → is_missing_parents (answered (node_of scheme node.setting) (after_all (node_of scheme node.setting) base (events looked)) event) ≡ false
 
--- of these waiting certificates, in the order in which they came, this one is the first that is ready; those before it were asked about
+-- Of these waiting certificates, in the order in which they came, this one was ready at some moment, and each one before it may not be
+-- submitted yet, as the node was asked at a moment of its own.
 pub record IsFirstReady {S : Type 0} (scheme : Scheme S) (node : NodeView S) (before later : CallerView S) (waiting : List Event) (event : Event) : Type 0 where
   pub front : List Event
   pub back : List Event
@@ -74,6 +77,16 @@ abbrev pub WasSubmitted : {S : Type 0} → Scheme S → NodeView S → CallerVie
 WasSubmitted {S} scheme node caller event = (before : CallerView S) × (later : CallerView S) × (result : Result Bool Rejection)
     × (BringsAgain scheme node (fault_of caller.setting.charter accepts_all event) event before later result)
     × Begins caller.seat.view.seen before.seat.view.seen
+
+-- A waiting certificate was taken out: the first that is ready of those of its round. Either no certificate waits in a lower round, and the
+-- same rounds are due as before; or its round was due, the due rounds from it on still are, and the node was asked about each certificate
+-- of those below it.
+pub record TakesFirstReady {S : Type 0} (scheme : Scheme S) (node : NodeView S) (due later_due : Waiting) (waiters later_waiters : WaitersView) (before later : CallerView S) (event : Event) : Type 0 where
+  pub round : ℕ
+  pub taken : IsTakenOut event round waiters later_waiters
+  pub first : IsFirstReady scheme node before later (held waiters round) event
+  pub turn : ((later_due ≡ due) × ((other : ℕ) → other < round → held waiters other ≡ []))
+      ⊎ ((low : ℕ) × (end : ℕ) × (due ≡ Rounds low end) × (later_due ≡ Rounds round end) × (round < end) × AsksEach scheme node low round waiters before later)
 
 -- Each certificate that waited in a due round was asked about, or was submitted, or still waits in a due round.
 abbrev pub GoesThrough : {S : Type 0} → Scheme S → NodeView S → Waiting → Waiting → WaitersView → WaitersView → CallerView S → CallerView S → Type 0

@@ -10,10 +10,12 @@ use Rattle.spec_model.specs.Histories.{History}
 use Rattle.spec_model.specs.States.{State}
 use Rattle.spec_model.specs.Words.{Output}
 use Rattle.node_io.specs.declared.faults.Faults.{Faults}
+use Rattle.node_seats.specs.Sights.{SeatView}
 use Rattle.node_seats.specs.Views.{events}
 use Rattle.node_seats.specs.declared.view.Marked.{Marked}
 use Rattle.node_seats.specs.declared.view.View.{View}
 use Rattle.wire.specs.Outputs.{frame_of}
+use Rattle.node_shared.specs.Answers.{GivesAll}
 use Rattle.node_shared.specs.Home.{NodeView, IsBase}
 use Rattle.sigface.specs.Scheme.{Scheme}
 use Rattle.validator.specs.Setting.{node_of}
@@ -56,25 +58,24 @@ pub record MayGo {S : Type 0} (scheme : Scheme S) (node : NodeView S) (view : Vi
   pub within : count ≤ length settled
   pub put_out : (base : State) → IsBase scheme node base → GoesOutAfter (node_of scheme node.setting) base (events (take count settled)) output
 
--- The frames of these outputs are put, in their order. If nothing has failed yet, the writer gets all of them. If it fails, or an
--- allocation fails, it gets the frames of the first outputs; only if the writer failed may the last of these frames be cut short. After a
--- failure it gets nothing. No other fault is reported.
+-- The frames of these outputs are put, in their order. If nothing has failed yet, the writer gets all of them; or an allocation fails, and
+-- it gets the frames of the first outputs, but not of all; or it fails, and gets the frames of the first outputs, the last of which may be
+-- cut short. After a failure it gets nothing, and nothing more is reported. No other fault is reported.
 pub record PutsAll (outputs : List Output) (before later : Faults) (old new : Option (List ℕ)) : Type 0 where
-  pub over : is_over before ≡ true → Keeps old new
-  pub broken : before.output ≡ true → later.output ≡ true
-  pub memory : before.memory ≡ true → later.memory ≡ true
+  pub over : is_over before ≡ true → (later ≡ before) × Keeps old new
   pub put : List Output
   pub begins : Begins put outputs
   pub whole : is_over later ≡ false → put ≡ outputs
+  pub lacks : is_over before ≡ false → later.output ≡ false → later.memory ≡ true → put ≢ outputs
   pub written : later.output ≡ false → Appends old new (flat_map frame_of put)
   pub some : AppendsSome old new (flat_map frame_of put)
   pub others : later ≡ record before { output = later.output; memory = later.memory }
 
--- at least one output that may go out was taken out of the node, and all that were are put
-pub record WritesNext (May : Output → Type 0) (before later : Faults) (old new : Option (List ℕ)) : Type 0 where
+-- the outputs that a seat collected, at least one, are put in the order in which they were collected
+pub record WritesNext {S : Type 0} (scheme : Scheme S) (node : NodeView S) (seat : SeatView) (before later : Faults) (old new : Option (List ℕ)) : Type 0 where
   pub outputs : List Output
   pub some : outputs ≢ []
-  pub each : All May outputs
+  pub given : GivesAll scheme node seat [] outputs
   pub puts : PutsAll outputs before later old new
 
 -- The writer got only frames of outputs that may go out; only if it failed may the last frame be cut short. After a failure it got nothing.
@@ -89,7 +90,7 @@ pub record WritesOnly (May : Output → Type 0) (before later : Faults) (old new
   pub some : AppendsSome old new (flat_map frame_of outputs)
   pub others : later ≡ record before { output = later.output; memory = later.memory }
 
--- if it is known what the writer held before and what it holds now, this is what it held followed by a prefix of these bytes
+-- if it is known what the writer held before, it is known what it holds now: that, followed by a prefix of these bytes
 abbrev pub HoldsPart : Option (List ℕ) → Option (List ℕ) → List ℕ → Type 0
 HoldsPart None new bytes = ⊤
 HoldsPart (Some xs) None bytes = ⊥

@@ -1,6 +1,7 @@
 //! What a thread of a running node uses to call the node, with messages that weren't checked yet.
 
 ghost use Rattle.std.specs.Prelude.{◌≡◌, None, Err, true, false, IsSome, IsTrue, IsErr, ◌↔◌, IfOk, IfSome, OnErr};
+ghost use Rattle.std.specs.VecDeque.{deque_capacity};
 ghost use Rattle.header.specs.Digested.{certificate_digest_in};
 ghost use Rattle.header.specs.Checks.{fault_of, accepts_all};
 ghost use Rattle.wire.specs.Lists.{Begins};
@@ -183,6 +184,7 @@ impl<'n, 'a, S: Sign> Caller<'n, 'a, S> {
     /// Moves the outputs that may leave to the end of `outputs`, oldest first, as many as that has room for.
     pub(crate) fn collect_into<R: Wait>(&mut self, rt: &R, outputs: &mut VecDeque<Output>)
         ensures stays { StaysWith self.old self.new }
+        ensures capacity { deque_capacity outputs.new ≡ deque_capacity outputs.old }
         ensures learned { Learned S.scheme self.old.node self.old.seat self.new.seat }
         ensures gives { GivesAll S.scheme self.old.node self.new.seat outputs.old.items outputs.new.items }
     {

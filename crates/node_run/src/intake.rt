@@ -9,7 +9,7 @@ ghost use Rattle.node.specs.Callers.{StaysWith};
 ghost use Rattle.wire.specs.declared.message.Message.TheVariants as message;
 ghost use Rattle.waiter.specs.Rounds.{held, none_waits};
 ghost use Rattle.wire.specs.Lists.{Begins};
-ghost use Rattle.node_run.specs.Asked.{AsksEach, AsksWhatWasDue, GoesThrough, IsFirstReady, OnlyAsks, WasAsked, WasReady};
+ghost use Rattle.node_run.specs.Asked.{AsksEach, AsksWhatWasDue, GoesThrough, IsFirstReady, OnlyAsks, TakesFirstReady, WasAsked, WasReady};
 ghost use Rattle.node_run.specs.Asking.{IsDueAfter, IsTakenOut, TakesOne, nothing_due, first_due};
 ghost use Rattle.node_run.specs.Bringing.{Brings, BringsAgain, CantWait, Enters, own_batch};
 ghost use Rattle.node_run.specs.Ends.{reported_of_wait};
@@ -275,7 +275,7 @@ impl<'n, 'a, S: Sign> Intake<'n, 'a, S> {
     fn next_ready<R: Wait>(&mut self, rt: &R) -> Option<Checked>
         ensures idle { self.old.due.waiting ≡ Waiting.Nothing → (result ≡ None) × (self.new ≡ self.old) }
         ensures some { IfSome result (λ event. TakesOne event self.old.waiters self.new.waiters self.old.due self.new.due) }
-        ensures first { IfSome result (λ event. (round : ℕ) × IsFirstReady S.scheme self.old.caller.node self.old.caller self.new.caller (held self.old.waiters round) event) }
+        ensures first { IfSome result (TakesFirstReady S.scheme self.old.caller.node self.old.due.waiting self.new.due.waiting self.old.waiters self.new.waiters self.old.caller self.new.caller) }
         ensures none { IfNone result ((self.new.waiters ≡ self.old.waiters) × (self.new.due.waiting ≡ Waiting.Nothing)) }
         ensures count { IfSome result (λ _. self.new.waiters.count + 1 ≡ self.old.waiters.count) }
         ensures asks { AsksWhatWasDue S.scheme self.old.caller.node self.old.due.waiting self.new.due.waiting self.old.waiters self.old.caller self.new.caller }

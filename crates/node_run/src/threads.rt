@@ -22,20 +22,18 @@ use crate::flushing::flush_all;
 use crate::intake::Intake;
 use crate::reading::read_all;
 use crate::rule::Rule;
-use crate::writing::{MAX_COLLECTED, Sink, write_outputs};
+use crate::writing::{Collected, Sink, write_outputs};
 use diskmodel::Disk;
 use journal::{JournalError, Store};
 use node::Rounds;
 use node_io::{Faults, Input};
 use sigface::Sign;
 use std::alloc::{AllocError, Global};
-use std::collections::VecDeque;
 use std::io::{BufWriter, Read, Write};
 use std::marker::{Model, PhantomData};
 use std::sync::Wait;
 use std::thread::Threads;
 use validator::Config;
-use wire::Output;
 
 // The work of the flushing thread. When it ends it gives its rounds back.
 #[derive(Drop)]
@@ -87,8 +85,7 @@ impl<'n, 'a, R: Wait, S: Sign, D: Disk + Drop> Work<R, (Faults, Rounds<'n, 'a, S
 struct Writing<'n, 'a, S: Sign, W: Write + Drop> {
     caller: Caller<'n, 'a, S>,
     sink: Sink<W>,
-    // The outputs that were taken out of the node and that aren't written yet.
-    collected: VecDeque<Output>,
+    collected: Collected,
     settled: &'n Bell,
 }
 
@@ -193,7 +190,7 @@ impl<'n, 'a, 'e, S: Sign, I: Read + Drop, W: Write + Drop, E: Write> Desks<'n, '
             writing: Writing {
                 caller: Caller::new(rounds.caller(config)?),
                 sink: Sink::new(alloc, buffered(alloc, writer)?),
-                collected: VecDeque::with_capacity(alloc, MAX_COLLECTED)?,
+                collected: Collected::new(alloc)?,
                 settled: &bells.settled,
             },
             bells,

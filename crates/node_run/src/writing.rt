@@ -1,6 +1,7 @@
 //! The writing thread, which writes the outputs that may leave.
 
 ghost use Rattle.std.specs.Prelude.{◌≡◌, [], true, false};
+ghost use Rattle.std.specs.VecDeque.{deque_capacity};
 ghost use Rattle.std.specs.Io.Buffered.{writer_contents};
 ghost use Rattle.std.specs.Io.KnownBytes.{Keeps};
 ghost use Rattle.wire.specs.Lists.{Begins};
@@ -13,15 +14,42 @@ use crate::bell::Bell;
 use crate::caller::Caller;
 use node_io::Faults;
 use sigface::Sign;
-use std::alloc::Global;
+use std::alloc::{AllocError, Global};
 use std::collections::VecDeque;
 use std::io::{BufWriter, Write};
+use std::marker::Model;
 use std::sync::Wait;
 use wire::Output;
 use wire_write::{WriteError, write_output};
 
 /// How many outputs are taken out of the node at most in one hold of its lock.
-pub(crate) const MAX_COLLECTED: usize = 256;
+const MAX_COLLECTED: usize = 256;
+
+/// The outputs that were taken out of the node and that aren't written yet. Between two calls there is none, and room for at least one.
+#[derive(Drop)]
+pub(crate) struct Collected {
+    outputs: VecDeque<Output>,
+}
+
+impl Model for Collected {
+    ghost use Rattle.std.specs.Prelude.{◌≡◌, ◌<◌, ⊤, []};
+    ghost use Rattle.std.specs.VecDeque.{deque_capacity};
+
+    ghost Value = { ⊤ };
+
+    ghost view = { λ _. tt };
+
+    ghost invariant = { λ c. (c.outputs.items ≡ []) × (0 < deque_capacity c.outputs) };
+}
+
+impl Collected {
+    /// None, and room for some. On `AllocError` an allocation failed.
+    pub(crate) fn new(alloc: Global) -> Result<Collected, AllocError> {
+        Ok(Collected {
+            outputs: VecDeque::with_capacity(alloc, MAX_COLLECTED)?,
+        })
+    }
+}
 
 /// Where outputs are written. Once an output couldn't be written, or an allocation for it failed, no further output is written. So what was
 /// written has no gap.
@@ -33,12 +61,12 @@ pub(crate) struct Sink<W: Write + Drop> {
 }
 
 /// The work of the writing thread: writes a frame for each output that may leave, each time that the bell is rung, until the bell is closed
-/// and all of them are written. Between the node and the sink the outputs stand in `collected`.
+/// and all of them are written.
 pub(crate) fn write_outputs<S: Sign, W: Write + Drop, R: Wait>(
     rt: &R,
     caller: &mut Caller<'_, '_, S>,
     sink: &mut Sink<W>,
-    collected: &mut VecDeque<Output>,
+    collected: &mut Collected,
     settled: &Bell,
 )
     ensures stays { StaysWith caller.old caller.new }
@@ -61,7 +89,7 @@ fn write_due<S: Sign, W: Write + Drop, R: Wait>(
     rt: &R,
     caller: &mut Caller<'_, '_, S>,
     sink: &mut Sink<W>,
-    collected: &mut VecDeque<Output>,
+    collected: &mut Collected,
 )
     ensures stays { StaysWith caller.old caller.new }
     ensures same { IsSame caller.old.seat caller.new.seat }
@@ -76,25 +104,25 @@ fn write_due<S: Sign, W: Write + Drop, R: Wait>(
     unreachable!()
 }
 
-// Takes the next outputs that may leave, as many as `collected` has room for, and writes them, oldest first. Gives whether there was one.
+// Takes the next outputs that may leave, as many as `collected` has room for, and writes all of them, oldest first. Gives whether there
+// was one.
 fn write_next<S: Sign, W: Write + Drop, R: Wait>(
     rt: &R,
     caller: &mut Caller<'_, '_, S>,
     sink: &mut Sink<W>,
-    collected: &mut VecDeque<Output>,
+    collected: &mut Collected,
 ) -> bool
     ensures stays { StaysWith caller.old caller.new }
     ensures same { IsSame caller.old.seat caller.new.seat }
     ensures more { Begins caller.old.seat.view.durable caller.new.seat.view.durable }
-    ensures next { result ≡ true → WritesNext (MayGo S.scheme caller.old.node caller.new.seat.view) sink.old.faults sink.new.faults (writer_contents W.contents sink.old.writer) (writer_contents W.contents sink.new.writer) }
+    ensures next { result ≡ true → WritesNext S.scheme caller.old.node caller.new.seat sink.old.faults sink.new.faults (writer_contents W.contents sink.old.writer) (writer_contents W.contents sink.new.writer) }
     ensures none { result ≡ false → sink.new ≡ sink.old }
 {
-    collected.clear();
-    caller.collect_into(rt, collected);
-    if collected.is_empty() {
+    caller.collect_into(rt, &mut collected.outputs);
+    if collected.outputs.is_empty() {
         return false;
     }
-    sink.put_all(collected);
+    sink.put_all(&mut collected.outputs);
     true
 }
 
@@ -136,7 +164,9 @@ impl<W: Write + Drop> Sink<W> {
 
     // Writes the frames of these outputs, in their order, and drops the outputs.
     fn put_all(&mut self, outputs: &mut VecDeque<Output>)
-        ensures { PutsAll outputs.old.items self.old.faults self.new.faults (writer_contents W.contents self.old.writer) (writer_contents W.contents self.new.writer) }
+        ensures drained { outputs.new.items ≡ [] }
+        ensures room { deque_capacity outputs.new ≡ deque_capacity outputs.old }
+        ensures puts { PutsAll outputs.old.items self.old.faults self.new.faults (writer_contents W.contents self.old.writer) (writer_contents W.contents self.new.writer) }
     {
         while let Some(output) = outputs.pop_front() {
             self.put(output);

@@ -5,7 +5,7 @@ use Rattle.node_seats.proofs.Beginnings.{begins_same, begins_trans}
 use Rattle.node_seats.specs.Views.{IsSame}
 use Rattle.node.specs.Callers.{StaysWith}
 use Rattle.node_run.specs.Writing.{MayGo, WritesOnly}
-use Rattle.node_run.proofs.Written.{both_written, may_go_yet, no_more, none_yet, only_put, weaker}
+use Rattle.node_run.proofs.Written.{both_written, may_all, may_go_yet, no_more, none_yet, only_put, weaker}
 use Rattle.node_run.proofs.writing.write_due.Goals as goal
 
 pub loop-init : goal.loop-init
@@ -34,7 +34,8 @@ loop-preserved g c =
     let next = c.write_next.ensures.next c.if-not-write_next.false in
     let so_far = weaker (MayGo scheme node c.loop.caller.seat.view) (MayGo scheme node later) c.args.sink.now.faults c.loop.sink.faults old cur
     (may_go_yet scheme node c.loop.caller.seat.view later c.write_next.ensures.more) c.loop.invariant.5 in
-    let may = subst (λ it. All (MayGo scheme it later) next.outputs) c.loop.invariant.2.node next.each in
+    let all = may_all scheme c.loop.caller.node c.write_next.new.caller.seat next.outputs next.given in
+    let may = subst (λ it. All (MayGo scheme it later) next.outputs) c.loop.invariant.2.node all in
     let now = writer_contents g.W.Write.contents c.write_next.new.sink.writer in (
       tt,
       tt,

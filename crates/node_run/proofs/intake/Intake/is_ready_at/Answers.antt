@@ -14,4 +14,4 @@ returns-in-Some-clause-ready g c = λ is.
     let later = c.is_ready.new.self in
     let there : slice_get (held old.waiters c.args.round) c.args.place ≡ Some event = sym c.in-Some.ensures in
     subst (λ (o : Option Event). IfSome o (WasReady scheme old.caller.node old.caller later)) (sym there)
-    (ready_now scheme old.caller later event c.is_ready.ensures.more (c.is_ready.ensures.ready is))
+    (ready_now scheme old.caller later event c.is_ready.ensures.more (c.is_ready.ensures.checked is) (c.is_ready.ensures.ready is))

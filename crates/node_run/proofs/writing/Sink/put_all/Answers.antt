@@ -9,7 +9,7 @@ use Rattle.node_run.proofs.writing.Sink.put_all.Goals as goal
 pub loop-output-init : goal.loop-output-init
 loop-output-init g c =
     let old = c.args.self.now in
-    record { done = []; parts = refl {A = List Output}; puts = put_nothing old.faults (writer_contents g.W.Write.contents old.writer) }
+    record { done = []; parts = refl {A = List Output}; puts = put_nothing old.faults (writer_contents g.W.Write.contents old.writer); room = refl }
 
 pub loop-output-preserved : goal.loop-output-preserved
 loop-output-preserved g c =
@@ -23,10 +23,14 @@ loop-output-preserved g c =
       done = so_far.done ++ output ∷ [];
       parts = so_far.parts ∙ ap (λ (l : List Output). so_far.done ++ l) c.in-Some.ensures.items ∙ sym (append_assoc so_far.done (output ∷ []) _);
       puts = put_more so_far.done output old.faults mid.faults later.faults (contents old.writer) (contents mid.writer) (contents later.writer) so_far.puts c.put.ensures;
+      room = c.in-Some.ensures.capacity ∙ so_far.room;
     }
 
-pub returns : goal.returns
-returns g c =
+pub returns-clause-drained : goal.returns-clause-drained
+returns-clause-drained g c = let outputs = c.loop-output.outputs in nil_from_length outputs.items (sym outputs.ok.0 ∙ c.in_default.ensures.cases.0)
+
+pub returns-clause-puts : goal.returns-clause-puts
+returns-clause-puts g c =
     let old = c.args.self.now in
     let now = c.loop-output.self in
     let outputs = c.loop-output.outputs in
