@@ -182,7 +182,8 @@ impl<'n, 'a, S: Sign> Caller<'n, 'a, S> {
         self.node.accepted(&mut self.seat)
     }
 
-    /// Whether the node is down, which the caller then knows. The call never waits.
+    /// Whether the node is down, as far as the caller knows after this call. Where the result is false, the node may be down all the same.
+    /// The call never waits.
     pub fn is_down(&mut self) -> bool
         ensures stays { StaysWith self.old self.new }
         ensures learned { Learned S.scheme self.old.node self.old.seat self.new.seat }

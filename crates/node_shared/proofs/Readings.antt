@@ -61,7 +61,7 @@ module _ {S : Type 0} (shared : NodeView S) (scheme : Scheme S) (seat mine : Sea
   ticket_size : length (events seat.view.durable) ≡ length seat.view.durable
   ticket_size = length-map seat.view.durable (λ (one : Marked). one.event)
 
-  front : (base : State) → IsBase scheme shared base → mine.view.durable ≡ seat.view.durable → (ticket : ℕ) → ticket ≤ length (events seat.view.durable)
+  pub front : (base : State) → IsBase scheme shared base → mine.view.durable ≡ seat.view.durable → (ticket : ℕ) → ticket ≤ length (events seat.view.durable)
       → take ticket (events seat.view.seen) ≡ events (take ticket mine.view.durable)
   front base at same ticket within =
       let stands = home.stands base at in

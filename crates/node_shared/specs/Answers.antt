@@ -1,5 +1,5 @@
 -- What the calls of a shared node answer.
-use Rattle.std.specs.Prelude.{◌≡◌, ◌≤◌, ◌<◌, ◌⊎◌, ⊤, ℕ, true, false, List, [], ◌∷◌, ◌++◌, length, take, All, IsTrue, Result, IfOk, IfErr}
+use Rattle.std.specs.Prelude.{◌≡◌, ◌≤◌, ◌<◌, ◌⊎◌, ⊤, ℕ, true, false, List, [], ◌∷◌, ◌++◌, length, map, take, All, IsTrue, Result, IfOk, IfErr}
 use Rattle.spec_machine.specs.After.{after_all}
 use Rattle.spec_machine.specs.Machine.{answered}
 use Rattle.spec_model.specs.Admitting.{is_new, IsLegal}
@@ -13,7 +13,9 @@ use Rattle.header.specs.declared.admission.Admission.{Admission}
 use Rattle.header.specs.declared.admission.Admission.TheVariants.{New, Known, Refused}
 use Rattle.header.specs.declared.refusal.Refusal.{Refusal}
 use Rattle.header.specs.declared.refusal.Refusal.TheVariants.{Memory, Down, StoreFull}
+use Rattle.spec_world.specs.World.{Waiting}
 use Rattle.book.specs.Book.{GoesOutAfter}
+use Rattle.book.specs.Queue.{TicketsRise}
 use Rattle.book.specs.declared.book.Receipt.{Receipt}
 use Rattle.book.specs.declared.book.TheConstants.{MAX_ACCEPTED}
 use Rattle.node_seats.specs.Sights.{SeatView}
@@ -70,10 +72,15 @@ pub record Submits {S : Type 0} (scheme : Scheme S) (node : NodeView S) (event :
   pub same : IfErr answer (λ refusal. (later.seen ≡ all) × (later.mine ≡ before.mine))
 
 -- from each base, the output goes out after the first `count` events that the seat knows as settled
+abbrev pub GoesOutAt : {S : Type 0} → Scheme S → NodeView S → View → ℕ → Output → Type 0
+GoesOutAt scheme node view count output =
+    (base : State) → IsBase scheme node base → GoesOutAfter (node_of scheme node.setting) base (events (take count view.durable)) output
+
+-- from each base, the output goes out after some first events that the seat knows as settled
 pub record IsPutOutBy {S : Type 0} (scheme : Scheme S) (node : NodeView S) (view : View) (output : Output) : Type 0 where
   pub count : ℕ
   pub settled : count ≤ length view.durable
-  pub goes_out : (base : State) → IsBase scheme node base → GoesOutAfter (node_of scheme node.setting) base (events (take count view.durable)) output
+  pub goes_out : GoesOutAt scheme node view count output
 
 -- an output may be given out: after each legal history that keeps a base, followed by the events that the seat knows as settled. An event
 -- among these put it out
@@ -82,8 +89,12 @@ pub record Gives {S : Type 0} (scheme : Scheme S) (node : NodeView S) (seat : Se
       → MayGive (node_of scheme node.setting) (history ++ events seat.view.durable) output
   pub put_out : IsPutOutBy scheme node seat.view output
 
--- outputs were added at the end of a list, each of which may be given out
+-- Outputs were added at the end of a list, oldest first: no ticket is lower than the one before it. Each ticket is settled as the
+-- seat knows. From each base the output goes out after as many events as its ticket says, and each output may be given out.
 pub record GivesAll {S : Type 0} (scheme : Scheme S) (node : NodeView S) (seat : SeatView) (before later : List Output) : Type 0 where
-  pub outputs : List Output
-  pub each : All (Gives scheme node seat) outputs
-  pub added : later ≡ before ++ outputs
+  pub waiting : List Waiting
+  pub rise : TicketsRise waiting
+  pub settled : All (λ one. one.ticket ≤ length seat.view.durable) waiting
+  pub put_out : All (λ one. GoesOutAt scheme node seat.view one.ticket one.output) waiting
+  pub each : All (λ one. Gives scheme node seat one.output) waiting
+  pub added : later ≡ before ++ map (λ one. one.output) waiting

@@ -128,7 +128,8 @@ impl<'a, S: Sign> Node<'a, S> {
             .catch_up_durable::<Brand, R>(rt, seat, &mut flush.seat, count);
     }
 
-    /// After this call the flush seat knows as settled all events that the other seat knows as settled. Nothing else changes.
+    /// After this call the flush seat knows as settled all events that the other seat knows as settled, and knows that the node is down if
+    /// the other seat knows it. It has seen the same events as before and has the same counts, and the other seat is as before.
     pub fn cover<R: Wait>(&self, rt: &R, flush: &mut FlushSeat, seat: &mut Seat)
         requires flush { IsFlushOf self.now flush.old }
         requires of { IsOf self.now seat.old }

@@ -45,7 +45,8 @@ impl<'a, S: Sign> Node<'a, S> {
         self.words.read::<Brand>(seat)
     }
 
-    /// Whether the node is down. The seat then knows this, and which events are settled. The call never waits and allocates no memory.
+    /// Whether the node is down, as far as the seat knows after this call. Where the result is false, the node may be down all the same. The
+    /// seat may also learn which events are settled. The call never waits and allocates no memory.
     pub fn is_down(&self, seat: &mut Seat) -> bool
         requires of { IsOf self.now seat.old }
         ensures learned { Learned S.scheme self.now seat.old seat.new }

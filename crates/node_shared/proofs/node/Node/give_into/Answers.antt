@@ -1,8 +1,9 @@
 use Rattle.std.proofs.Common.{◌-◌, ap, sym, ◌∙◌}
 use Rattle.std.specs.VecDeque.{deque_len, deque_capacity}
-use Rattle.book.specs.Book.{BookView, releasable_within}
+use Rattle.book.specs.Book.{BookView}
 use Rattle.node_shared.proofs.Called.{learned_stays}
-use Rattle.node_shared.proofs.Readings.{all_given, with_down, moves_next, moves_none, keeps_rest}
+use Rattle.node_shared.proofs.Collected.{gives_all}
+use Rattle.node_shared.proofs.Readings.{with_down, moves_next, moves_none, keeps_rest}
 use Rattle.node_shared.proofs.Standing.{home_where}
 use Rattle.node_shared.proofs.node.Node.give_into.Goals as goal
 
@@ -31,12 +32,8 @@ returns-clause-gives g c =
     let outputs = c.args.outputs.now in
     let book = c.know_down.new.locked.book in
     let durable = reported.stays.durable ∙ c.know_all.ensures.durable ∙ ap (λ l. l.seat.view.durable) (sym c.know_all.ensures.locked) ∙ sym reported.stays_locked.durable in
-    let out = releasable_within (deque_capacity outputs - deque_len outputs) book in
-    record {
-      outputs = out;
-      each = all_given c.args.self.now g.S.Sign.scheme c.know_down.new.locked.seat c.know_down.new.seat book reported.home durable out c.release_into.ensures.goes_out;
-      added = c.release_into.ensures.outputs;
-    }
+    gives_all c.args.self.now g.S.Sign.scheme c.know_down.new.locked.seat c.know_down.new.seat book reported.home durable (deque_capacity outputs - deque_len outputs)
+    c.release_into.ensures.goes_out outputs.items c.release_into.new.outputs.items c.release_into.ensures.outputs
 
 pub returns-clause-queue : goal.returns-clause-queue
 returns-clause-queue g c =
