@@ -1,5 +1,5 @@
 -- What a book does is a step of its world.
-use Rattle.std.proofs.Common.{◌≡◌, ◌⊎◌, ℕ, ◌+◌, ◌-◌, ◌≤◌, List, [], ◌∷◌, ◌++◌, length, take, drop, map, inl, inr, Bool, true, false, refl, sym, ap, ◌∙◌, subst, arith}
+use Rattle.std.proofs.Common.{◌≡◌, ◌⊎◌, ℕ, ◌+◌, ◌-◌, ◌≤◌, List, [], ◌∷◌, ◌++◌, length, take, drop, map, zero, suc, inl, inr, Bool, true, false, refl, sym, ap, ◌∙◌, subst, arith}
 use Rattle.std.proofs.Common.{append_assoc, length-append, length-take}
 use Rattle.std.specs.Prelude.{Option, Some, None, All, Contains, nat_le, if◌then◌else◌}
 use Rattle.std.proofs.lemmas.Bool.{cases_Bool, leb-true}
@@ -27,13 +27,14 @@ use Rattle.spec_world.specs.Steps.{Move, accept, settle, release, take_all, tick
 use Rattle.spec_world.proofs.GoingOn.{groups_settle, checkpoints_settle}
 use Rattle.spec_world.proofs.Law.{run_stands}
 use Rattle.spec_world.proofs.Groups.{events_split, taken_more}
-use Rattle.book.specs.Book.{BookView, Run, Stands, IsCheckpoint, state_in, with_taken, with_settled, with_all_settled, settled_by, TakesNew, TakesKnown, releasable}
-use Rattle.book.specs.Queue.{settled_head}
+use Rattle.book.specs.Book.{BookView, Run, Stands, IsCheckpoint, state_in, with_taken, with_settled, with_all_settled, settled_by, TakesNew, TakesKnown, releasable, releasable_within}
+use Rattle.book.specs.Queue.{settled_head, settled_front}
 use Rattle.book.specs.InFlight.{Flushes, GoesDown}
 use Rattle.book.specs.Pending.{IsLongestBeginning}
 use Rattle.book.specs.Steps.{run_of, IsRewriting, IsOf, Moves, TakeAllIsAStep, CheckpointIsSteps, AcceptIsAStep, TakesAfter}
-use Rattle.book.specs.Steps.{TakeIsAStep, SettleIsAStep, ReleaseIsAStep, FlushesThere, FlushIsSteps, FailIsAStep}
-use Rattle.book.proofs.Flushing.{stands_taken, stands_all, records_taken}
+use Rattle.book.specs.Steps.{TakeIsAStep, SettleIsAStep, ReleaseIsAStep, ReleasesThere, ReleasesAreSteps, FlushesThere, FlushIsSteps, FailIsAStep}
+use Rattle.book.proofs.Flushing.{stands_taken, stands_all, stands_moved, records_taken}
+use Rattle.book.proofs.Releasing.{none_within, front_within}
 
 -- what waits goes on waiting after more outputs, and they wait too
 waits_more : (waiting queue more : List Waiting) → All (Contains waiting) queue → All (Contains (waiting ++ more)) (queue ++ more)
@@ -211,6 +212,60 @@ module _ {S : Type 0} (node : Node) (world : World) (before later : BookView S) 
           };
         },
       )
+
+-- ---- outputs that are released together
+
+-- where nothing goes out, the world stays as it is
+none_leave : {S : Type 0} (node : Node) (world : World) (book : BookView S) → IsOf node world book → ReleasesThere node world [] book
+none_leave node world book is_of = record { waiting = []; outputs_are = refl; next = world; leads = refl; is_of = is_of }
+
+-- the outputs at the front of a queue leave a book that isn't down
+module _ {S : Type 0} (node : Node) (book : BookView S) (up : book.down ≡ false) where
+  one_leaves : (first : Waiting) (rest : List Waiting) (world : World) → nat_le first.ticket book.settled ≡ true → IsOf node world (record book { queue = first ∷ rest })
+      → (ticket : ℕ) × Moves node world (release (record { ticket = ticket; output = first.output })) (record book { queue = rest })
+  one_leaves first rest world le is_of =
+      let now : BookView S = record book { queue = first ∷ rest } in
+      let head : releasable now ≡ Some first.output =
+      ap (λ d. if d then None else settled_head book.settled (first ∷ rest)) up ∙ ap (λ b. if b then Some first.output else None) le in
+      releases node world now (record book { queue = rest }) is_of first.output head refl (stands_moved node (run_of node world) now 1 rest refl is_of.stands)
+
+  front_leaves : (room : ℕ) (queue : List Waiting) (world : World) → IsOf node world (record book { queue = queue })
+      → ReleasesThere node world (take room (settled_front book.settled queue)) (record book { queue = drop (length (take room (settled_front book.settled queue))) queue })
+  front_leaves zero queue world is_of = none_leave node world (record book { queue = queue }) is_of
+  front_leaves (suc room) [] world is_of = none_leave node world (record book { queue = [] }) is_of
+  front_leaves (suc room) (first ∷ rest) world is_of = by_test (front_leaves room rest) (nat_le first.ticket book.settled) refl
+    where
+      front : Bool → List Output
+      front b = if b then first.output ∷ settled_front book.settled rest else []
+
+      by_test : ((next : World) → IsOf node next (record book { queue = rest })
+          → ReleasesThere node next (take room (settled_front book.settled rest)) (record book { queue = drop (length (take room (settled_front book.settled rest))) rest }))
+          → (b : Bool) → nat_le first.ticket book.settled ≡ b
+          → ReleasesThere node world (take (suc room) (front b)) (record book { queue = drop (length (take (suc room) (front b))) (first ∷ rest) })
+      by_test others false not = none_leave node world (record book { queue = first ∷ rest }) is_of
+      by_test others true le =
+          let one = one_leaves first rest world le is_of in
+          let moves = one.1 in
+          let after = others moves.next moves.is_of in
+          record {
+            waiting = record { ticket = one.0; output = first.output } ∷ after.waiting;
+            outputs_are = ap (λ (l : List Output). first.output ∷ l) after.outputs_are;
+            next = after.next;
+            leads = (moves.next, moves.step, after.leads);
+            is_of = after.is_of;
+          }
+
+leave_together : {S : Type 0} (node : Node) (world : World) (before later : BookView S) (room : ℕ) → IsOf node world before
+    → later ≡ record before { queue = drop (length (releasable_within room before)) before.queue } → ReleasesThere node world (releasable_within room before) later
+leave_together {S} node world before later room is_of is =
+    subst (ReleasesThere node world (releasable_within room before)) (sym is) (elim (cases_Bool before.down) [
+      | inl down ↦ leave [] (none_within before room down) (none_leave node world before is_of)
+      | inr up ↦ leave (take room (settled_front before.settled before.queue)) (front_within before room up) (front_leaves node before up room before.queue world is_of)
+    ])
+  where
+    leave : (outputs : List Output) → releasable_within room before ≡ outputs → ReleasesThere node world outputs (record before { queue = drop (length outputs) before.queue })
+        → ReleasesThere node world (releasable_within room before) (record before { queue = drop (length (releasable_within room before)) before.queue })
+    leave outputs is there = subst (λ (l : List Output). ReleasesThere node world l (record before { queue = drop (length l) before.queue })) (sym is) there
 
 -- ---- a round of one owner
 
@@ -390,6 +445,9 @@ settle_is_a_step S node world before later records is_of done is stands none que
 
 pub release_is_a_step : (S : Type 0) → ReleaseIsAStep S
 release_is_a_step S node world before later output is_of is later_is stands = releases node world before later is_of output is later_is stands
+
+pub releases_are_steps : (S : Type 0) → ReleasesAreSteps S
+releases_are_steps S node world before later room is_of is = leave_together node world before later room is_of is
 
 pub flush_is_steps : (S : Type 0) → FlushIsSteps S
 flush_is_steps S node moves world before later old new count sound run is_of none flush = flushes node moves world before later sound run is_of none old new count flush

@@ -167,7 +167,7 @@ MayRefuse node run book event refusal = answered node (state_in node run) event 
 abbrev pub releasable : {S : Type 0} → BookView S → Option Output
 releasable book = if book.down then None else settled_head book.settled book.queue
 
--- the outputs that may leave the book now, oldest first, at most `room` of them
+-- the outputs that may leave the book now, oldest first, at most `room` of them: none while the book is down
 abbrev pub releasable_within : {S : Type 0} → ℕ → BookView S → List Output
 releasable_within room book = if book.down then [] else take room (settled_front book.settled book.queue)
 

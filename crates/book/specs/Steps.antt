@@ -8,10 +8,10 @@ use Rattle.spec_model.specs.Words.{Event, Output}
 use Rattle.spec_records.specs.Records.{record_of}
 use Rattle.diskmodel.specs.Outcomes.{AreBytes}
 use Rattle.journal.specs.Snapshot.{bytes_for, CanPack}
-use Rattle.spec_world.specs.World.{World, Spare, IsCheckpointOf, taken_in, first_of, content_in}
+use Rattle.spec_world.specs.World.{World, Waiting, Spare, IsCheckpointOf, taken_in, first_of, content_in}
 use Rattle.spec_world.specs.Runs.{AreKeys, spare_calls, HasSettledGroup, HasSettledCheckpoint}
 use Rattle.spec_world.specs.Steps.{Move, accept, take_to, device_call, settle, release, take_all, IsStep, Leads, IsRun}
-use Rattle.book.specs.Book.{BookView, Run, Stands, settled_by, TakesNew, TakesKnown, releasable}
+use Rattle.book.specs.Book.{BookView, Run, Stands, settled_by, TakesNew, TakesKnown, releasable, releasable_within}
 use Rattle.book.specs.Checkpoints.{SettlesAll}
 use Rattle.book.specs.InFlight.{Flushes, GoesDown}
 use Rattle.book.specs.Pending.{IsLongestBeginning}
@@ -75,6 +75,19 @@ abbrev pub ReleaseIsAStep : Type 0 → Type 0
 ReleaseIsAStep S = (node : Node) (world : World) (before later : BookView S) (output : Output) → IsOf node world before → releasable before ≡ Some output
     → later ≡ record before { queue = drop 1 before.queue } → Stands node (run_of node world) later
     → (ticket : ℕ) × Moves node world (release (record { ticket = ticket; output = output })) later
+
+-- these outputs go out in the world one after the other, with their tickets, and the book belongs to the world after that
+pub record ReleasesThere {S : Type 0} (node : Node) (world : World) (outputs : List Output) (later : BookView S) : Type 0 where
+  pub waiting : List Waiting
+  pub outputs_are : map (λ one. one.output) waiting ≡ outputs
+  pub next : World
+  pub leads : Leads node world (map release waiting) next
+  pub is_of : IsOf node next later
+
+-- when the outputs that may leave are released together, at most `room` of them, each release is a step of the world in which one goes out
+abbrev pub ReleasesAreSteps : Type 0 → Type 0
+ReleasesAreSteps S = (node : Node) (world : World) (before later : BookView S) (room : ℕ) → IsOf node world before
+    → later ≡ record before { queue = drop (length (releasable_within room before)) before.queue } → ReleasesThere node world (releasable_within room before) later
 
 -- a round of a single owner is a sequence of steps: a group is taken, its four device calls are made, and it is settled. If the disk had
 -- the old bytes, it has the new ones afterwards

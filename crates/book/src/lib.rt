@@ -17,6 +17,6 @@ pub use own::{FlushError, OwnBook};
 pub use record::EVENT_RECORD;
 pub use steps::{
     accept_is_a_step, checkpoint_is_steps, fail_is_a_step, flush_is_steps, release_is_a_step,
-    settle_is_a_step, take_all_is_a_step, take_is_a_step,
+    releases_are_steps, settle_is_a_step, take_all_is_a_step, take_is_a_step,
 };
 pub use validator::Refusal;

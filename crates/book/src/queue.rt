@@ -9,7 +9,7 @@ use std::collections::VecDeque;
 use wire::Output;
 
 /// The outputs of one event: the first output, and the rest, oldest first. They may leave once as many records are settled as the ticket
-/// says. Nearly all events have one output, and then `rest` has no buffer.
+/// says. Of the events that have outputs nearly all have one, and then `rest` has no buffer.
 #[derive(Drop)]
 pub struct Queued {
     pub ticket: u64,

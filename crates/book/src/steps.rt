@@ -1,7 +1,7 @@
 //! Laws: what a book does is a step of the world, the model of a node over all its runs. Each function does nothing: its contract is the
 //! law.
 
-ghost use Rattle.book.specs.Steps.{AcceptIsAStep, TakeIsAStep, SettleIsAStep, ReleaseIsAStep, FlushIsSteps, FailIsAStep, TakeAllIsAStep, CheckpointIsSteps};
+ghost use Rattle.book.specs.Steps.{AcceptIsAStep, TakeIsAStep, SettleIsAStep, ReleaseIsAStep, ReleasesAreSteps, FlushIsSteps, FailIsAStep, TakeAllIsAStep, CheckpointIsSteps};
 
 use sigface::Sign;
 
@@ -23,6 +23,11 @@ pub fn settle_is_a_step<S: Sign>()
 /// When a book releases an output, it goes out in the book's world.
 pub fn release_is_a_step<S: Sign>()
     ensures { ReleaseIsAStep S }
+{}
+
+/// When a book releases the outputs that may leave together, each of them goes out in the book's world, one after the other.
+pub fn releases_are_steps<S: Sign>()
+    ensures { ReleasesAreSteps S }
 {}
 
 /// When `OwnBook::flush` settles a group and no other group is in flight, the book's world takes that group, makes its four device calls
