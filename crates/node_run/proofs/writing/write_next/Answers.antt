@@ -10,6 +10,6 @@ returns-clause-next g c =
     λ _. record {
       outputs = outputs.items;
       some = λ none. absurd (true≢false (sym (c.is_empty.ensures ∙ eq-eqb outputs.len 0 (outputs.ok.0 ∙ ap length none)) ∙ c.if-is_empty.false));
-      given = subst (λ (l : List Output). GivesAll g.S.Sign.scheme c.args.caller.now.node c.collect_into.new.self.seat l outputs.items) c.args.collected.now.ok.0 c.collect_into.ensures.gives;
+      given = subst (λ (l : List Output). GivesAll g.S.Sign.scheme c.args.caller.now.node c.collect_into.new.self.seat l outputs.items) c.collected.invariant.0 c.collect_into.ensures.gives;
       puts = c.put_all.ensures.puts;
     }

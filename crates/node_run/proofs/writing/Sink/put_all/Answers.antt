@@ -27,7 +27,7 @@ loop-output-preserved g c =
     }
 
 pub returns-clause-drained : goal.returns-clause-drained
-returns-clause-drained g c = let outputs = c.loop-output.outputs in nil_from_length outputs.items (sym outputs.ok.0 ∙ c.in_default.ensures.cases.0)
+returns-clause-drained g c = let left = c.pop_front.new.self in nil_from_length left.items (sym left.ok.0 ∙ c.in_default.ensures.cases.1)
 
 pub returns-clause-puts : goal.returns-clause-puts
 returns-clause-puts g c =
