@@ -3,7 +3,6 @@ use Rattle.std.proofs.Common.{◌≡◌, inl, inr, ℕ, ◌+◌, ◌≤◌, true
 use Rattle.std.proofs.lemmas.List.{length-map}
 use Rattle.std.specs.Prelude.{◌↔◌, Result, IsErrOf, IsTrue}
 use Rattle.spec_machine.specs.After.{after_all, IsLegalAfter}
-use Rattle.spec_model.specs.Histories.{History}
 use Rattle.spec_model.specs.Nodes.{Node}
 use Rattle.spec_model.specs.States.{State}
 use Rattle.wire.specs.Lists.{Begins}
@@ -18,7 +17,7 @@ use Rattle.node_seats.specs.Views.{events, mark, IsSame}
 use Rattle.node_seats.specs.declared.view.Marked.{Marked}
 use Rattle.node_seats.specs.declared.view.View.{View}
 use Rattle.node_seats.proofs.Marks.{events_push}
-use Rattle.book.specs.Book.{BookView, Run, Stands, TakesNew, TakesKnown, MayRefuse, with_accepted}
+use Rattle.book.specs.Book.{BookView, Run, Stands, TakesNew, TakesKnown, MayRefuse}
 use Rattle.book.specs.declared.book.Receipt.{Receipt}
 use Rattle.book.specs.declared.book.TheConstants.{MAX_ACCEPTED}
 use Rattle.node_shared.specs.Home.{NodeView, IsBase, IsAtHome, run_of}

@@ -1,8 +1,5 @@
-use Rattle.std.proofs.Common.{rules, ◌≡◌, List, ℕ, true, refl, sym, subst}
-use Rattle.book.specs.Book.{BookView}
-use Rattle.node_shared.specs.Calls.{TakesAll}
+use Rattle.std.proofs.Common.{◌≡◌, ℕ, true, refl, sym, subst}
 use Rattle.node_shared.specs.Home.{IsFlushOf, IsTied, IsCheckpointAfter, taken_by}
-use Rattle.node_shared.specs.declared.flush_seat.FlushSeat.{FlushSeat}
 use Rattle.node_shared.proofs.Groups.{home_all, tied_all, taken_all, flush_all, checkpoint_all}
 use Rattle.node_shared.proofs.node.Node.take_all_tied.Goals as goal
 
