@@ -77,7 +77,13 @@ returns-clause-first g c =
       round = at;
       taken = subst (λ (w : WaitersView). IsTakenOut found at w later.waiters) same some.0;
       first = first_on scheme old.caller mid.caller later.caller old.waiters mid.waiters at found c.ready_outside.ensures.only same c.in-Some-ready_from.ensures.first;
-      turn = inr (low, end, c.in-Rounds.is, refl, some.2,
-          asked_below scheme old.caller.node low c.in-Some.lowest at old.waiters old.caller later.caller c.in-Some.ensures.least
-          (subst (λ n. AsksEach scheme old.caller.node n at old.waiters old.caller later.caller) c.max.ensures each));
+      turn = inr (
+        low,
+        end,
+        c.in-Rounds.is,
+        refl,
+        some.2,
+        asked_below scheme old.caller.node low c.in-Some.lowest at old.waiters old.caller later.caller c.in-Some.ensures.least
+            (subst (λ n. AsksEach scheme old.caller.node n at old.waiters old.caller later.caller) c.max.ensures each),
+      );
     }
