@@ -8,7 +8,7 @@ use crate::fold::{Fold, Sum};
 use crate::messages::{PEER, SMALL_BYTES};
 use crate::sharer::Sharer;
 use crate::stepping::take_all;
-use crate::storing::empty_disk;
+use crate::storing::{empty_disk, room_for_outputs};
 use crate::task::{Step, Task};
 use crossbeam_channel::{Receiver, Sender, unbounded};
 use diskmodel::Disk;
@@ -16,10 +16,11 @@ use journal::Store;
 use node::{Caller, Rounds, start};
 use sigface::{HashSign, Sign};
 use std::alloc::AllocError;
+use std::collections::VecDeque;
 use std::sync::Wait;
 use std::thread::{self, Threads};
 use validator::Config;
-use wire::Author;
+use wire::{Author, Output};
 
 /// The members whose batches are submitted, each by a thread of its own.
 const MEMBERS: [Author; 3] = [Author(1), Author(2), Author(3)];
@@ -39,15 +40,21 @@ pub fn share_node<R: Threads + Wait + Sync>(
     let (node, seat, flusher) = start(task.alloc, config, store)?;
     let mut rounds = Rounds::new(&node, seat, flusher);
     let sharers = sharers_of(task, config, &mut rounds)?;
-    let released = rounds.caller(config)?;
-    submit_all(rt, task, sharers, Flushing { rounds, released }, fold)
+    let (caller, outputs) = (rounds.caller(config)?, room_for_outputs(task.alloc)?);
+    let flushing = Flushing {
+        rounds,
+        caller,
+        outputs,
+    };
+    submit_all(rt, task, sharers, flushing, fold)
 }
 
-// What the flushing thread has: the flusher of the node, and an access to the node by which it collects the outputs.
+// What the flushing thread has: the flusher of the node, an access to the node by which it collects outputs, and room for these.
 #[derive(Drop)]
 struct Flushing<'n, 'a, S: Sign, D: Disk> {
     rounds: Rounds<'n, 'a, S, D>,
-    released: Caller<'n, 'a, S>,
+    caller: Caller<'n, 'a, S>,
+    outputs: VecDeque<Output>,
 }
 
 fn sharers_of<'n, 'a, S: Sign, D: Disk>(
@@ -146,10 +153,14 @@ fn flush<S: Sign, D: Disk, R: Wait>(
 ) -> Result<u64, Ending> {
     let count = flushing.rounds.round(rt)?;
     for _ in rt.forever() {
-        let Some(output) = flushing.released.collect(rt) else {
+        flushing.caller.collect_into(rt, &mut flushing.outputs);
+        if flushing.outputs.is_empty() {
             break;
-        };
-        released.add(&output);
+        }
+        for output in flushing.outputs.iter() {
+            released.add(output);
+        }
+        flushing.outputs.clear();
     }
     Ok(count)
 }
@@ -169,9 +180,14 @@ pub fn submit_alone<R: Wait>(
     let (node, seat, flusher) = start(task.alloc, config, store)?;
     let mut rounds = Rounds::new(&node, seat, flusher);
     let (member, node) = (PEER, rounds.caller(config)?);
-    let released = rounds.caller(config)?;
+    let (caller, outputs) = (rounds.caller(config)?, room_for_outputs(task.alloc)?);
     let sharer = Sharer { node, member };
-    submit_and_flush(rt, task, sharer, Flushing { rounds, released }, fold)
+    let flushing = Flushing {
+        rounds,
+        caller,
+        outputs,
+    };
+    submit_and_flush(rt, task, sharer, flushing, fold)
 }
 
 fn submit_and_flush<S: Sign, D: Disk + Drop, R: Wait>(

@@ -14,10 +14,15 @@ use journal::{CLOSED, Group, Journal};
 use opening::reopen;
 use sigface::{HashSign, Sign};
 use std::alloc::{AllocError, Global};
+use std::collections::VecDeque;
 use validator::Config;
+use wire::Output;
 
 /// The length of each appended record, in bytes: that of a certificate's record in a committee of four.
 const RECORD_BYTES: usize = 354;
+
+/// How many outputs are released at once at most: as many as narwhal-node takes out of its node in one hold of the lock.
+const MAX_RELEASED: usize = 256;
 
 /// An empty disk.
 pub fn empty_disk(alloc: Global) -> Result<MemDisk, AllocError> {
@@ -122,13 +127,19 @@ fn accept_all(
     fold: &mut Fold,
 ) -> Result<(), Ending> {
     let mut events = events_of(task, book.committee(), step)?;
+    let mut released = room_for_outputs(task.alloc)?;
     for piece in 0..task.count {
         if piece % task.size.max(1) == 0 {
-            flush(task.alloc, book, kept, fold)?;
+            flush(task.alloc, book, &mut released, kept, fold)?;
         }
         accept_next(book, &mut events, fold)?;
     }
-    flush(task.alloc, book, kept, fold)
+    flush(task.alloc, book, &mut released, kept, fold)
+}
+
+/// An empty deque with room for the outputs that are released at once.
+pub fn room_for_outputs(alloc: Global) -> Result<VecDeque<Output>, AllocError> {
+    VecDeque::with_capacity(alloc, MAX_RELEASED)
 }
 
 // Gives the book the next event, and returns its ticket.
@@ -147,13 +158,14 @@ fn accept_next(
 fn flush(
     alloc: Global,
     book: &mut OwnBook<'_, HashSign>,
+    released: &mut VecDeque<Output>,
     kept: &mut Vec<u8>,
     fold: &mut Fold,
 ) -> Result<(), Ending> {
     for _ in 0..u64::MAX {
         let mut journal = empty_journal(alloc)?;
         fold.add(book.flush(&mut journal)?);
-        release_all(book, fold);
+        release_all(book, released, fold);
         keep(kept, journal)?;
         if !book.has_pending() {
             break;
@@ -162,12 +174,16 @@ fn flush(
     Ok(())
 }
 
-fn release_all(book: &mut OwnBook<'_, HashSign>, fold: &mut Fold) {
+fn release_all(book: &mut OwnBook<'_, HashSign>, released: &mut VecDeque<Output>, fold: &mut Fold) {
     for _ in 0..u64::MAX {
-        let Some(output) = book.release() else {
+        book.release_into(released);
+        if released.is_empty() {
             break;
-        };
-        fold.add_output(&output);
+        }
+        for output in released.iter() {
+            fold.add_output(output);
+        }
+        released.clear();
     }
 }
 
