@@ -310,8 +310,8 @@ impl<'a> Dag<'a> {
         self.place(certificate, digest)
     }
 
-    // Puts a certificate with this digest into a slot that holds none. All its parents are held, and no held certificate names it as a
-    // parent.
+    // Puts a certificate with this digest into a slot that holds none. All its parents are held: each is in the DAG, or lies at or below a
+    // floor above 0, where it counts as held. No certificate of the DAG names it as a parent.
     fn place(&mut self, certificate: Certificate, digest: Digest) -> Result<(), AllocError>
         requires member { certificate.header.author.0 < length self.old.charter.keys }
         requires named { 0 < length certificate.header.parents }
@@ -350,8 +350,8 @@ impl<'a> Dag<'a> {
         (place as usize, header.author)
     }
 
-    // The authors of those parents of a certificate that are in the DAG. All parents are held, but those at or below a floor above 0
-    // may be missing in the DAG.
+    // The authors of those parents of a certificate that are in the DAG. All parents are held: each is in the DAG, or lies at or below a
+    // floor above 0, where it counts as held though it may be missing in the DAG.
     fn held_parents(&self, certificate: &Certificate) -> MemberSet
         requires positive { 0 < certificate.now.header.round }
         requires held { all_held (slots_in self.now) self.now.floor certificate.now.header ≡ true }
@@ -360,7 +360,7 @@ impl<'a> Dag<'a> {
         let header = &certificate.header;
         let below = header.round.number() - 1;
         let parents = header.parents.as_slice();
-        // Parents at or below a floor above 0 count as held, whether they are in the DAG or not. All others are in it.
+        // Only at or below a floor above 0 may a parent be missing in the DAG, so only there each is looked up.
         if is_under(self.floor, below) {
             return rows::authors_of(&self.rows, self.floor, below, parents);
         }

@@ -13,7 +13,7 @@ use wire::{MAX_FRAME_BYTES, WireError};
 /// The length of a frame's length field, in bytes.
 const LENGTH_BYTES: usize = 4;
 
-// A body may have this part of its memory to spare.
+// At most one part in this many of a body's memory may be unused.
 const SPARE_PART: usize = 8;
 
 /// Cuts a stream into the bodies of its frames. A frame is a length in four big-endian bytes, and that many bytes, at most
@@ -21,8 +21,8 @@ const SPARE_PART: usize = 8;
 #[derive(Debug, Drop)]
 pub struct FrameReader {
     alloc: Global,
-    // The bytes of the next frame that have come so far. Those of its body stand apart from its length, so that a whole body is given away
-    // and not copied.
+    // The bytes of the next frame that have come so far. Those of its body stand apart from its length, so that the body that these bytes
+    // were collected for is moved out, and not copied, once it is whole.
     field: LengthField,
     body: Vec<u8>,
 }
