@@ -13,6 +13,7 @@ pub mod PairLaws
 mod StateTexts
 mod Keys
 mod Renewals
+mod ReadAreas
 mod AloneOpening
 mod PairOpening
 mod PairReplays

@@ -44,15 +44,14 @@ use Rattle.admission.specs.Standing.{OneState}
 use Rattle.admission.specs.declared.tables.Tables.{Tables}
 use Rattle.checkpoint.specs.Describes.{Describes}
 use Rattle.opening.specs.Finished.{done, gives_up}
-use Rattle.opening.specs.Renewing.{KeepsStatesIn, IsFullAt, HasRoomAt, IsNewest, IsRenewed, IsRewritten, IsPlaced}
+use Rattle.opening.specs.Renewing.{KeepsStatesIn, IsFullAt, HasRoomAt, IsNewest, IsRenewed}
 use Rattle.opening.specs.Stages.{IsStage}
-use Rattle.opening.specs.Decoded.{own_fault, read_after, StandsAt, decoded_in, KeepsOrBegins}
+use Rattle.opening.specs.Decoded.{StandsAt, decoded_in, KeepsOrBegins}
 use Rattle.opening.proofs.Empty.{scans_long, walk_open}
 use Rattle.opening.proofs.FirstGroups.{walk_from}
-use Rattle.opening.proofs.Laws.{unless_ok, configuration_shape}
-use Rattle.opening.specs.PairReplayed.{version_in}
-use Rattle.opening.proofs.PairLaws.{own_is, own_free, own_by_bytes, checkpoint_decoded, two_are_decoded}
-use Rattle.opening.proofs.PairReporting.{pair_none, pair_first, pair_alone, decoded_pair_same, decoded_pair_records}
+use Rattle.opening.proofs.Laws.{configuration_shape}
+use Rattle.opening.proofs.PairLaws.{own_free, own_by_bytes, checkpoint_decoded, two_are_decoded}
+use Rattle.opening.proofs.PairReporting.{pair_none, pair_alone, decoded_pair_same, decoded_pair_records}
 
 -- ---- the disks of a journal on two
 
@@ -747,44 +746,6 @@ module _ {D : Type 0} (device : Disks D) (node : Node) (journal new : Journal D)
       held state (as_journal is) = is
       held state (as_empty none is) = absurd (some none)
 
--- ---- the area that is read then
-
-pub kept_places : {D : Type 0} (old new : Journal D) → IsSome (spare_of old) → spare_of new ≡ spare_of old → HaveKeptPlaces old new
-kept_places {D} old new two same = record {
-  pair = subst (λ (o : Option (Spare D)). IsSome o) (sym same) two;
-  side = ap (λ (o : Option (Spare D)). option_map_or (λ s. s.side) o First) same;
-  generation = ap (λ (o : Option (Spare D)). option_map_or (λ s. s.generation) o 0) same;
-}
-
-pub placed_as_before : {D : Type 0} (node : Node) (device : Disks D) (version : Option Version) (old new : Journal D) → version ≢ Some versions.First → HaveKeptPlaces old new
-    → IsPlaced node device version old new
-placed_as_before node device version old new not_first kept = record { rewritten = λ is. absurd (not_first is); stays = λ same. kept }
-
-pub placed_still : {D : Type 0} (node : Node) (device : Disks D) (version : Option Version) (old new : Journal D) (result : Result (Unit {0}) JournalError) → version ≢ Some versions.First
-    → HaveKeptPlaces old new → OnOk result (IsPlaced node device version old new)
-placed_still node device version old new (Ok given) not_first kept = placed_as_before node device version old new not_first kept
-placed_still node device version old new (Err error) not_first kept = tt
-
-pub placed_anew : {D : Type 0} (node : Node) (device : Disks D) (version : Option Version) (old new : Journal D) (result : Result (Unit {0}) JournalError) → version ≡ Some versions.First
-    → OnOk result (IsRewritten node device old new) → OnOk result (IsPlaced node device version old new)
-placed_anew node device version old new (Ok given) is rewritten = record { rewritten = λ also. rewritten; stays = λ not_first. absurd (not_first is) }
-placed_anew node device version old new (Err error) is rewritten = tt
-
-pub some_is : (version : Option Version) (found named : Version) → version ≡ Some found → found ≡ named → version ≡ Some named
-some_is version found named is same = subst (λ (v : Version). version ≡ Some v) same is
-
-pub none_is_not_first : (version : Option Version) → version ≡ None → version ≢ Some versions.First
-none_is_not_first version none is = clash (sym none ∙ is)
-  where
-    clash : ◌≡◌ {A = Option Version} None (Some versions.First) → ⊥
-    clash same = cc
-
-pub second_is_not_first : (version : Option Version) → version ≡ Some versions.Second → version ≢ Some versions.First
-second_is_not_first version second is = clash (sym second ∙ is)
-  where
-    clash : ◌≡◌ {A = Option Version} (Some versions.Second) (Some versions.First) → ⊥
-    clash same = cc
-
 -- ---- whatever writing the configuration answered
 
 module _ {D : Type 0} (device : Disks D) (node : Node) (journal new : Journal D) (sound : IsNode node) (keys : AreKeys node) (fresh_is_sound : IsSound node (fresh node)) (two : IsSome
@@ -810,26 +771,3 @@ no_lack error (inr memory) full = cc
 pub never_full : (result : Result (Unit {0}) JournalError) → IfErr result (λ error. (error ≡ Device) ⊎ (error ≡ Memory)) → IfErr result (λ error. error ≢ Full)
 never_full (Ok given) errors = tt
 never_full (Err error) errors = no_lack error errors
-
--- ---- the version of a journal
-
--- where the first record has none there is no record
-pub none_of_version : (node : Node) (areas : Areas) (records : List Record) (state : State) → IsPair areas → stands_in areas ≡ Ok records → decoded_in node areas ≡ Ok state → version_in records ≡ None
-    → stands_in areas ≡ Ok []
-none_of_version node areas [] state two is reported none = is
-none_of_version node areas (first ∷ rest) state two is reported none =
-    let read = sym (decoded_pair_records node areas (first ∷ rest) two is) ∙ reported in
-    let free = (unless_ok (own_fault node first) (read_after node first rest) state (sym (pair_first node first rest) ∙ read)).0 in
-    absurd (some_version (sym (own_is node first free).shape ∙ none))
-  where
-    some_version : {version : Version} → ◌≡◌ {A = Option Version} (Some version) None → ⊥
-    some_version same = cc
-
--- and where it has the second one there is one, and it is the newest
-pub some_of_version : (areas : Areas) (records : List Record) (version : Version) → stands_in areas ≡ Ok records → version_in records ≡ Some version → stands_in areas ≢ Ok []
-some_of_version areas [] version is some none = absurd (cc some)
-some_of_version areas (first ∷ rest) version is some none = absurd (cc (sym is ∙ none))
-
-pub newest_of_version : (areas : Areas) (records : List Record) → stands_in areas ≡ Ok records → version_in records ≡ Some versions.Second → IsNewest areas
-newest_of_version areas records is some first rest also =
-    let same = ok_same records (first ∷ rest) (sym is ∙ also) in ap version_in (sym same) ∙ some

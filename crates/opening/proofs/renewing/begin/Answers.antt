@@ -1,6 +1,7 @@
 use Rattle.validator.specs.Setting.{node_of}
 use Rattle.opening.proofs.Laws.{fresh_sound}
-use Rattle.opening.proofs.Renewals.{file_none, begun_any, never_full, kept_places}
+use Rattle.opening.proofs.ReadAreas.{kept_places}
+use Rattle.opening.proofs.Renewals.{file_none, begun_any, never_full}
 use Rattle.opening.proofs.renewing.begin.Goals as goal
 
 pub write_configuration-requires-clause-empty : goal.write_configuration-requires-clause-empty

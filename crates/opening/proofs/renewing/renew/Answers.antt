@@ -2,7 +2,8 @@ use Rattle.std.proofs.Common.{refl, sym, ◌∙◌}
 use Rattle.journal.specs.Pairs.{spare_disk, areas_of}
 use Rattle.journal.specs.declared.version.Version.TheVariants.{First, Second}
 use Rattle.validator.specs.Setting.{node_of}
-use Rattle.opening.proofs.Renewals.{areas_pair, beside, none_of_version, some_of_version, newest_of_version, stays_renewed, kept_places, placed_as_before, placed_still, placed_anew, none_is_not_first, second_is_not_first, some_is}
+use Rattle.opening.proofs.ReadAreas.{kept_places, newest_of_version, none_is_not_first, none_of_version, placed_anew, placed_as_before, placed_still, second_is_not_first, some_is, some_of_version}
+use Rattle.opening.proofs.Renewals.{areas_pair, beside, stays_renewed}
 use Rattle.opening.proofs.renewing.renew.Goals as goal
 
 pub begin-requires-clause-empty : goal.begin-requires-clause-empty
