@@ -56,7 +56,6 @@ batch_comes node state stock batch has =
     record {
       charter = has.charter;
       own = has.own;
-      seed = has.seed;
       batches = map-append batch_of stock.held (new ∷ []) ∙ ap (λ (l : List BatchView). l ++ batch ∷ []) has.batches;
       acked = λ digest member. said (λ h. is_in h.acknowledged member) digest (nobody member) ∙ has.acked digest member ∙ sym (or-false (state.acked digest member));
       named = λ digest. said (λ h. h.named) digest refl ∙ has.named digest ∙ sym (or-false (state.named digest));
@@ -140,7 +139,6 @@ ack_comes node state stock ack own has =
     record {
       charter = has.charter;
       own = has.own;
-      seed = has.seed;
       batches = same_batches change keeps stock.held ∙ has.batches ∙ sym (append-nil state.batches);
       acked = λ digest member.
           acked_after stock ack.batch ack.author.0 own digest member
@@ -206,7 +204,6 @@ names_come node state stock header mine ours has =
     record {
       charter = has.charter;
       own = has.own;
-      seed = has.seed;
       batches = same_batches change keeps stock.held ∙ has.batches ∙ sym (append-nil state.batches);
       acked = λ digest member.
           said_changed change keeps (λ h. is_in h.acknowledged member) digest stock.held
@@ -242,7 +239,6 @@ batches_stay node state event stock has is =
     record {
       charter = has.charter;
       own = has.own;
-      seed = has.seed;
       batches = has.batches ∙ sym (append-nil state.batches) ∙ ap (λ o. state.batches ++ option_to_list o) (sym nothing.batch);
       acked = λ digest member. has.acked digest member ∙ sym (or-false (state.acked digest member)) ∙ ap (λ b. state.acked digest member || b) (sym (nothing.acks digest member));
       named = λ digest. has.named digest ∙ sym (or-false (state.named digest)) ∙ ap (λ b. state.named digest || b) (sym (nothing.names digest));

@@ -6,6 +6,6 @@ use Rattle.admission.specs.Laws.{StartsEmpty}
 
 pub starts_empty : StartsEmpty
 starts_empty node = record {
-  batches = record { charter = refl; own = refl; seed = refl; batches = refl; acked = λ digest member. refl; named = λ digest. refl };
+  batches = λ seed. record { charter = refl; own = refl; batches = refl; acked = λ digest member. refl; named = λ digest. refl };
   votes = record { others = λ author round apart. get-empty slot_cmp (slot_of author round); own = λ author round mine. get-empty slot_cmp (slot_of author round) };
 }

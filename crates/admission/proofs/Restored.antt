@@ -9,7 +9,6 @@ use Rattle.std.proofs.lemmas.List.{get_or-map, length-map}
 use Rattle.std.proofs.lemmas.Slice.Eq.{bytes_eq-Decides}
 use Rattle.committee.specs.Charter.{Charter, IsCharter}
 use Rattle.committee.specs.Sets.{has}
-use Rattle.sigface.specs.declared.seed.TableSeed.{TableSeed}
 use Rattle.batchstore.specs.Stock.{BatchStoreView, IsStock, IsHeld, digest_of, found, has_own}
 use Rattle.batchstore.specs.declared.held.Held.{Held}
 use Rattle.certify.specs.Assembled.{AssemblyView}
@@ -117,10 +116,6 @@ stock_in node state stock node_is sound alike =
     some_held : (held : List Held) → 0 < length held → Held
     some_held [] some = absurd (omega (arith, some))
     some_held (one ∷ held) some = one
-
--- what holds of a store holds with any other seed
-pub reseeded : (stock : BatchStoreView) (seed : TableSeed) → IsStock stock → IsStock (record stock { seed = seed })
-reseeded stock seed is = record { charter = is.charter; own = is.own; distinct = is.distinct; few = is.few; each = is.each }
 
 -- ---- votes
 

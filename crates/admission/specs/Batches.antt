@@ -5,7 +5,6 @@ use Rattle.spec_model.specs.Admitting.{is_new, is_own}
 use Rattle.spec_model.specs.Nodes.{Node}
 use Rattle.spec_model.specs.States.{State}
 use Rattle.spec_model.specs.Words.{Author, BatchReference, Digest, Event, Header, Message}
-use Rattle.sigface.specs.Seeds.{seed_of}
 use Rattle.header.specs.declared.refusal.Refusal.{Refusal}
 use Rattle.header.specs.declared.refusal.Refusal.TheVariants as refusal
 use Rattle.spec_machine.specs.Machine.{answered, after}
@@ -15,12 +14,10 @@ use Rattle.batchstore.specs.declared.refusal.StoreRefusal.TheVariants as store
 use Rattle.admission.specs.declared.step.Step.{Step}
 use Rattle.admission.specs.Answers.{IsAnswer, RefusesAs}
 
--- a store has the batches of a node's state, in its order, each with who acknowledged it and whether an own header named it; its table
--- hashes with the seed of the node's signer
+-- a store has the batches of a node's state, in its order, each with who acknowledged it and whether an own header named it
 pub record HasBatches (node : Node) (state : State) (stock : BatchStoreView) : Type 0 where
   pub charter : stock.charter ≡ node.charter
   pub own : stock.own ≡ node.own.0
-  pub seed : stock.seed ≡ seed_of node.sign
   pub batches : map (λ held. held.batch) stock.held ≡ state.batches
   pub acked : (digest : Digest) (member : ℕ) → has_acked stock digest member ≡ state.acked digest member
   pub named : (digest : Digest) → was_named stock digest ≡ state.named digest

@@ -4,7 +4,7 @@ use Rattle.std.specs.FinMap as finmap
 use Rattle.std.specs.List.Sorted.{IsStrictlySortedBy}
 use Rattle.std.specs.Map.{keys_of, values_of}
 use Rattle.committee.specs.Charter.{Charter}
-use Rattle.sigface.specs.Seeds.{seed_of}
+use Rattle.sigface.specs.declared.seed.TableSeed.{TableSeed}
 use Rattle.batchstore.specs.Kept.{IsUnderItsDigest}
 use Rattle.certify.specs.Assembled.{AssemblyView, is_on, restored}
 use Rattle.spec_machine.specs.Sound.{IsSound}
@@ -61,13 +61,13 @@ parts_of charter kept = record {
   order = kept.order.items;
 }
 
--- these parts are those of a sound state of the node: its batches; its votes for other members' headers, sorted by slot; the own headers
+-- these parts are those of a sound state of the node: its batches, with whatever seed their table hashes; its votes for other members' headers, sorted by slot; the own headers
 -- with the votes on them, sorted by round; the certificates, sorted by slot; the coins and the order
 pub record IsKeptOf (node : Node) (state : State) (kept : Kept) : Type 0 where
   pub node_is : IsNode node
   pub sound : IsSound node state
   pub digested : All IsUnderItsDigest kept.batches.items
-  pub batches : HasBatches node state (record { charter = node.charter; own = node.own.0; seed = seed_of node.sign; held = values_of kept.batches.items })
+  pub batches : (seed : TableSeed) → HasBatches node state (record { charter = node.charter; own = node.own.0; seed = seed; held = values_of kept.batches.items })
   pub votes_rise : IsStrictlySortedBy slot_cmp (keys_of kept.votes.items)
   pub votes : HasVotes node state (finmap.from_entries kept.votes.items)
   pub voted : AreVotedBy node.charter node.own.0 kept.headers.items

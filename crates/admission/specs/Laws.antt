@@ -3,7 +3,7 @@ use Rattle.std.specs.Prelude.{◌≡◌, ℕ, ◌==◌, false, true, []}
 use Rattle.std.specs.FinMap as map
 use Rattle.std.specs.Option.{option_map_or}
 use Rattle.wire.specs.declared.message.Message.TheVariants as message
-use Rattle.sigface.specs.Seeds.{seed_of}
+use Rattle.sigface.specs.declared.seed.TableSeed.{TableSeed}
 use Rattle.spec_model.specs.Nodes.{Node}
 use Rattle.spec_model.specs.Proposing as proposing
 use Rattle.spec_model.specs.States.{State, has_own_batch, floor_in}
@@ -55,9 +55,9 @@ VoteIsKept = (node : Node) (state : State) (event : Event) (header : Header) (vo
 
 -- ---- the beginning
 
--- an empty store of batches and an empty book of votes agree with the fresh state, in which no event was taken
+-- an empty store of batches, with whatever seed, and an empty book of votes agree with the fresh state, in which no event was taken
 pub record HasNothing (node : Node) : Type 0 where
-  pub batches : HasBatches node (fresh node) (record { charter = node.charter; own = node.own.0; seed = seed_of node.sign; held = [] })
+  pub batches : (seed : TableSeed) → HasBatches node (fresh node) (record { charter = node.charter; own = node.own.0; seed = seed; held = [] })
   pub votes : HasVotes node (fresh node) map.empty
 
 abbrev pub StartsEmpty : Type 0

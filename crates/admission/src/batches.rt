@@ -98,6 +98,7 @@ pub fn take_batch(
     ensures refused { RefusesFrom batches.old (message.Batch batch) result }
     ensures new { is_new_step result ≡ true → GoesOn batches.old batches.new (message.Batch batch) }
     ensures same { is_new_step result ≡ false → batches.new ≡ batches.old }
+    ensures seed { batches.new.seed ≡ batches.old.seed }
 {
     match batches.answer(digest, &batch) {
         Ok(Some(held)) => known_batch(alloc, own, digest, held),
@@ -126,6 +127,7 @@ pub fn take_ack(alloc: Global, batches: &mut BatchStore, ack: &BatchAck) -> Resu
     ensures refused { RefusesFrom batches.old (message.BatchAck ack.now) result }
     ensures new { is_new_step result ≡ true → GoesOn batches.old batches.new (message.BatchAck ack.now) }
     ensures same { is_new_step result ≡ false → batches.new ≡ batches.old }
+    ensures seed { batches.new.seed ≡ batches.old.seed }
 {
     match batches.ack(ack.author, &ack.batch) {
         Ok(Acked::New) => Ok(Step::New(Vec::new(alloc))),

@@ -9,7 +9,6 @@ mod headers;
 mod votes;
 
 ghost use Rattle.std.specs.Prelude.{◌≡◌, ◌<◌, length, IfOk};
-ghost use Rattle.sigface.specs.Seeds.{seed_of};
 ghost use Rattle.spec_model.specs.Nodes.{Node};
 ghost use Rattle.spec_model.specs.States.{State};
 ghost use Rattle.admission.specs.Kept.{IsKept, IsKeptOf};
@@ -63,7 +62,8 @@ impl<'a> Tables<'a> {
         seed: TableSeed,
     ) -> Result<Tables<'a>, AllocError>
         requires { own.0 < length committee.now.keys }
-        ensures { IfOk result (λ made. (node : Node) → node.charter ≡ committee.now → node.own ≡ own → seed_of node.sign ≡ seed → AreAt node (fresh node) made) }
+        ensures at { IfOk result (λ made. (node : Node) → node.charter ≡ committee.now → node.own ≡ own → AreAt node (fresh node) made) }
+        ensures seed { IfOk result (λ made. made.batches.seed ≡ seed) }
     {
         starts_empty();
         starts_fresh();
@@ -86,7 +86,8 @@ impl<'a> Tables<'a> {
         kept: Kept,
     ) -> Result<Tables<'a>, AllocError>
         requires { IsKept committee.now own kept }
-        ensures { IfOk result (λ made. (node : Node) (state : State) → node.charter ≡ committee.now → node.own ≡ own → seed_of node.sign ≡ seed → IsKeptOf node state kept → AreAt node state made) }
+        ensures at { IfOk result (λ made. (node : Node) (state : State) → node.charter ≡ committee.now → node.own ≡ own → IsKeptOf node state kept → AreAt node state made) }
+        ensures seed { IfOk result (λ made. made.batches.seed ≡ seed) }
     {
         let Kept {
             batches,

@@ -10,7 +10,7 @@ use Rattle.std.proofs.lemmas.Bool.{cases_Bool}
 use Rattle.std.proofs.lemmas.List.Folds.{list_any-append}
 use Rattle.std.proofs.lemmas.Map.Text.{is_eq-slice_cmp}
 use Rattle.admission.proofs.Reading.{bytes_eq-swap}
-use Rattle.sigface.specs.Seeds.{seed_of}
+use Rattle.sigface.specs.declared.seed.TableSeed.{TableSeed}
 use Rattle.admission.specs.Batches.{HasBatches}
 use Rattle.batchstore.specs.Kept.{compared}
 use Rattle.batchstore.specs.Stock.{digest_of, found}
@@ -71,11 +71,10 @@ same_named (Some k) None is = absurd is
 same_named (Some k) (Some h) is = is.named
 
 pub has_batches : (node : Node) (checkpoint : Checkpoint) (helds : List Held) → AreHeldAs checkpoint.batches helds
-    → HasBatches node (state_in node checkpoint) (record { charter = node.charter; own = node.own.0; seed = seed_of node.sign; held = helds })
-has_batches node checkpoint helds are = record {
+    → (seed : TableSeed) → HasBatches node (state_in node checkpoint) (record { charter = node.charter; own = node.own.0; seed = seed; held = helds })
+has_batches node checkpoint helds are seed = record {
   charter = refl;
   own = refl;
-  seed = refl;
   batches = same_batches checkpoint.batches helds are;
   acked = λ digest member. same_acked member (find (λ (kept : KeptBatch). same_digest (batch_digest kept.batch) digest) checkpoint.batches) (found digest helds)
       (found_as digest checkpoint.batches helds are);

@@ -27,7 +27,6 @@ use Rattle.votebook.specs.Votes.{Votes}
 use Rattle.votebook.specs.declared.slot.Slot.{Slot}
 use Rattle.votebook.proofs.Lookups.{slots_total}
 use Rattle.sequencer.specs.Restored.{AreListed, HoldsListed}
-use Rattle.sigface.specs.Seeds.{seed_of}
 use Rattle.sigface.specs.declared.seed.TableSeed.{TableSeed}
 use Rattle.admission.specs.Batches.{HasBatches}
 use Rattle.admission.specs.Headers.{AssembliesView}
@@ -83,14 +82,17 @@ pub record AreRead (tables : Tables) (kept : Kept) : Type 0 where
   pub coins : kept.coins ≡ tables.sequencer.coins
   pub order : kept.order.items ≡ tables.sequencer.order
 
+-- a store has a state's batches with whatever seed its table hashes
+with_seed : (node : Node) (state : State) (stock : BatchStoreView) → HasBatches node state stock → (seed : TableSeed) → HasBatches node state (record stock { seed = seed })
+with_seed node state stock has seed = record { charter = has.charter; own = has.own; batches = has.batches; acked = has.acked; named = has.named }
+
 pub kept_of : (node : Node) (state : State) (tables : Tables) (kept : Kept) → IsNode node → IsSound node state → AreAt node state tables → AreRead tables kept → IsKeptOf node state kept
 kept_of node state tables kept node_is sound at read =
-    let stock : Charter → ℕ → TableSeed → List Held → BatchStoreView = λ c o s l. record { charter = c; own = o; seed = s; held = l } in
-    let batches : stock node.charter node.own.0 (seed_of node.sign) (values_of kept.batches.items) ≡ tables.batches =
-    ap (λ c. stock c node.own.0 (seed_of node.sign) (values_of kept.batches.items)) (sym at.batches.charter)
-    ∙ ap (λ o. stock tables.batches.charter o (seed_of node.sign) (values_of kept.batches.items)) (sym at.batches.own)
-    ∙ ap (λ s. stock tables.batches.charter tables.batches.own s (values_of kept.batches.items)) (sym at.batches.seed)
-    ∙ ap (stock tables.batches.charter tables.batches.own tables.batches.seed) read.held in
+    let stock : Charter → ℕ → List Held → BatchStoreView = λ c o l. record { charter = c; own = o; seed = tables.batches.seed; held = l } in
+    let batches : stock node.charter node.own.0 (values_of kept.batches.items) ≡ tables.batches =
+    ap (λ c. stock c node.own.0 (values_of kept.batches.items)) (sym at.batches.charter)
+    ∙ ap (λ o. stock tables.batches.charter o (values_of kept.batches.items)) (sym at.batches.own)
+    ∙ ap (stock tables.batches.charter tables.batches.own) read.held in
     let table : table_of node.charter node.own.0 kept.headers.items ≡ tables.headers =
     ap (λ c. table_of c node.own.0 kept.headers.items) (sym at.headers.charter)
     ∙ ap (λ o. table_of tables.headers.charter o kept.headers.items) (sym at.headers.own) ∙ read.table in
@@ -104,7 +106,7 @@ kept_of node state tables kept node_is sound at read =
       node_is = node_is;
       sound = sound;
       digested = read.digested;
-      batches = subst (HasBatches node state) (sym batches) at.batches;
+      batches = with_seed node state (stock node.charter node.own.0 (values_of kept.batches.items)) (subst (HasBatches node state) (sym batches) at.batches);
       votes_rise = subst (λ l. IsStrictlySortedBy slot_cmp (keys_of l)) (sym read.votes) (rising (entries tables.votes) (entries_sorted tables.votes));
       votes = votes_of node state tables.votes kept.votes.items read.votes at.votes;
       voted = subst (λ c. AreVotedBy c node.own.0 kept.headers.items) at.headers.charter (subst (λ o. AreVotedBy tables.headers.charter o kept.headers.items) at.headers.own read.voted);

@@ -5,6 +5,7 @@ use Rattle.std.specs.Prelude.{◌==◌, All, option_map}
 use Rattle.std.proofs.lemmas.Bool.{cases_Bool, eqb-true, eq-eqb, true≢false}
 use Rattle.admission.specs.Kept.{IsKeptOf}
 use Rattle.admission.specs.declared.kept.Kept.{Kept}
+use Rattle.sigface.specs.Seeds.{seed_of}
 use Rattle.spec_machine.proofs.Grown.{same_state}
 use Rattle.spec_model.specs.Nodes.{Node}
 use Rattle.spec_model.specs.Slots.{header_digest}
@@ -28,7 +29,7 @@ module _ (node : Node) (state : State) (kept : Kept) (of : IsKeptOf node state k
   written = record {
     canonical = record {
       order = subst (All IsDigest) (sym of.parts.order) of.sound.ordered;
-      batches = kept_batches_are node state kept.batches.items of.node_is of.sound.batches of.batches;
+      batches = kept_batches_are node state kept.batches.items of.node_is of.sound.batches (of.batches (seed_of node.sign));
       votes = kept_votes_are node state kept.votes.items of.node_is of.sound.votes of.votes_rise of.votes;
       votes_rise = votes_rise kept.votes.items of.votes_rise;
       headers = kept_headers_are node state kept.headers.items of.node_is of.sound.votes of.voted of.headers listed;
@@ -60,9 +61,9 @@ module _ (node : Node) (state : State) (kept : Kept) (of : IsKeptOf node state k
   same : state_in node checkpoint ≡ state
   same =
       same_state (state_in node checkpoint) state
-      (same_batches kept.batches.items ∙ of.batches.batches)
-      (fun_ext (λ digest. fun_ext (λ member. same_acked node state kept.batches.items of.node_is of.sound.batches of.batches digest member)))
-      (fun_ext (λ digest. same_named node state kept.batches.items of.node_is of.sound.batches of.batches digest))
+      (same_batches kept.batches.items ∙ (of.batches (seed_of node.sign)).batches)
+      (fun_ext (λ digest. fun_ext (λ member. same_acked node state kept.batches.items of.node_is of.sound.batches (of.batches (seed_of node.sign)) digest member)))
+      (fun_ext (λ digest. same_named node state kept.batches.items of.node_is of.sound.batches (of.batches (seed_of node.sign)) digest))
       (fun_ext (λ round. fun_ext (λ author. votes round author)))
       (fun_ext (λ round. own_headers round))
       (fun_ext (λ round. fun_ext (λ voter. same_counted node state kept.headers.items of.node_is of.sound.votes of.voted of.headers listed round voter)))

@@ -13,6 +13,7 @@ use Rattle.header.specs.declared.refusal.Refusal.{Refusal}
 use Rattle.spec_laws.specs.Laws.{own_event}
 use Rattle.spec_machine.specs.Machine.{answered, after}
 use Rattle.spec_machine.specs.Sound.{IsSound}
+use Rattle.sigface.specs.Seeds.{seed_of}
 use Rattle.admission.specs.Answers.{IsAnswer, RefusesAs}
 use Rattle.admission.specs.declared.step.Step.{Step}
 use Rattle.admission.specs.Standing.{AreAt, Meets}
@@ -32,6 +33,11 @@ pub record AreAtSound (node : Node) (tables : Tables) (state : State) : Type 0 w
 -- the tables hold some sound state of the node
 abbrev pub StandSomewhere : Node → Tables → Type 0
 StandSomewhere node tables = (state : State) × AreAtSound node tables state
+
+-- what holds of each validator's tables: they hold some sound state of its node, and hash with the seed of its signer
+pub record StandSeeded (node : Node) (tables : Tables) : Type 0 where
+  pub somewhere : StandSomewhere node tables
+  pub seed : tables.batches.seed ≡ seed_of node.sign
 
 -- after a new event the longer history is legal, the tables hold the state kept of it, and its order has the earlier order as a prefix
 pub record GoesOn (node : Node) (history : History) (event : Event) (later : Tables) : Type 0 where

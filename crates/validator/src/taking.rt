@@ -37,6 +37,7 @@ pub(crate) fn take<S: Sign>(
     ensures refused { RefusesEvent tables.old (S.scheme.signature_of signer.now) event result }
     ensures at { is_new_step result ≡ true → GoOnAfter tables.old tables.new (S.scheme.signature_of signer.now) event }
     ensures same { is_new_step result ≡ false → tables.new ≡ tables.old }
+    ensures seed { tables.new.batches.seed ≡ tables.old.batches.seed }
 {
     let sender = event.sender();
     let batch_digest = event.batch_digest().copied();

@@ -60,7 +60,7 @@ impl<'a, S: Sign> Drop for Validator<'a, S> {
 
 impl<'a, S: Sign> Model for Validator<'a, S> {
     ghost use Rattle.validator.specs.Setting.{node_of};
-    ghost use Rattle.validator.specs.Standing.{ValidatorView, StandSomewhere};
+    ghost use Rattle.validator.specs.Standing.{ValidatorView, StandSeeded};
     ghost use Rattle.std.specs.Coded.{codes};
     ghost use Rattle.votebook.specs.contracts.book.VoteBook as votes;
 
@@ -70,7 +70,7 @@ impl<'a, S: Sign> Model for Validator<'a, S> {
 
     ghost view = { λ v. record { setting = v.config.now; tables = v.tables } };
 
-    ghost invariant = { λ v. StandSomewhere (node_of S.scheme v.config.now) v.tables };
+    ghost invariant = { λ v. StandSeeded (node_of S.scheme v.config.now) v.tables };
 }
 
 impl<'a, S: Sign> Validator<'a, S> {

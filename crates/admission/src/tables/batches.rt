@@ -32,6 +32,7 @@ impl<'a> Tables<'a> {
         ensures refused { Refuses always self.old (message.Batch batch) result }
         ensures at { is_new_step result ≡ true → GoOn always self.old self.new (message.Batch batch) }
         ensures same { is_new_step result ≡ false → self.new ≡ self.old }
+        ensures seed { self.new.batches.seed ≡ self.old.batches.seed }
     {
         others_stay();
         take_batch(alloc, self.own, &mut self.batches, digest, batch)
@@ -54,6 +55,7 @@ impl<'a> Tables<'a> {
         ensures refused { Refuses always self.old (message.BatchAck ack.now) result }
         ensures at { is_new_step result ≡ true → GoOn always self.old self.new (message.BatchAck ack.now) }
         ensures same { is_new_step result ≡ false → self.new ≡ self.old }
+        ensures seed { self.new.batches.seed ≡ self.old.batches.seed }
     {
         others_stay();
         take_ack(alloc, &mut self.batches, ack)

@@ -89,6 +89,7 @@ impl<'a> Tables<'a> {
         ensures outputs { IfOk result (PutsOut self.old (message.Certificate certificate)) }
         ensures at { OnOk result (GoOn always self.old self.new (message.Certificate certificate)) }
         ensures err { OnErr result (self.new ≡ self.old) }
+        ensures seed { self.new.batches.seed ≡ self.old.batches.seed }
     {
         others_stay();
         sequencer::certificates_are_new();
@@ -121,6 +122,7 @@ impl<'a> Tables<'a> {
         ensures refused { Refuses always self.old (message.Certificate certificate) result }
         ensures at { is_new_step result ≡ true → GoOn always self.old self.new (message.Certificate certificate) }
         ensures same { is_new_step result ≡ false → self.new ≡ self.old }
+        ensures seed { self.new.batches.seed ≡ self.old.batches.seed }
     {
         match self.certificate_decision(&certificate, &digest) {
             Ok(Answer::New) => new_step(self.new_certificate(alloc, certificate, digest)),

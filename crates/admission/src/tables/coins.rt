@@ -88,6 +88,7 @@ impl<'a> Tables<'a> {
         ensures outputs { IfOk result (PutsOut self.old (message.Coin coin.now)) }
         ensures at { OnOk result (GoOn always self.old self.new (message.Coin coin.now)) }
         ensures err { OnErr result (self.new ≡ self.old) }
+        ensures seed { self.new.batches.seed ≡ self.old.batches.seed }
     {
         others_stay();
         let before = self.floor();
@@ -106,6 +107,7 @@ impl<'a> Tables<'a> {
         ensures refused { Refuses (from_sender sender) self.old (message.Coin coin.now) result }
         ensures at { is_new_step result ≡ true → GoOn always self.old self.new (message.Coin coin.now) }
         ensures same { is_new_step result ≡ false → self.new ≡ self.old }
+        ensures seed { self.new.batches.seed ≡ self.old.batches.seed }
     {
         match self.coin_decision(sender, coin) {
             Ok(Answer::New) => new_step(self.new_coin(alloc, coin)),

@@ -140,6 +140,7 @@ impl<'a> Tables<'a> {
         ensures outputs { IfOk result (λ outputs. outputs.items ≡ new_header_outputs self.old (S.scheme.signature_of signer.now) header.now) }
         ensures at { OnOk result (GoOn (with_signatures (S.scheme.signature_of signer.now)) self.old self.new (message.Header header.now)) }
         ensures err { OnErr result (self.new ≡ self.old) }
+        ensures seed { self.new.batches.seed ≡ self.old.batches.seed }
     {
         others_stay();
         vote_is_kept();
@@ -164,6 +165,7 @@ impl<'a> Tables<'a> {
         ensures outputs { IfOk result (λ outputs. outputs.items ≡ new_header_outputs self.old (S.scheme.signature_of signer.now) header) }
         ensures at { OnOk result (GoOn (with_signatures (S.scheme.signature_of signer.now)) self.old self.new (message.Header header)) }
         ensures err { OnErr result (self.new ≡ self.old) }
+        ensures seed { self.new.batches.seed ≡ self.old.batches.seed }
     {
         others_stay();
         header_comes();
@@ -191,6 +193,7 @@ impl<'a> Tables<'a> {
         ensures outputs { IfOk result (λ outputs. outputs.items ≡ new_header_outputs self.old (S.scheme.signature_of signer.now) header) }
         ensures at { OnOk result (GoOn (with_signatures (S.scheme.signature_of signer.now)) self.old self.new (message.Header header)) }
         ensures err { OnErr result (self.new ≡ self.old) }
+        ensures seed { self.new.batches.seed ≡ self.old.batches.seed }
     {
         if self.is_own(header.body.author) {
             return self.new_own_header(alloc, signer, header, digest);
@@ -215,6 +218,7 @@ impl<'a> Tables<'a> {
         ensures refused { Refuses (with_signatures (S.scheme.signature_of signer.now)) self.old (message.Header header) result }
         ensures at { is_new_step result ≡ true → GoOn (with_signatures (S.scheme.signature_of signer.now)) self.old self.new (message.Header header) }
         ensures same { is_new_step result ≡ false → self.new ≡ self.old }
+        ensures seed { self.new.batches.seed ≡ self.old.batches.seed }
     {
         match self.header_decision(&header, digest) {
             Ok(Answer::New) => new_step(self.new_header(alloc, signer, header, digest)),

@@ -89,7 +89,8 @@ impl<'a> Tables<'a> {
     fn count_vote(&mut self, vote: Vote)
         requires meets { MeetNew self.old (message.Vote vote) }
         requires added { added.Counted ≡ answer_in self.old.headers vote }
-        ensures { GoOn always self.old self.new (message.Vote vote) }
+        ensures at { GoOn always self.old self.new (message.Vote vote) }
+        ensures seed { self.new.batches.seed ≡ self.old.batches.seed }
     {
         others_stay();
         vote_comes();
@@ -109,6 +110,7 @@ impl<'a> Tables<'a> {
         ensures outputs { IfOk result (PutsOut self.old (message.Vote vote)) }
         ensures at { OnOk result (GoOn always self.old self.new (message.Vote vote)) }
         ensures err { OnErr result (self.new ≡ self.old) }
+        ensures seed { self.new.batches.seed ≡ self.old.batches.seed }
     {
         others_stay();
         votes_agree();
@@ -137,6 +139,7 @@ impl<'a> Tables<'a> {
         ensures outputs { IfOk result (PutsOut self.old (message.Vote vote)) }
         ensures at { OnOk result (GoOn always self.old self.new (message.Vote vote)) }
         ensures err { OnErr result (self.new ≡ self.old) }
+        ensures seed { self.new.batches.seed ≡ self.old.batches.seed }
     {
         others_stay();
         votes_agree();
@@ -162,6 +165,7 @@ impl<'a> Tables<'a> {
         ensures refused { Refuses always self.old (message.Vote vote) result }
         ensures at { is_new_step result ≡ true → GoOn always self.old self.new (message.Vote vote) }
         ensures same { is_new_step result ≡ false → self.new ≡ self.old }
+        ensures seed { self.new.batches.seed ≡ self.old.batches.seed }
     {
         votes_agree();
         self.headers.limits_hold();

@@ -10,8 +10,8 @@ use Rattle.admission.proofs.Committing.{with_high}
 use Rattle.admission.proofs.VoteCounting.{vote_high}
 use Rattle.admission.proofs.tables.Tables.count_vote.Goals as goal
 
-pub returns : goal.returns
-returns c = λ node state event meets new.
+pub returns-clause-at : goal.returns-clause-at
+returns-clause-at c = λ node state event meets new.
     let tables = c.args.self.now in
     let vote = c.args.vote in
     let held = c.count.new.self in

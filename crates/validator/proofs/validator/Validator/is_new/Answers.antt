@@ -20,7 +20,7 @@ is_new-requires g c =
     let event = c.args.event.now in
     let passed : fault_of node.charter accepts_all event ≡ None = ap (λ v. fault_of v.setting.charter accepts_all event) c.self.view_is ∙ c.requires.passed in
     let within : IsMessage event.message = subst (λ (m : Message). IsMessage m) c.message.ensures c.limits_hold-2.ensures in
-    record { meets = (node, c.self.invariant.0, event, meets_at node c.self.invariant.0 event tables c.limits_hold.ensures within passed c.self.invariant.1) }
+    record { meets = (node, c.self.invariant.somewhere.0, event, meets_at node c.self.invariant.somewhere.0 event tables c.limits_hold.ensures within passed c.self.invariant.somewhere.1) }
 
 pub returns-clause-at : goal.returns-clause-at
 returns-clause-at g c =

@@ -12,7 +12,7 @@ pub returns : goal.returns
 returns g c =
     let node : Node = node_of g.S.Sign.scheme c.self.inside.config.now in
     let tables : Tables = c.self.inside.tables in
-    let (state, is) = c.self.invariant in
+    let (state, is) = c.self.invariant.somewhere in
     subst (λ v. IfOk c.kept_records.result (λ rows. Describes (node_of g.S.Sign.scheme v.setting) v.tables (contents rows.items))) c.self.view_is
     (IfOk-weaker c.kept_records.result _ (λ rows. Describes node tables (contents rows.items))
     (λ rows describes. describes node state (sym c.own.ensures) c.limits_hold.ensures is.sound is.at) c.kept_records.ensures)

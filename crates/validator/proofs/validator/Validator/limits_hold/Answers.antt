@@ -4,4 +4,4 @@ use Rattle.validator.proofs.validator.Validator.limits_hold.Goals as goal
 
 pub returns-clause-seed : goal.returns-clause-seed
 returns-clause-seed g c =
-    subst (λ v. v.tables.batches.seed ≡ seed_of (g.S.Sign.scheme.signature_of v.setting.signer)) c.self.view_is c.self.invariant.1.at.batches.seed
+    subst (λ v. v.tables.batches.seed ≡ seed_of (g.S.Sign.scheme.signature_of v.setting.signer)) c.self.view_is c.self.invariant.seed

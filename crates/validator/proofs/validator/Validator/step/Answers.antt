@@ -75,7 +75,10 @@ invariant_of-self g c =
     let within : IsMessage event.message = subst (λ (m : Message). IsMessage m) c.message.ensures c.limits_hold-2.ensures in
     let meets : (state : State) → AreAtSound node tables state → Meets node state event tables event.message =
     λ state is. meets_at node state event tables c.limits_hold.ensures within passed is in
-    stands c.sound_stays.ensures node event tables c.take.new.tables sign c.take.result meets signs c.take.ensures.answer c.take.ensures.at c.take.ensures.same c.self.invariant
+    record {
+      somewhere = stands c.sound_stays.ensures node event tables c.take.new.tables sign c.take.result meets signs c.take.ensures.answer c.take.ensures.at c.take.ensures.same c.self.invariant.somewhere;
+      seed = c.take.ensures.seed ∙ c.self.invariant.seed;
+    }
 
 pub take-requires : goal.take-requires
 take-requires g c =
@@ -88,7 +91,7 @@ take-requires g c =
     let within : IsMessage event.message = subst (λ (m : Message). IsMessage m) c.message.ensures c.limits_hold-2.ensures in
     let meets : (state : State) → AreAtSound node tables state → Meets node state event tables event.message =
     λ state is. meets_at node state event tables c.limits_hold.ensures within passed is in
-    record { meets = (node, c.self.invariant.0, event, meets c.self.invariant.0 c.self.invariant.1) }
+    record { meets = (node, c.self.invariant.somewhere.0, event, meets c.self.invariant.somewhere.0 c.self.invariant.somewhere.1) }
 
 pub returns-clause-admits : goal.returns-clause-admits
 returns-clause-admits g c =
@@ -129,11 +132,11 @@ returns-clause-longer g c = λ new.
 pub returns-clause-never_down : goal.returns-clause-never_down
 returns-clause-never_down g c =
     let node : Node = node_of g.S.Sign.scheme c.self.inside.config.now in
-    let state : State = c.self.invariant.0 in
+    let state : State = c.self.invariant.somewhere.0 in
     let event = c.args.event in
     let sign : Digest → Signature = g.S.Sign.scheme.signature_of c.signer.result.now in
     let signs : node.sign ≡ sign = ap g.S.Sign.scheme.signature_of (sym c.signer.ensures) in
     let passed : fault_of node.charter accepts_all event ≡ None = ap (λ v. fault_of v.setting.charter accepts_all event) c.self.view_is ∙ c.requires.passed in
     let within : IsMessage event.message = subst (λ (m : Message). IsMessage m) c.message.ensures c.limits_hold-2.ensures in
-    let meets = meets_at node state event c.self.inside.tables c.limits_hold.ensures within passed c.self.invariant.1 in
+    let meets = meets_at node state event c.self.inside.tables c.limits_hold.ensures within passed c.self.invariant.somewhere.1 in
     comes_up (answered node state event) c.take.result (c.take.ensures.answer node state meets signs) (never_down node state (grown node state event.message) event)
