@@ -1,7 +1,8 @@
 -- The bytes of a group that is being filled.
 use Rattle.std.proofs.Common.{◌≡◌, ℕ, ◌+◌, ◌≤◌, ◌<◌, List, [], ◌∷◌, ◌++◌, length, take, drop, refl, sym, ap, ◌∙◌, arith, append_assoc, append-nil, length-append}
-use Rattle.std.specs.Prelude.{get_or, ◌-◌}
+use Rattle.std.specs.Prelude.{get_or, set, ◌-◌}
 use Rattle.std.specs.Int.{w32, to_be_bytes}
+use Rattle.std.proofs.Math.Seq.{get_or-append_seam, set-append_seam}
 use Rattle.std.proofs.lemmas.Grind.{flat_map-append}
 use Rattle.std.proofs.lemmas.List.{drop_at, take_at}
 use Rattle.std.proofs.lemmas.List.Sums.{sum_by-append, sum_by-cons}
@@ -59,6 +60,18 @@ push_same one other last also same =
     let long : length other ≡ length one = omega (arith, ap length same, length-append one (last ∷ []), length-append other (also ∷ [])) in
     let ends : last ∷ [] ≡ also ∷ [] = sym (drop_at one (last ∷ []) (length one) refl) ∙ ap (drop (length one)) same ∙ drop_at other (also ∷ []) (length one) long in
     (sym (take_at one (last ∷ []) (length one) refl) ∙ ap (take (length one)) same ∙ take_at other (also ∷ []) (length one) long, ap (λ l. get_or l 0 last) ends)
+
+-- its last element, and another one in its place
+last_place : {X : Type 0} (items front : List X) (last : X) (len : ℕ) → items ≡ front ++ last ∷ [] → len ≡ length items → len - 1 ≡ length front
+last_place items front last len parts long = omega (arith, long, ap length parts, length-append front (last ∷ []))
+
+pub get_last : {X : Type 0} (items front : List X) (last one : X) (len : ℕ) → items ≡ front ++ last ∷ [] → len ≡ length items → get_or items (len - 1) one ≡ last
+get_last items front last one len parts long =
+    ap (λ i. get_or items i one) (last_place items front last len parts long) ∙ ap (λ l. get_or l (length front) one) parts ∙ get_or-append_seam front last [] one
+
+pub set_last : {X : Type 0} (items front : List X) (last one : X) (len : ℕ) → items ≡ front ++ last ∷ [] → len ≡ length items → set items (len - 1) one ≡ front ++ one ∷ []
+set_last items front last one len parts long =
+    ap (λ i. set items i one) (last_place items front last len parts long) ∙ ap (λ l. set l (length front) one) parts ∙ set-append_seam front last [] one
 
 -- without the last record
 pub written_back : (old new : List ℕ) (count : ℕ) (draft : IsDraft old count) (others : List (List ℕ)) (last : List ℕ) → draft.records ≡ others ++ last ∷ []

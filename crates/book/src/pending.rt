@@ -121,12 +121,10 @@ fn put_into_last(
     ensures ok { OnOk result ((front : List (List (List ℕ))) (last : List (List ℕ)) → drafts.old.items ≡ front ++ last ∷ [] → drafts.new.items ≡ front ++ (last ++ record_of event.now ∷ []) ∷ []) }
     ensures err { OnErr result (drafts.new.items ≡ drafts.old.items) }
 {
-    let Some(mut last) = drafts.pop_back() else {
+    let Some(last) = drafts.back_mut() else {
         unreachable!()
     };
-    let put = last.put(event, len);
-    drafts.push_back_reserved(last);
-    put
+    last.put(event, len)
 }
 
 // Adds the record of an event, which has this length, as the first one of a new group. On `AllocError` an allocation failed, and nothing

@@ -1,6 +1,7 @@
 //! The records of accepted events, as they stand in the journal.
 
-ghost use Rattle.std.specs.Prelude.{◌≡◌, ◌++◌, ◌+◌, ◌≤◌, List, ℕ, length, OnOk, OnErr};
+ghost use Rattle.std.specs.Prelude.{◌≡◌, ◌++◌, ◌∷◌, ◌+◌, ◌≤◌, List, ℕ, length, OnOk, OnErr};
+ghost use Rattle.std.specs.Int.{w16, w32, to_be_bytes};
 ghost use Rattle.journal.specs.Format.{record_bytes};
 ghost use Rattle.spec_records.specs.Records.{record_of};
 
@@ -8,7 +9,7 @@ use header::Checked;
 use journal::{LENGTH_BYTES, MAX_GROUP_BYTES};
 use std::alloc::AllocError;
 use wire::numbers::two_bytes;
-use wire::{encode_onto, encoded_len};
+use wire::{Author, encode_onto, encoded_len};
 
 /// The kind byte of an event's record, which is its first byte.
 pub const EVENT_RECORD: u8 = 1;
@@ -32,8 +33,16 @@ pub(crate) fn put_record(bytes: &mut Vec<u8>, event: &Checked, len: usize) -> Re
     ensures ok { OnOk result (bytes.new.items ≡ bytes.old.items ++ record_bytes (record_of event.now)) }
     ensures err { OnErr result ((rest : List ℕ) × (bytes.new.items ≡ bytes.old.items ++ rest)) }
 {
-    bytes.extend_from_slice(&(len as u32).to_be_bytes())?;
-    bytes.push(EVENT_RECORD)?;
-    bytes.extend_from_slice(&two_bytes(event.sender().0))?;
+    bytes.extend_from_slice(&front_bytes(len as u32, event.sender()))?;
     encode_onto(bytes, event.message())
+}
+
+// What stands before the message: the length of the record, its kind and the sender.
+fn front_bytes(len: u32, sender: Author) -> [u8; LENGTH_BYTES + EVENT_FRONT_BYTES]
+    ensures { result ≡ to_be_bytes w32 len ++ EVENT_RECORD ∷ to_be_bytes w16 sender.0 }
+{
+    let mut bytes = [EVENT_RECORD; LENGTH_BYTES + EVENT_FRONT_BYTES];
+    bytes[..LENGTH_BYTES].copy_from_slice(&len.to_be_bytes());
+    bytes[LENGTH_BYTES + 1..].copy_from_slice(&two_bytes(sender.0));
+    bytes
 }
