@@ -5,10 +5,14 @@ use std::alloc::Global;
 use wire::WireError;
 use wire_read::FrameReader;
 
-/// Gives the reader a piece of the stream. Shows the bodies of the frames that the piece completes, and whether no part of a further frame
-/// is left in the reader then.
+/// Gives the reader a piece of the stream; if an allocation fails, the reader is as before and gets the piece once more. Shows the bodies of
+/// the frames that the piece completes, and whether no part of a further frame is left in the reader then.
 pub fn feed(reader: &mut FrameReader, piece: &[u8], answer: &mut String) -> Reported {
-    match reader.feed(piece) {
+    let mut fed = reader.feed(piece);
+    if matches!(fed, Err(WireError::Memory)) {
+        fed = reader.feed(piece);
+    }
+    match fed {
         Ok(bodies) => show_each(&bodies, answer)?,
         Err(error) => writeln!(answer, "{error}")?,
     }
