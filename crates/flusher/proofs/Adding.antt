@@ -1,6 +1,5 @@
 -- What adding a group leaves of a journal with what was settled.
-use Rattle.std.proofs.Common.{◌≡◌, ℕ, ◌+◌, ◌-◌, ◌<◌, ◌≤◌, inl, inr, List, [], ◌∷◌, ◌++◌, length, map, drop, Result, Ok, Err, sym, ap, ◌∙◌, subst, arith, append_assoc, length-append, refl}
-use Rattle.std.specs.Prelude.{All}
+use Rattle.std.proofs.Common.{◌≡◌, ℕ, ◌+◌, ◌-◌, ◌≤◌, inl, inr, List, [], ◌∷◌, ◌++◌, length, map, drop, Result, Ok, Err, sym, ap, ◌∙◌, subst, arith, append_assoc, length-append, refl}
 use Rattle.std.proofs.lemmas.List.{append-nil, drop_at, length-map, map-append}
 use Rattle.diskmodel.specs.Disk.{Device}
 use Rattle.journal.specs.Areas.{Areas, base_of, moved, moved_by, stands_at, stands_in}

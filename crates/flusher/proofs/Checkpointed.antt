@@ -1,5 +1,5 @@
 -- What rewriting a journal to a checkpoint of all that was accepted leaves of it.
-use Rattle.std.proofs.Common.{◌≡◌, Bool, true, false, cond, ℕ, ◌+◌, ◌<◌, ◌≤◌, inl, inr, List, [], ◌∷◌, ◌++◌, length, map, take, drop, Ok, sym, ap, ◌∙◌, subst, arith, append_assoc, refl}
+use Rattle.std.proofs.Common.{◌≡◌, Bool, true, false, cond, ℕ, ◌+◌, ◌<◌, inl, inr, List, [], ◌∷◌, ◌++◌, length, drop, sym, ap, ◌∙◌, subst, arith, append_assoc, refl}
 use Rattle.std.specs.Prelude.{All, IsSome}
 use Rattle.std.specs.List.{flat_map}
 use Rattle.std.proofs.lemmas.List.{append-nil, map-append}
@@ -9,7 +9,7 @@ use Rattle.book.specs.Book.{IsCheckpoint}
 use Rattle.journal.specs.Areas.{Areas, base_of, head_record, other_side, stands_in}
 use Rattle.journal.specs.Format.{kept_at, kept, all_kept, sized_body}
 use Rattle.journal.specs.Journal.{spare_of}
-use Rattle.journal.specs.Pairs.{areas_of, areas_with, spare_disk, side_in, generation_in, stands_as, StandsAsOrAfter}
+use Rattle.journal.specs.Pairs.{areas_of, areas_with, side_in, generation_in, stands_as, StandsAsOrAfter}
 use Rattle.journal.specs.Snapshot.{has_room, packed_after, packed}
 use Rattle.journal.specs.declared.journal.Journal.{Journal}
 use Rattle.journal.specs.declared.record.Record.{Record}
@@ -29,7 +29,7 @@ use Rattle.spec_world.specs.World.{bytes_of, IsPair, IsJournal, Holds, own_confi
 use Rattle.validator.specs.Setting.{node_of}
 use Rattle.wire.specs.Lists.{Begins}
 use Rattle.flusher.specs.Rounds.{HoldsAfter, KeepsEarlier, HoldsEither}
-use Rattle.flusher.proofs.Adding.{all_taken, leads_on, more_legal, one_after, still_holds, still_settled}
+use Rattle.flusher.proofs.Adding.{all_taken, leads_on, one_after, still_settled}
 use Rattle.flusher.proofs.Reading.{pair_with}
 
 -- ---- the records of groups

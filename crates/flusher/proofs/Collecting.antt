@@ -1,5 +1,5 @@
 -- What callers collected goes out within what a stop leaves.
-use Rattle.std.proofs.Common.{rules, ◌≡◌, ℕ, ◌≤◌, ◌+◌, ◌-◌, List, [], ◌∷◌, ◌++◌, take, drop, length, refl, sym, ap, ◌∙◌, subst, append_assoc, arith}
+use Rattle.std.proofs.Common.{◌≡◌, ℕ, ◌≤◌, ◌+◌, ◌-◌, List, [], ◌∷◌, ◌++◌, take, drop, length, refl, sym, ap, ◌∙◌, subst, append_assoc, arith}
 use Rattle.std.proofs.lemmas.List.{map-append, take-append-drop, take-append-le, drop-append-le, length-take, length-drop}
 use Rattle.std.proofs.Math.Seq.{take-length}
 use Rattle.node_seats.proofs.Beginnings.{begins_trans}
@@ -8,7 +8,7 @@ use Rattle.node_seats.specs.declared.view.Marked.{Marked}
 use Rattle.book.specs.Book.{GoesOutAfter}
 use Rattle.spec_laws.proofs.Legal.{legal-begins, legal-last}
 use Rattle.spec_laws.proofs.OrderGrows.{order_grows}
-use Rattle.spec_machine.specs.After.{after_all, WasPutOutAfter, by_new, by_known}
+use Rattle.spec_machine.specs.After.{WasPutOutAfter, by_new, by_known}
 use Rattle.spec_machine.proofs.AfterAll.{after_is_kept, answered_kept, legal_again}
 use Rattle.spec_model.specs.Admitting.{IsLegal}
 use Rattle.spec_model.specs.Giving.{kept}
@@ -22,7 +22,7 @@ use Rattle.spec_world.specs.Promise.{WhatGoesOutAgrees, WasPutOut, GoesOut, Goes
 use Rattle.spec_world.specs.Promise as promise
 use Rattle.spec_world.specs.World.{put_out}
 use Rattle.validator.specs.Setting.{node_of}
-use Rattle.flusher.specs.Collected.{CollectedIsWithin, CollectedVotesAgree, CollectedOrdersAgree, IsOfOrder, StandFrom, given_as}
+use Rattle.flusher.specs.Collected.{CollectedIsWithin, CollectedVotesAgree, CollectedOrdersAgree, StandFrom, given_as}
 
 -- the first of some marked events, after a history
 first_begin : (start : History) (count : ℕ) (marked : List Marked) → Begins (start ++ events (take count marked)) (start ++ events marked)

@@ -1,5 +1,5 @@
 -- What a flush seat has taken, on a journal that is written to.
-use Rattle.std.proofs.Common.{◌≡◌, ℕ, ◌+◌, List, sym, ap, ◌∙◌, subst}
+use Rattle.std.proofs.Common.{◌≡◌, ℕ, ◌+◌, List, ◌∙◌, subst}
 use Rattle.std.specs.Prelude.{IsSome}
 use Rattle.diskmodel.specs.Disk.{Device}
 use Rattle.journal.specs.Areas.{Areas, other_side, stands_in}
@@ -8,7 +8,6 @@ use Rattle.journal.specs.Journal.{disk_of, spare_of, stands_with, IsAlive, IsBef
 use Rattle.journal.specs.Pairs.{areas_of, areas_with, generation_in, side_in, spare_disk, stands_as, StandsAsOrAfter}
 use Rattle.journal.specs.declared.journal.Journal.{Journal}
 use Rattle.node_seats.specs.Views.{events}
-use Rattle.node_seats.specs.declared.view.Marked.{Marked}
 use Rattle.node_shared.specs.Home.{NodeView, IsBase, IsCheckpointAfter, IsFlushOf, taken_by, group_of}
 use Rattle.node_shared.specs.declared.flush_seat.FlushSeat.{FlushSeat}
 use Rattle.sigface.specs.Scheme.{Scheme}

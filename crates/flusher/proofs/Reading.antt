@@ -1,6 +1,6 @@
 -- What the areas of a journal that is added to are read as.
-use Rattle.std.proofs.Common.{◌≡◌, ◌≢◌, inl, inr, ℕ, ◌+◌, ◌-◌, ◌<◌, ◌≤◌, List, [], ◌∷◌, ◌++◌, length, map, Option, Some, None, Ok, refl, sym, ap, ◌∙◌, subst, arith}
-use Rattle.std.specs.Prelude.{All, IfSome, IsSome, Result}
+use Rattle.std.proofs.Common.{◌≡◌, inl, inr, ℕ, ◌+◌, ◌-◌, ◌<◌, ◌≤◌, List, [], ◌∷◌, ◌++◌, length, map, Option, Some, None, Ok, refl, sym, ap, ◌∙◌, subst, arith}
+use Rattle.std.specs.Prelude.{All, IfSome, IsSome}
 use Rattle.std.specs.Option.{option_map_or}
 use Rattle.std.proofs.lemmas.Bool.{cases_lt}
 use Rattle.std.proofs.lemmas.List.{append-nil, length-map}
@@ -9,7 +9,7 @@ use Rattle.std.proofs.lemmas.List.Elements.{All-nil, All-cons}
 use Rattle.diskmodel.specs.Disk.{Device, LeavesOnly}
 use Rattle.journal.specs.Areas.{Areas, alone, base_of, moved_by, pair_of, reports, chosen, stands_in, stands_at}
 use Rattle.journal.specs.Format.{kept_at, kept, stands}
-use Rattle.journal.specs.Journal.{disk_of, spare_of, with_group, stands_with, EndsClosed, IsAlive, IsAlivePair, IsNewPair, IsBeforeOrAfter}
+use Rattle.journal.specs.Journal.{disk_of, spare_of, with_group, stands_with, IsAlive, IsAlivePair, IsNewPair}
 use Rattle.journal.specs.Pairs.{areas_of, areas_with, spare_disk, side_in, generation_in}
 use Rattle.journal.specs.declared.journal.Journal.{Journal}
 use Rattle.journal.specs.declared.record.Record.{Record}

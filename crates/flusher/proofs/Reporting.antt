@@ -3,7 +3,7 @@ use Rattle.std.proofs.Common.{◌≡◌, inl, inr, ℕ, zero, suc, ◌+◌, ◌<
 use Rattle.std.specs.Prelude.{All, if◌then◌else◌, ◌==◌}
 use Rattle.std.specs.Option.{option_and_then}
 use Rattle.std.proofs.lemmas.Bool.{cases_lt, cases_eq, cond-false, le-ltb, ne_eqb}
-use Rattle.std.proofs.lemmas.List.Elements.{All-nil, All-cons, All-append, All-head, All-tail, All-weaker}
+use Rattle.std.proofs.lemmas.List.Elements.{All-nil, All-cons, All-append, All-head, All-weaker}
 use Rattle.journal.specs.Areas.{generation_of, reports}
 use Rattle.journal.specs.Format.{group_of, kept_at, kept, walk, scan, stands, only_records}
 use Rattle.journal.specs.declared.record.Record.{Record}

@@ -1,5 +1,5 @@
 -- What a stop at any moment leaves of the disks of a journal, over several calls.
-use Rattle.std.proofs.Common.{◌≡◌, ◌+◌, ◌<◌, ◌≤◌, ℕ, List, [], ◌∷◌, ◌++◌, Option, Some, None, Result, Ok, Err, refl, sym, ap, ◌∙◌, subst, arith}
+use Rattle.std.proofs.Common.{◌≡◌, ◌+◌, ◌≤◌, ℕ, List, [], ◌∷◌, ◌++◌, Option, Some, None, Result, Ok, Err, refl, sym, ap, ◌∙◌, subst, arith}
 use Rattle.std.specs.Prelude.{IsSome, IfSome, OnOk, OnErr}
 use Rattle.std.specs.Option.{option_map_or}
 use Rattle.diskmodel.proofs.Clock.{started, weaker, joins}

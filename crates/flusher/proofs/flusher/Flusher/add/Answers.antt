@@ -1,4 +1,4 @@
-use Rattle.std.proofs.Common.{◌≡◌, true, false, List, ℕ, sym, ap, ◌∙◌, subst}
+use Rattle.std.proofs.Common.{◌≡◌, true, false, List, sym, ap, ◌∙◌, subst}
 use Rattle.std.specs.Prelude.{not}
 use Rattle.journal.specs.Journal.{disk_of, IsBeforeOrAfter}
 use Rattle.journal.specs.Pairs.{areas_of}
@@ -6,9 +6,8 @@ use Rattle.node_seats.specs.declared.view.Marked.{Marked}
 use Rattle.validator.specs.Setting.{node_of}
 use Rattle.flusher.proofs.Taking.{still_flush}
 use Rattle.node_shared.specs.declared.flush_seat.FlushSeat.{FlushSeat}
-use Rattle.node_shared.specs.Home.{taken_by}
-use Rattle.flusher.specs.Rounds.{areas_at, HoldsAfter}
-use Rattle.flusher.proofs.Flushing.{Either, either_with, keeps_with, taken_there}
+use Rattle.flusher.specs.Rounds.{HoldsAfter}
+use Rattle.flusher.proofs.Flushing.{either_with, keeps_with, taken_there}
 use Rattle.flusher.proofs.Reading.{not_new}
 use Rattle.diskmodel.proofs.Clock.{weaker}
 use Rattle.flusher.proofs.flusher.Flusher.add.Goals as goal

@@ -1,4 +1,4 @@
-use Rattle.std.proofs.Common.{rules, ◌≡◌, inr, List, ℕ, Result, Ok, Err, refl, sym, ap, ◌∙◌, subst}
+use Rattle.std.proofs.Common.{rules, ◌≡◌, inr, List, ℕ, Result, Ok, Err, sym, ap, ◌∙◌, subst}
 use Rattle.std.specs.Prelude.{◌↔◌, IsErrOf}
 use Rattle.book.specs.Checkpoints.{HasNoRoomFor}
 use Rattle.book.specs.declared.own.error.FlushError.{FlushError}
@@ -12,11 +12,10 @@ use Rattle.node_seats.proofs.Same.{same_then, same_heard, or_second}
 use Rattle.node_seats.specs.Sights.{SeatView}
 use Rattle.node_seats.specs.Views.{IsSame}
 use Rattle.node_seats.specs.declared.view.Marked.{Marked}
-use Rattle.node_shared.specs.Home.{IsCheckpointAfter, IsFlushOf, taken_by}
+use Rattle.node_shared.specs.Home.{IsCheckpointAfter, taken_by}
 use Rattle.node_shared.specs.declared.flush_seat.FlushSeat.{FlushSeat}
 use Rattle.wire.specs.Lists.{Begins}
 use Rattle.flusher.specs.Rounds.{HoldsEither, IsFlusherOf, KeepsEarlier}
-use Rattle.flusher.specs.declared.flusher.Flusher.{Flusher}
 use Rattle.flusher.proofs.Reading.{spare_durable}
 use Rattle.flusher.proofs.Adding.{still_holds}
 use Rattle.flusher.proofs.Taking.{takes_all, takes_all_as, goes_down, stays_up, reports_room}
