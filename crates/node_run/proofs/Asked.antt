@@ -1,13 +1,12 @@
 -- What was asked of certificates that wait.
 use Rattle.std.proofs.Common.{◌≡◌, ◌≤◌, ◌<◌, ℕ, zero, suc, ◌+◌, Bool, true, false, List, [], ◌∷◌, ◌++◌, Option, Some, None, Result, Ok, Err, inl, inr, refl, sym, ap, subst, ◌∙◌, add-one, arith, take, slice_get, length}
-use Rattle.std.specs.Prelude.{◌≢◌, ◌⊎◌, max, ◌==◌, All, Contains, IfSome, IfNone, IsSome}
+use Rattle.std.specs.Prelude.{◌≢◌, ◌⊎◌, max, ◌==◌, All, Contains, IfSome, IfNone}
 use Rattle.std.proofs.lemmas.Bool.{cases_Bool, eqb-true}
 use Rattle.std.proofs.lemmas.Bool.Decides.{leb_tells}
 use Rattle.std.proofs.lemmas.Grind.{common_steps}
 use Rattle.std.proofs.lemmas.List.Elements.{All-nil, All-head, All-weaker, All-contains, All-push, Contains-append_cases, Contains-append_left, Contains-append_right}
 use Rattle.std.proofs.lemmas.Option.{same_Some, none-some}
 use Rattle.header.specs.Checks.{fault_of, accepts_all}
-use Rattle.header.specs.Digested.{certificate_digest_in}
 use Rattle.wire.specs.Lists.{Begins}
 use Rattle.spec_laws.proofs.Lists.{Contains-cases}
 use Rattle.spec_machine.specs.Machine.{answered, is_missing_parents}

@@ -1,7 +1,7 @@
 -- What there is left to bring to the disk after a round, and what is told of all rounds.
 use Rattle.std.proofs.Common.{◌≡◌, ◌+◌, ◌<◌, ℕ, Bool, true, false, List, length, Option, Some, None, Result, Ok, refl, sym, subst, ◌∙◌, inl, inr, arith}
 use Rattle.std.specs.Prelude.{◌⊎◌, ◌↔◌, IfOk, OnOk, IsErrOf, IsSome, IsTrue}
-use Rattle.flusher.specs.Rounds.{TakesLongest}
+use Rattle.flusher.specs.Rounds.{IsGroupOf, TakesLongest}
 use Rattle.node_io.specs.Endings.{first_of}
 use Rattle.node_run.specs.Ends.{ReportsRounds, ReportsJournal}
 use Rattle.book.specs.declared.own.error.FlushError.{FlushError}
@@ -12,27 +12,19 @@ use Rattle.wire.specs.Lists.{Begins}
 use Rattle.node_seats.proofs.Beginnings.{begins_trans, begins_whole}
 use Rattle.node_seats.specs.declared.view.Marked.{Marked}
 
--- where a round brought nothing to the disk, nothing more fits a group
-nothing_more : (first seen settled taken later : List Marked) → Begins first seen → TakesLongest seen settled taken → length taken ≡ length settled + 0 → later ≡ taken
-    → TakesLongest first later later
-nothing_more first seen settled taken later more takes none is = record {
-  all = there.all;
-  had_seen = begins_trans first seen there.all more there.had_seen;
-  begins = there.begins;
-  within = there.within;
-  takes = there.takes;
-}
+-- where a round brought nothing to the disk all that was seen is settled, since a group has at least one record
+nothing_more : (first seen settled taken later : List Marked) → Begins first seen → TakesLongest seen settled taken → length taken ≡ length settled + 0 → later ≡ taken → Begins first later
+nothing_more first seen settled taken later more takes none is = by takes.takes
   where
-    same : settled ≡ taken
-    same = begins_whole settled taken takes.begins (omega (arith, none))
-
-    there : TakesLongest seen later later
-    there = subst (λ (l : List Marked). TakesLongest seen l l) (sym is) (subst (λ (l : List Marked). TakesLongest seen l taken) same takes)
+    by : ((takes.all ≡ settled) × (taken ≡ settled)) ⊎ IsGroupOf settled takes.all taken → Begins first later
+    by (inl same) =
+        subst (Begins first) (same.0 ∙ sym same.1 ∙ sym is) (begins_trans first seen takes.all more takes.had_seen)
+    by (inr group) = absurd (let some = group.longest.fits.some in let size = group.size in omega (arith, none, size, some))
 
 -- a round that ends well and brought nothing to the disk
 pub nothing_left : (first seen settled taken later : List Marked) (round : Result ℕ FlushError) → round ≡ Ok 0 → Begins first seen
     → IsErrOf round flush.Down ⊎ IsErrOf round flush.Memory ⊎ TakesLongest seen settled taken
-    → IfOk round (λ count. length taken ≡ length settled + count) → OnOk round (later ≡ taken) → TakesLongest first later later
+    → IfOk round (λ count. length taken ≡ length settled + count) → OnOk round (later ≡ taken) → Begins first later
 nothing_left first seen settled taken later round is more takes size settled_all = by takes
   where
     none : length taken ≡ length settled + 0
@@ -41,7 +33,7 @@ nothing_left first seen settled taken later round is more takes size settled_all
     whole : later ≡ taken
     whole = subst (λ (it : Result ℕ FlushError). OnOk it (later ≡ taken)) is settled_all
 
-    by : IsErrOf round flush.Down ⊎ IsErrOf round flush.Memory ⊎ TakesLongest seen settled taken → TakesLongest first later later
+    by : IsErrOf round flush.Down ⊎ IsErrOf round flush.Memory ⊎ TakesLongest seen settled taken → Begins first later
     by (inl down) = let bad : IsErrOf {T = ℕ} (Ok 0) flush.Down = sym is ∙ down in absurd cc
     by (inr (inl memory)) = let bad : IsErrOf {T = ℕ} (Ok 0) flush.Memory = sym is ∙ memory in absurd cc
     by (inr (inr longest)) = nothing_more first seen settled taken later more longest none whole

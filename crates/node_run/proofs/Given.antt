@@ -19,7 +19,7 @@ use Rattle.node_seats.specs.declared.view.View.{View}
 use Rattle.node_shared.specs.Home.{NodeView}
 use Rattle.sigface.specs.Scheme.{Scheme}
 use Rattle.wire.specs.Lists.{Begins}
-use Rattle.node_run.proofs.Pending.{by_rule_weaker, none_of_both}
+use Rattle.node_run.proofs.Pending.{by_rule_weaker, none_of_both, place_weaker}
 use Rattle.node_run.proofs.Written.{written_weaker}
 use Rattle.node_run.specs.Rewriting.{point_of, HasCheckpoint}
 use Rattle.node_run.specs.Runs.{AreSettled, ComesByRule, HasFlushed, IsFullUp}
@@ -75,10 +75,16 @@ none_of_input ends.Whole lacked_memory = refl
 none_of_input ends.Broken lacked_memory = refl
 none_of_input ends.Memory lacked_memory = refl
 
--- A full journal that the rounds told has no place on the disks for what was taken.
-pub is_full_up : {S D : Type 0} (scheme : Scheme S) (device : Device D) (rule : Rule) (first later : RoundsView S D) (reports : Faults) (fault : Option JournalError) (left : Store D)
-    → HasFlushed scheme device rule first later reports → left ≡ store_of (journal_of later.flusher) → fault ≡ reports.journal → fault ≡ Some journal.Full → IsFullUp scheme device first.node left
-is_full_up scheme device rule first later reports fault left flushed is_left same is = record { last = later.flusher; lacks = flushed.full (sym same ∙ is); is_left = is_left }
+-- A full journal that the rounds told has no room on the disks for what was to be written next.
+pub is_full_up : {S D : Type 0} (scheme : Scheme S) (device : Device D) (rule : Rule) (first later : RoundsView S D) (others reports all : Faults) (left : Store D)
+    → HasFlushed scheme device rule first later reports → left ≡ store_of (journal_of later.flusher) → all.memory ≡ (others.memory || reports.memory)
+    → all.journal ≡ reports.journal → all.journal ≡ Some journal.Full → IsFullUp scheme device first.node rule all.memory (point_of first.flusher) left
+is_full_up scheme device rule first later others reports all left flushed is_left memory_is same is = record {
+  last = later.flusher;
+  lacks = place_weaker scheme device first.node rule reports.memory all.memory (point_of first.flusher) later.flusher
+      (λ lacking. memory_is ∙ or_right others.memory reports.memory lacking) (flushed.full (sym same ∙ is));
+  is_left = is_left;
+}
 
 -- what holds of what there is
 pub of_some : {X : Type 0} (P : X → Type 0) (found : Option X) (one : X) → found ≡ Some one → IfSome found P → P one

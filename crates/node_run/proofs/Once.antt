@@ -1,20 +1,16 @@
 -- A round, and the checkpoint that is due after it.
-use Rattle.std.proofs.Common.{◌≡◌, ◌+◌, ◌<◌, ℕ, zero, suc, Bool, true, false, List, [], ◌∷◌, length, Option, Some, None, Result, Ok, Err, refl, sym, ap, subst, ◌∙◌, inl, inr, arith}
-use Rattle.std.specs.Option.{option_map_or}
+use Rattle.std.proofs.Common.{◌≡◌, ◌+◌, ◌<◌, ℕ, zero, suc, Bool, true, false, List, [], ◌∷◌, length, Result, Ok, Err, refl, sym, ap, subst, ◌∙◌, inl, inr, arith}
 use Rattle.std.specs.Prelude.{◌⊎◌, IfOk, IsErrOf, IsSome, IsTrue, OnErr, OnOk}
 use Rattle.book.specs.declared.own.error.FlushError.{FlushError}
 use Rattle.book.specs.declared.own.error.FlushError.TheVariants as flush
 use Rattle.diskmodel.specs.Disk.{Device, ReportsFault}
 use Rattle.flusher.specs.Rounds.{journal_of, is_down, settled_in, taken_in, AddsSettled, GoesDown, HasNoRoom, IsAtCheckpoint, IsGroupOf, IsReportedOf, KeepsEarlier, TakesAndSettles, TakesLongest, ReportsRoom}
 use Rattle.flusher.specs.declared.flusher.Flusher.{Flusher}
-use Rattle.journal.specs.Areas.{other_side}
+use Rattle.journal.specs.Format.{FitsGroup}
 use Rattle.journal.specs.Journal.{disk_of, spare_of, IsAlive}
-use Rattle.journal.specs.Pairs.{areas_of, side_in, store_of, HaveChangedPlaces}
+use Rattle.journal.specs.Pairs.{areas_of, store_of, HaveChangedPlaces}
 use Rattle.journal.specs.Stores.{faults_in}
 use Rattle.journal.specs.declared.journal.Journal.{Journal}
-use Rattle.journal.specs.declared.side.Side.{Side}
-use Rattle.journal.specs.declared.side.Side.TheVariants.{First, Second}
-use Rattle.journal.specs.declared.spare.Spare.{Spare}
 use Rattle.node.specs.Callers.{RoundsView}
 use Rattle.node.specs.Rounds.{Flushes}
 use Rattle.node.proofs.Stages.{Counts}
@@ -24,7 +20,7 @@ use Rattle.node_shared.specs.Home.{IsCheckpointAfter, NodeView}
 use Rattle.sigface.specs.Scheme.{Scheme}
 use Rattle.wire.specs.Lists.{Begins}
 use Rattle.node_run.specs.Flushing.{IsOver, FlushesOnce}
-use Rattle.node_run.specs.Rewriting.{length_in, point_of, IsDue, BringsGroup, HasNoRoomToAdd, HasNoRoomToRewrite, IsCountOf, HasCheckpoint, RewritesWhereDue, Point, Step, none_due, made, skipped, counted_from, ByTheRule, without_number}
+use Rattle.node_run.specs.Rewriting.{length_in, point_of, IsDue, BringsGroup, HasNoRoomToAdd, HasNoRoomToRewrite, IsOneStep, IsRound, HasCheckpoint, RewritesWhereDue, Step, none_due, made, skipped, counted_from, ByTheRule, without_number}
 use Rattle.node_run.specs.declared.rule.Rule.{Rule}
 use Rattle.node_run.proofs.Flushed.{nothing_left, settles_none, never_ok, stays_up}
 use Rattle.node_run.proofs.Moments.{begins_taken, ok_is_up, keeps_on, round_on, ends_on, fails_on, SoFar, Leaves}
@@ -119,6 +115,12 @@ some_group : (settled all taken : List Marked) → length settled < length taken
 some_group settled all taken more (inl none) = absurd (never_more settled taken more none.1)
 some_group settled all taken more (inr group) = group
 
+-- what was taken is one group more than what was settled
+one_group : (seen settled taken : List Marked) → length settled < length taken → TakesLongest seen settled taken → BringsGroup settled taken
+one_group seen settled taken more longest =
+    let group = some_group settled longest.all taken more longest.takes in
+    record { begins = longest.begins; fits = subst FitsGroup group.is group.longest.fits }
+
 -- a round that ends well and brings something brings a group
 brings_group : (seen settled taken later : List Marked) (count : ℕ) → (count ≡ 0 → ⊥)
     → IsErrOf {T = ℕ} (Ok count) flush.Down ⊎ IsErrOf {T = ℕ} (Ok count) flush.Memory ⊎ TakesLongest seen settled taken
@@ -126,25 +128,14 @@ brings_group : (seen settled taken later : List Marked) (count : ℕ) → (count
 brings_group seen settled taken later count some (inl down) size is = absurd (let bad : IsErrOf {T = ℕ} (Ok count) flush.Down = down in cc)
 brings_group seen settled taken later count some (inr (inl memory)) size is = absurd (let bad : IsErrOf {T = ℕ} (Ok count) flush.Memory = memory in cc)
 brings_group seen settled taken later count some (inr (inr longest)) size is =
-    let more = more_than count (length settled) (length taken) some size in
-    subst (BringsGroup settled) (sym is)
-    (record { some = more; all = longest.all; begins = longest.begins; within = longest.within; group = some_group settled longest.all taken more longest.takes })
+    subst (BringsGroup settled) (sym is) (one_group seen settled taken (more_than count (length settled) (length taken) some size) longest)
 
 -- one that has no room took a group
 took_group : (seen settled taken : List Marked) (round : Result ℕ FlushError) → round ≡ Err flush.Full
-    → IsErrOf round flush.Down ⊎ IsErrOf round flush.Memory ⊎ TakesLongest seen settled taken → length settled < length taken → (all : List Marked) × IsGroupOf settled all taken
+    → IsErrOf round flush.Down ⊎ IsErrOf round flush.Memory ⊎ TakesLongest seen settled taken → length settled < length taken → BringsGroup settled taken
 took_group seen settled taken round full (inl down) more = absurd (let bad : flush.Full ≡ flush.Down = ap error_in (sym full ∙ down) in cc)
 took_group seen settled taken round full (inr (inl memory)) more = absurd (let bad : flush.Full ≡ flush.Memory = ap error_in (sym full ∙ memory) in cc)
-took_group seen settled taken round full (inr (inr longest)) more = (longest.all, some_group settled longest.all taken more longest.takes)
-
--- a journal whose disks have changed places has another one that isn't read
-not_other : (side : Side) → side ≡ other_side side → ⊥
-not_other First is = let bad : First ≡ Second = is in cc
-not_other Second is = let bad : Second ≡ First = is in cc
-
-pub other_spare : {D : Type 0} (old new : Journal D) → HaveChangedPlaces old new → spare_of new ≡ spare_of old → ⊥
-other_spare {D} old new changed same =
-    not_other (side_in old) (sym (ap (λ (s : Option (Spare D)). option_map_or (λ (one : Spare D). one.side) s First) same) ∙ changed.side)
+took_group seen settled taken round full (inr (inr longest)) more = one_group seen settled taken more longest
 
 -- what isn't 0 is above it
 positive : (n : ℕ) → (n ≡ 0 → ⊥) → 0 < n
@@ -193,13 +184,19 @@ module _ {S D : Type 0} (scheme : Scheme S) (device : Device D) (counts : Counts
     more = settles_any later round flushes;
     down = down;
     cause = flushes.cause;
-    full = λ full. (subst (IsAlive device) (sym (room.same full)) (alive (full_is_up before.flusher later.flusher round down full)), inl (no_room full));
+    full = λ full. record {
+      last = point_of before.flusher;
+      last_rule = rule;
+      by_rule = ([], (refl, refl));
+      alive = subst (IsAlive device) (sym (room.same full)) (alive (full_is_up before.flusher later.flusher round down full));
+      lacks = inl (same_points later.flusher before.flusher (room.same full) (as_settled full), no_room full);
+    };
     nothing = λ is. nothing_left before.seat.view.seen before.seat.view.seen (settled_in before.flusher) (taken_in later.flusher) (settled_in later.flusher) round is
         (begins_same before.seat.view.seen) settles.takes settles.size settles.settled;
     memory = λ is.
         let same = subst (λ (it : Result ℕ FlushError). OnErr it (settled_in later.flusher ≡ settled_in before.flusher)) is flushes.not_settled in
         ((flushes.memory is).0, same, (flushes.memory is).1 ∙ sym same);
-    count = counted round settles.size settles.settled;
+    count = counted round over nothing flushes settles.size settles.settled;
     earlier = there round down flushes;
     any_moment = λ up. round_on scheme device before.node before.node before.flusher before.flusher later.flusher round refl (still up) (begins_same (settled_in before.flusher)) flushes (inl refl);
     at_end = λ done up. ends_on scheme device counts before.node before.node before.flusher before.flusher later.flusher round refl (still up)
@@ -212,15 +209,16 @@ module _ {S D : Type 0} (scheme : Scheme S) (device : Device D) (counts : Counts
       still : is_down before.flusher ≡ false → IsErrOf round flush.Down → ⊥
       still up is = let bad : true ≡ false = sym (down.down.0 is) ∙ up in cc
 
-      no_room : IsErrOf round flush.Full → HasNoRoomToAdd device later.flusher
+      as_settled : IsErrOf round flush.Full → settled_in later.flusher ≡ settled_in before.flusher
+      as_settled full = subst (λ (it : Result ℕ FlushError). OnErr it (settled_in later.flusher ≡ settled_in before.flusher)) full flushes.not_settled
+
+      no_room : IsErrOf round flush.Full → HasNoRoomToAdd device (point_of later.flusher) (taken_in later.flusher)
       no_room full =
           let lacks = (room.full (full_is_up before.flusher later.flusher round down full)).0 full in
-          let settled = subst (λ (it : Result ℕ FlushError). OnErr it (settled_in later.flusher ≡ settled_in before.flusher)) full flushes.not_settled in
-          let took = took_group before.seat.view.seen (settled_in before.flusher) (taken_in later.flusher) round full settles.takes lacks.some in
           record {
-            all = took.0;
-            group = subst (λ (l : List Marked). IsGroupOf l took.0 (taken_in later.flusher)) (sym settled) took.1;
-            room = subst (λ (l : List Marked). HasNoRoom (device.content (disk_of (journal_of later.flusher))) l (taken_in later.flusher)) (sym settled)
+            group = subst (λ (l : List Marked). BringsGroup l (taken_in later.flusher)) (sym (as_settled full))
+                (took_group before.seat.view.seen (settled_in before.flusher) (taken_in later.flusher) round full settles.takes lacks.some);
+            room = subst (λ (l : List Marked). HasNoRoom (device.content (disk_of (journal_of later.flusher))) l (taken_in later.flusher)) (sym (as_settled full))
                 (subst (λ (j : Journal D). HasNoRoom (device.content (disk_of j)) (settled_in before.flusher) (taken_in later.flusher)) (sym (room.same full)) lacks);
           }
 
@@ -237,16 +235,14 @@ module _ {S D : Type 0} (scheme : Scheme S) (device : Device D) (counts : Counts
           (begins_taken (settled_in before.flusher) (taken_in later.flusher) (Ok count) up flushed.takes) size all
       settles_no_more (Err error) none up flushed size all = flushed.not_settled
 
-      counted : (it : Result ℕ FlushError) → IfOk it (λ count. length (taken_in later.flusher) ≡ length (settled_in before.flusher) + count)
-          → OnOk it (settled_in later.flusher ≡ taken_in later.flusher) → IfOk it (λ count. IsCountOf (point_of before.flusher) (point_of later.flusher) count)
-      counted (Ok count) size all = record {
-        settled = settled_in later.flusher;
-        size = subst (λ (l : List Marked). length l ≡ length (settled_in before.flusher) + count) (sym all) size;
-        begins = settles_any later round flushes;
-        within = begins_same (settled_in later.flusher);
-        whole = λ _. refl;
-      }
-      counted (Err error) size all = tt
+      counted : (it : Result ℕ FlushError) → IsOver it → IfOk it (λ count. count ≡ 0 → journal_of later.flusher ≡ journal_of before.flusher)
+          → Flushes scheme device before.node before.flusher later.flusher it → IfOk it (λ count. length (taken_in later.flusher) ≡ length (settled_in before.flusher) + count)
+          → OnOk it (settled_in later.flusher ≡ taken_in later.flusher)
+          → IfOk it (λ count. IsOneStep device (HasCheckpoint scheme device before.node) rule missed (point_of before.flusher) count rule (point_of later.flusher))
+      counted (Ok count) none same flushed size all =
+          let settled = settles_no_more (Ok count) none (ok_is_up (Ok count) count refl) flushed size all in
+          inl (none, refl, same_points later.flusher before.flusher (same none) settled)
+      counted (Err error) none same flushed size all = tt
 
       by_memory : (error : FlushError) → GoesDown before.flusher later.flusher (Err error) → Flushes scheme device before.node before.flusher later.flusher (Err error)
           → is_down later.flusher ≡ false → journal_of later.flusher ≡ journal_of before.flusher
@@ -288,6 +284,9 @@ module _ {S D : Type 0} (scheme : Scheme S) (device : Device D) (counts : Counts
     brings : (count ≡ 0 → ⊥) → BringsGroup (settled_in before.flusher) (settled_in mid.flusher)
     brings some = brings_group before.seat.view.seen (settled_in before.flusher) (taken_in mid.flusher) (settled_in mid.flusher) count some settles.takes settles.size settles.settled
 
+    by_round : (count ≡ 0 → ⊥) → IsRound device (point_of before.flusher) (point_of mid.flusher)
+    by_round some = record { adds = adds (positive count some); same_area = same_area; brings = brings some }
+
     size : length (settled_in mid.flusher) ≡ length (settled_in before.flusher) + count
     size = subst (λ (l : List Marked). length l ≡ length (settled_in before.flusher) + count) (sym settles.settled) settles.size
 
@@ -312,20 +311,14 @@ module _ {S D : Type 0} (scheme : Scheme S) (device : Device D) (counts : Counts
       full = λ bad. absurd (let clash : IsErrOf {T = ℕ} (Ok count) flush.Full = bad in cc);
       nothing = λ is. absurd (some (ap count_in is));
       memory = λ bad. absurd (let clash : IsErrOf {T = ℕ} (Ok count) flush.Memory = bad in cc);
-      count = record { settled = settled_in mid.flusher; size = size; begins = more; within = begins_same (settled_in mid.flusher); whole = λ _. refl };
+      count = inr (record { grown = point_of mid.flusher; followed = none_due }, record { round = by_round some; follows = not_due }, size, refl, refl);
       earlier = λ _. flushes.earlier;
       any_moment = λ _. leaves_of so_far;
       at_end = λ none _. absurd (some none);
       by_rule = λ _. (
         record { grown = point_of mid.flusher; followed = none_due } ∷ [],
         (
-          record {
-            adds = adds
-                (positive count some);
-            same_area = same_area;
-            brings = brings some;
-            follows = not_due;
-          },
+          record { round = by_round some; follows = not_due },
           (refl, refl),
         ),
       );
@@ -343,7 +336,9 @@ module _ {S D : Type 0} (scheme : Scheme S) (device : Device D) (counts : Counts
         → IsReportedOf mid.seat later.seat answer → Flushes scheme device mid.node mid.flusher later.flusher answer → OnOk answer (HaveChangedPlaces (journal_of mid.flusher)
         (journal_of later.flusher))
         → OnOk answer (IsAtCheckpoint scheme device mid.node later.flusher) → OnOk answer (later_rule ≡ counted_from device rule (journal_of later.flusher)) → OnErr answer (later_rule ≡ rule)
-        → (IsErrOf answer flush.Full → IsAlive device (journal_of later.flusher) × HasNoRoomToRewrite scheme mid.node later.flusher)
+        → (IsErrOf answer flush.Full
+        → (journal_of later.flusher ≡ journal_of mid.flusher) × IsAlive device (journal_of later.flusher)
+        × HasNoRoomToRewrite (IsCheckpointAfter scheme mid.node) (point_of later.flusher) (taken_in later.flusher))
         → FlushesOnce scheme device rule later_rule missed before later (answer_of count answer)
     once_checkpoint (Ok generation) not_memory some due later_node later_goes reported taken swapped writes counted kept full =
         let later_up = is_up mid.flusher later.flusher generation later_goes in
@@ -358,19 +353,19 @@ module _ {S D : Type 0} (scheme : Scheme S) (device : Device D) (counts : Counts
           full = λ bad. absurd (let clash : IsErrOf {T = ℕ} (Ok count) flush.Full = bad in cc);
           nothing = λ is. absurd (some (ap count_in is));
           memory = λ bad. absurd (let clash : IsErrOf {T = ℕ} (Ok count) flush.Memory = bad in cc);
-          count = record {
-            settled = settled_in mid.flusher;
-            size = size;
-            begins = more;
-            within = more_later;
-            whole = λ same. absurd (other_spare (journal_of mid.flusher) (journal_of later.flusher) swapped (same ∙ sym same_area));
-          };
+          count = inr (
+            record { grown = point_of mid.flusher; followed = made (point_of later.flusher) },
+            record { round = by_round some; follows = (due, swapped, more_later, has_checkpoint writes) },
+            size,
+            counted,
+            refl,
+          );
           earlier = λ _. keeps_on scheme device before.node mid.node before.flusher mid.flusher later.flusher node flushes.earlier taken.earlier;
           any_moment = λ _. round_on scheme device before.node mid.node before.flusher mid.flusher later.flusher (Ok generation) node no_down more taken so_far;
           at_end = λ none _. absurd (some none);
           by_rule = λ _.
               let step : Step D = record { grown = point_of mid.flusher; followed = made (point_of later.flusher) } in
-              (step ∷ [], (record { adds = adds (positive count some); same_area = same_area; brings = brings some; follows = (due, swapped, more_later, has_checkpoint writes) }, (counted, refl)));
+              (step ∷ [], (record { round = by_round some; follows = (due, swapped, more_later, has_checkpoint writes) }, (counted, refl)));
           pair = λ pair is. taken.disks.1 (some_spare pair (subst (λ (r : Rule). IsSome r.every) counted is));
         }
     once_checkpoint (Err error) not_memory some due later_node later_goes reported taken swapped writes counted kept full =
@@ -382,7 +377,19 @@ module _ {S D : Type 0} (scheme : Scheme S) (device : Device D) (counts : Counts
           down = goes_err before.flusher mid.flusher later.flusher error up still_up later_goes;
           cause = reports_after (faults_in device (store_of (journal_of before.flusher))) (faults_in device (store_of (journal_of mid.flusher)))
               (faults_in device (store_of (journal_of later.flusher))) error flushes.cause.0 taken.cause;
-          full = λ is. ((full is).0, inr (subst (λ (n : NodeView S). HasNoRoomToRewrite scheme n later.flusher) node (full is).1));
+          full = λ is.
+              let it = full is in
+              record {
+                last = point_of before.flusher;
+                last_rule = rule;
+                by_rule = ([], (refl, refl));
+                alive = it.1;
+                lacks = inr (
+                  subst (IsRound device (point_of before.flusher)) (sym (same_points later.flusher mid.flusher it.0 taken.not_settled)) (by_round some),
+                  subst (λ (j : Journal D). IsDue rule (length_in device j)) (sym it.0) due,
+                  subst (λ (n : NodeView S). HasNoRoomToRewrite (IsCheckpointAfter scheme n) (point_of later.flusher) (taken_in later.flusher)) node it.2,
+                );
+              };
           nothing = λ is. absurd (let bad : ◌≡◌ {A = Result ℕ FlushError} (Err error) (Ok 0) = is in cc);
           memory = λ is. absurd (not_memory is);
           count = tt;
@@ -410,13 +417,13 @@ module _ {S D : Type 0} (scheme : Scheme S) (device : Device D) (counts : Counts
           full = λ bad. absurd (let clash : IsErrOf {T = ℕ} (Ok count) flush.Full = bad in cc);
           nothing = λ is. absurd (some (ap count_in is));
           memory = λ bad. absurd (let clash : IsErrOf {T = ℕ} (Ok count) flush.Memory = bad in cc);
-          count = record {
-            settled = settled_in mid.flusher;
-            size = size;
-            begins = more;
-            within = subst (Begins (settled_in mid.flusher)) (sym taken.not_settled) (begins_same (settled_in mid.flusher));
-            whole = λ _. sym taken.not_settled;
-          };
+          count = inr (
+            record { grown = point_of mid.flusher; followed = skipped },
+            record { round = by_round some; follows = (due, marked) },
+            size,
+            kept,
+            same_points later.flusher mid.flusher (taken.memory refl).0 taken.not_settled,
+          );
           earlier = λ _. keeps_on scheme device before.node mid.node before.flusher mid.flusher later.flusher node flushes.earlier
               (fails_on scheme device mid.node mid.flusher later.flusher (Err flush.Memory) flush.Memory refl later_up later_goes taken);
           any_moment = λ _. round_on scheme device before.node mid.node before.flusher mid.flusher later.flusher (Err flush.Memory) node no_down more taken so_far;
@@ -424,7 +431,7 @@ module _ {S D : Type 0} (scheme : Scheme S) (device : Device D) (counts : Counts
           by_rule = λ _.
               let step : Step D = record { grown = point_of mid.flusher; followed = skipped } in
               let same = same_points later.flusher mid.flusher (taken.memory refl).0 taken.not_settled in
-              (step ∷ [], (record { adds = adds (positive count some); same_area = same_area; brings = brings some; follows = (due, marked) }, (kept, same)));
+              (step ∷ [], (record { round = by_round some; follows = (due, marked) }, (kept, same)));
           pair = λ pair is. taken.disks.1 (some_spare pair (subst (λ (r : Rule). IsSome r.every) kept is));
         }
 

@@ -4,7 +4,7 @@ use Rattle.std.specs.Prelude.{◌⊎◌, ◌↔◌, IsErrOf, IsSome, IsTrue}
 use Rattle.book.specs.declared.own.error.FlushError.{FlushError}
 use Rattle.book.specs.declared.own.error.FlushError.TheVariants as flush
 use Rattle.diskmodel.specs.Disk.{Device, ReportsFault}
-use Rattle.flusher.specs.Rounds.{journal_of, is_down, settled_in, taken_in, GoesDown, KeepsEarlier, TakesLongest}
+use Rattle.flusher.specs.Rounds.{journal_of, is_down, settled_in, taken_in, GoesDown, KeepsEarlier}
 use Rattle.flusher.specs.declared.flusher.Flusher.{Flusher}
 use Rattle.journal.specs.Journal.{spare_of}
 use Rattle.journal.specs.Pairs.{areas_of, store_of}
@@ -17,12 +17,12 @@ use Rattle.node_io.specs.Endings.{first_of}
 use Rattle.node_io.specs.declared.faults.Faults.{Faults}
 use Rattle.node_seats.proofs.Beginnings.{begins_same, begins_trans}
 use Rattle.node_seats.specs.declared.view.Marked.{Marked}
-use Rattle.node_shared.specs.Home.{NodeView}
+use Rattle.node_shared.specs.Home.{IsCheckpointAfter, NodeView}
 use Rattle.sigface.specs.Scheme.{Scheme}
 use Rattle.wire.specs.Lists.{Begins}
 use Rattle.node_run.specs.Ends.{faults_after, ReportsRounds, ReportsJournal}
 use Rattle.node_run.specs.Flushing.{FlushesOnce}
-use Rattle.node_run.specs.Rewriting.{AreSteps, ByTheRule, FollowsWhereDue, Followed, HasCheckpoint, HasNoPlace, Point, Step, none_due, made, skipped, point_after, point_of, rule_after}
+use Rattle.node_run.specs.Rewriting.{AreSteps, ByTheRule, FollowsWhereDue, Followed, HasCheckpoint, HasNoPlace, IsFullAt, LacksRoom, Point, Step, none_due, made, skipped, point_after, point_of, rule_after}
 use Rattle.node_run.specs.Runs.{HoldsMore, LeavesSettled}
 use Rattle.node_run.specs.Writing.{no_faults}
 use Rattle.node_run.specs.declared.rule.Rule.{Rule}
@@ -59,9 +59,7 @@ steps_weaker : {D : Type 0} (device : Device D) (Made Other : Point D → Type 0
 steps_weaker device Made Other rule memory more first [] later last wider raised are = are
 steps_weaker device Made Other rule memory more first (step ∷ steps) later last wider raised are = (
   record {
-    adds = are.0.adds;
-    same_area = are.0.same_area;
-    brings = are.0.brings;
+    round = are.0.round;
     follows = follows_weaker device Made Other rule memory more step.grown step.followed wider raised are.0.follows;
   },
   steps_weaker device Made Other (rule_after device rule step) memory more (point_after step) steps later last wider raised are.1,
@@ -72,6 +70,54 @@ pub by_rule_weaker : {D : Type 0} (device : Device D) (Made Other : Point D → 
     → ByTheRule device Other rule more first later last
 by_rule_weaker device Made Other rule later memory more first last wider raised by =
     (by.0, steps_weaker device Made Other rule memory more first by.0 later last wider raised by.1)
+
+-- ---- what has no room
+
+-- what has no room somewhere has none there where more may have been skipped, and where checkpoints are of a wider kind
+pub full_weaker : {D : Type 0} (device : Device D) (Made Other : Point D → Type 0) (Shows Wider : List Marked → List (List ℕ) → Type 0) (rule : Rule) (memory more : Bool) (first point : Point D)
+    (taken : List Marked) → ((point : Point D) → Made point → Other point) → ((records : List (List ℕ)) → Shows taken records → Wider taken records) → (memory ≡ true → more ≡ true)
+    → IsFullAt device Made Shows rule memory first point taken → IsFullAt device Other Wider rule more first point taken
+full_weaker {D} device Made Other Shows Wider rule memory more first point taken wider showing raised full = record {
+  last = full.last;
+  last_rule = full.last_rule;
+  by_rule = by_rule_weaker device Made Other rule full.last_rule memory more first full.last wider raised full.by_rule;
+  alive = full.alive;
+  lacks = by full.lacks;
+}
+  where
+    by : LacksRoom device Shows full.last_rule full.last point taken → LacksRoom device Wider full.last_rule full.last point taken
+    by (inl add) = inl add
+    by (inr (round, due, rewrite)) = inr (
+      round,
+      due,
+      record { pair = rewrite.pair; begins = rewrite.begins; records = rewrite.records; checkpoint = showing rewrite.records rewrite.checkpoint; full = rewrite.full },
+    )
+
+full_then : {D : Type 0} (device : Device D) (Made : Point D → Type 0) (Shows : List Marked → List (List ℕ) → Type 0) (rule mid_rule : Rule) (memory : Bool) (first mid point : Point D)
+    (taken : List Marked) → ByTheRule device Made rule memory first mid_rule mid → IsFullAt device Made Shows mid_rule memory mid point taken → IsFullAt device Made Shows rule memory first point taken
+full_then device Made Shows rule mid_rule memory first mid point taken so_far full = record {
+  last = full.last;
+  last_rule = full.last_rule;
+  by_rule = by_rule_joins device Made rule mid_rule full.last_rule memory first mid full.last so_far full.by_rule;
+  alive = full.alive;
+  lacks = full.lacks;
+}
+
+-- what has no place after further rounds of a flusher
+place_then : {S D : Type 0} (scheme : Scheme S) (device : Device D) (node : NodeView S) (rule mid_rule : Rule) (missed later_missed : Bool) (first mid : Point D) (now : Flusher D)
+    → (missed ≡ true → later_missed ≡ true) → ByTheRule device (HasCheckpoint scheme device node) rule missed first mid_rule mid
+    → HasNoPlace scheme device node mid_rule later_missed mid now → HasNoPlace scheme device node rule later_missed first now
+place_then scheme device node rule mid_rule missed later_missed first mid now kept so_far full =
+    let Made = HasCheckpoint scheme device node in
+    full_then device Made (IsCheckpointAfter scheme node) rule mid_rule later_missed first mid (point_of now) (taken_in now)
+    (by_rule_weaker device Made Made rule mid_rule missed later_missed first mid (λ point is. is) kept so_far) full
+
+pub place_weaker : {S D : Type 0} (scheme : Scheme S) (device : Device D) (node : NodeView S) (rule : Rule) (missed later_missed : Bool) (first : Point D) (now : Flusher D)
+    → (missed ≡ true → later_missed ≡ true) → HasNoPlace scheme device node rule missed first now → HasNoPlace scheme device node rule later_missed first now
+place_weaker scheme device node rule missed later_missed first now kept full =
+    let Made = HasCheckpoint scheme device node in
+    let Shows = IsCheckpointAfter scheme node in
+    full_weaker device Made Made Shows Shows rule missed later_missed first (point_of now) (taken_in now) (λ point is. is) (λ records is. is) kept full
 
 -- ---- what is told
 
@@ -132,10 +178,11 @@ pub record Ended {S D : Type 0} (scheme : Scheme S) (device : Device D) (rule la
   pub rounds : ReportsRounds (faults_in device (store_of (journal_of first.flusher))) (faults_in device (store_of (journal_of later.flusher))) faults.journal
   pub down : is_down first.flusher ≡ false → IsSome faults.journal ↔ IsTrue (is_down later.flusher)
   pub stays : IsTrue (is_down first.flusher) → (faults.journal ≡ None) × (later.flusher ≡ first.flusher)
-  pub full : is_down first.flusher ≡ false → faults.journal ≡ Some journal.Full → HasNoPlace scheme device first.node later.flusher
+  pub full : is_down first.flusher ≡ false → faults.journal ≡ Some journal.Full → HasNoPlace scheme device first.node rule missed (point_of first.flusher) later.flusher
   pub by_rule : is_down first.flusher ≡ false → faults.journal ≡ None → ByTheRule device (HasCheckpoint scheme device first.node) rule missed (point_of first.flusher) later_rule
       (point_of later.flusher)
-  pub all : is_down later.flusher ≡ false → faults.memory ≡ false → TakesLongest first.seat.view.seen (settled_in later.flusher) (settled_in later.flusher)
+  pub seen : Begins first.seat.view.seen later.seat.view.seen
+  pub all : is_down later.flusher ≡ false → faults.memory ≡ false → Begins first.seat.view.seen (settled_in later.flusher)
   pub memory : faults.memory ≡ true → taken_in later.flusher ≡ settled_in later.flusher
   pub others : (faults.output ≡ false) × (faults.input ≡ false)
   pub node : later.node ≡ first.node
@@ -159,16 +206,6 @@ loop_begins scheme device rule missed first pair = record {
   so_far = inl refl;
   by_rule = ([], (refl, refl));
   pair = pair;
-}
-
--- of some list of what was accepted, with all that the seat had seen earlier
-longest_first : (first seen settled : List Marked) → Begins first seen → TakesLongest seen settled settled → TakesLongest first settled settled
-longest_first first seen settled begins takes = record {
-  all = takes.all;
-  had_seen = begins_trans first seen takes.all begins takes.had_seen;
-  begins = takes.begins;
-  within = takes.within;
-  takes = takes.takes;
 }
 
 module _ {S D : Type 0} (scheme : Scheme S) (device : Device D) (rule now_rule later_rule : Rule) (missed later_missed : Bool) (kept : missed ≡ true → later_missed ≡ true)
@@ -216,7 +253,8 @@ module _ {S D : Type 0} (scheme : Scheme S) (device : Device D) (rule now_rule l
         stays = λ down. (refl, next.stays down);
         full = λ up is. absurd (cc);
         by_rule = λ up none. next.by_rule;
-        all = λ up fine. longest_first first.seat.view.seen now.seat.view.seen (settled_in later.flusher) loop.seen (once.nothing refl);
+        seen = next.seen;
+        all = λ up fine. begins_trans first.seat.view.seen now.seat.view.seen (settled_in later.flusher) loop.seen (once.nothing refl);
         memory = λ bad. absurd (let clash : false ≡ true = bad in cc);
         others = (refl, refl);
         node = next.node;
@@ -237,6 +275,7 @@ module _ {S D : Type 0} (scheme : Scheme S) (device : Device D) (rule now_rule l
     stays = λ down. stayed error once.down (loop.down ∙ down) (loop.stays down);
     full = λ up is. no_place error once.full is;
     by_rule = λ up none. by_rule_then later once.by_rule (still_up error once.down (loop.down ∙ up) none);
+    seen = begins_trans first.seat.view.seen now.seat.view.seen later.seat.view.seen loop.seen once.seen;
     all = λ up fine. never_up error once.down up fine;
     memory = λ lacks. none_taken error (λ is. (once.memory is).2) lacks;
     others = no_others error;
@@ -255,11 +294,12 @@ module _ {S D : Type 0} (scheme : Scheme S) (device : Device D) (rule now_rule l
       stayed flush.Full goes down same = absurd (let bad : flush.Full ≡ flush.Down = error_is flush.Full flush.Down (goes.down.1 down) in cc)
       stayed flush.Down goes down same = (refl, goes.same refl ∙ same)
 
-      no_place : (it : FlushError) → (IsErrOf {T = ℕ} (Err it) flush.Full → HasNoPlace scheme device now.node later.flusher) → (faults_after it).journal ≡ Some journal.Full
-          → HasNoPlace scheme device first.node later.flusher
+      no_place : (it : FlushError) → (IsErrOf {T = ℕ} (Err it) flush.Full → HasNoPlace scheme device now.node now_rule later_missed (point_of now.flusher) later.flusher)
+          → (faults_after it).journal ≡ Some journal.Full → HasNoPlace scheme device first.node rule later_missed (point_of first.flusher) later.flusher
       no_place flush.Memory full is = absurd (cc)
       no_place flush.Device full is = absurd (let bad : ◌≡◌ {A = Option JournalError} (Some journal.Device) (Some journal.Full) = is in cc)
-      no_place flush.Full full is = subst (λ (n : NodeView S). HasNoPlace scheme device n later.flusher) loop.node (full refl)
+      no_place flush.Full full is = place_then scheme device first.node rule now_rule missed later_missed (point_of first.flusher) (point_of now.flusher) later.flusher kept loop.by_rule
+          (subst (λ (n : NodeView S). HasNoPlace scheme device n now_rule later_missed (point_of now.flusher) later.flusher) loop.node (full refl))
       no_place flush.Down full is = absurd (cc)
 
       still_up : (it : FlushError) → GoesDown now.flusher later.flusher (Err it) → is_down now.flusher ≡ false → (faults_after it).journal ≡ None → is_down later.flusher ≡ false
@@ -269,7 +309,7 @@ module _ {S D : Type 0} (scheme : Scheme S) (device : Device D) (rule now_rule l
       still_up flush.Down goes up none = absurd (let bad : true ≡ false = sym (goes.down.0 refl) ∙ up in cc)
 
       never_up : (it : FlushError) → GoesDown now.flusher later.flusher (Err it) → is_down later.flusher ≡ false → (faults_after it).memory ≡ false
-          → TakesLongest first.seat.view.seen (settled_in later.flusher) (settled_in later.flusher)
+          → Begins first.seat.view.seen (settled_in later.flusher)
       never_up flush.Memory goes up fine = absurd (let bad : true ≡ false = fine in cc)
       never_up flush.Device goes up fine = absurd (let bad : true ≡ false = sym (goes.device refl) ∙ up in cc)
       never_up flush.Full goes up fine = absurd (let bad : true ≡ false = sym (goes.full refl) ∙ up in cc)
@@ -312,3 +352,36 @@ by_rule_on device Made rule mid_rule later first mid now Lacks faults more all m
     by_rule_joins device Made rule mid_rule later later_missed (point_of first) (point_of mid) (point_of now)
     (by_rule_weaker device Made Made rule mid_rule missed later_missed (point_of first) (point_of mid) (λ point is. is) kept (before up both.0))
     (after (up_so_far at_first at_mid (is_down first) (is_down mid) faults.journal Lacks reported up both.0) both.1)
+
+-- nothing was told of a node that is up
+none_while_up : (fault : Option JournalError) (down : Bool) → (IsSome fault → IsTrue down) → down ≡ false → fault ≡ None
+none_while_up None down fell up = refl
+none_while_up (Some error) down fell up = absurd (let bad : true ≡ false = sym (fell refl) ∙ up in cc)
+
+-- what has no place after the rounds of one bell more
+pub no_place_on : {S D : Type 0} (scheme : Scheme S) (device : Device D) (node : NodeView S) (rule mid_rule : Rule) (first mid now : Flusher D) (missed later_missed : Bool)
+    (fault : Option JournalError) (at_first at_mid : ℕ) (Lacks : Type 0)
+    → ReportsJournal at_first at_mid (is_down first) (is_down mid) fault Lacks → (is_down mid ≡ false → is_down first ≡ false)
+    → (is_down first ≡ false → fault ≡ None → ByTheRule device (HasCheckpoint scheme device node) rule missed (point_of first) mid_rule (point_of mid)) → (missed ≡ true → later_missed ≡ true)
+    → is_down mid ≡ false → HasNoPlace scheme device node mid_rule later_missed (point_of mid) now → HasNoPlace scheme device node rule later_missed (point_of first) now
+no_place_on scheme device node rule mid_rule first mid now missed later_missed fault at_first at_mid Lacks reported was_up so_far kept up full =
+    place_then scheme device node rule mid_rule missed later_missed (point_of first) (point_of mid) now kept
+    (so_far (was_up up) (none_while_up fault (is_down mid) reported.fell up)) full
+
+-- a node that is up was so before
+pub up_before : {D : Type 0} (first mid now : Flusher D) → (is_down mid ≡ false → is_down first ≡ false) → (IsTrue (is_down mid) → now ≡ mid) → is_down now ≡ false → is_down first ≡ false
+up_before first mid now before stays up = before (by (is_down mid) refl)
+  where
+    by : (down : Bool) → is_down mid ≡ down → is_down mid ≡ false
+    by false is = is
+    by true is = ap (λ (f : Flusher _). is_down f) (sym (stays is)) ∙ up
+
+-- what is told of a journal, where less is meant by that it is full
+pub reports_weaker : (first now : ℕ) (was down : Bool) (fault : Option JournalError) (Lacks More : Type 0) → (Lacks → More) → ReportsJournal first now was down fault Lacks
+    → ReportsJournal first now was down fault More
+reports_weaker first now was down fault Lacks More weaker reports = record {
+  fell = reports.fell;
+  reported = reports.reported;
+  full = λ is. weaker (reports.full is);
+  rounds = reports.rounds;
+}

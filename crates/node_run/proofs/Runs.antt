@@ -9,12 +9,11 @@ use Rattle.std.specs.Prelude.{◌≢◌, ◌⊎◌, ◌||◌, Ok, IfSome, IsSome
 use Rattle.diskmodel.specs.Disk.{Device}
 use Rattle.admission.proofs.OneState.{one_state}
 use Rattle.book.specs.Book.{GoesOutAfter, IsCheckpoint}
-use Rattle.flusher.specs.Rounds.{journal_of, settled_in, taken_in, HoldsAfter, records_after}
+use Rattle.flusher.specs.Rounds.{journal_of, settled_in, taken_in, HoldsAfter}
 use Rattle.flusher.specs.declared.flusher.Flusher.{Flusher}
 use Rattle.journal.specs.Areas.{Areas, alone, pair}
-use Rattle.journal.specs.Format.{FitsGroup}
 use Rattle.journal.specs.Journal.{spare_of, IsAlive}
-use Rattle.journal.specs.Pairs.{areas_in, areas_of}
+use Rattle.journal.specs.Pairs.{areas_in, areas_of, store_of}
 use Rattle.journal.specs.Stores.{faults_in}
 use Rattle.journal.specs.declared.error.JournalError.{JournalError}
 use Rattle.journal.specs.declared.error.JournalError.TheVariants as journal
@@ -32,7 +31,7 @@ use Rattle.node_seats.specs.Views.{events}
 use Rattle.node_seats.specs.declared.view.View.{View}
 use Rattle.wire.specs.Lists.{Begins}
 use Rattle.node_seats.specs.declared.view.Marked.{Marked}
-use Rattle.node_shared.specs.Home.{NodeView}
+use Rattle.node_shared.specs.Home.{IsCheckpointAfter, NodeView}
 use Rattle.opening.specs.Laws.{IsFullIn, IsLeftIn, IsNoRefusalOfBoth, IsReadIn}
 use Rattle.opening.specs.Renewing.{KeepsStatesIn}
 use Rattle.opening.specs.Stages.{IsDecodedAsBoth, IsDecodedThroughout}
@@ -48,11 +47,11 @@ use Rattle.validator.specs.Standing.{AreAtSound}
 use Rattle.node_run.specs.Ends.{ReportsRounds}
 use Rattle.wire.specs.declared.keys.Key.{Key}
 use Rattle.node_run.specs.Members.{IsConfigOf, RefusesOpening}
-use Rattle.node_run.proofs.Pending.{by_rule_weaker}
+use Rattle.node_run.proofs.Pending.{by_rule_weaker, full_weaker}
 use Rattle.node_run.proofs.Written.{written_weaker, wrote_nothing}
-use Rattle.node_run.specs.Rewriting.{HasCheckpoint, HasNoRoomToAdd, HasNoRoomToRewrite, Point}
+use Rattle.node_run.specs.Rewriting.{point_of, HasCheckpoint, Point}
 use Rattle.node_run.specs.Runs.{HoldsMore, GoesOn, GoesOutAfterPrefix, AreSettled, IsReadAsOneOf, NoneOrOnDisk, GivesOnly, IsOfLoss, AreTwo}
-use Rattle.node_run.specs.Runs.{ComesByRule, HasCheckpointFrom, HasNoRoomAfter, IsFullAfter, IsFullUp, IsRewrittenEach, RunsOver, RunsAs, every_on, is_all_brought, may_lack_memory, is_all_written, point_at, rule_on}
+use Rattle.node_run.specs.Runs.{ComesByRule, HasCheckpointFrom, IsEndOfRun, IsFullAfter, IsFullUp, IsOpenedOn, IsRewrittenEach, RunsOver, ShowsFrom, RunsAs, every_on, is_all_brought, may_lack_memory, is_all_written, point_at, rule_on}
 use Rattle.node_run.specs.Writing.{no_memory, HasWritten, MayGo}
 use Rattle.node_run.specs.declared.ran.Ran.{Ran}
 use Rattle.sigface.specs.Scheme.{Scheme}
@@ -136,6 +135,32 @@ nothing_brought journal.Device brought = let bad : false ≡ true = brought in c
 nothing_brought (journal.Damaged place) brought = let bad : false ≡ true = brought in cc
 nothing_brought journal.ConfigMismatch brought = let bad : false ≡ true = brought in cc
 nothing_brought journal.Full brought = let bad : false ≡ true = brought in cc
+
+-- a run ends neither for its arguments nor for the text of its committee
+ends_unless : (fault : Option JournalError) (output lacks input : Bool)
+    → IsEndOfRun (unless_journal fault (if output then ends.Output else if lacks then ends.Memory else if input then ends.Input else ends.Done))
+ends_unless None true lacks input = tt
+ends_unless None false true input = tt
+ends_unless None false false true = tt
+ends_unless None false false false = tt
+ends_unless (Some journal.Memory) true lacks input = tt
+ends_unless (Some journal.Memory) false true input = tt
+ends_unless (Some journal.Memory) false false true = tt
+ends_unless (Some journal.Memory) false false false = tt
+ends_unless (Some journal.Device) output lacks input = tt
+ends_unless (Some (journal.Damaged place)) output lacks input = tt
+ends_unless (Some journal.ConfigMismatch) output lacks input = tt
+ends_unless (Some journal.Full) output lacks input = tt
+
+ends_so : (faults : Faults) → IsEndOfRun (ending_of faults)
+ends_so faults = ends_unless faults.journal faults.output (lacks_memory faults) faults.input
+
+ends_at_opening : (error : JournalError) → IsEndOfRun (of_journal error)
+ends_at_opening journal.Memory = tt
+ends_at_opening journal.Device = tt
+ends_at_opening (journal.Damaged place) = tt
+ends_at_opening journal.ConfigMismatch = tt
+ends_at_opening journal.Full = tt
 
 -- one whose writer was lost tells of it
 loss_unless : (fault : Option JournalError) (output lacks : Bool) (other : Ending) → output ≡ false → lacks ≡ true
@@ -231,6 +256,7 @@ module _ {S D : Type 0} (scheme : Scheme S) (device : Device D) where
       → IsDecodedThroughout node device store later → (IsLeftIn node (areas_in device store) → IsNoRefusalOfBoth error) → (error ≡ journal.Full → IsFullIn node device store)
       → RunsOver node device store every (of_journal error) (Some later)
   not_opened node store later every error reports cause leaves never_refused full = record {
+    ends = ends_at_opening error;
     device = λ is. cause.0 (opening_decoded error journal.Device is);
     no_fault = λ other. cause.1 (λ is. other (ap of_journal is));
     reported_as = λ named is. subst (IsOfRun node (areas_in device store)) (opening_decoded error named is) (kind_of node (areas_in device store) error reports);
@@ -238,6 +264,7 @@ module _ {S D : Type 0} (scheme : Scheme S) (device : Device D) where
     full = λ is. inl (full (opening_decoded error journal.Full is));
     lost = some_left later (of_journal error);
     any_moment = from_opening node store later leaves;
+    keeps = inl leaves;
     rewritten = λ brought. absurd (nothing_brought error brought);
     lacks = λ is. inl leaves;
   }
@@ -246,6 +273,7 @@ module _ {S D : Type 0} (scheme : Scheme S) (device : Device D) where
   pub not_run : (node : Node) (store now : Store D) (every : ℕ) → faults_in device now ≡ faults_in device store → IsDecodedThroughout node device store now
       → RunsOver node device store every ends.Memory (Some now)
   not_run node store now every same leaves = record {
+    ends = tt;
     device = λ is. absurd (none-some journal.Device (ap fault_in is));
     no_fault = λ other. same;
     reported_as = λ named is. absurd (none-some named (ap fault_in is));
@@ -253,6 +281,7 @@ module _ {S D : Type 0} (scheme : Scheme S) (device : Device D) where
     full = λ is. absurd (none-some journal.Full (ap fault_in is));
     lost = λ none. refl;
     any_moment = from_opening node store now leaves;
+    keeps = inl leaves;
     rewritten = λ brought. absurd (let bad : false ≡ true = brought in cc);
     lacks = λ is. inl leaves;
   }
@@ -260,22 +289,24 @@ module _ {S D : Type 0} (scheme : Scheme S) (device : Device D) where
   -- the disks were lost
   run_lost : (node : Node) (store : Store D) (every : ℕ) (reported_of : Faults) → reported_of ≡ no_memory → RunsOver node device store every (ending_of reported_of) None
   run_lost node store every reported_of is = record {
+    ends = ends_so reported_of;
     device = λ device. tt;
     no_fault = λ other. tt;
-    reported_as = λ named so. absurd (none-some named (ap fault_in (sym ends_so ∙ so)));
-    never_refused = λ left named so. absurd (none-some named (ap fault_in (sym ends_so ∙ so)));
+    reported_as = λ named so. absurd (none-some named (ap fault_in (sym ends_lost ∙ so)));
+    never_refused = λ left named so. absurd (none-some named (ap fault_in (sym ends_lost ∙ so)));
     full = λ is. inr tt;
-    lost = λ none. ends_so;
+    lost = λ none. ends_lost;
     any_moment = tt;
+    keeps = tt;
     rewritten = λ brought. tt;
     lacks = λ is. tt;
   }
     where
-      ends_so : ending_of reported_of ≡ ends.Memory
-      ends_so = ap ending_of is
+      ends_lost : ending_of reported_of ≡ ends.Memory
+      ends_lost = ap ending_of is
 
-  -- What areas hold after more events of a node that began where the disks were read, they hold after the same events from the state as which
-  -- they were read.
+  -- What areas hold after more events of a node that began where the disks were read, they hold after the same events from the state as
+  -- which they were read.
   goes_on : (shared : NodeView S) (node : Node) (store : Store D) (now : Areas) (settled : List Marked) → node_of scheme shared.setting ≡ node
       → StandsAt node (decoded_in node (areas_in device store)) shared.begun → KeepsStatesIn node (areas_in device store) now → settled ≡ []
       → (areas : Areas) (it : HoldsMore scheme shared settled now areas) → (on : GoesOn node (areas_in device store) areas) × (on.more ≡ events it.more)
@@ -304,71 +335,79 @@ module _ {S D : Type 0} (scheme : Scheme S) (device : Device D) where
           let after = subst (Holds (node_of scheme shared.setting) now) (sym (after_none (node_of scheme shared.setting) began)) here in
           subst (λ (l : List Marked). Holds (node_of scheme shared.setting) now (after_all (node_of scheme shared.setting) began (events l))) (sym none) after
 
-  -- a journal that has no place for what was taken is full, after the state as which the disks were read
-  full_after : (shared : NodeView S) (node : Node) (store left : Store D) → node_of scheme shared.setting ≡ node → StandsAt node (decoded_in node (areas_in device store)) shared.begun
-      → IsFullUp scheme device shared left → IsFullAfter node device store left
-  full_after shared node store left of_node begins up = record {
-    base = begins.state;
-    is_read = begins.is_read;
-    last = journal_of up.last;
-    alive = up.lacks.0;
-    is_left = up.is_left;
-    no_room = by up.lacks.1;
+  -- records that are a checkpoint from each base of a node are one from the state as which the disks were read
+  shows_from : (shared : NodeView S) (node : Node) (base : State) → node_of scheme shared.setting ≡ node → AreAtSound node shared.begun base
+      → (taken : List Marked) (records : List (List ℕ)) → IsCheckpointAfter scheme shared taken records → ShowsFrom node base taken records
+  shows_from shared node base of_node at taken records checkpoint =
+      let is_base = subst (λ (n : Node). AreAtSound n shared.begun base) (sym of_node) at in
+      subst (λ (n : Node). IsCheckpoint n (after_all n base (events taken)) records) of_node (checkpoint base is_base)
+
+  from_base : (shared : NodeView S) (node : Node) (base : State) → node_of scheme shared.setting ≡ node → AreAtSound node shared.begun base
+      → (point : Point D) → HasCheckpoint scheme device shared point → HasCheckpointFrom node device base point
+  from_base shared node base of_node at point has = record {
+    records = has.records;
+    checkpoint = shows_from shared node base of_node at point.settled has.records has.checkpoint;
+    content = has.content;
   }
-    where
-      by : HasNoRoomToAdd device up.last ⊎ HasNoRoomToRewrite scheme shared up.last → HasNoRoomAfter node device begins.state (journal_of up.last)
-      by (inl add) = inl (records_after (settled_in up.last) (taken_in up.last), subst FitsGroup add.group.is add.group.longest.fits, add.room.too_long)
-      by (inr rewrite) =
-          let is_base = subst (λ (n : Node). AreAtSound n shared.begun begins.state) (sym of_node) begins.at in
-          let all = events (taken_in up.last) in
-          let checkpoint = subst (λ (n : Node). IsCheckpoint n (after_all n begins.state all) rewrite.records) of_node (rewrite.checkpoint begins.state is_base) in
-          inr (rewrite.pair, (all, rewrite.records, checkpoint, rewrite.full))
+
+  -- a journal without room for what was to be written next, after the state as which the disks were read
+  full_after : (shared : NodeView S) (node : Node) (store left : Store D) (every : ℕ) (memory : Bool) (opened : IsOpenedOn node device store) → node_of scheme shared.setting ≡ node
+      → AreAtSound node shared.begun opened.base
+      → IsFullUp scheme device shared (rule_on device store every opened.journal) memory (point_at opened.journal) left → IsFullAfter node device store every left
+  full_after shared node store left every memory opened of_node at up = record {
+    opened = opened;
+    last = point_of up.last;
+    taken = taken_in up.last;
+    full = full_weaker device (HasCheckpoint scheme device shared) (HasCheckpointFrom node device opened.base) (IsCheckpointAfter scheme shared) (ShowsFrom node opened.base)
+        (rule_on device store every opened.journal) memory true (point_at opened.journal) (point_of up.last) (taken_in up.last) (from_base shared node opened.base of_node at)
+        (shows_from shared node opened.base of_node at (taken_in up.last)) (λ is. refl) up.lacks;
+    is_left = up.is_left;
+  }
 
   -- it ran
   has_run : (shared : NodeView S) (node : Node) (store now : Store D) (every : ℕ) (opened : Journal D) (later : Store D) (reported_of : Faults) → node_of scheme shared.setting ≡ node
-      → StandsAt node (decoded_in node (areas_in device store)) shared.begun → faults_in device now ≡ faults_in device store
+      → StandsAt node (decoded_in node (areas_in device store)) shared.begun → now ≡ store_of opened → faults_in device now ≡ faults_in device store
       → ReportsRounds (faults_in device now) (faults_in device later) reported_of.journal → IsDecodedThroughout node device store now
       → AtEachMomentOn device (HoldsMore scheme shared [] (areas_of device opened)) now later → KeepsStatesIn node (areas_in device store) (areas_of device opened)
       → IsReadIn node device store opened → IsAlive device opened → (reported_of.journal ≡ None → ComesByRule device (HasCheckpoint scheme device shared)
       (rule_on device store every opened) reported_of.memory (point_at opened) later)
-      → (reported_of.journal ≡ Some journal.Full → IsFullUp scheme device shared later) → RunsOver node device store every (ending_of reported_of) (Some later)
-  has_run shared node store now every opened later reported_of of_node begins same reports opening leaves kept_all read alive by_rule full = record {
+      → (reported_of.journal ≡ Some journal.Full → IsFullUp scheme device shared (rule_on device store every opened) reported_of.memory (point_at opened) later)
+      → RunsOver node device store every (ending_of reported_of) (Some later)
+  has_run shared node store now every opened later reported_of of_node begins is_now same reports opening leaves kept_all read alive by_rule full = record {
+    ends = ends_so reported_of;
     device = λ is. subst (λ n. n < faults_in device later) same (reports.disk.device (decoded_of_journal reported_of journal.Device is));
     no_fault = λ other. reports.disk.no_fault (λ is. other (ends_with_device reported_of.journal _ is)) ∙ same;
     reported_as = λ named is. elim (which named is) [ inl device ↦ inl device | inr full ↦ inr (inl full) ];
     never_refused = λ left. which;
-    full = λ is. inr (full_after shared node store later of_node begins (full (decoded_of_journal reported_of journal.Full is)));
+    full = λ is. inr (full_after shared node store later every reported_of.memory opened_on_disks of_node begins.at (full (decoded_of_journal reported_of journal.Full is)));
     lost = some_left later (ending_of reported_of);
     any_moment = on_joins device (May node store) (HoldsMore scheme shared [] (areas_of device opened)) store now later (from_opening node store now opening) leaves more;
+    keeps = inr (record {
+      opened = opened_on_disks;
+      in_opening = subst (AtEachMomentOn device (IsReadAsOneOf node device store) store) is_now
+          (on_weaker device (IsReadAsOneOf node device store) (IsOpened node store) store now (opened_on node store now opening) (read_as_one node store));
+      past_it = subst (λ (s : Store D). AtEachMomentOn device (GoesOn node (areas_in device store)) s later) is_now
+          (on_weaker device (GoesOn node (areas_in device store)) (HoldsMore scheme shared [] (areas_of device opened)) now later leaves goes_on_there);
+    });
     rewritten = λ brought.
         let fine = reported_nothing reported_of reports.which brought in
         each (may_lack_memory (ending_of reported_of)) fine.1 (by_rule fine.0);
     lacks = λ is. inr (each true (λ lacking. refl) (by_rule (none_unless reported_of.journal _ reports.which is)));
   }
     where
-      from_base : (point : Point D) → HasCheckpoint scheme device shared point → HasCheckpointFrom node device begins.state point
-      from_base point has =
-          let is_base = subst (λ (n : Node). AreAtSound n shared.begun begins.state) (sym of_node) begins.at in record {
-            records = has.records;
-            checkpoint = subst (λ (n : Node). IsCheckpoint n (after_all n begins.state (events point.settled)) has.records) of_node (has.checkpoint begins.state is_base);
-            content = has.content;
-          }
+      opened_on_disks : IsOpenedOn node device store
+      opened_on_disks = record { journal = opened; read = read; keeps = kept_all; alive = alive; base = begins.state; is_read = begins.is_read }
 
       each : (memory : Bool) → (reported_of.memory ≡ true → memory ≡ true) → ComesByRule device (HasCheckpoint scheme device shared) (rule_on device store every opened) reported_of.memory
           (point_at opened) later
           → IsRewrittenEach node device store every memory later
       each memory raised by = record {
-        opened = opened;
-        read = read;
-        keeps = kept_all;
-        alive = alive;
-        base = begins.state;
-        is_read = begins.is_read;
+        opened = opened_on_disks;
         comes = record {
           last = by.last;
           last_rule = by.last_rule;
           by_rule = by_rule_weaker device (HasCheckpoint scheme device shared) (HasCheckpointFrom node device begins.state) (rule_on device store every opened) by.last_rule reported_of.memory memory
-              (point_at opened) by.last from_base raised by.by_rule;
+              (point_at opened) by.last (from_base shared node begins.state of_node begins.at) raised by.by_rule;
           is_left = by.is_left;
         };
       }
@@ -376,21 +415,25 @@ module _ {S D : Type 0} (scheme : Scheme S) (device : Device D) where
       which : (named : JournalError) → ending_of reported_of ≡ ends.Journal named → (named ≡ journal.Device) ⊎ (named ≡ journal.Full)
       which named is = subst (λ (f : Option JournalError). IfSome f (λ error. (error ≡ journal.Device) ⊎ (error ≡ journal.Full))) (decoded_of_journal reported_of named is) reports.which
 
+      goes_on_there : (left : Areas) → HoldsMore scheme shared [] (areas_of device opened) left → GoesOn node (areas_in device store) left
+      goes_on_there left it = (goes_on shared node store (areas_of device opened) [] of_node begins kept_all refl left it).0
+
       more : (left : Areas) → HoldsMore scheme shared [] (areas_of device opened) left → May node store left
-      more left it = inr (goes_on shared node store (areas_of device opened) [] of_node begins kept_all refl left it).0
+      more left it = inr (goes_on_there left it)
 
   -- its threads have ended
   pub ended : (shared : NodeView S) (node : Node) (store now : Store D) (every : ℕ) (opened : Journal D) (reported_of : Faults) (left : Option (Store D)) → node_of scheme shared.setting ≡ node
-      → StandsAt node (decoded_in node (areas_in device store)) shared.begun → faults_in device now ≡ faults_in device store
+      → StandsAt node (decoded_in node (areas_in device store)) shared.begun → now ≡ store_of opened → faults_in device now ≡ faults_in device store
       → IfSome left (λ later. ReportsRounds (faults_in device now) (faults_in device later) reported_of.journal) → (left ≡ None → reported_of ≡ no_memory)
       → IsDecodedThroughout node device store now
       → IfSome left (λ later. AtEachMomentOn device (HoldsMore scheme shared [] (areas_of device opened)) now later) → KeepsStatesIn node (areas_in device store) (areas_of device opened)
       → IsReadIn node device store opened → IsAlive device opened
       → (reported_of.journal ≡ None → IfSome left (ComesByRule device (HasCheckpoint scheme device shared) (rule_on device store every opened) reported_of.memory (point_at opened)))
-      → (reported_of.journal ≡ Some journal.Full → IfSome left (IsFullUp scheme device shared)) → RunsOver node device store every (ending_of reported_of) left
-  ended shared node store now every opened reported_of None of_node begins same reports lost opening leaves kept_all read alive by_rule full = run_lost node store every reported_of (lost refl)
-  ended shared node store now every opened reported_of (Some later) of_node begins same reports lost opening leaves kept_all read alive by_rule full =
-      has_run shared node store now every opened later reported_of of_node begins same reports opening leaves kept_all read alive by_rule full
+      → (reported_of.journal ≡ Some journal.Full → IfSome left (IsFullUp scheme device shared (rule_on device store every opened) reported_of.memory (point_at opened)))
+      → RunsOver node device store every (ending_of reported_of) left
+  ended shared node store now every opened reported_of None of_node begins is_now same reports lost opening leaves kept_all read alive by_rule full = run_lost node store every reported_of (lost refl)
+  ended shared node store now every opened reported_of (Some later) of_node begins is_now same reports lost opening leaves kept_all read alive by_rule full =
+      has_run shared node store now every opened later reported_of of_node begins is_now same reports opening leaves kept_all read alive by_rule full
 
   -- ---- what it gave out
 

@@ -9,8 +9,8 @@ use Rattle.std.specs.Io.KnownBytes.{Keeps, Appends, append_known}
 use Rattle.std.proofs.KnownBytes.{Keeps-refl, Keeps-trans, Appends-trans, Appends-kept}
 use Rattle.std.proofs.lemmas.List.{length-append}
 use Rattle.std.proofs.lemmas.List.Concat.{flat_map-append}
-use Rattle.std.proofs.lemmas.List.Elements.{All-nil, All-append, All-cons, All-head, All-tail, All-weaker}
-use Rattle.std.specs.Prelude.{All, map}
+use Rattle.std.proofs.lemmas.List.Elements.{All-nil, All-append, All-cons, All-head, All-map, All-tail, All-weaker}
+use Rattle.std.specs.Prelude.{All}
 use Rattle.spec_model.specs.Admitting.{IsLegal}
 use Rattle.spec_model.specs.Giving.{kept, MayGive}
 use Rattle.spec_model.specs.Histories.{History}
@@ -351,15 +351,11 @@ goes_now scheme node view output may put = record {
 
 -- what a seat collected may go
 pub may_all : {S : Type 0} (scheme : Scheme S) (node : NodeView S) (seat : SeatView) (outputs : List Output) → GivesAll scheme node seat [] outputs → All (MayGo scheme node seat.view) outputs
-may_all scheme node seat outputs gives = subst (All (MayGo scheme node seat.view)) (sym gives.added) (each gives.waiting gives.each)
-  where
-    each : (waiting : List Waiting) → All (λ (one : Waiting). Gives scheme node seat one.output) waiting → All (MayGo scheme node seat.view) (map (λ (one : Waiting). one.output) waiting)
-    each [] all = All-nil (MayGo scheme node seat.view)
-    each (one ∷ rest) all =
-        let P : Waiting → Type 0 = λ (it : Waiting). Gives scheme node seat it.output in
-        let first : P one = All-head P one rest all in
-        All-cons (MayGo scheme node seat.view) one.output (map (λ (it : Waiting). it.output) rest) (goes_now scheme node seat.view one.output first.may first.put_out)
-        (each rest (All-tail P one rest all))
+may_all scheme node seat outputs gives =
+    let May = MayGo scheme node seat.view in
+    let each = All-weaker (λ (one : Waiting). Gives scheme node seat one.output) (λ (one : Waiting). May one.output)
+    (λ one it. goes_now scheme node seat.view one.output it.may it.put_out) gives.waiting gives.each in
+    subst (All May) (sym gives.added) (All-map May (λ (one : Waiting). one.output) gives.waiting each)
 
 -- ---- the writer that is given back
 

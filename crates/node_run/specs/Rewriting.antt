@@ -1,12 +1,12 @@
 -- When a journal on two disks is rewritten to a checkpoint, and what a rewriting does.
-use Rattle.std.specs.Prelude.{◌≡◌, ◌⊎◌, ◌+◌, ◌≤◌, ◌<◌, ℕ, Bool, true, List, [], ◌∷◌, length, Option, Some, None, Result, Ok, Err, IsErrOf, IsSome, OnOk, OnErr}
+use Rattle.std.specs.Prelude.{◌≡◌, ◌⊎◌, ◌+◌, ◌≤◌, ℕ, Bool, true, List, [], ◌∷◌, length, Option, Some, None, Result, Ok, Err, IsErrOf, IsSome, OnOk, OnErr}
 use Rattle.book.specs.Checkpoints.{HasNoRoomFor}
 use Rattle.book.specs.declared.own.error.FlushError.{FlushError}
 use Rattle.book.specs.declared.own.error.FlushError.TheVariants as errors
 use Rattle.diskmodel.specs.Disk.{Device}
-use Rattle.flusher.specs.Rounds.{journal_of, records_after, settled_in, taken_in, GoesDown, HasNoRoom, IsAtCheckpoint, IsGroupOf, IsReportedOf}
+use Rattle.flusher.specs.Rounds.{journal_of, records_after, settled_in, taken_in, GoesDown, HasNoRoom, IsAtCheckpoint, IsReportedOf}
 use Rattle.flusher.specs.declared.flusher.Flusher.{Flusher}
-use Rattle.journal.specs.Format.{file_with}
+use Rattle.journal.specs.Format.{file_with, FitsGroup}
 use Rattle.journal.specs.Journal.{disk_of, spare_of, IsAlive}
 use Rattle.journal.specs.Pairs.{generation_in, HaveChangedPlaces}
 use Rattle.journal.specs.Snapshot.{bytes_for}
@@ -80,14 +80,11 @@ rule_following device rule skipped = rule
 abbrev pub rule_after : {D : Type 0} → Device D → Rule → Step D → Rule
 rule_after device rule step = rule_following device rule step.followed
 
--- What one round settles: one more group, with at least one event. That this is the longest group that fits is a clause of the round
+-- What one round settles: one more group, which has at least one event. That this is the longest group that fits is a clause of the round
 -- itself.
 pub record BringsGroup (settled later : List Marked) : Type 0 where
-  pub some : length settled < length later
-  pub all : List Marked
   pub begins : Begins settled later
-  pub within : Begins later all
-  pub group : IsGroupOf settled all later
+  pub fits : FitsGroup (records_after settled later)
 
 -- The area that is read has a checkpoint of all that is settled, and nothing after it.
 pub record HasCheckpoint {S D : Type 0} (scheme : Scheme S) (device : Device D) (node : NodeView S) (point : Point D) : Type 0 where
@@ -104,12 +101,16 @@ FollowsWhereDue device Made rule memory grown (made point) =
     IsDue rule (length_in device grown.journal) × HaveChangedPlaces grown.journal point.journal × Begins grown.settled point.settled × Made point
 FollowsWhereDue device Made rule memory grown skipped = IsDue rule (length_in device grown.journal) × (memory ≡ true)
 
--- A step of a run: one round adds the records of what it settles to the area that is read, as one group, and leaves the other area as it
--- was. A checkpoint follows where one is due.
+-- One round leads from the point `first` to the point `grown`. It adds the records of what it settles to the area that is read, as one
+-- group, and leaves the other area as it was.
+pub record IsRound {D : Type 0} (device : Device D) (first grown : Point D) : Type 0 where
+  pub adds : device.content (disk_of grown.journal) ≡ file_with (device.content (disk_of first.journal)) (records_after first.settled grown.settled)
+  pub same_area : spare_of grown.journal ≡ spare_of first.journal
+  pub brings : BringsGroup first.settled grown.settled
+
+-- a step of a run: one round, after which a checkpoint follows where one is due
 pub record IsStep {D : Type 0} (device : Device D) (Made : Point D → Type 0) (rule : Rule) (memory : Bool) (first : Point D) (step : Step D) : Type 0 where
-  pub adds : device.content (disk_of step.grown.journal) ≡ file_with (device.content (disk_of first.journal)) (records_after first.settled step.grown.settled)
-  pub same_area : spare_of step.grown.journal ≡ spare_of first.journal
-  pub brings : BringsGroup first.settled step.grown.settled
+  pub round : IsRound device first step.grown
   pub follows : FollowsWhereDue device Made rule memory step.grown step.followed
 
 -- these steps, one after the other, lead from the point `first` to the point `last`; each checkpoint changes the rule
@@ -122,13 +123,11 @@ AreSteps device Made rule memory first (step ∷ more) later last =
 abbrev pub ByTheRule : {D : Type 0} → Device D → (Point D → Type 0) → Rule → Bool → Point D → Rule → Point D → Type 0
 ByTheRule {D} device Made rule memory first later last = (steps : List (Step D)) × AreSteps device Made rule memory first steps later last
 
--- The round settled this many records. If a checkpoint followed, after which another area is read, that may have settled more.
-pub record IsCountOf {D : Type 0} (first later : Point D) (count : ℕ) : Type 0 where
-  pub settled : List Marked
-  pub size : length settled ≡ length first.settled + count
-  pub begins : Begins first.settled settled
-  pub within : Begins settled later.settled
-  pub whole : spare_of later.journal ≡ spare_of first.journal → settled ≡ later.settled
+-- Nothing was to be settled, and point and rule are as before; or one step of the run was made, whose round settled this many records.
+abbrev pub IsOneStep : {D : Type 0} → Device D → (Point D → Type 0) → Rule → Bool → Point D → ℕ → Rule → Point D → Type 0
+IsOneStep {D} device Made rule memory first count later last =
+    ((count ≡ 0) × (later ≡ rule) × (last ≡ first))
+    ⊎ ((step : Step D) × IsStep device Made rule memory first step × (length step.grown.settled ≡ length first.settled + count) × (later ≡ rule_after device rule step) × (last ≡ point_after step))
 
 -- ---- a checkpoint
 
@@ -137,22 +136,40 @@ abbrev pub without_number : Result ℕ FlushError → Result (Unit {0}) FlushErr
 without_number (Ok generation) = Ok tt
 without_number (Err error) = Err error
 
--- the journal has no room for the group that was taken
-pub record HasNoRoomToAdd {D : Type 0} (device : Device D) (flusher : Flusher D) : Type 0 where
-  pub all : List Marked
-  pub group : IsGroupOf (settled_in flusher) all (taken_in flusher)
-  pub room : HasNoRoom (device.content (disk_of (journal_of flusher))) (settled_in flusher) (taken_in flusher)
+-- the journal at this point has no room for the group of the events that were taken and aren't settled
+pub record HasNoRoomToAdd {D : Type 0} (device : Device D) (point : Point D) (taken : List Marked) : Type 0 where
+  pub group : BringsGroup point.settled taken
+  pub room : HasNoRoom (device.content (disk_of point.journal)) point.settled taken
 
--- the journal's two disks have no room for a checkpoint of all that was taken
-pub record HasNoRoomToRewrite {S D : Type 0} (scheme : Scheme S) (node : NodeView S) (flusher : Flusher D) : Type 0 where
-  pub pair : IsSome (spare_of (journal_of flusher))
+-- The journal's two disks have no room, at this point, for a checkpoint of all that was taken. `Shows` says of which events a list of
+-- records is a checkpoint.
+pub record HasNoRoomToRewrite {D : Type 0} (Shows : List Marked → List (List ℕ) → Type 0) (point : Point D) (taken : List Marked) : Type 0 where
+  pub pair : IsSome (spare_of point.journal)
+  pub begins : Begins point.settled taken
   pub records : List (List ℕ)
-  pub checkpoint : IsCheckpointAfter scheme node (taken_in flusher) records
-  pub full : HasNoRoomFor (journal_of flusher) records
+  pub checkpoint : Shows taken records
+  pub full : HasNoRoomFor point.journal records
 
--- the journal can still be appended to, but has no room for what was taken: for the group, or for a checkpoint of all that was taken
-abbrev pub HasNoPlace : {S D : Type 0} → Scheme S → Device D → NodeView S → Flusher D → Type 0
-HasNoPlace scheme device node flusher = IsAlive device (journal_of flusher) × (HasNoRoomToAdd device flusher ⊎ HasNoRoomToRewrite scheme node flusher)
+-- What was to be written next has no room at this point: the group that was taken at the point `last`; or, after one round more, a
+-- checkpoint, which was due by then.
+abbrev pub LacksRoom : {D : Type 0} → Device D → (List Marked → List (List ℕ) → Type 0) → Rule → Point D → Point D → List Marked → Type 0
+LacksRoom device Shows rule last point taken =
+    ((point ≡ last) × HasNoRoomToAdd device point taken)
+    ⊎ (IsRound device last point × IsDue rule (length_in device point.journal) × HasNoRoomToRewrite Shows point taken)
+
+-- The run has come to this point from the point `first` by the rule, and what was to be written next has no room there. The journal can
+-- still be appended to.
+pub record IsFullAt {D : Type 0} (device : Device D) (Made : Point D → Type 0) (Shows : List Marked → List (List ℕ) → Type 0) (rule : Rule) (memory : Bool) (first point : Point D) (taken : List Marked) : Type 0 where
+  pub last : Point D
+  pub last_rule : Rule
+  pub by_rule : ByTheRule device Made rule memory first last_rule last
+  pub alive : IsAlive device point.journal
+  pub lacks : LacksRoom device Shows last_rule last point taken
+
+-- The flusher has come to where it is by the rule, and its journal has no room for what was to be written next.
+abbrev pub HasNoPlace : {S D : Type 0} → Scheme S → Device D → NodeView S → Rule → Bool → Point D → Flusher D → Type 0
+HasNoPlace scheme device node rule memory first flusher =
+    IsFullAt device (HasCheckpoint scheme device node) (IsCheckpointAfter scheme node) rule memory first (point_of flusher) (taken_in flusher)
 
 -- A checkpoint was attempted, with this result. If it succeeded, the area that it wrote is the one that is read from then on, and the rule
 -- counts from that area's length.
@@ -167,7 +184,9 @@ pub record IsRewritten {S D : Type 0} (scheme : Scheme S) (device : Device D) (r
   pub writes : OnOk answer (IsAtCheckpoint scheme device before.node later.flusher)
   pub counts : OnOk answer (later_rule ≡ counted_from device rule (journal_of later.flusher))
   pub keeps : OnErr answer (later_rule ≡ rule)
-  pub full : IsErrOf answer errors.Full → IsAlive device (journal_of later.flusher) × HasNoRoomToRewrite scheme before.node later.flusher
+  pub full : IsErrOf answer errors.Full
+      → (journal_of later.flusher ≡ journal_of before.flusher) × IsAlive device (journal_of later.flusher)
+      × HasNoRoomToRewrite (IsCheckpointAfter scheme before.node) (point_of later.flusher) (taken_in later.flusher)
 
 -- A checkpoint was attempted if one was due; otherwise nothing was done.
 abbrev pub RewritesWhereDue : {S D : Type 0} → Scheme S → Device D → Rule → Rule → RoundsView S D → RoundsView S D → Result (Unit {0}) FlushError → Type 0

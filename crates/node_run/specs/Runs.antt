@@ -1,13 +1,11 @@
 -- How the run of a node on its disks ends, and what a stop at any moment of it leaves on the disks.
-use Rattle.std.specs.Prelude.{◌≡◌, ◌≢◌, ◌⊎◌, ◌+◌, ◌<◌, ⊤, ℕ, Bool, true, false, List, [], ◌∷◌, length, Option, Some, None, Ok, All, IfSome, IsSome, IsTrue}
+use Rattle.std.specs.Prelude.{◌≡◌, ◌≢◌, ◌⊎◌, ◌<◌, ⊤, ℕ, Bool, true, false, List, [], ◌∷◌, Option, Some, None, Ok, All, IfSome, IsSome, IsTrue}
 use Rattle.book.specs.Book.{GoesOutAfter, IsCheckpoint}
-use Rattle.book.specs.Checkpoints.{HasNoRoomFor}
 use Rattle.diskmodel.specs.Disk.{Device}
 use Rattle.flusher.specs.Rounds.{journal_of, is_down, settled_in, LeavesAfter}
 use Rattle.flusher.specs.declared.flusher.Flusher.{Flusher}
 use Rattle.journal.specs.Areas.{Areas}
-use Rattle.journal.specs.Format.{FitsGroup, group_bytes}
-use Rattle.journal.specs.Journal.{disk_of, spare_of, IsAlive}
+use Rattle.journal.specs.Journal.{disk_of, IsAlive}
 use Rattle.journal.specs.Pairs.{areas_in, areas_of, generation_in, store_of}
 use Rattle.journal.specs.Snapshot.{bytes_for}
 use Rattle.journal.specs.Stores.{faults_in}
@@ -15,7 +13,7 @@ use Rattle.journal.specs.declared.error.JournalError.{JournalError}
 use Rattle.journal.specs.declared.error.JournalError.TheVariants as errors
 use Rattle.journal.specs.declared.error.JournalError.TheVariants.{Full}
 use Rattle.journal.specs.declared.journal.Journal.{Journal}
-use Rattle.journal.specs.declared.layout.TheConstants.{MAX_JOURNAL_BYTES, OPEN}
+use Rattle.journal.specs.declared.layout.TheConstants.{OPEN}
 use Rattle.journal.specs.declared.store.Store.{Store}
 use Rattle.journal.specs.declared.store.Store.TheVariants.{One, Two}
 use Rattle.node_io.specs.declared.ending.Ending.{Ending}
@@ -42,7 +40,7 @@ use Rattle.validator.specs.Setting.{ConfigView, node_of}
 use Rattle.wire.specs.declared.keys.Key.{Key}
 use Rattle.node_run.specs.Ends.{ReportsRounds}
 use Rattle.node_run.specs.Members.{IsConfigOf}
-use Rattle.node_run.specs.Rewriting.{length_in, point_of, ByTheRule, HasCheckpoint, HasNoPlace, Point}
+use Rattle.node_run.specs.Rewriting.{length_in, point_of, ByTheRule, HasCheckpoint, HasNoPlace, IsFullAt, Point}
 use Rattle.node_run.specs.Writing.{HasWritten, MayGo}
 use Rattle.node_run.specs.declared.ran.Ran.{Ran}
 use Rattle.node_run.specs.declared.rule.Rule.{Rule}
@@ -62,17 +60,18 @@ LeavesSettled scheme device node first settled left =
     → (it : HoldsMore scheme node (settled_in first) (areas_of device (journal_of first)) found) × Begins settled it.more
 
 -- A node's rounds are done, and these faults are reported: of the journal as rounds report them, and none of outputs or of the input. If
--- the journal is reported as full, it has no room for what was taken. A stop at any moment leaves on the disks what was settled before, and
--- perhaps more; a stop at the end leaves all that is settled then. Unless a fault of the journal is reported, the disks were written by the
--- rule for checkpoints.
+-- the journal is reported as full, it has no room for what was to be written next. A stop at any moment leaves on the disks what was settled
+-- before, and perhaps more; a stop at the end leaves all that is settled then. Unless a fault of the journal is reported, the disks were
+-- written by the rule for checkpoints. Unless any fault is reported, all is settled that the rounds' seat had seen before.
 pub record HasFlushed {S D : Type 0} (scheme : Scheme S) (device : Device D) (rule : Rule) (before later : RoundsView S D) (reports : Faults) : Type 0 where
   pub node : later.node ≡ before.node
   pub reported : ReportsRounds (faults_in device (store_of (journal_of before.flusher))) (faults_in device (store_of (journal_of later.flusher))) reports.journal
   -- a fault of the journal is reported exactly if a round or a checkpoint took the node down
   pub fell : IsSome reports.journal → IsTrue (is_down later.flusher)
   pub is_reported : is_down before.flusher ≡ false → IsTrue (is_down later.flusher) → IsSome reports.journal
-  pub full : reports.journal ≡ Some Full → HasNoPlace scheme device before.node later.flusher
+  pub full : reports.journal ≡ Some Full → HasNoPlace scheme device before.node rule reports.memory (point_of before.flusher) later.flusher
   pub others : (reports.output ≡ false) × (reports.input ≡ false)
+  pub settles : is_down later.flusher ≡ false → reports.memory ≡ false → Begins before.seat.view.seen (settled_in later.flusher)
   pub any_moment : is_down before.flusher ≡ false
       → AtEachMomentOn device (HoldsMore scheme before.node (settled_in before.flusher) (areas_of device (journal_of before.flusher)))
       (store_of (journal_of before.flusher)) (store_of (journal_of later.flusher))
@@ -93,10 +92,11 @@ pub record ComesByRule {D : Type 0} (device : Device D) (Made : Point D → Type
   pub by_rule : ByTheRule device Made rule memory first last_rule last
   pub is_left : left ≡ store_of last.journal
 
--- The journal of the node on these disks has no room for what was taken.
-pub record IsFullUp {S D : Type 0} (scheme : Scheme S) (device : Device D) (node : NodeView S) (left : Store D) : Type 0 where
+-- The journal of the node on these disks came about from the point `first` by the rule for checkpoints, and has no room for what was to be
+-- written next.
+pub record IsFullUp {S D : Type 0} (scheme : Scheme S) (device : Device D) (node : NodeView S) (rule : Rule) (memory : Bool) (first : Point D) (left : Store D) : Type 0 where
   pub last : Flusher D
-  pub lacks : HasNoPlace scheme device node last
+  pub lacks : HasNoPlace scheme device node rule memory first last
   pub is_left : left ≡ store_of (journal_of last)
 
 -- These outputs rest on events that are settled on the disks. Each may go out after some of the events that a seat knows as settled.
@@ -154,48 +154,66 @@ pub record HasCheckpointFrom {D : Type 0} (node : Node) (disks : Device D) (base
   pub checkpoint : IsCheckpoint node (after_all node base (events point.settled)) records
   pub content : disks.content (disk_of point.journal) ≡ OPEN ∷ bytes_for (generation_in point.journal) records
 
--- A journal was opened on these disks: it can be appended to, and keeps each state that a start could have restored from them. From then on
--- the disks were written by rounds, and by a checkpoint exactly after each round by which the area that is read had grown by `every` bytes
--- since the opening or the last checkpoint. Such a checkpoint was skipped only if an allocation may have failed.
+-- A journal was opened on these disks: it can be appended to, and keeps each state that a start could have restored from them.
+pub record IsOpenedOn {D : Type 0} (node : Node) (disks : Device D) (store : Store D) : Type 0 where
+  pub journal : Journal D
+  pub read : IsReadIn node disks store journal
+  pub keeps : KeepsStatesIn node (areas_in disks store) (areas_of disks journal)
+  pub alive : IsAlive disks journal
+  pub base : State
+  pub is_read : decoded_in node (areas_in disks store) ≡ Ok base
+
+-- A journal was opened on these disks. From then on the disks were written by rounds, and by a checkpoint exactly after each round by which
+-- the area that is read had grown by `every` bytes since the opening or the last checkpoint. Such a checkpoint was skipped only if an
+-- allocation may have failed.
 pub record IsRewrittenEach {D : Type 0} (node : Node) (disks : Device D) (store : Store D) (every : ℕ) (memory : Bool) (left : Store D) : Type 0 where
-  pub opened : Journal D
-  pub read : IsReadIn node disks store opened
-  pub keeps : KeepsStatesIn node (areas_in disks store) (areas_of disks opened)
-  pub alive : IsAlive disks opened
-  pub base : State
-  pub is_read : decoded_in node (areas_in disks store) ≡ Ok base
-  pub comes : ComesByRule disks (HasCheckpointFrom node disks base) (rule_on disks store every opened) memory (point_at opened) left
+  pub opened : IsOpenedOn node disks store
+  pub comes : ComesByRule disks (HasCheckpointFrom node disks opened.base) (rule_on disks store every opened.journal) memory (point_at opened.journal) left
 
--- A journal has no room for some group; or, if it is on two disks, none for some checkpoint of the state after more events.
-abbrev pub HasNoRoomAfter : {D : Type 0} → Node → Device D → State → Journal D → Type 0
-HasNoRoomAfter node disks base last =
-    ((group : List (List ℕ)) × FitsGroup group × (MAX_JOURNAL_BYTES < length_in disks last + length (group_bytes group)))
-    ⊎ (IsSome (spare_of last) × ((more : History) × (records : List (List ℕ)) × IsCheckpoint node (after_all node base more) records × HasNoRoomFor last records))
+-- these records are a checkpoint of the state that the events lead to from this base
+abbrev pub ShowsFrom : Node → State → List Marked → List (List ℕ) → Type 0
+ShowsFrom node base taken records = IsCheckpoint node (after_all node base (events taken)) records
 
--- The journal on the disks that a run leaves has no room for what was to be written next. The run began at the state to which the disks
--- decoded.
-pub record IsFullAfter {D : Type 0} (node : Node) (disks : Device D) (store left : Store D) : Type 0 where
-  pub base : State
-  pub is_read : decoded_in node (areas_in disks store) ≡ Ok base
-  pub last : Journal D
-  pub alive : IsAlive disks last
-  pub is_left : left ≡ store_of last
-  pub no_room : HasNoRoomAfter node disks base last
+-- A journal was opened on these disks, and the disks were written by the rule until what was to be written next had no room: the group that
+-- a round took, or a checkpoint that was due. Since the ending reports one fault alone, an allocation may have failed too, and a checkpoint
+-- may have been skipped for that.
+pub record IsFullAfter {D : Type 0} (node : Node) (disks : Device D) (store : Store D) (every : ℕ) (left : Store D) : Type 0 where
+  pub opened : IsOpenedOn node disks store
+  pub last : Point D
+  pub taken : List Marked
+  pub full : IsFullAt disks (HasCheckpointFrom node disks opened.base) (ShowsFrom node opened.base) (rule_on disks store every opened.journal) true (point_at opened.journal) last taken
+  pub is_left : left ≡ store_of last.journal
+
+-- A journal was opened on these disks. What a stop before that leaves is read as something that a stop might have left before the run. What
+-- a stop after it leaves stands for the state as which the disks were read, or for that state and events after it.
+pub record IsKeptThroughout {D : Type 0} (node : Node) (disks : Device D) (store left : Store D) : Type 0 where
+  pub opened : IsOpenedOn node disks store
+  pub in_opening : AtEachMomentOn disks (IsReadAsOneOf node disks store) store (store_of opened.journal)
+  pub past_it : AtEachMomentOn disks (GoesOn node (areas_in disks store)) (store_of opened.journal) left
+
+-- A run of a node may end in this way: not for its arguments, nor for the text of its committee.
+abbrev pub IsEndOfRun : Ending → Type 0
+IsEndOfRun endings.Usage = ⊥
+IsEndOfRun (endings.Config error) = ⊥
+IsEndOfRun other = ⊤
 
 -- A run of a node on its disks, with this ending and the disks that it leaves. If the disks could be opened, the node ran on them. Device
 -- is reported exactly if a device call failed. Full is reported where the opening had no room for a journal in the second version, or the
--- run had none for what it took. Any other error of the journal is the one to which the disks decoded; what a stop leaves in a world of the
--- node decodes to no error. The disks are lost only if a thread could not be made. What a stop at any moment leaves decodes to something
--- that a stop might have left before the run, or to the state at its start followed by more events. If the ending reports no fault of
--- writing to the disks, a journal on two disks was rewritten each time that it had grown by `every` bytes.
+-- run had none for what it was to write next. Any other error of the journal is the one to which the disks decoded; what a stop leaves in a
+-- world of the node decodes to no error. The disks are lost only if a thread could not be made. What a stop at any moment leaves decodes to
+-- something that a stop might have left before the run, or to the state at its start followed by more events. If the ending reports no
+-- fault of writing to the disks, a journal on two disks was rewritten each time that it had grown by `every` bytes.
 pub record RunsOver {D : Type 0} (node : Node) (disks : Device D) (store : Store D) (every : ℕ) (ending : Ending) (left : Option (Store D)) : Type 0 where
+  pub ends : IsEndOfRun ending
   pub device : ending ≡ endings.Journal errors.Device → IfSome left (λ later. faults_in disks store < faults_in disks later)
   pub no_fault : ending ≢ endings.Journal errors.Device → IfSome left (λ later. faults_in disks later ≡ faults_in disks store)
   pub reported_as : (error : JournalError) → ending ≡ endings.Journal error → (error ≡ errors.Device) ⊎ (error ≡ Full) ⊎ Reports error (decoded_in node (areas_in disks store))
   pub never_refused : IsLeftIn node (areas_in disks store) → (error : JournalError) → ending ≡ endings.Journal error → (error ≡ errors.Device) ⊎ (error ≡ Full)
-  pub full : ending ≡ endings.Journal Full → IsFullIn node disks store ⊎ IfSome left (IsFullAfter node disks store)
+  pub full : ending ≡ endings.Journal Full → IsFullIn node disks store ⊎ IfSome left (IsFullAfter node disks store every)
   pub lost : left ≡ None → ending ≡ endings.Memory
   pub any_moment : IfSome left (λ later. AtEachMomentOn disks (λ areas. IsReadAsOneOf node disks store areas ⊎ GoesOn node (areas_in disks store) areas) store later)
+  -- no node was opened, or one was, and the disks have kept its state since then
+  pub keeps : IfSome left (λ later. IsDecodedThroughout node disks store later ⊎ IsKeptThroughout node disks store later)
   pub rewritten : is_all_brought ending ≡ true → IfSome left (IsRewrittenEach node disks store every (may_lack_memory ending))
   -- if an allocation failed, the disks decode as before, since no node was opened; or a node ran on them
   pub lacks : ending ≡ endings.Memory → IfSome left (λ later. IsDecodedThroughout node disks store later ⊎ IsRewrittenEach node disks store every true later)

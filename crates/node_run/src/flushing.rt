@@ -6,7 +6,7 @@ ghost use Rattle.journal.specs.Pairs.{areas_of, store_of};
 ghost use Rattle.journal.specs.Stores.{faults_in};
 ghost use Rattle.node.specs.Disks.{AtEachMomentOn};
 ghost use Rattle.wire.specs.Lists.{Begins};
-ghost use Rattle.flusher.specs.Rounds.{journal_of, is_down, settled_in, taken_in, KeepsEarlier, TakesLongest};
+ghost use Rattle.flusher.specs.Rounds.{journal_of, is_down, settled_in, taken_in, KeepsEarlier};
 ghost use Rattle.node_run.specs.Ends.{faults_after, ReportsRounds, ReportsJournal};
 ghost use Rattle.node_run.specs.Flushing.{FlushesOnce};
 ghost use Rattle.node_run.specs.Rewriting.{length_in, point_of, ByTheRule, HasCheckpoint, RewritesWhereDue, HasNoPlace};
@@ -33,12 +33,14 @@ pub(crate) fn flush_all<S: Sign, D: Disk, R: Wait>(
 ) -> Faults
     // Only a journal on two disks is rewritten.
     requires pair { IsSome rule.every → IsSome (spare_of (journal_of rounds.old.flusher)) }
-    ensures journal { ReportsJournal (faults_in D.device (store_of (journal_of rounds.old.flusher))) (faults_in D.device (store_of (journal_of rounds.new.flusher))) (is_down rounds.old.flusher) (is_down rounds.new.flusher) result.journal (HasNoPlace S.scheme D.device rounds.old.node rounds.new.flusher) }
+    ensures journal { ReportsJournal (faults_in D.device (store_of (journal_of rounds.old.flusher))) (faults_in D.device (store_of (journal_of rounds.new.flusher))) (is_down rounds.old.flusher) (is_down rounds.new.flusher) result.journal (HasNoPlace S.scheme D.device rounds.old.node rule result.memory (point_of rounds.old.flusher) rounds.new.flusher) }
     ensures others { (result.output ≡ false) × (result.input ≡ false) }
     ensures node { rounds.new.node ≡ rounds.old.node }
     // Unless a fault of the journal is reported, a checkpoint was made exactly after each round after which one was due. A checkpoint may
     // have been skipped only where a failed allocation is reported.
     ensures by_rule { is_down rounds.old.flusher ≡ false → result.journal ≡ None → (later : Rule) × ByTheRule D.device (HasCheckpoint S.scheme D.device rounds.old.node) rule result.memory (point_of rounds.old.flusher) later (point_of rounds.new.flusher) }
+    // Unless the node is down or a failed allocation is reported, all events are settled that the rounds' seat had seen before the call.
+    ensures settles { is_down rounds.new.flusher ≡ false → result.memory ≡ false → Begins rounds.old.seat.view.seen (settled_in rounds.new.flusher) }
     // A stop at any moment leaves on the disks what was settled before the call, and perhaps more.
     ensures any_moment { is_down rounds.old.flusher ≡ false → AtEachMomentOn D.device (HoldsMore S.scheme rounds.old.node (settled_in rounds.old.flusher) (areas_of D.device (journal_of rounds.old.flusher))) (store_of (journal_of rounds.old.flusher)) (store_of (journal_of rounds.new.flusher)) }
     // A stop at the end leaves on the disks all that is settled.
@@ -76,16 +78,17 @@ fn flush_pending<S: Sign, D: Disk, R: Wait>(
     // If a round takes the node down, a fault of the journal is reported: that a device call failed, or that the journal has no room.
     ensures down { is_down rounds.old.flusher ≡ false → IsSome result.journal ↔ IsTrue (is_down rounds.new.flusher) }
     ensures stays { IsTrue (is_down rounds.old.flusher) → (result.journal ≡ None) × (rounds.new.flusher ≡ rounds.old.flusher) }
-    ensures full { is_down rounds.old.flusher ≡ false → result.journal ≡ Some JournalError.Full → HasNoPlace S.scheme D.device rounds.old.node rounds.new.flusher }
+    ensures full { is_down rounds.old.flusher ≡ false → result.journal ≡ Some JournalError.Full → HasNoPlace S.scheme D.device rounds.old.node rule.old missed.new (point_of rounds.old.flusher) rounds.new.flusher }
 
     // Unless a fault of the journal is reported, a checkpoint was made exactly after each round after which one was due, or `missed` says
     // that one was skipped.
     ensures by_rule { is_down rounds.old.flusher ≡ false → result.journal ≡ None → ByTheRule D.device (HasCheckpoint S.scheme D.device rounds.old.node) rule.old missed.new (point_of rounds.old.flusher) rule.new (point_of rounds.new.flusher) }
     ensures missed { missed.old ≡ true → missed.new ≡ true }
 
-    // Unless the node is down or an allocation of a round failed, all events are settled that were accepted at some moment after the call
-    // began. This holds also where an allocation for a checkpoint failed.
-    ensures all { is_down rounds.new.flusher ≡ false → result.memory ≡ false → TakesLongest rounds.old.seat.view.seen (settled_in rounds.new.flusher) (settled_in rounds.new.flusher) }
+    ensures seen { Begins rounds.old.seat.view.seen rounds.new.seat.view.seen }
+    // Unless the node is down or an allocation of a round failed, all events are settled that the rounds' seat had seen. This holds also
+    // where an allocation for a checkpoint failed.
+    ensures all { is_down rounds.new.flusher ≡ false → result.memory ≡ false → Begins rounds.old.seat.view.seen (settled_in rounds.new.flusher) }
     // After a failed allocation, nothing is taken that isn't settled.
     ensures memory { result.memory ≡ true → taken_in rounds.new.flusher ≡ settled_in rounds.new.flusher }
     ensures others { (result.output ≡ false) × (result.input ≡ false) }

@@ -378,6 +378,7 @@ impl<'n, 'a, S: Sign> Intake<'n, 'a, S> {
         ensures only { OnlyAsks self.old.caller self.new.caller }
         ensures ready { result ≡ true → IfSome (slice_get (held self.old.waiters round) place) (WasReady S.scheme self.old.caller.node self.old.caller self.new.caller) }
         ensures asked { result ≡ false → IfSome (slice_get (held self.old.waiters round) place) (WasAsked S.scheme self.old.caller.node self.old.caller self.new.caller) }
+        ensures none { IfNone (slice_get (held self.old.waiters round) place) (result ≡ false) }
     {
         match self.waiters.nth_of(round, place) {
             Some(event) => self.caller.is_ready(rt, event),

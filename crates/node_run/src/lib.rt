@@ -14,6 +14,7 @@ mod ran;
 mod reading;
 mod rule;
 mod running;
+mod sink;
 mod starting;
 mod threads;
 mod writing;

@@ -22,7 +22,8 @@ use crate::flushing::flush_all;
 use crate::intake::Intake;
 use crate::reading::read_all;
 use crate::rule::Rule;
-use crate::writing::{Collected, Sink, write_outputs};
+use crate::sink::Sink;
+use crate::writing::{Collected, write_outputs};
 use diskmodel::Disk;
 use journal::{JournalError, Store};
 use node::Rounds;
@@ -228,8 +229,8 @@ where
     requires pair { IsSome rule.every → IsSome (spare_of (journal_of rounds.flusher)) }
     requires node { desks.writing.caller.node ≡ rounds.node }
     ensures reported { IfSome result.1 (λ left. ReportsRounds (faults_in D.device (store_of (journal_of rounds.entry.flusher))) (faults_in D.device left) result.0.journal) }
-    // If a full journal is reported, the journal has no room for what was taken.
-    ensures full { result.0.journal ≡ Some JournalError.Full → IfSome result.1 (IsFullUp S.scheme D.device rounds.entry.node) }
+    // If a full journal is reported, the disks were written by the rule for checkpoints, and have no room for what was to be written next.
+    ensures full { result.0.journal ≡ Some JournalError.Full → IfSome result.1 (IsFullUp S.scheme D.device rounds.entry.node rule result.0.memory (point_of rounds.entry.flusher)) }
     ensures lost { result.1 ≡ None → result.0 ≡ no_memory }
     // If the writer is lost, a failed allocation is reported.
     ensures unwritten { result.2 ≡ None → (result.0.output ≡ false) × (result.0.memory ≡ true) }

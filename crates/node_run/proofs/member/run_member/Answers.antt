@@ -20,7 +20,7 @@ use Rattle.node_run.proofs.Runs.{ended, gives_nothing, gives_only, not_opened, n
 use Rattle.node_run.proofs.Written.{new_contents}
 use Rattle.node_run.proofs.member.run_member.Goals as goal
 use Rattle.node_run.specs.Rewriting.{length_in, point_of, HasCheckpoint, Point}
-use Rattle.node_run.specs.Runs.{ComesByRule, HoldsMore, RunsOver, point_at, rule_on}
+use Rattle.node_run.specs.Runs.{ComesByRule, HoldsMore, IsFullUp, RunsOver, point_at, rule_on}
 use Rattle.node_run.specs.declared.rule.Rule.{Rule}
 
 pub run_threads-store-requires-clause-pair : goal.run_threads-store-requires-clause-pair
@@ -66,7 +66,7 @@ returns-in-Ok-new-clause-runs g c =
     subst (λ (ending : Ending). RunsOver node device c.args.store c.args.every ending left) (sym c.ending.ensures)
     (ended g.S.Sign.scheme device rounds.node node c.args.store began c.args.every (journal_of rounds.flusher) c.run_threads-store.result.0 left
     (ap (λ (s : NodeView g.row.S.Denot). nodes s.setting) shared ∙ ap nodes started.setting)
-    (subst (λ (s : NodeView g.row.S.Denot). StandsAt node (decoded_in node (areas_in device c.args.store)) s.begun) (sym shared) started.begins)
+    (subst (λ (s : NodeView g.row.S.Denot). StandsAt node (decoded_in node (areas_in device c.args.store)) s.begun) (sym shared) started.begins) refl
     (ap (faults_in device) store ∙ started.opening.cause.0)
     c.run_threads-store.ensures.reported c.run_threads-store.ensures.lost opening leaves
     (subst (λ (f : Flusher g.row.D.Denot). KeepsStatesIn node (areas_in device c.args.store) (areas_of device (journal_of f))) (sym flusher) started.kept)
@@ -75,7 +75,9 @@ returns-in-Ok-new-clause-runs g c =
     (journal_of rounds.flusher)) c.run_threads-store.result.0.memory p)) point
     (subst (λ (r : Rule). IfSome left (ComesByRule device (HasCheckpoint g.S.Sign.scheme device rounds.node) r c.run_threads-store.result.0.memory (point_of rounds.flusher))) rule
     (c.run_threads-store.ensures.by_rule up none)))
-    c.run_threads-store.ensures.full)
+    (λ is. subst (λ (p : Point g.row.D.Denot). IfSome left (IsFullUp g.S.Sign.scheme device rounds.node (rule_on device c.args.store c.args.every (journal_of rounds.flusher))
+    c.run_threads-store.result.0.memory p)) point
+    (subst (λ (r : Rule). IfSome left (IsFullUp g.S.Sign.scheme device rounds.node r c.run_threads-store.result.0.memory (point_of rounds.flusher))) rule (c.run_threads-store.ensures.full is))))
 
 pub returns-clause-runs : goal.returns-clause-runs
 returns-clause-runs g c =

@@ -41,15 +41,15 @@ returns-clause-full g c = λ is.
     let both = of_some _ c.in-Some.others _ same c.in-Some.ensures.others in
     let no_read = ap (λ (f : Faults). f.journal) both.1.2 ∙ none_of_input both.1.0 both.1.1 in
     let no_write = ap (λ (f : Faults). f.journal) both.0.2 ∙ ap (λ (f : Faults). f.journal) c.requires.faults in
-    is_full_up g.S.Sign.scheme g.D.Disk.device c.args.rule c.args.rounds c.in-Some.rounds c.in-Some.flushed c.and-faults.result.journal c.give_back-store.result.0
-    c.in-Some.ensures.first store (third_alone _ _ _ _ _ no_read no_write c.and-2.ensures.journal c.and-faults.ensures.journal) is
+    is_full_up g.S.Sign.scheme g.D.Disk.device c.args.rule c.args.rounds c.in-Some.rounds c.and-2.result c.in-Some.flushed c.and-faults.result c.give_back-store.result.0
+    c.in-Some.ensures.first store c.and-faults.ensures.memory (third_alone _ _ _ _ _ no_read no_write c.and-2.ensures.journal c.and-faults.ensures.journal) is
 
 pub returns-in_default-others-clause-full : goal.returns-in_default-others-clause-full
 returns-in_default-others-clause-full g c = λ is.
     let store : c.into_store.result ≡ store_of (journal_of c.in-Some.rounds.flusher) = search rules in
     let none : c.of_memory-in_default-others.result.journal ≡ None = search rules in
-    is_full_up g.S.Sign.scheme g.D.Disk.device c.args.rule c.args.rounds c.in-Some.rounds c.in-Some.flushed c.and.result.journal c.into_store.result
-    c.in-Some.ensures.first store (c.and.ensures.journal ∙ ap (λ (it : Option JournalError). first_of it c.in-Some.flushed.journal) none) is
+    is_full_up g.S.Sign.scheme g.D.Disk.device c.args.rule c.args.rounds c.in-Some.rounds c.of_memory-in_default-others.result c.in-Some.flushed c.and.result c.into_store.result
+    c.in-Some.ensures.first store c.and.ensures.memory (c.and.ensures.journal ∙ ap (λ (it : Option JournalError). first_of it c.in-Some.flushed.journal) none) is
 
 pub returns-in_default-others-clause-by_rule : goal.returns-in_default-others-clause-by_rule
 returns-in_default-others-clause-by_rule g c = λ up none.

@@ -12,6 +12,7 @@ returns g c =
       is_reported = all.ensures.journal.reported;
       full = all.ensures.journal.full;
       others = all.ensures.others;
+      settles = all.ensures.settles;
       any_moment = all.ensures.any_moment;
       at_end = all.ensures.at_end;
       by_rule = all.ensures.by_rule;

@@ -4,7 +4,7 @@ use Rattle.std.specs.Io.Buffered.{writer_contents}
 use Rattle.spec_model.specs.Words.{Output}
 use Rattle.node_run.specs.Writing.{PutsAll}
 use Rattle.node_run.proofs.Written.{put_more, put_nothing}
-use Rattle.node_run.proofs.writing.Sink.put_all.Goals as goal
+use Rattle.node_run.proofs.sink.Sink.put_all.Goals as goal
 
 pub loop-output-init : goal.loop-output-init
 loop-output-init g c =

@@ -3,7 +3,7 @@ use Rattle.std.specs.Io.Buffered.{writer_contents}
 use Rattle.std.specs.VecDeque.{deque_capacity, deque_len}
 use Rattle.spec_model.specs.Words.{Output}
 use Rattle.node_run.specs.Writing.{PutsAll}
-use Rattle.node_run.proofs.writing.Sink.put_all.Given as goal
+use Rattle.node_run.proofs.sink.Sink.put_all.Given as goal
 
 -- the first outputs were put, and the others are still to be put
 abbrev pub invariant-loop-output : goal.invariant-loop-output
