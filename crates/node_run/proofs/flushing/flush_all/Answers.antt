@@ -33,7 +33,7 @@ loop-preserved g c =
       it.0,
       subst (λ (f : Flusher g.row.D.Denot). IsTrue (is_down f)) (sym it.1) down,
       λ lacks. subst (λ (f : Flusher g.row.D.Denot). HasNoPlace g.S.Sign.scheme g.D.Disk.device node c.args.rule c.flush_pending.new.missed (point_of first) f) (sym it.1)
-      (place_weaker g.S.Sign.scheme g.D.Disk.device node c.args.rule c.loop.missed c.flush_pending.new.missed (point_of first) mid done.missed lacks),
+          (place_weaker g.S.Sign.scheme g.D.Disk.device node c.args.rule c.loop.missed c.flush_pending.new.missed (point_of first) mid done.missed lacks),
     ))
     (λ up is. no_place_on g.S.Sign.scheme g.D.Disk.device node c.args.rule c.loop.rule first mid now c.loop.missed c.flush_pending.new.missed c.loop.faults.journal (faults first) (faults mid) Lacks
     c.loop.invariant.4 c.loop.invariant.10 c.loop.invariant.8 done.missed up
@@ -79,7 +79,7 @@ returns-then-not-may_go_on-clause-journal g c =
       it.0,
       subst (λ (f : Flusher g.row.D.Denot). IsTrue (is_down f)) (sym it.1) down,
       λ lacks. subst (λ (f : Flusher g.row.D.Denot). HasNoPlace g.S.Sign.scheme g.D.Disk.device node c.args.rule c.flush_pending.new.missed (point_of first) f) (sym it.1)
-      (place_weaker g.S.Sign.scheme g.D.Disk.device node c.args.rule c.loop.missed c.flush_pending.new.missed (point_of first) mid done.missed lacks),
+          (place_weaker g.S.Sign.scheme g.D.Disk.device node c.args.rule c.loop.missed c.flush_pending.new.missed (point_of first) mid done.missed lacks),
     ))
     (λ up is. no_place_on g.S.Sign.scheme g.D.Disk.device node c.args.rule c.loop.rule first mid now c.loop.missed c.flush_pending.new.missed c.loop.faults.journal (faults first) (faults mid) Lacks
     c.loop.invariant.4 c.loop.invariant.10 c.loop.invariant.8 done.missed up
