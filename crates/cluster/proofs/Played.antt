@@ -1,5 +1,5 @@
 -- A cluster that was opened, and the moves that were applied to it.
-use Rattle.std.proofs.Common.{◌≡◌, ◌≢◌, ℕ, List, [], ◌∷◌, ◌++◌, inl, inr, map, Option, Some, None, Result, refl, sym, ap₂, ◌∙◌}
+use Rattle.std.proofs.Common.{◌≡◌, ℕ, List, [], ◌∷◌, ◌++◌, map, Option, Some, Result, refl, sym, ap₂, ◌∙◌}
 use Rattle.std.specs.List.{AllZip}
 use Rattle.std.specs.Prelude.{All}
 use Rattle.std.proofs.lemmas.List.{map-append}
@@ -7,14 +7,13 @@ use Rattle.std.proofs.lemmas.List.Elements.{All-contains}
 use Rattle.header.specs.Checks.{Accepts}
 use Rattle.spec_cluster.specs.Agreement.{RunsAgree}
 use Rattle.spec_cluster.specs.Cluster.{Cluster}
-use Rattle.spec_laws.proofs.Lists.{Contains-nothing, found_passes}
-use Rattle.spec_model.specs.Nodes.{Node}
-use Rattle.spec_model.specs.Words.{Author, Digest}
+use Rattle.spec_laws.proofs.Lists.{found_passes}
+use Rattle.spec_model.specs.Words.{Author}
 use Rattle.spec_world.specs.Steps.{IsRun}
 use Rattle.validator.specs.Setting.{ConfigView, node_of}
 use Rattle.cluster.specs.Applying.{Stage, ran, IsDone, StagesLead, AreAnswered, move_in, answer_in, IsAmong, BeginsAmong, first_world, ArePlayed}
 use Rattle.cluster.specs.Cluster.{named}
-use Rattle.cluster.specs.Member.{MemberView, StandsAt, IsOn, IsLongest}
+use Rattle.cluster.specs.Member.{MemberView, StandsAt, IsOn, IsNew}
 use Rattle.cluster.specs.Threads.{Act, HasRun}
 use Rattle.cluster.specs.declared.error.ClusterError.{ClusterError}
 use Rattle.cluster.specs.declared.moves.Applied.{Applied}
@@ -52,18 +51,8 @@ module _ {S D : Type 0} (scheme : Scheme S) (device : Device D) (accepts : Accep
 
   -- ---- new members
 
-  -- nothing was given out in the world in which a node's runs begin
-  none_given : (node : Node) (digests : List Digest) → IsLongest node (first_world node) digests → digests ≡ []
-  none_given node digests longest = elim longest.given [ inl none ↦ none | inr some ↦ absurd (Contains-nothing some.0 some.1) ]
-
   abbrev Begins : MemberView S D → Type 0
   Begins member = StandsAt (node_of scheme member.setting) device (first_world (node_of scheme member.setting)) member
-
-  pub are_new : (members : List (MemberView S D)) → All Begins members → All (λ member. member.desk ≢ None) members
-      → All (λ member. (member.desk ≢ None) × (member.out.outputs ≡ []) × (member.out.order ≡ [])) members
-  are_new members begins up place default within =
-      let here = begins place default within in
-      (up place default within, sym here.out.outputs, none_given _ _ here.out.order)
 
   -- a member that is among new ones begins there
   module _ (members : List (MemberView S D)) (runs : All (λ member. IsRun (node_of scheme member.setting) [] (first_world (node_of scheme member.setting))) members) (begins : All Begins members)
@@ -85,15 +74,15 @@ module _ {S D : Type 0} (scheme : Scheme S) (device : Device D) (accepts : Accep
   module _ (owns : (setting : ConfigView S) → (node_of scheme setting).own ≡ setting.own) (charters : (setting : ConfigView S) → (node_of scheme setting).charter ≡ setting.charter)
       (agree : RunsAgree) where
     pub are_played : (settings : List (ConfigView S)) (first : List (MemberView S D)) → map (λ member. member.setting) first ≡ settings → (disks : List D) → AllZip (IsOn device) disks first
-        → All (λ member. IsRun (node_of scheme member.setting) [] (first_world (node_of scheme member.setting))) first → All Begins first → All (λ member. member.desk ≢ None) first
+        → All (λ member. IsRun (node_of scheme member.setting) [] (first_world (node_of scheme member.setting))) first → All Begins first → All (IsNew scheme device) first
         → (moves : List Move) (answers : List (Result Applied ClusterError)) (stages : List (Stage S D)) → AreAnswered stages moves answers → (members : List (MemberView S D))
         → StagesLead scheme device accepts first stages members
         → ArePlayed scheme device accepts settings disks moves answers members
-    are_played settings first set_up disks on runs begins up moves answers stages made members lead = record {
+    are_played settings first set_up disks on runs begins new moves answers stages made members lead = record {
       first = first;
       set_up = set_up;
       on = on;
-      new = are_new first begins up;
+      new = new;
       stages = stages;
       made = made;
       lead = lead;

@@ -1,6 +1,6 @@
 -- What was done with a cluster: moves that were applied, and threads in which its members ran. What is assumed of that, and on what the
 -- honest members then agree.
-use Rattle.std.specs.Prelude.{◌≡◌, ◌≢◌, ℕ, ◌&&◌, Bool, true, false, List, [], ◌∷◌, ◌++◌, map, flat_map, ⊤, Option, Some, None, All, Contains, Result, Ok, Err, option_map, if◌then◌else◌}
+use Rattle.std.specs.Prelude.{◌≡◌, ℕ, ◌&&◌, Bool, true, false, List, [], ◌∷◌, ◌++◌, map, flat_map, ⊤, Option, Some, None, All, Contains, Result, Ok, Err, option_map, if◌then◌else◌}
 use Rattle.std.specs.List.{list_any, AllZip}
 use Rattle.std.specs.Option.{option_map_or, option_to_list}
 use Rattle.header.specs.Checks.{Accepts, fault_of, is_signed}
@@ -18,7 +18,7 @@ use Rattle.spec_world.specs.World.{World, put_out, alone_on, run_on}
 use Rattle.validator.specs.Setting.{ConfigView, node_of}
 use Rattle.wire.specs.declared.message.Message.TheVariants as message
 use Rattle.cluster.specs.Cluster.{at, actor, asked_in, message_at, IsApplied}
-use Rattle.cluster.specs.Member.{MemberView, StandsAt, IsOn}
+use Rattle.cluster.specs.Member.{MemberView, StandsAt, IsOn, IsNew}
 use Rattle.cluster.specs.Threads.{Act, take, round, HasRun}
 use Rattle.cluster.specs.declared.error.ClusterError.{ClusterError}
 use Rattle.cluster.specs.declared.error.ClusterError.TheVariants as errors
@@ -220,7 +220,7 @@ pub record ArePlayed {S D : Type 0} (scheme : Scheme S) (device : Device D) (acc
   pub first : List (MemberView S D)
   pub set_up : map (λ member. member.setting) first ≡ settings
   pub on : AllZip (IsOn device) disks first
-  pub new : All (λ member. (member.desk ≢ None) × (member.out.outputs ≡ []) × (member.out.order ≡ [])) first
+  pub new : All (IsNew scheme device) first
   pub stages : List (Stage S D)
   pub made : AreAnswered stages moves answers
   pub lead : StagesLead scheme device accepts first stages members

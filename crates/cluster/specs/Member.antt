@@ -2,7 +2,9 @@
 use Rattle.std.specs.Prelude.{◌≡◌, ◌⊎◌, List, [], ◌∷◌, ◌++◌, map, Bool, true, false, Option, Some, None, Contains}
 use Rattle.book.specs.Book.{Run, Stands, state_in, releasable}
 use Rattle.desk.specs.AtWorld.{IsAt}
+use Rattle.desk.specs.Desk.{IsOpened}
 use Rattle.desk.specs.Desk as desk
+use Rattle.journal.specs.Areas.{alone}
 use Rattle.journal.specs.Journal.{disk_of, spare_of}
 use Rattle.wire.specs.Lists.{Begins}
 use Rattle.spec_model.specs.Holdings.{order}
@@ -12,9 +14,10 @@ use Rattle.spec_model.specs.Words.{Digest, Header, Output}
 use Rattle.spec_world.specs.Promise.{order_given}
 use Rattle.spec_world.specs.Steps.{Move, read_order, release, Leads, IsRun}
 use Rattle.spec_world.specs.World.{World, Waiting, Given}
-use Rattle.validator.specs.Setting.{ConfigView}
+use Rattle.validator.specs.Setting.{ConfigView, node_of}
 use Rattle.cluster.specs.Outputs.{outputs_in}
 use Rattle.diskmodel.specs.Disk.{Device}
+use Rattle.sigface.specs.Scheme.{Scheme}
 
 -- what a member gave out over all its runs: its outputs, oldest first, and the longest order
 pub record GivenOutView : Type 0 where
@@ -54,6 +57,16 @@ pub record StandsAt {S D : Type 0} (node : Node) (device : Device D) (world : Wo
 -- The member may have been opened on this disk: the disk in its desk has counted as many failed calls.
 abbrev pub IsOn : {S D : Type 0} → Device D → D → MemberView S D → Type 0
 IsOn {S} {D} device disk member = (one : desk.DeskView S D) → member.desk ≡ Some one → device.faults (disk_of one.journal) ≡ device.faults disk
+
+-- A member is new: its desk was just opened on an empty disk, and has accepted nothing; no output waits in it, and nothing is in flight. The
+-- member gave nothing out.
+pub record IsNew {S D : Type 0} (scheme : Scheme S) (device : Device D) (member : MemberView S D) : Type 0 where
+  pub desk : desk.DeskView S D
+  pub has : member.desk ≡ Some desk
+  pub opened : IsOpened (node_of scheme member.setting) device (alone []) desk
+  pub accepted : desk.book.accepted ≡ 0
+  pub outputs : member.out.outputs ≡ []
+  pub order : member.out.order ≡ []
 
 -- a member proposes what its node proposes after all events that it accepted: this header, or none
 pub record Proposes {S D : Type 0} (node : Node) (member : MemberView S D) (found : Option Header) : Type 0 where

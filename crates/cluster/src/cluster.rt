@@ -53,7 +53,7 @@ impl<'a, S: Sign, D: StopDisk + Drop, V: Verify + Drop> Cluster<'a, S, D, V> {
     ghost use Rattle.validator.specs.Setting.{node_of};
     ghost use Rattle.cluster.specs.Answers.{Became, IsJournal, IsJournalFault, CountsMore};
     ghost use Rattle.cluster.specs.Applying.{first_world, ran, IsDone};
-    ghost use Rattle.cluster.specs.Member.{MemberView, StandsAt, IsOn, Proposes};
+    ghost use Rattle.cluster.specs.Member.{MemberView, StandsAt, IsOn, IsNew, Proposes};
     ghost use Rattle.cluster.specs.Cluster.{named, at, has_member, message_at, asked_in, actor, IsAsked, IsApplied, IsThere, IsDelivery, LacksNode, LacksOutput, AreOfOne, AreDistinct};
     ghost use Rattle.cluster.specs.Threads.{Act, HasRun};
     ghost use Rattle.cluster.specs.declared.moves.Move.TheVariants.{Deliver};
@@ -77,6 +77,8 @@ impl<'a, S: Sign, D: StopDisk + Drop, V: Verify + Drop> Cluster<'a, S, D, V> {
         // The model of each member's node is at its beginning: no run has accepted, settled or given out anything.
         ensures runs { IfOk result (λ cluster. All (λ member. IsRun (node_of S.scheme member.setting) [] (first_world (node_of S.scheme member.setting))) cluster.members) }
         ensures begins { IfOk result (λ cluster. All (λ member. StandsAt (node_of S.scheme member.setting) D.device (first_world (node_of S.scheme member.setting)) member) cluster.members) }
+        // Each member's desk was just opened on an empty disk. It has accepted nothing, and the member gave nothing out.
+        ensures new { IfOk result (λ cluster. All (IsNew S.scheme D.device) cluster.members) }
         ensures up { IfOk result (λ cluster. All (λ member. member.desk ≢ None) cluster.members) }
         // A member's disk has counted as many failed calls as the disk at the same place of the given list.
         ensures disks { IfOk result (λ cluster. AllZip (IsOn D.device) disks.items cluster.members) }

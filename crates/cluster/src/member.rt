@@ -54,7 +54,7 @@ impl<'a, S: Sign, D: StopDisk> Member<'a, S, D> {
     ghost use Rattle.header.specs.Checks.{Accepts};
     ghost use Rattle.cluster.specs.Answers.{Became, IsJournal, IsJournalFault, CountsMore};
     ghost use Rattle.cluster.specs.Applying.{first_world};
-    ghost use Rattle.cluster.specs.Member.{StandsAt, IsOn, Proposes};
+    ghost use Rattle.cluster.specs.Member.{StandsAt, IsOn, IsNew, Proposes};
     ghost use Rattle.cluster.specs.declared.moves.Request.TheVariants.{Take, Round, Stop};
 
     /// Opens a member's node on a disk. It has given out nothing yet.
@@ -72,6 +72,7 @@ impl<'a, S: Sign, D: StopDisk> Member<'a, S, D> {
         // On an empty disk the member stands at the world where its runs begin.
         ensures begins { let node = node_of S.scheme config.now in IfOk result (λ member. D.device.content disk ≡ [] → StandsAt node D.device (first_world node) member) }
         ensures runs { IfOk result (λ member. IsRun (node_of S.scheme member.setting) [] (first_world (node_of S.scheme member.setting))) }
+        ensures new { IfOk result (λ member. D.device.content disk ≡ [] → IsNew S.scheme D.device member) }
         ensures up { IfOk result (λ member. member.desk ≢ None) }
         ensures disk { IfOk result (λ member. IsOn D.device disk member) }
         ensures errors { IfErr result (λ error. D.device.content disk ≡ [] → IsJournalFault error) }

@@ -8,7 +8,7 @@ use Rattle.std.proofs.lemmas.Result.{err_from_is_err_and}
 use Rattle.spec_world.specs.Steps.{IsRun}
 use Rattle.validator.specs.Setting.{ConfigView, node_of}
 use Rattle.cluster.specs.Applying.{first_world}
-use Rattle.cluster.specs.Member.{MemberView, StandsAt, IsOn}
+use Rattle.cluster.specs.Member.{MemberView, StandsAt, IsOn, IsNew}
 use Rattle.cluster.proofs.Acting.{zip_more}
 use Rattle.cluster.proofs.cluster.Cluster.new.Goals as goal
 
@@ -75,6 +75,8 @@ loop-config-preserved g c =
           (first_world (node_of g.S.Sign.scheme m.setting)) m)) (sym items)
           (All-push (λ (m : MemberView g.row.S.Denot g.row.D.Denot). StandsAt (node_of g.S.Sign.scheme m.setting) g.D.Disk.device
           (first_world (node_of g.S.Sign.scheme m.setting)) m) c.loop-config.members.items member so_far.begins begins);
+      new = subst (All (IsNew g.S.Sign.scheme g.D.Disk.device)) (sym items)
+          (All-push (IsNew g.S.Sign.scheme g.D.Disk.device) c.loop-config.members.items member so_far.new (c.in_ok-open.ensures.new empty));
       up = subst (All (λ (m : MemberView g.row.S.Denot g.row.D.Denot). m.desk ≢ None)) (sym items)
           (All-push (λ (m : MemberView g.row.S.Denot g.row.D.Denot). m.desk ≢ None) c.loop-config.members.items member so_far.up
           c.in_ok-open.ensures.up);

@@ -4,7 +4,7 @@ use Rattle.std.specs.Prelude.{All, vec_len}
 use Rattle.spec_world.specs.Steps.{IsRun}
 use Rattle.validator.specs.Setting.{node_of}
 use Rattle.cluster.specs.Applying.{first_world}
-use Rattle.cluster.specs.Member.{MemberView, StandsAt, IsOn}
+use Rattle.cluster.specs.Member.{MemberView, StandsAt, IsOn, IsNew}
 use Rattle.cluster.proofs.cluster.Cluster.new.Given as goal
 
 -- the nodes so far are of the first settings, and so many disks are left
@@ -14,6 +14,7 @@ invariant-loop-config g l = record {
   runs : All (λ (m : MemberView g.row.S.Denot g.row.D.Denot). IsRun (node_of g.S.Sign.scheme m.setting) [] (first_world (node_of g.S.Sign.scheme m.setting))) l.members.items;
   begins : All (λ (m : MemberView g.row.S.Denot g.row.D.Denot). StandsAt (node_of g.S.Sign.scheme m.setting) g.D.Disk.device
       (first_world (node_of g.S.Sign.scheme m.setting)) m) l.members.items;
+  new : All (IsNew g.S.Sign.scheme g.D.Disk.device) l.members.items;
   up : All (λ (m : MemberView g.row.S.Denot g.row.D.Denot). m.desk ≢ None) l.members.items;
   disks : AllZip (IsOn g.D.Disk.device) (take l.config-index l.fn.disks.items) l.members.items;
   left : l.disks.items ≡ drop l.config-index l.fn.disks.items;

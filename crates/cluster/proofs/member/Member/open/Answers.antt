@@ -22,6 +22,19 @@ returns-in-Ok-clause-begins g c = λ empty.
     begins_at node g.D.Disk.device member c.in-Ok.desk refl c.new.ensures.outputs c.new.ensures.order
     (begins c.starts_fresh.ensures node g.D.Disk.device c.in-Ok.desk c.limits_hold.ensures keys opened)
 
+pub returns-in-Ok-clause-new : goal.returns-in-Ok-clause-new
+returns-in-Ok-clause-new g c = λ empty.
+    let node = node_of g.S.Sign.scheme c.args.config.now in
+    let opened = subst (λ (bytes : List ℕ). IsOpened node g.D.Disk.device (alone bytes) c.in-Ok.desk) empty c.in-Ok.ensures.ok in
+    record {
+      desk = c.in-Ok.desk;
+      has = refl;
+      opened = opened;
+      accepted = opened.is_of.stands_at.accepted;
+      outputs = c.new.ensures.outputs;
+      order = c.new.ensures.order;
+    }
+
 pub returns-in-Err-clause-errors : goal.returns-in-Err-clause-errors
 returns-in-Err-clause-errors g c = λ empty.
     let node = node_of g.S.Sign.scheme c.args.config.now in
